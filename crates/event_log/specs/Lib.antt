@@ -1,1 +1,5 @@
 pub mod Log
+pub mod History
+pub mod WordsLog
+pub mod Actions
+pub mod Sections

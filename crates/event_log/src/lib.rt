@@ -4,6 +4,7 @@
 
 mod events;
 mod ids;
+mod laws;
 mod logs;
 mod refusals;
 

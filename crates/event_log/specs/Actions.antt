@@ -1,0 +1,114 @@
+-- What any fair lock's log says, whatever its words are: who took a place in the line of a lock, tried, and gave the lock on.
+-- A give carries the name of the section that it ends. Newest first, with true numbers.
+use Rattle.std.specs.Prelude.{◌≡◌, ℕ, ◌<◌, Bool, true, false, List, [], ◌∷◌, ◌==◌, map, if◌then◌else◌}
+use Rattle.event_log.specs.declared.ids.CpuId.{CpuId}
+use Rattle.event_log.specs.declared.ids.LockId.{LockId}
+use Rattle.event_log.specs.declared.ids.TheConstants.{CPUS}
+use Rattle.event_log.specs.declared.events.Event.{Event}
+use Rattle.event_log.specs.declared.events.Event.TheVariants.{Draw, Look, Free}
+use Rattle.event_log.specs.History.{same_cpu, same_lock, how_many, IsLawful}
+
+-- an action at a lock: a place in its line is taken, an entry is tried, or the lock is given on by a section of this name
+pub data Action (N : Type 0) : Type 0 where
+  Take : (cpu : CpuId) (lock : LockId) → Action N
+  Try : (cpu : CpuId) (lock : LockId) (hit : Bool) → Action N
+  Give : (cpu : CpuId) (lock : LockId) (name : N) → Action N
+
+-- the CPU that acts
+abbrev pub doer : {N : Type 0} → Action N → CpuId
+doer (Take cpu lock) = cpu
+doer (Try cpu lock hit) = cpu
+doer (Give cpu lock name) = cpu
+
+-- the lock that it acts on
+abbrev pub lock_of : {N : Type 0} → Action N → LockId
+lock_of (Take cpu lock) = lock
+lock_of (Try cpu lock hit) = lock
+lock_of (Give cpu lock name) = lock
+
+-- whether it takes a place in the line of this lock
+abbrev pub is_take : {N : Type 0} → LockId → Action N → Bool
+is_take lock (Take cpu at) = same_lock lock at
+is_take lock (Try cpu at hit) = false
+is_take lock (Give cpu at name) = false
+
+-- whether it gives this lock on
+abbrev pub is_give : {N : Type 0} → LockId → Action N → Bool
+is_give lock (Take cpu at) = false
+is_give lock (Try cpu at hit) = false
+is_give lock (Give cpu at name) = same_lock lock at
+
+-- whether it gives some lock on
+abbrev pub is_any_give : {N : Type 0} → Action N → Bool
+is_any_give (Take cpu lock) = false
+is_any_give (Try cpu lock hit) = false
+is_any_give (Give cpu lock name) = true
+
+-- how many places in the line of this lock were taken
+abbrev pub takes : {N : Type 0} → LockId → List (Action N) → ℕ
+takes lock past = how_many (is_take lock) past
+
+-- how often this lock was given on
+abbrev pub gives : {N : Type 0} → LockId → List (Action N) → ℕ
+gives lock past = how_many (is_give lock) past
+
+-- what a CPU does: it rests, waits at a lock or holds it
+pub data Phase : Type 0 where
+  Rests : Phase
+  Waits : (lock : LockId) → Phase
+  Holds : (lock : LockId) → Phase
+
+-- what an action leaves its CPU to do
+abbrev pub left_in : {N : Type 0} → Action N → Phase
+left_in (Take cpu lock) = Waits lock
+left_in (Try cpu lock hit) = if hit then Holds lock else Waits lock
+left_in (Give cpu lock name) = Rests
+
+-- what a CPU does: its newest action tells
+abbrev pub phase : {N : Type 0} → CpuId → List (Action N) → Phase
+phase cpu [] = Rests
+phase cpu (a ∷ past) = if same_cpu (doer a) cpu then left_in a else phase cpu past
+
+-- the place in line that a CPU took last: how many places of that lock had been taken before
+abbrev pub place : {N : Type 0} → CpuId → List (Action N) → ℕ
+place cpu [] = 0
+place cpu (Take by lock ∷ past) = if same_cpu by cpu then takes lock past else place cpu past
+place cpu (Try by lock hit ∷ past) = place cpu past
+place cpu (Give by lock name ∷ past) = place cpu past
+
+-- the action may come after this past. A CPU of the machine takes a place while it rests. While it waits it tries, and
+-- enters exactly where the lock has been given on as often as its place says. While it holds the lock it may give it on.
+abbrev pub MayAct : {N : Type 0} → List (Action N) → Action N → Type 0
+MayAct past (Take cpu lock) = (cpu.0 < CPUS) × (phase cpu past ≡ Rests)
+MayAct past (Try cpu lock hit) = (phase cpu past ≡ Waits lock) × (hit ≡ (gives lock past == place cpu past))
+MayAct past (Give cpu lock name) = phase cpu past ≡ Holds lock
+
+-- a legal list of actions
+abbrev pub AreLegal : {N : Type 0} → List (Action N) → Type 0
+AreLegal actions = IsLawful MayAct actions
+
+-- the action that is due to a CPU in this phase: at this lock, and its section to be given this name
+abbrev pub action_in : {N : Type 0} → CpuId → LockId → N → List (Action N) → Phase → Action N
+action_in cpu lock name past Rests = Take cpu lock
+action_in cpu lock name past (Waits at) = Try cpu at (gives at past == place cpu past)
+action_in cpu lock name past (Holds at) = Give cpu at name
+
+-- the next action of a CPU: the past tells which it is
+abbrev pub next_action : {N : Type 0} → CpuId → LockId → N → List (Action N) → Action N
+next_action cpu lock name past = action_in cpu lock name past (phase cpu past)
+
+-- the same action, its section under another name
+abbrev pub renamed : {N L : Type 0} → (N → L) → Action N → Action L
+renamed f (Take cpu lock) = Take cpu lock
+renamed f (Try cpu lock hit) = Try cpu lock hit
+renamed f (Give cpu lock name) = Give cpu lock (f name)
+
+-- an event of a ticket lock as an action, its section named by its mark
+abbrev pub act_of : {M N : Type 0} → (M → N) → Event M → Action N
+act_of name (Draw cpu lock ticket) = Take cpu lock
+act_of name (Look cpu lock ticket read) = Try cpu lock (read == ticket)
+act_of name (Free cpu lock mark) = Give cpu lock (name mark)
+
+-- a words log as actions
+abbrev pub acts_of : {M N : Type 0} → (M → N) → List (Event M) → List (Action N)
+acts_of name log = map (act_of name) log

@@ -1,0 +1,52 @@
+-- Histories: lists of events, newest first. What may come after what, whose events they are, and how a history grows.
+use Rattle.std.specs.Prelude.{◌≡◌, ℕ, ◌+◌, Bool, false, List, [], ◌∷◌, ◌++◌, ◌==◌, if◌then◌else◌}
+use Rattle.event_log.specs.declared.ids.CpuId.{CpuId}
+use Rattle.event_log.specs.declared.ids.LockId.{LockId}
+use Rattle.event_log.specs.declared.ids.LockId.TheVariants.{Pending, Buffer}
+
+-- whether two CPUs are one
+abbrev pub same_cpu : CpuId → CpuId → Bool
+same_cpu a b = a.0 == b.0
+
+-- whether two locks are one
+abbrev pub same_lock : LockId → LockId → Bool
+same_lock (Pending a) (Pending b) = same_cpu a b
+same_lock (Buffer a) (Buffer b) = a.0 == b.0
+same_lock (Pending a) (Buffer b) = false
+same_lock (Buffer a) (Pending b) = false
+
+-- each event of the history may follow what was before it
+abbrev pub IsLawful : {E : Type 0} → (List E → E → Type 0) → List E → Type 0
+IsLawful May [] = Unit {0}
+IsLawful May (e ∷ past) = May past e × IsLawful May past
+
+-- how many events of the history the test picks
+abbrev pub how_many : {E : Type 0} → (E → Bool) → List E → ℕ
+how_many picks [] = 0
+how_many picks (e ∷ past) = if picks e then how_many picks past + 1 else how_many picks past
+
+-- this CPU's own events, newest first
+abbrev pub own : {E : Type 0} → (E → CpuId) → CpuId → List E → List E
+own by cpu [] = []
+own by cpu (e ∷ past) = if same_cpu (by e) cpu then e ∷ own by cpu past else own by cpu past
+
+-- none of these events is this CPU's
+abbrev pub AreOthers : {E : Type 0} → (E → CpuId) → CpuId → List E → Type 0
+AreOthers by cpu [] = Unit {0}
+AreOthers by cpu (e ∷ past) = (same_cpu (by e) cpu ≡ false) × AreOthers by cpu past
+
+-- none of these events is of a CPU for which the holder of the machine acts
+abbrev pub AreForeign : {E : Type 0} → (CpuId → Type 0) → (E → CpuId) → List E → Type 0
+AreForeign ActsFor by others = (c : CpuId) → ActsFor c → AreOthers by c others
+
+-- the history has grown by this event, put after foreign ones
+pub record Adds {E : Type 0} (ActsFor : CpuId → Type 0) (by : E → CpuId) (e : E) (old new : List E) : Type 0 where
+  pub others : List E
+  pub foreign : AreForeign ActsFor by others
+  pub is : new ≡ e ∷ (others ++ old)
+
+-- the history has grown by foreign events alone
+pub record Grows {E : Type 0} (ActsFor : CpuId → Type 0) (by : E → CpuId) (old new : List E) : Type 0 where
+  pub others : List E
+  pub foreign : AreForeign ActsFor by others
+  pub is : new ≡ others ++ old

@@ -1,0 +1,64 @@
+-- The words log: Draws, Looks and Frees of ticket locks, newest first, and which such logs are legal.
+use Rattle.std.specs.Prelude.{◌≡◌, ℕ, ◌%◌, ◌^◌, ◌<◌, Bool, false, List, [], ◌∷◌, ◌==◌, if◌then◌else◌}
+use Rattle.event_log.specs.declared.ids.CpuId.{CpuId}
+use Rattle.event_log.specs.declared.ids.LockId.{LockId}
+use Rattle.event_log.specs.declared.ids.TheConstants.{CPUS}
+use Rattle.event_log.specs.declared.events.Event.{Event}
+use Rattle.event_log.specs.declared.events.Event.TheVariants.{Draw, Look, Free}
+use Rattle.event_log.specs.History.{same_cpu, same_lock, how_many, IsLawful}
+
+-- the CPU that acts
+abbrev pub actor : {M : Type 0} → Event M → CpuId
+actor (Draw cpu lock ticket) = cpu
+actor (Look cpu lock ticket read) = cpu
+actor (Free cpu lock mark) = cpu
+
+-- whether the event draws at this lock
+abbrev pub is_draw : {M : Type 0} → LockId → Event M → Bool
+is_draw lock (Draw cpu at ticket) = same_lock lock at
+is_draw lock (Look cpu at ticket read) = false
+is_draw lock (Free cpu at mark) = false
+
+-- whether the event frees this lock
+abbrev pub is_free : {M : Type 0} → LockId → Event M → Bool
+is_free lock (Draw cpu at ticket) = false
+is_free lock (Look cpu at ticket read) = false
+is_free lock (Free cpu at mark) = same_lock lock at
+
+-- how often this lock was drawn at: the true count, of which the word `next` holds the rest modulo 2^64
+abbrev pub draws : {M : Type 0} → LockId → List (Event M) → ℕ
+draws lock past = how_many (is_draw lock) past
+
+-- how often this lock was freed: the true count, of which the word `serving` holds the rest modulo 2^64
+abbrev pub frees : {M : Type 0} → LockId → List (Event M) → ℕ
+frees lock past = how_many (is_free lock) past
+
+-- where a CPU is: outside every section, waiting at a lock with its ticket, or inside the lock that it entered with it
+pub data Standing : Type 0 where
+  Outside : Standing
+  Waiting : (lock : LockId) (ticket : ℕ) → Standing
+  Inside : (lock : LockId) (ticket : ℕ) → Standing
+
+-- where an event leaves the CPU that acts: a Look hits where it reads its ticket
+abbrev pub left_by : {M : Type 0} → Event M → Standing
+left_by (Draw cpu lock ticket) = Waiting lock ticket
+left_by (Look cpu lock ticket read) = if read == ticket then Inside lock ticket else Waiting lock ticket
+left_by (Free cpu lock mark) = Outside
+
+-- where a CPU is: its newest event tells
+abbrev pub standing : {M : Type 0} → CpuId → List (Event M) → Standing
+standing cpu [] = Outside
+standing cpu (e ∷ past) = if same_cpu (actor e) cpu then left_by e else standing cpu past
+
+-- the event may come after this past. A CPU of the machine draws while it is outside, and its ticket is the number of
+-- earlier draws. While it waits it looks, and reads the number of earlier frees. While it is inside it may free.
+abbrev pub MayFollow : {M : Type 0} → List (Event M) → Event M → Type 0
+MayFollow past (Draw cpu lock ticket) =
+    (cpu.0 < CPUS) × (standing cpu past ≡ Outside) × (ticket ≡ draws lock past % 2 ^ 64)
+MayFollow past (Look cpu lock ticket read) =
+    (standing cpu past ≡ Waiting lock ticket) × (read ≡ frees lock past % 2 ^ 64)
+MayFollow past (Free cpu lock mark) = (ticket : ℕ) × (standing cpu past ≡ Inside lock ticket)
+
+-- a legal words log
+abbrev pub IsLegalWords : {M : Type 0} → List (Event M) → Type 0
+IsLegalWords log = IsLawful MayFollow log
