@@ -2,13 +2,17 @@
 //! events, a log of events with room, and the definitions that every layer speaks in.
 #![tactic(auto)]
 
+mod entries;
 mod events;
 mod ids;
 mod laws;
 mod logs;
 mod refusals;
+mod runs;
 
+pub use entries::{Entry, Kind};
 pub use events::Event;
 pub use ids::{BUFFERS, BufId, CPUS, CpuId, LockId, THREADS, Tid};
 pub use logs::EventLog;
 pub use refusals::{LogFull, NoMemory};
+pub use runs::{run_by_index, run_grows, run_has_op_order};

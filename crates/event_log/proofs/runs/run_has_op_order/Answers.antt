@@ -1,0 +1,7 @@
+use Rattle.std.proofs.Common.{[]}
+use Rattle.event_log.specs.Buffers.{empty_buffers}
+use Rattle.event_log.proofs.RunLemmas.{op_order_from}
+use Rattle.event_log.proofs.runs.run_has_op_order.Goals as goal
+
+pub returns : goal.returns
+returns c = λ caps es left run. op_order_from caps [] (empty_buffers caps) es left run

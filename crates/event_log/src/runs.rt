@@ -1,0 +1,31 @@
+//! What holds of every run of the machine whose sends and receives are single steps on first-in
+//! first-out buffers: laws, with nothing to run.
+
+ghost use Rattle.std.specs.Prelude.{◌≡◌, ◌<◌, ◌++◌, ◌∷◌, ◌↔◌, ℕ, [], List, length, take, slice_get, Some};
+ghost use Rattle.event_log.specs.declared.entries.Entry.{Entry as AnEntry};
+ghost use Rattle.event_log.specs.Runs.{IsNext, IsRun, after_entry, contents_after};
+ghost use Rattle.event_log.specs.Traces.{HasOpOrder};
+
+/// A law: a run with one entry more at its end, which may come there, is a run, and ends in what
+/// that entry leaves.
+pub fn run_grows()
+    ensures { (caps : List ℕ) (es : List AnEntry) (left : List (List ℕ)) (e : AnEntry) → IsRun caps es left → IsNext caps es left e
+        → IsRun caps (es ++ e ∷ []) (after_entry left e) }
+{}
+
+/// A law: entries are a run that ends in what is left exactly if what is left is the contents after
+/// them, and each entry may come behind the entries that stand before it. So its op and its pos
+/// are the numbers of entries before it, of its buffer, and of its buffer and kind.
+pub fn run_by_index()
+    ensures runs { (caps : List ℕ) (es : List AnEntry) (left : List (List ℕ)) → IsRun caps es left
+        → (left ≡ contents_after caps es)
+        × ((k : ℕ) (e : AnEntry) → slice_get es k ≡ Some e → IsNext caps (take k es) (contents_after caps (take k es)) e) }
+    ensures only { (caps : List ℕ) (es : List AnEntry)
+        → ((k : ℕ) (e : AnEntry) → slice_get es k ≡ Some e → IsNext caps (take k es) (contents_after caps (take k es)) e)
+        → IsRun caps es (contents_after caps es) }
+{}
+
+/// A law: in a run the op numbers of each buffer are 0, 1, 2 and so on.
+pub fn run_has_op_order()
+    ensures { (caps : List ℕ) (es : List AnEntry) (left : List (List ℕ)) → IsRun caps es left → HasOpOrder es }
+{}
