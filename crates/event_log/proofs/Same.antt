@@ -1,0 +1,30 @@
+-- Tests whether two CPUs or two locks are one.
+use Rattle.std.proofs.Common.{◌≡◌, ℕ, Bool, true, false, refl, ap, sym}
+use Rattle.std.proofs.lemmas.Bool.{eq-eqb, eqb-true}
+use Rattle.event_log.specs.declared.ids.BufId.{BufId}
+use Rattle.event_log.specs.declared.ids.CpuId.{CpuId}
+use Rattle.event_log.specs.declared.ids.LockId.{LockId}
+use Rattle.event_log.specs.declared.ids.LockId.TheVariants.{Pending, Buffer}
+use Rattle.event_log.specs.History.{same_cpu, same_lock}
+
+abbrev cpu_numbered : ℕ → CpuId
+cpu_numbered n = record { 0 = n }
+
+abbrev buffer_numbered : ℕ → BufId
+buffer_numbered n = record { 0 = n }
+
+pub same_cpu_self : (a : CpuId) → same_cpu a a ≡ true
+same_cpu_self a = eq-eqb a.0 a.0 refl
+
+pub same_cpu_true : (a b : CpuId) → same_cpu a b ≡ true → a ≡ b
+same_cpu_true a b same = ap cpu_numbered (eqb-true a.0 b.0 same)
+
+pub same_lock_self : (a : LockId) → same_lock a a ≡ true
+same_lock_self (Pending a) = same_cpu_self a
+same_lock_self (Buffer a) = eq-eqb a.0 a.0 refl
+
+pub same_lock_true : (a b : LockId) → same_lock a b ≡ true → a ≡ b
+same_lock_true (Pending a) (Pending b) same = ap Pending (same_cpu_true a b same)
+same_lock_true (Buffer a) (Buffer b) same = ap (λ n. Buffer (buffer_numbered n)) (eqb-true a.0 b.0 same)
+same_lock_true (Pending a) (Buffer b) same = absurd cc
+same_lock_true (Buffer a) (Pending b) same = absurd cc

@@ -1,0 +1,17 @@
+-- Lawful logs, to be read aloud: oldest first, and each event may follow what stands before it.
+use Rattle.std.specs.Prelude.{◌≡◌, ◌↔◌, List, ◌∷◌, ◌++◌, reverse}
+use Rattle.event_log.specs.declared.events.Event.{Event}
+use Rattle.event_log.specs.History.{IsLawful}
+use Rattle.event_log.specs.WordsLog.{MayFollow, IsLegalWords}
+
+-- wherever the log, oldest first, is split at an event, the event may follow the history of what stands before it
+abbrev pub IsLawfulLog : {E : Type 0} → (List E → E → Type 0) → List E → Type 0
+IsLawfulLog {E} May log = (before : List E) (e : E) (later : List E) → log ≡ before ++ (e ∷ later) → May (reverse before) e
+
+-- a legal words log, oldest first
+abbrev pub IsLegalLog : {M : Type 0} → List (Event M) → Type 0
+IsLegalLog log = IsLawfulLog MayFollow log
+
+-- both forms say the same of every words log
+abbrev pub BothFormsAgree : Type 0 → Type 0
+BothFormsAgree M = (log : List (Event M)) → IsLegalLog log ↔ IsLegalWords (reverse log)
