@@ -13,6 +13,7 @@ mod runs;
 pub use entries::{Entry, Kind};
 pub use events::Event;
 pub use ids::{BUFFERS, BufId, CPUS, CpuId, LockId, THREADS, Tid};
+pub use laws::both_forms_agree;
 pub use logs::EventLog;
 pub use refusals::{LogFull, NoMemory};
 pub use runs::{run_by_index, run_grows, run_has_op_order};
