@@ -1,0 +1,4 @@
+pub mod Protocol
+pub mod Turns
+pub mod OneLock
+pub mod Plans

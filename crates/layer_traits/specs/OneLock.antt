@@ -1,0 +1,40 @@
+-- The two words and the home block of one lock, read against a words log; the opening blocks as a list.
+use Rattle.std.specs.Prelude.{◌≡◌, ℕ, ◌%◌, ◌^◌, false, List, [], ◌∷◌, Option, Some, None, MatchOption, if◌then◌else◌}
+use Rattle.event_log.specs.declared.ids.CpuId.{CpuId}
+use Rattle.event_log.specs.declared.ids.LockId.{LockId}
+use Rattle.event_log.specs.declared.events.Event.{Event}
+use Rattle.event_log.specs.History.{same_lock}
+use Rattle.event_log.specs.WordsLog.{draws, frees, standing, Inside}
+use Rattle.event_log.specs.Sections.{block_after}
+use Rattle.layer_traits.specs.declared.edits.Mark.{Mark}
+use Rattle.layer_traits.specs.Protocol.{sections}
+
+-- some CPU is inside this lock
+abbrev pub SomeoneInside : {M : Type 0} → LockId → List (Event M) → Type 0
+SomeoneInside lock log = (cpu : CpuId) × (ticket : ℕ) × (standing cpu log ≡ Inside lock ticket)
+
+-- no CPU is inside this lock
+abbrev pub NobodyInside : {M : Type 0} → LockId → List (Event M) → Type 0
+NobodyInside lock log = (cpu : CpuId) (ticket : ℕ) → standing cpu log ≡ Inside lock ticket → ⊥
+
+-- the words and the home of a lock are those that its log says: `next` counts the draws and `serving` the frees, modulo 2^64;
+-- the home is empty exactly while a CPU is inside, and else it holds the block that the sections leave
+pub record LockFits {E B : Type 0} (edited : E → B → B) (opening : LockId → Option B) (log : List (Event (Mark E))) (lock : LockId) (next serving : ℕ) (home : Option B) : Type 0 where
+  pub next_is : next ≡ draws lock log % 2 ^ 64
+  pub serving_is : serving ≡ frees lock log % 2 ^ 64
+  pub home_is : MatchOption home (SomeoneInside lock log) (λ block. NobodyInside lock log × (block_after edited opening lock (sections log) ≡ Some block))
+
+-- the opening block of a lock in a list of locks with their blocks; None where the lock does not stand there
+abbrev pub opened : {B : Type 0} → List (LockId × B) → LockId → Option B
+opened [] lock = None
+opened (o ∷ rest) lock = if same_lock o.0 lock then Some o.1 else opened rest lock
+
+-- the lock does not stand in the list
+abbrev pub IsMissing : {B : Type 0} → LockId → List (LockId × B) → Type 0
+IsMissing lock [] = Unit {0}
+IsMissing lock (o ∷ rest) = (same_lock lock o.0 ≡ false) × IsMissing lock rest
+
+-- no lock stands twice in the list
+abbrev pub AreDistinct : {B : Type 0} → List (LockId × B) → Type 0
+AreDistinct [] = Unit {0}
+AreDistinct (o ∷ rest) = IsMissing o.0 rest × AreDistinct rest

@@ -1,0 +1,102 @@
+//! The machine beneath the layers: the words and the blocks of ticket locks.
+
+ghost use Rattle.std.specs.Prelude.{◌≡◌, ℕ, ◌+◌, ◌<◌, ◌≤◌, List, Option, IsSome, MatchOption, option_map};
+
+use crate::edits::{Edit, Mark};
+use event_log::{CpuId, Event, LockId};
+
+/// A holder of ticket locks: each lock has the words `next` and `serving`, and guards a block. An
+/// owned machine acts for all CPUs; a seat at shared words acts for its own CPU, and events of the
+/// others may come in at any call.
+///
+/// No call takes memory, and each succeeds.
+pub trait Words {
+    ghost use Rattle.event_log.specs.declared.ids.CpuId.{CpuId};
+    ghost use Rattle.event_log.specs.declared.ids.LockId.{LockId};
+    ghost use Rattle.event_log.specs.declared.events.Event.{Event};
+    ghost use Rattle.event_log.specs.declared.events.Event.TheVariants.{Draw, Look, Free};
+    ghost use Rattle.layer_traits.specs.declared.edits.Mark.{Mark};
+    ghost use Rattle.event_log.specs.History.{Adds, IsLawful};
+    ghost use Rattle.event_log.specs.WordsLog.{actor, standing, Outside, Waiting, Inside};
+    ghost use Rattle.event_log.specs.Sections.{Section, block_after};
+    ghost use Rattle.layer_traits.specs.Protocol.{mark_of, section, sections, MayCome, StaysAllowed};
+
+    /// The edits of the sections.
+    type Edit: Edit;
+
+    /// What a Free leaves in the log: it tells the section's edit.
+    type Mark;
+
+    /// The edit that a mark tells.
+    ghost edit_in: { Self.Mark → Self.Edit };
+
+    /// The opening block of each lock; None where there is no such lock.
+    ghost opening: { Self → LockId → Option Self.Edit.Block };
+
+    /// The events that this holder has seen, newest first.
+    ghost seen: { Self → List (Event (Mark Self.Edit)) };
+
+    /// For which CPUs the holder acts. It carries that the machine is sound.
+    ghost ActsFor: { Self → CpuId → Type 0 };
+
+    /// For how many more events there is room.
+    ghost room: { Self → ℕ };
+
+    /// The mark of a section with this edit.
+    fn mark(edit: Self::Edit) -> Self::Mark
+        ensures { edit_in result ≡ edit };
+
+    /// Draws a ticket of `lock` for `cpu`, which has none outstanding: a fetch-and-add of 1 on
+    /// `next`, whose old value is the ticket.
+    fn draw(&mut self, cpu: CpuId, lock: LockId) -> u64
+        requires cpu { ActsFor self.old cpu }
+        requires lock { IsSome (opening self.old lock) }
+        requires room { 0 < room self.old }
+        requires outside { standing cpu (seen self.old) ≡ Outside }
+        ensures adds { Adds (ActsFor self.old) actor (Draw cpu lock result) (seen self.old) (seen self.new) }
+        ensures opening { opening self.new ≡ opening self.old }
+        ensures room { room self.old ≤ room self.new + 1 }
+        ensures acts { (c : CpuId) → ActsFor self.old c → ActsFor self.new c };
+
+    /// Loads `serving` of `lock` for `cpu`, which waits there with `ticket`. Where it reads the
+    /// ticket the look hits: the lock's block passes to the CPU.
+    fn look(&mut self, cpu: CpuId, lock: LockId, ticket: u64) -> Option<<Self::Edit as Edit>::Block>
+        requires cpu { ActsFor self.old cpu }
+        requires lock { IsSome (opening self.old lock) }
+        requires room { 0 < room self.old }
+        requires waiting { standing cpu (seen self.old) ≡ Waiting lock ticket }
+        ensures adds { (read : ℕ) × Adds (ActsFor self.old) actor (Look cpu lock ticket read) (seen self.old) (seen self.new) }
+        ensures hits { MatchOption result
+            (standing cpu (seen self.new) ≡ Waiting lock ticket)
+            (λ block. (standing cpu (seen self.new) ≡ Inside lock ticket)
+            × (block_after Self.Edit.rules.edited (opening self.new) lock (sections (seen self.new)) ≡ Some block)) }
+        ensures opening { opening self.new ≡ opening self.old }
+        ensures room { room self.old ≤ room self.new + 1 }
+        ensures acts { (c : CpuId) → ActsFor self.old c → ActsFor self.new c };
+
+    /// Frees `lock` for `cpu`, which is inside it: a fetch-and-add of 1 on `serving`. `block` is
+    /// the one that the CPU's look gave, edited as `mark` says, and it goes home. The protocol
+    /// allows that edit there.
+    fn free(
+        &mut self,
+        cpu: CpuId,
+        lock: LockId,
+        block: <Self::Edit as Edit>::Block,
+        mark: Self::Mark,
+    )
+        requires cpu { ActsFor self.old cpu }
+        requires lock { IsSome (opening self.old lock) }
+        requires room { 0 < room self.old }
+        requires inside { (ticket : ℕ) × (standing cpu (seen self.old) ≡ Inside lock ticket) }
+        requires edited { option_map (Self.Edit.rules.edited (edit_in mark))
+            (block_after Self.Edit.rules.edited (opening self.old) lock (sections (seen self.old))) ≡ Some block }
+        requires allowed { StaysAllowed (Self.Edit.rules.allowed (opening self.old)) (sections (seen self.old))
+            (section cpu lock (edit_in mark)) }
+        ensures adds { Adds (ActsFor self.old) actor (Free cpu lock (mark_of (edit_in mark))) (seen self.old) (seen self.new) }
+        ensures opening { opening self.new ≡ opening self.old }
+        ensures room { room self.old ≤ room self.new + 1 }
+        ensures acts { (c : CpuId) → ActsFor self.old c → ActsFor self.new c };
+
+    /// Law: what a holder has seen is a legal words log in which each section keeps the protocol.
+    ghost legal: { (w : Self) (c : CpuId) → ActsFor w c → IsLawful (MayCome (Self.Edit.rules.allowed (opening w))) (seen w) };
+}
