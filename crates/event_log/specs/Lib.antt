@@ -7,3 +7,5 @@ pub mod Sections
 pub mod Buffers
 pub mod Runs
 pub mod Traces
+pub mod Digits
+pub mod Reading

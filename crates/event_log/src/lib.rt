@@ -2,6 +2,7 @@
 //! events, a log of events with room, and the definitions that every layer speaks in.
 #![tactic(auto)]
 
+mod digits;
 mod entries;
 mod events;
 mod ids;
@@ -10,6 +11,7 @@ mod logs;
 mod refusals;
 mod runs;
 
+pub use digits::{number_has_one_spelling, number_to};
 pub use entries::{Entry, Kind};
 pub use events::Event;
 pub use ids::{BUFFERS, BufId, CPUS, CpuId, LockId, THREADS, Tid};

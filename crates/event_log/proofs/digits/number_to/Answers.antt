@@ -1,0 +1,54 @@
+-- Each early return has a text that spells no number of at most `most`.
+use Rattle.std.proofs.Common.{◌≡◌, ◌+◌, ◌*◌, ◌-◌, ◌/◌, ◌<◌, ◌≤◌, length, get_or, arith, sym, ◌∙◌, ℕ}
+use Rattle.std.proofs.lemmas.Bool.Decides.{nat_tests}
+use Rattle.event_log.proofs.DigitsLemmas.{number_to-empty, number_to-leading_zero, number_to-not_a_digit, number_to-too_large, reads_one_more, reads_all}
+use Rattle.event_log.proofs.digits.number_to.Goals.{else-text-eq48-via-then-text-eq48+else-text-gt1, else-text-eq48-via-else-text-eq48}
+use Rattle.event_log.proofs.digits.number_to.Goals as goal
+
+-- the test before the product: where the number is above, so is the next one
+above : (most digit number : ℕ) → (most - digit) / 10 < number → most < number * 10 + digit
+above most digit number h = omega arith
+
+within : (most digit number : ℕ) → digit ≤ most → number ≤ (most - digit) / 10 → number * 10 + digit ≤ most
+within most digit number small h = omega arith
+
+pub returns-then-is_empty : goal.returns-then-is_empty
+returns-then-is_empty c = sym (number_to-empty c.args.most c.args.text.now (grind (arith, nat_tests)))
+
+pub returns-then-text-gt1 : goal.returns-then-text-gt1
+returns-then-text-gt1 c = sym (number_to-leading_zero c.args.most c.args.text.now c.if-text-eq48.true c.if-text-gt1.true)
+
+pub returns-then-not-is_ascii_digit : goal.returns-then-not-is_ascii_digit
+returns-then-not-is_ascii_digit c =
+    sym (number_to-not_a_digit c.args.most c.args.text.now c.loop-byte.byte-index c.loop-byte-test.true (sym c.is_ascii_digit.ensures.value ∙ c.if-not-is_ascii_digit.true))
+
+pub returns-then-most-digit : goal.returns-then-most-digit
+returns-then-most-digit c =
+    let large : c.args.most < c.loop-byte.number * 10 + (get_or c.args.text.now c.loop-byte.byte-index 0 - 48) = omega arith in
+    sym (number_to-too_large c.args.most c.args.text.now c.loop-byte.byte-index c.loop-byte.number c.loop-byte.invariant c.loop-byte-test.true (sym c.is_ascii_digit.ensures.value ∙ c.if-not-is_ascii_digit.false) large)
+
+pub returns-then-number-most : goal.returns-then-number-most
+returns-then-number-most c =
+    let large : c.args.most < c.loop-byte.number * 10 + (get_or c.args.text.now c.loop-byte.byte-index 0 - 48) =
+    omega (arith, above c.args.most c.from-digit.result c.loop-byte.number c.if-number-most.true) in
+    sym (number_to-too_large c.args.most c.args.text.now c.loop-byte.byte-index c.loop-byte.number c.loop-byte.invariant c.loop-byte-test.true (sym c.is_ascii_digit.ensures.value ∙ c.if-not-is_ascii_digit.false) large)
+
+pub loop-byte-preserved : goal.loop-byte-preserved
+loop-byte-preserved c =
+    let fits : c.loop-byte.number * 10 + (get_or c.args.text.now c.loop-byte.byte-index 0 - 48) ≤ c.args.most =
+    omega (arith, within c.args.most c.from-digit.result c.loop-byte.number c.if-most-digit.false c.if-number-most.false) in
+    rw c.from-digit.ensures (reads_one_more c.args.most c.args.text.now c.loop-byte.byte-index c.loop-byte.number c.loop-byte.invariant c.loop-byte-test.true (sym c.is_ascii_digit.ensures.value ∙ c.if-not-is_ascii_digit.false) fits)
+
+some : (c : goal.After-loop-byte) → 0 < length c.args.text.now
+some c = grind (arith, nat_tests)
+
+lead : (c : goal.After-loop-byte) → get_or c.args.text.now 0 0 ≡ 48 → length c.args.text.now ≡ 1
+lead c e =
+    let more = some c in
+    elim c.else-text-eq48.branch [
+      | else-text-eq48-via-then-text-eq48+else-text-gt1 w ↦ let short = w.if-text-gt1.false in omega arith
+      | else-text-eq48-via-else-text-eq48 w ↦ absurd (w.if-text-eq48.false e)
+    ]
+
+pub returns : goal.returns
+returns c = sym (reads_all c.args.most c.args.text.now c.loop-byte.byte-index c.loop-byte.number c.loop-byte.invariant c.loop-byte-test.false (some c) (lead c))

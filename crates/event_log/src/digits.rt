@@ -1,0 +1,61 @@
+//! Numbers written in decimal digits, as programs, schedules and trace texts spell them.
+
+ghost use Rattle.std.specs.Prelude.{◌≡◌, ◌≤◌, ◌<◌, ◌^◌, ℕ, List, Some, decimal};
+ghost use Rattle.event_log.specs.Digits.{number_to};
+
+/// The number that `text` spells, if it spells one of at most `most`: `0`, or digits of which the
+/// first is not `0`. Any other text gives `None`, a sign or a leading zero included.
+pub fn number_to(text: &[u8], most: u64) -> Option<u64>
+    ensures { result ≡ number_to most text.now }
+{
+    if text.is_empty() {
+        return None;
+    }
+    if text[0] == b'0' && text.len() > 1 {
+        return None;
+    }
+    let mut number: u64 = 0;
+    for byte in text {
+        if !byte.is_ascii_digit() {
+            return None;
+        }
+        let digit = u64::from(*byte - b'0');
+        if most < digit {
+            return None;
+        }
+        if number > (most - digit) / 10 {
+            return None;
+        }
+        number = number * 10 + digit;
+    }
+    Some(number)
+}
+
+/// The law of the spelling: each number up to `most` is spelled by one text, the one that `{}`
+/// writes of it, and that text is read as the number.
+pub fn number_has_one_spelling()
+    ensures read_back { (most n : ℕ) → n < 2 ^ 64 → n ≤ most → number_to most (decimal n) ≡ Some n }
+    ensures only { (most n : ℕ) (text : List ℕ) → most < 2 ^ 64 → number_to most text ≡ Some n → text ≡ decimal n }
+{}
+
+#[cfg(test)]
+mod tests {
+    use super::*;
+
+    #[test]
+    fn reads_the_largest_and_refuses_what_is_none(rt: HostRuntime) {
+        assert_eq!(rt; number_to(b"0", 0), Some(0));
+        assert_eq!(rt; number_to(b"15", 15), Some(15));
+        assert_eq!(rt; number_to(b"16", 15), None);
+        assert_eq!(rt;
+            number_to(b"18446744073709551615", u64::MAX),
+            Some(u64::MAX)
+        );
+        assert_eq!(rt; number_to(b"18446744073709551616", u64::MAX), None);
+        assert_eq!(rt; number_to(b"", 9), None);
+        assert_eq!(rt; number_to(b"00", 9), None);
+        assert_eq!(rt; number_to(b"07", 9), None);
+        assert_eq!(rt; number_to(b"+7", 9), None);
+        assert_eq!(rt; number_to(b"7 ", 9), None);
+    }
+}
