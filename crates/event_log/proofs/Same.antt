@@ -7,7 +7,7 @@ use Rattle.event_log.specs.declared.ids.LockId.{LockId}
 use Rattle.event_log.specs.declared.ids.LockId.TheVariants.{Pending, Buffer}
 use Rattle.event_log.specs.History.{same_cpu, same_lock}
 
-abbrev cpu_numbered : ℕ → CpuId
+abbrev pub cpu_numbered : ℕ → CpuId
 cpu_numbered n = record { 0 = n }
 
 abbrev buffer_numbered : ℕ → BufId

@@ -4,6 +4,7 @@ pub mod Forms
 pub mod WordsLog
 pub mod Actions
 pub mod Sections
+pub mod Laws
 pub mod Buffers
 pub mod Runs
 pub mod Traces

@@ -1,13 +1,31 @@
-//! What holds of every words log, as functions without work: each promise is a law.
+//! What holds of every legal log. Each law is the contract of a function that does nothing, so that
+//! the law is proved with the crate.
 
-ghost use Rattle.event_log.specs.History.{Adds, Grows, own, IsLawful};
-ghost use Rattle.event_log.specs.WordsLog.{IsLegalWords};
-ghost use Rattle.event_log.specs.Actions.{AreLegal, next_action, renamed, acts_of};
-ghost use Rattle.event_log.specs.Sections.{Section, section_actor, sections_of, sections_in, block_after};
 ghost use Rattle.event_log.specs.Forms.{BothFormsAgree};
+ghost use Rattle.event_log.specs.Laws.{OneHolds, OneInside, TicketsTellPlaces};
+ghost use Rattle.event_log.specs.History.{Adds, Grows, own, IsLawful};
+ghost use Rattle.event_log.specs.Actions.{next_action, renamed};
+ghost use Rattle.event_log.specs.Sections.{Section, section_actor, sections_of, sections_in, block_after};
 
 /// A words log, oldest first, is legal where each event may follow what stands before it, however
 /// the log is split. The recursion on its history, newest first, says the same.
 pub fn both_forms_agree<M>()
     ensures { BothFormsAgree M }
+{}
+
+/// In a legal list of actions two CPUs never hold one lock.
+pub fn one_holds<N>()
+    ensures { OneHolds N }
+{}
+
+/// In a legal words log two CPUs are never inside one lock, although its tickets are numbers modulo
+/// 2^64: at most [`CPUS`](crate::CPUS) of them wait at a time.
+pub fn one_inside<M>()
+    ensures { OneInside M }
+{}
+
+/// A legal words log is a legal list of actions: a look hits exactly where its lock was freed as
+/// often as it had been drawn at before the CPU's draw.
+pub fn tickets_tell_places<M>()
+    ensures { TicketsTellPlaces M }
 {}

@@ -1,0 +1,154 @@
+-- A legal words log is a legal list of actions: the rests modulo 2^64 tell the true counts, since at most CPUS places wait.
+use Rattle.std.proofs.Common.{◌≡◌, ℕ, ◌+◌, ◌%◌, ◌^◌, ◌<◌, ◌≤◌, Bool, true, false, List, [], ◌∷◌, ◌==◌, if◌then◌else◌, refl, ap, sym, subst, ◌∙◌, arith}
+use Rattle.std.proofs.lemmas.Bool.{eqb-true, eq-eqb}
+use Rattle.event_log.specs.declared.ids.CpuId.{CpuId}
+use Rattle.event_log.specs.declared.ids.LockId.{LockId}
+use Rattle.event_log.specs.declared.ids.TheConstants.{CPUS}
+use Rattle.event_log.specs.declared.events.Event.{Event}
+use Rattle.event_log.specs.declared.events.Event.TheVariants.{Draw, Look, Free}
+use Rattle.event_log.specs.History.{same_cpu, same_lock, how_many}
+use Rattle.event_log.specs.WordsLog.{actor, draws, frees, is_draw, is_free, Standing, Outside, Waiting, Inside, left_by, standing, MayFollow, IsLegalWords}
+use Rattle.event_log.specs.Actions.{Action, Take, Try, Give, Phase, Rests, Waits, Holds, phase, left_in, doer, place, takes, gives, is_take, is_give, MayAct, AreLegal, act_of, acts_of}
+use Rattle.event_log.proofs.Same.{same_cpu_self, same_lock_self}
+use Rattle.event_log.proofs.Line.{by_cpu}
+use Rattle.event_log.proofs.Exclusion.{is_at, phase_other, place_other, one_holds, near}
+
+-- what a CPU does that stands here
+abbrev pub phase_of : Standing → Phase
+phase_of Outside = Rests
+phase_of (Waiting lock ticket) = Waits lock
+phase_of (Inside lock ticket) = Holds lock
+
+phase_either : (b : Bool) (lock : LockId) (ticket : ℕ) → (if b then Holds lock else Waits lock) ≡ phase_of (if b then Inside lock ticket else Waiting lock ticket)
+phase_either true lock ticket = refl
+phase_either false lock ticket = refl
+
+phase_left : {M N : Type 0} (name : M → N) (e : Event M) → left_in (act_of name e) ≡ phase_of (left_by e)
+phase_left name (Draw cpu lock ticket) = refl
+phase_left name (Look cpu lock ticket read) = phase_either (read == ticket) lock ticket
+phase_left name (Free cpu lock mark) = refl
+
+doer_is : {M N : Type 0} (name : M → N) (e : Event M) → doer (act_of name e) ≡ actor e
+doer_is name (Draw cpu lock ticket) = refl
+doer_is name (Look cpu lock ticket read) = refl
+doer_is name (Free cpu lock mark) = refl
+
+phase_choice : (b : Bool) (p q : Phase) (s t : Standing) → p ≡ phase_of s → q ≡ phase_of t → (if b then p else q) ≡ phase_of (if b then s else t)
+phase_choice true p q s t left before = left
+phase_choice false p q s t left before = before
+
+-- the standing of a CPU tells its phase
+pub phase_acts : {M N : Type 0} (name : M → N) (c : CpuId) (log : List (Event M)) → phase c (acts_of name log) ≡ phase_of (standing c log)
+phase_acts name c [] = refl
+phase_acts name c (e ∷ past) =
+    ap (λ d. if same_cpu d c then left_in (act_of name e) else phase c (acts_of name past)) (doer_is name e)
+    ∙ phase_choice (same_cpu (actor e) c) (left_in (act_of name e)) (phase c (acts_of name past)) (left_by e) (standing c past) (phase_left name e) (phase_acts name c past)
+
+is_take_draw : {M N : Type 0} (name : M → N) (lock : LockId) (e : Event M) → is_take lock (act_of name e) ≡ is_draw lock e
+is_take_draw name lock (Draw cpu at ticket) = refl
+is_take_draw name lock (Look cpu at ticket read) = refl
+is_take_draw name lock (Free cpu at mark) = refl
+
+is_give_free : {M N : Type 0} (name : M → N) (lock : LockId) (e : Event M) → is_give lock (act_of name e) ≡ is_free lock e
+is_give_free name lock (Draw cpu at ticket) = refl
+is_give_free name lock (Look cpu at ticket read) = refl
+is_give_free name lock (Free cpu at mark) = refl
+
+one_more : (b c : Bool) (k n : ℕ) → b ≡ c → k ≡ n → (if b then k + 1 else k) ≡ (if c then n + 1 else n)
+one_more b c k n picks count = ap (λ x. if x then k + 1 else k) picks ∙ ap (λ x. if c then x + 1 else x) count
+
+-- the places taken are the draws
+pub takes_acts : {M N : Type 0} (name : M → N) (lock : LockId) (log : List (Event M)) → takes lock (acts_of name log) ≡ draws lock log
+takes_acts name lock [] = refl
+takes_acts name lock (e ∷ past) = one_more (is_take lock (act_of name e)) (is_draw lock e) (takes lock (acts_of name past)) (draws lock past) (is_take_draw name lock e) (takes_acts name lock past)
+
+-- the gives are the frees
+pub gives_acts : {M N : Type 0} (name : M → N) (lock : LockId) (log : List (Event M)) → gives lock (acts_of name log) ≡ frees lock log
+gives_acts name lock [] = refl
+gives_acts name lock (e ∷ past) = one_more (is_give lock (act_of name e)) (is_free lock e) (gives lock (acts_of name past)) (frees lock past) (is_give_free name lock e) (gives_acts name lock past)
+
+-- a ticket is the rest of the place modulo 2^64
+abbrev pub TicketOf : Standing → ℕ → Type 0
+TicketOf Outside place = Unit {0}
+TicketOf (Waiting lock ticket) place = ticket ≡ place % 2 ^ 64
+TicketOf (Inside lock ticket) place = ticket ≡ place % 2 ^ 64
+
+ticket_either : (b : Bool) (lock : LockId) (ticket place : ℕ) → ticket ≡ place % 2 ^ 64 → TicketOf (if b then Inside lock ticket else Waiting lock ticket) place
+ticket_either true lock ticket place is = is
+ticket_either false lock ticket place is = is
+
+-- where its own event leaves a CPU, with the place that it then has
+ticket_left : {M N : Type 0} (name : M → N) (e : Event M) (past : List (Event M)) → MayFollow past e
+    → TicketOf (standing (actor e) past) (place (actor e) (acts_of name past))
+    → TicketOf (left_by e) (place (actor e) (acts_of name (e ∷ past)))
+ticket_left name (Draw cpu lock ticket) past may had =
+    may.2 ∙ ap (λ n. n % 2 ^ 64) (sym (takes_acts name lock past) ∙ sym (ap (λ b. if b then takes lock (acts_of name past) else place cpu (acts_of name past)) (same_cpu_self cpu)))
+ticket_left name (Look cpu lock ticket read) past may had =
+    ticket_either (read == ticket) lock ticket (place cpu (acts_of name past))
+    (subst (λ s. TicketOf s (place cpu (acts_of name past))) may.0 had)
+ticket_left name (Free cpu lock mark) past may had = tt
+
+standing_own : {M : Type 0} (e : Event M) (past : List (Event M)) → standing (actor e) (e ∷ past) ≡ left_by e
+standing_own e past = ap (λ b. if b then left_by e else standing (actor e) past) (same_cpu_self (actor e))
+
+-- an event changes the standing of no other CPU
+pub standing_other : {M : Type 0} (e : Event M) (past : List (Event M)) (c : CpuId) → same_cpu (actor e) c ≡ false → standing c (e ∷ past) ≡ standing c past
+standing_other e past c other = ap (λ b. if b then left_by e else standing c past) other
+
+place_acts_other : {M N : Type 0} (name : M → N) (e : Event M) (past : List (Event M)) (c : CpuId) → same_cpu (actor e) c ≡ false
+    → place c (acts_of name (e ∷ past)) ≡ place c (acts_of name past)
+place_acts_other name e past c other = place_other (act_of name e) (acts_of name past) c (subst (λ d. same_cpu d c ≡ false) (sym (doer_is name e)) other)
+
+-- in a legal log each ticket is the rest of the true place
+pub ticket_at : {M N : Type 0} (name : M → N) (log : List (Event M)) → IsLegalWords log → (c : CpuId) → TicketOf (standing c log) (place c (acts_of name log))
+ticket_at name [] legal c = tt
+ticket_at name (e ∷ past) legal c =
+    by_cpu (actor e) (λ d. TicketOf (standing d (e ∷ past)) (place d (acts_of name (e ∷ past))))
+    (subst (λ s. TicketOf s (place (actor e) (acts_of name (e ∷ past)))) (sym (standing_own e past))
+    (ticket_left name e past legal.0 (ticket_at name past legal.1 (actor e))))
+    (λ d o. subst (λ s. TicketOf s (place d (acts_of name (e ∷ past)))) (sym (standing_other e past d o))
+    (subst (TicketOf (standing d past)) (sym (place_acts_other name e past d o)) (ticket_at name past legal.1 d)))
+    c
+
+eqb_same : (a b c d : ℕ) → (a ≡ b → c ≡ d) → (c ≡ d → a ≡ b) → (a == b) ≡ (c == d)
+eqb_same a b c d there back = go (a == b) (c == d) refl refl
+  where
+    go : (x y : Bool) → (a == b) ≡ x → (c == d) ≡ y → x ≡ y
+    go true y first second = sym (eq-eqb c d (there (eqb-true a b first))) ∙ second
+    go false true first second = sym first ∙ eq-eqb a b (back (eqb-true c d second))
+    go false false first second = refl
+
+near_rests : (given spot : ℕ) → given ≤ spot → spot < given + CPUS → given % 2 ^ 64 ≡ spot % 2 ^ 64 → given ≡ spot
+near_rests given spot ahead close same = omega arith
+
+-- among places so near one another equal rests are equal places
+pub same_rests : (given spot read ticket : ℕ) → given ≤ spot → spot < given + CPUS → read ≡ given % 2 ^ 64 → ticket ≡ spot % 2 ^ 64
+    → (read == ticket) ≡ (given == spot)
+same_rests given spot read ticket ahead close reads has =
+    eqb_same read ticket given spot (λ e. near_rests given spot ahead close (sym reads ∙ (e ∙ has))) (λ e. reads ∙ (ap (λ n. n % 2 ^ 64) e ∙ sym has))
+
+legal_act : {M N : Type 0} (name : M → N) (e : Event M) (past : List (Event M)) → MayFollow past e → IsLegalWords past → AreLegal (acts_of name past)
+    → MayAct (acts_of name past) (act_of name e)
+legal_act name (Draw cpu lock ticket) past may legal acts = (may.0, phase_acts name cpu past ∙ ap phase_of may.1)
+legal_act name (Look cpu lock ticket read) past may legal acts =
+    let waits : phase cpu (acts_of name past) ≡ Waits lock = phase_acts name cpu past ∙ ap phase_of may.0 in
+    let there : is_at lock (phase cpu (acts_of name past)) ≡ true = ap (is_at lock) waits ∙ same_lock_self lock in
+    let has : ticket ≡ place cpu (acts_of name past) % 2 ^ 64 = subst (λ s. TicketOf s (place cpu (acts_of name past))) may.0 (ticket_at name past legal cpu) in
+    let close = near (acts_of name past) acts cpu lock there in
+    (waits, same_rests (gives lock (acts_of name past)) (place cpu (acts_of name past)) read ticket close.0 close.1 (may.1 ∙ ap (λ n. n % 2 ^ 64) (sym (gives_acts name lock past))) has)
+legal_act name (Free cpu lock mark) past may legal acts = phase_acts name cpu past ∙ ap phase_of may.1
+
+-- a legal words log is a legal list of actions
+pub legal_acts : {M N : Type 0} (name : M → N) (log : List (Event M)) → IsLegalWords log → AreLegal (acts_of name log)
+legal_acts name [] legal = tt
+legal_acts name (e ∷ past) legal =
+    let acts : AreLegal (acts_of name past) = legal_acts name past legal.1 in
+    (legal_act name e past legal.0 legal.1 acts, acts)
+
+-- two CPUs are never inside one lock
+pub one_inside : {M : Type 0} (log : List (Event M)) → IsLegalWords log → (a b : CpuId) (lock : LockId) (s t : ℕ)
+    → standing a log ≡ Inside lock s → standing b log ≡ Inside lock t → a ≡ b
+one_inside {M = M} log legal a b lock s t first second =
+    let name : M → M = λ m. m in
+    one_holds (acts_of name log) (legal_acts name log legal) a b lock
+    (phase_acts name a log ∙ ap phase_of first) (phase_acts name b log ∙ ap phase_of second)
