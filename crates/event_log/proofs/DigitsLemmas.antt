@@ -1,6 +1,7 @@
 -- Numbers in digits: what `number_to` reads, and the one text that spells a number.
-use Rattle.std.proofs.Common.{zero, ap₂, lit<, ◌≡◌, ℕ, suc, ◌+◌, ◌*◌, ◌^◌, ◌<◌, ◌≤◌, ◌-◌, Bool, true, false, ◌&&◌, List, [], ◌∷◌, length, get_or, take, nat_le, Some, None, if◌then◌else◌, decimal, refl, sym, ◌∙◌, ap, arith, take_all}
+use Rattle.std.proofs.Common.{ne_eqb, ◌≢◌, ◌==◌, zero, ap₂, lit<, ◌≡◌, ℕ, suc, ◌+◌, ◌*◌, ◌^◌, ◌<◌, ◌≤◌, ◌-◌, Bool, true, false, ◌&&◌, List, [], ◌∷◌, length, get_or, take, nat_le, Some, None, if◌then◌else◌, decimal, refl, sym, ◌∙◌, ap, arith, take_all}
 use Rattle.std.specs.Int.{IsInRange}
+use Rattle.std.specs.List.{list_all}
 use Rattle.std.specs.Str.{all_ascii_digits}
 use Rattle.std.specs.Char.{is_ascii_digit, digit_value}
 use Rattle.std.specs.Str.Parse.{digits_value, AllDigits}
@@ -66,6 +67,27 @@ number_to-leading_zero most (c ∷ cs) e more =
 pub number_to-beyond : (most : ℕ) (text : List ℕ) → most < digits_value 10 text → number_to most text ≡ None
 unfolding number_to
 number_to-beyond most text h = grind (arith, nat_tests)
+
+pub is_number-empty : (text : List ℕ) → length text ≡ 0 → is_number text ≡ false
+unfolding is_number
+is_number-empty [] h = refl
+is_number-empty (c ∷ cs) h = absurd (omega arith)
+
+pub is_number-zero : (text : List ℕ) → 0 < length text → get_or text 0 0 ≡ 48 → is_number text ≡ (length text == 1)
+unfolding is_number
+is_number-zero [] some e = absurd (omega arith)
+is_number-zero (c ∷ cs) some e = let first : c ≡ 48 = e in grind (arith, nat_tests)
+
+all_digits : (text : List ℕ) → all_ascii_digits text ≡ list_all is_ascii_digit text
+all_digits [] = refl
+all_digits (c ∷ cs) = ap (λ rest. is_ascii_digit c && rest) (all_digits cs)
+
+pub is_number-digits : (text : List ℕ) → 0 < length text → get_or text 0 0 ≢ 48 → is_number text ≡ list_all is_ascii_digit text
+unfolding is_number
+is_number-digits [] some other = absurd (omega arith)
+is_number-digits (c ∷ cs) some other =
+    let first : (c == 48) ≡ false = ne_eqb c 48 other in
+    rw first (all_digits (c ∷ cs))
 
 -- what a text that is read as a number is
 pub record IsRead (most : ℕ) (text : List ℕ) (n : ℕ) : Type 0 where

@@ -1,7 +1,29 @@
 //! Numbers written in decimal digits, as programs, schedules and trace texts spell them.
 
 ghost use Rattle.std.specs.Prelude.{◌≡◌, ◌≤◌, ◌<◌, ◌^◌, ℕ, List, Some, decimal};
-ghost use Rattle.event_log.specs.Digits.{number_to};
+ghost use Rattle.std.specs.Char.{is_ascii_digit};
+ghost use Rattle.std.specs.List.{list_all};
+ghost use Rattle.event_log.specs.Digits.{is_number, number_to};
+
+/// Whether `text` spells a number, of any size: it is `0`, or digits of which the first is not `0`.
+pub fn is_number(text: &[u8]) -> bool
+    ensures { result ≡ is_number text.now }
+{
+    if text.is_empty() {
+        return false;
+    }
+    if text[0] == b'0' {
+        return text.len() == 1;
+    }
+    has_only_digits(text)
+}
+
+/// Whether each byte of `text` is a digit.
+fn has_only_digits(text: &[u8]) -> bool
+    ensures { result ≡ list_all is_ascii_digit text.now }
+{
+    text.iter().all(|byte| byte.is_ascii_digit())
+}
 
 /// The number that `text` spells, if it spells one of at most `most`: `0`, or digits of which the
 /// first is not `0`. Any other text gives `None`, a sign or a leading zero included.
@@ -57,5 +79,7 @@ mod tests {
         assert_eq!(rt; number_to(b"07", 9), None);
         assert_eq!(rt; number_to(b"+7", 9), None);
         assert_eq!(rt; number_to(b"7 ", 9), None);
+        assert!(rt; is_number(b"18446744073709551616"));
+        assert!(rt; !is_number(b"01"));
     }
 }

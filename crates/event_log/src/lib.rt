@@ -11,7 +11,7 @@ mod logs;
 mod refusals;
 mod runs;
 
-pub use digits::{number_has_one_spelling, number_to};
+pub use digits::{is_number, number_has_one_spelling, number_to};
 pub use entries::{Entry, Kind};
 pub use events::Event;
 pub use ids::{BUFFERS, BufId, CPUS, CpuId, LockId, THREADS, Tid};
