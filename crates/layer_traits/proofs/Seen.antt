@@ -1,0 +1,102 @@
+-- What a CPU knows of a history that foreign events lengthen: where it is, its block, and that its section stays allowed.
+use Rattle.std.proofs.Common.{◌≡◌, ℕ, ◌<◌, Bool, true, false, List, [], ◌∷◌, ◌++◌, Option, option_map, if◌then◌else◌, refl, ap, sym, ◌∙◌, subst, append_assoc}
+use Rattle.event_log.specs.declared.ids.CpuId.{CpuId}
+use Rattle.event_log.specs.declared.ids.LockId.{LockId}
+use Rattle.event_log.specs.declared.ids.TheConstants.{CPUS}
+use Rattle.event_log.specs.declared.events.Event.{Event}
+use Rattle.event_log.specs.declared.events.Event.TheVariants.{Draw, Look, Free}
+use Rattle.event_log.specs.History.{IsLawful, AreOthers, AreForeign, same_cpu, same_lock}
+use Rattle.event_log.specs.WordsLog.{IsLegalWords, Inside, actor, standing}
+use Rattle.event_log.specs.Sections.{Section, section_actor, block_after}
+use Rattle.event_log.specs.Actions.{acts_of}
+use Rattle.event_log.proofs.Exclusion.{is_at, knows}
+use Rattle.event_log.proofs.Same.{same_cpu_self, same_lock_self, same_lock_true}
+use Rattle.event_log.proofs.Tickets.{phase_of, phase_acts, legal_acts, one_inside}
+use Rattle.layer_traits.specs.declared.edits.Mark.{Mark}
+use Rattle.layer_traits.specs.Protocol.{MayCome, StaysAllowed, IsKnown, sections, section}
+
+-- a lawful history is lawful without its newest events
+pub lawful_rest : {E : Type 0} (May : List E → E → Type 0) (more old : List E) → IsLawful May (more ++ old) → IsLawful May old
+lawful_rest May [] old h = h
+lawful_rest May (e ∷ more) old h = lawful_rest May more old h.1
+
+-- where a CPU is does not change by events of others
+pub standing_others : {M : Type 0} (cpu : CpuId) (more log : List (Event M)) → AreOthers actor cpu more → standing cpu (more ++ log) ≡ standing cpu log
+standing_others cpu [] log h = refl
+standing_others cpu (e ∷ more) log h = rw h.0 (standing_others cpu more log h.1)
+
+pub sections-append : {E : Type 0} (more log : List (Event (Mark E))) → sections (more ++ log) ≡ sections more ++ sections log
+sections-append [] log = refl
+sections-append (Draw cpu lock ticket ∷ more) log = sections-append more log
+sections-append (Look cpu lock ticket read ∷ more) log = sections-append more log
+sections-append (Free cpu lock mark ∷ more) log = ap (λ rest. section cpu lock mark.edit ∷ rest) (sections-append more log)
+
+-- the sections of others' events are others' sections
+pub others_sections : {E : Type 0} (cpu : CpuId) (more : List (Event (Mark E))) → AreOthers actor cpu more → AreOthers section_actor cpu (sections more)
+others_sections cpu [] h = tt
+others_sections cpu (Draw by lock ticket ∷ more) h = others_sections cpu more h.1
+others_sections cpu (Look by lock ticket read ∷ more) h = others_sections cpu more h.1
+others_sections cpu (Free by lock mark ∷ more) h = (h.0, others_sections cpu more h.1)
+
+-- the sections of foreign events are foreign
+pub foreign_sections : {E : Type 0} (ActsFor : CpuId → Type 0) (more : List (Event (Mark E))) → AreForeign ActsFor actor more → AreForeign ActsFor section_actor (sections more)
+foreign_sections ActsFor more foreign = λ cpu acts. others_sections cpu more (foreign cpu acts)
+
+module _ {E : Type 0} (Allowed : List (Section E) → Section E → Type 0) where
+  -- a log that keeps the protocol is a legal words log
+  pub words_legal : (log : List (Event (Mark E))) → IsLawful (MayCome Allowed) log → IsLegalWords log
+  words_legal [] h = tt
+  words_legal (e ∷ past) h = (h.0.0, words_legal past h.1)
+
+  -- its sections are each allowed
+  pub sections_allowed : (log : List (Event (Mark E))) → IsLawful (MayCome Allowed) log → IsLawful Allowed (sections log)
+  sections_allowed [] h = tt
+  sections_allowed (Draw cpu lock ticket ∷ past) h = sections_allowed past h.1
+  sections_allowed (Look cpu lock ticket read ∷ past) h = sections_allowed past h.1
+  sections_allowed (Free cpu lock mark ∷ past) h = (h.0.1, sections_allowed past h.1)
+
+  -- a section that stays allowed does so after sections of others
+  pub stays_on : (more past : List (Section E)) (s : Section E) → AreOthers section_actor s.cpu more → StaysAllowed Allowed past s → StaysAllowed Allowed (more ++ past) s
+  stays_on more past s others stays = λ later theirs lawful.
+      let joined : (later ++ more) ++ past ≡ later ++ (more ++ past) = append_assoc later more past in
+      subst (λ l. Allowed l s) joined (stays (later ++ more) (both later theirs) (subst (λ l. IsLawful Allowed l) (sym joined) lawful))
+    where
+      both : (later : List (Section E)) → AreOthers section_actor s.cpu later → AreOthers section_actor s.cpu (later ++ more)
+      both [] theirs = others
+      both (x ∷ later) theirs = (theirs.0, both later theirs.1)
+
+-- a CPU inside a lock is one that a machine may have
+pub inside_known : {M : Type 0} (log : List (Event M)) → IsLegalWords log → (c : CpuId) (lock : LockId) (t : ℕ) → standing c log ≡ Inside lock t → c.0 < CPUS
+inside_known {M = M} log legal c lock t inside =
+    let name : M → M = λ m. m in
+    knows (acts_of name log) (legal_acts name log legal) c lock (ap (is_at lock) (phase_acts name c log ∙ ap phase_of inside) ∙ same_lock_self lock)
+
+-- the sections of a legal words log are of CPUs that a machine may have
+pub sections_known : {E : Type 0} (log : List (Event (Mark E))) → IsLegalWords log → IsLawful IsKnown (sections log)
+sections_known [] legal = tt
+sections_known (Draw cpu lock ticket ∷ past) legal = sections_known past legal.1
+sections_known (Look cpu lock ticket read ∷ past) legal = sections_known past legal.1
+sections_known (Free cpu lock mark ∷ past) legal = (inside_known past legal.1 cpu lock legal.0.0 legal.0.1, sections_known past legal.1)
+
+module _ {E B : Type 0} (edited : E → B → B) (opening : LockId → Option B) (cpu : CpuId) (lock : LockId) (ticket : ℕ) where
+  -- while a CPU is inside a lock, another frees another lock
+  free_elsewhere : (by : CpuId) (at : LockId) (mark : Mark E) (past : List (Event (Mark E))) → IsLegalWords past → same_cpu by cpu ≡ false
+      → (drawn : ℕ) → standing by past ≡ Inside at drawn → standing cpu past ≡ Inside lock ticket → (b : Bool) → same_lock lock at ≡ b
+      → (if b then option_map (edited mark.edit) (block_after edited opening lock (sections past)) else block_after edited opening lock (sections past))
+      ≡ block_after edited opening lock (sections past)
+  free_elsewhere by at mark past legal other drawn there here false elsewhere = refl
+  free_elsewhere by at mark past legal other drawn there here true same =
+      let at_lock : standing by past ≡ Inside lock drawn = subst (λ l. standing by past ≡ Inside l drawn) (sym (same_lock_true lock at same)) there in
+      let one : by ≡ cpu = one_inside past legal by cpu lock drawn ticket at_lock here in
+      let itself : same_cpu by cpu ≡ true = subst (λ c. same_cpu c cpu ≡ true) (sym one) (same_cpu_self cpu) in
+      absurd (cc (other, itself))
+
+  -- while a CPU is inside a lock, no event of others changes the block that the sections leave there
+  pub block_stays : (more log : List (Event (Mark E))) → IsLegalWords (more ++ log) → AreOthers actor cpu more → standing cpu log ≡ Inside lock ticket
+      → block_after edited opening lock (sections (more ++ log)) ≡ block_after edited opening lock (sections log)
+  block_stays [] log legal others inside = refl
+  block_stays (Draw by at drawn ∷ more) log legal others inside = block_stays more log legal.1 others.1 inside
+  block_stays (Look by at drawn read ∷ more) log legal others inside = block_stays more log legal.1 others.1 inside
+  block_stays (Free by at mark ∷ more) log legal others inside =
+      free_elsewhere by at mark (more ++ log) legal.1 others.0 legal.0.0 legal.0.1 (standing_others cpu more log others.1 ∙ inside) (same_lock lock at) refl
+      ∙ block_stays more log legal.1 others.1 inside
