@@ -4,5 +4,6 @@ pub mod Forms
 pub mod Line
 pub mod Exclusion
 pub mod Tickets
+pub mod Foreign
 pub mod DigitsLemmas
 pub mod ReadingLemmas

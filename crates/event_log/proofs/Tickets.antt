@@ -28,7 +28,7 @@ phase_left name (Draw cpu lock ticket) = refl
 phase_left name (Look cpu lock ticket read) = phase_either (read == ticket) lock ticket
 phase_left name (Free cpu lock mark) = refl
 
-doer_is : {M N : Type 0} (name : M → N) (e : Event M) → doer (act_of name e) ≡ actor e
+pub doer_is : {M N : Type 0} (name : M → N) (e : Event M) → doer (act_of name e) ≡ actor e
 doer_is name (Draw cpu lock ticket) = refl
 doer_is name (Look cpu lock ticket read) = refl
 doer_is name (Free cpu lock mark) = refl

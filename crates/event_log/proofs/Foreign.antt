@@ -1,0 +1,138 @@
+-- Events of other CPUs: they change nothing of a CPU's own, and where a holder acts for every CPU there are none.
+use Rattle.std.proofs.Common.{◌≡◌, ℕ, ◌<◌, Bool, true, false, List, [], ◌∷◌, ◌++◌, if◌then◌else◌, map, refl, ap, sym, subst, ◌∙◌}
+use Rattle.event_log.specs.declared.ids.CpuId.{CpuId}
+use Rattle.event_log.specs.declared.ids.LockId.{LockId}
+use Rattle.event_log.specs.declared.ids.TheConstants.{CPUS}
+use Rattle.event_log.specs.declared.events.Event.{Event}
+use Rattle.event_log.specs.declared.events.Event.TheVariants.{Draw, Look, Free}
+use Rattle.event_log.specs.History.{same_cpu, same_lock, own, IsLawful, AreOthers, AreForeign}
+use Rattle.event_log.specs.WordsLog.{actor, standing, left_by, Waiting, Inside, MayFollow, IsLegalWords}
+use Rattle.event_log.specs.Actions.{Action, Take, Try, Give, Phase, Rests, Waits, Holds, phase, left_in, doer, place, MayAct, AreLegal, act_of, acts_of}
+use Rattle.event_log.specs.Sections.{Section, section_actor, sections_of, sections_in}
+use Rattle.event_log.proofs.Same.{same_cpu_self, same_lock_self}
+use Rattle.event_log.proofs.Exclusion.{is_at, phase_other, place_other, knows}
+use Rattle.event_log.proofs.Tickets.{phase_acts, phase_of, standing_other, legal_acts, doer_is}
+
+-- Any relation and any event.
+
+-- what stood before is lawful too
+pub lawful_before : {E : Type 0} (May : List E → E → Type 0) (more past : List E) → IsLawful May (more ++ past) → IsLawful May past
+lawful_before May [] past lawful = lawful
+lawful_before May (e ∷ more) past lawful = lawful_before May more past lawful.1
+
+pub others_both : {E : Type 0} (by : E → CpuId) (c : CpuId) (more past : List E) → AreOthers by c more → AreOthers by c past → AreOthers by c (more ++ past)
+others_both by c [] past first second = second
+others_both by c (e ∷ more) past first second = (first.0, others_both by c more past first.1 second)
+
+pub own_append : {E : Type 0} (by : E → CpuId) (c : CpuId) (more past : List E) → own by c (more ++ past) ≡ own by c more ++ own by c past
+own_append by c [] past = refl
+own_append by c (e ∷ more) past = own_more (same_cpu (by e) c) e (own by c more) (own by c past) (own by c (more ++ past)) (own_append by c more past)
+  where
+    own_more : {E : Type 0} (b : Bool) (e : E) (xs ys whole : List E) → whole ≡ xs ++ ys
+        → (if b then e ∷ whole else whole) ≡ (if b then e ∷ xs else xs) ++ ys
+    own_more true e xs ys whole is = ap (λ z. e ∷ z) is
+    own_more false e xs ys whole is = is
+
+-- a CPU has none of its own among the events of others
+pub own_none : {E : Type 0} (by : E → CpuId) (c : CpuId) (others : List E) → AreOthers by c others → own by c others ≡ []
+own_none by c [] foreign = refl
+own_none by c (e ∷ others) foreign = ap (λ b. if b then e ∷ own by c others else own by c others) foreign.0 ∙ own_none by c others foreign.1
+
+pub own_others : {E : Type 0} (by : E → CpuId) (c : CpuId) (others past : List E) → AreOthers by c others → own by c (others ++ past) ≡ own by c past
+own_others by c others past foreign = own_append by c others past ∙ ap (λ xs. xs ++ own by c past) (own_none by c others foreign)
+
+-- where the holder acts for each CPU that is known, and only such CPUs act, no event is foreign
+pub no_foreign : {E : Type 0} (ActsFor : CpuId → Type 0) (by : E → CpuId) (others past : List E)
+    → ((c : CpuId) → c.0 < CPUS → ActsFor c) → IsLawful (λ before e. (by e).0 < CPUS) (others ++ past) → AreForeign ActsFor by others → others ≡ []
+no_foreign ActsFor by [] past all known foreign = refl
+no_foreign ActsFor by (e ∷ others) past all known foreign =
+    let own_event = (foreign (by e) (all (by e) known.0)).0 in
+    let same : same_cpu (by e) (by e) ≡ true = same_cpu_self (by e) in
+    absurd (cc (own_event, same))
+
+-- A words log.
+
+pub standing_others : {M : Type 0} (c : CpuId) (others past : List (Event M)) → AreOthers actor c others → standing c (others ++ past) ≡ standing c past
+standing_others c [] past foreign = refl
+standing_others c (e ∷ others) past foreign = standing_other e (others ++ past) c foreign.0 ∙ standing_others c others past foreign.1
+
+-- Actions.
+
+pub phase_others : {N : Type 0} (c : CpuId) (others past : List (Action N)) → AreOthers doer c others → phase c (others ++ past) ≡ phase c past
+phase_others c [] past foreign = refl
+phase_others c (a ∷ others) past foreign = phase_other a (others ++ past) c foreign.0 ∙ phase_others c others past foreign.1
+
+pub place_others : {N : Type 0} (c : CpuId) (others past : List (Action N)) → AreOthers doer c others → place c (others ++ past) ≡ place c past
+place_others c [] past foreign = refl
+place_others c (a ∷ others) past foreign = place_other a (others ++ past) c foreign.0 ∙ place_others c others past foreign.1
+
+-- who acts is a CPU of the machine
+pub doer_known : {N : Type 0} (a : Action N) (past : List (Action N)) → MayAct past a → AreLegal past → (doer a).0 < CPUS
+doer_known (Take cpu lock) past may legal = may.0
+doer_known (Try cpu lock hit) past may legal = knows past legal cpu lock (ap (is_at lock) may.0 ∙ same_lock_self lock)
+doer_known (Give cpu lock name) past may legal = knows past legal cpu lock (ap (is_at lock) may ∙ same_lock_self lock)
+
+pub doers_known : {N : Type 0} (actions : List (Action N)) → AreLegal actions → IsLawful (λ before a. (doer a).0 < CPUS) actions
+doers_known [] legal = tt
+doers_known (a ∷ past) legal = (doer_known a past legal.0 legal.1, doers_known past legal.1)
+
+pub actors_known : {M : Type 0} (log : List (Event M)) → IsLegalWords log → IsLawful (λ before e. (actor e).0 < CPUS) log
+actors_known [] legal = tt
+actors_known {M = M} (e ∷ past) legal =
+    let name : M → M = λ m. m in
+    let acts = legal_acts name (e ∷ past) legal in
+    (subst (λ c. c.0 < CPUS) (doer_is name e) (doer_known (act_of name e) (acts_of name past) acts.0 acts.1), actors_known past legal.1)
+
+-- Sections of logs, of actions and of both.
+
+pub sections_of-append : {M E : Type 0} (edit : M → E) (more past : List (Event M)) → sections_of edit (more ++ past) ≡ sections_of edit more ++ sections_of edit past
+sections_of-append edit [] past = refl
+sections_of-append edit (Draw cpu lock ticket ∷ more) past = sections_of-append edit more past
+sections_of-append edit (Look cpu lock ticket read ∷ more) past = sections_of-append edit more past
+sections_of-append edit (Free cpu lock mark ∷ more) past =
+    ap (λ s. record { cpu = cpu; lock = lock; edit = edit mark } ∷ s) (sections_of-append edit more past)
+
+pub sections_in-append : {N : Type 0} (more past : List (Action N)) → sections_in (more ++ past) ≡ sections_in more ++ sections_in past
+sections_in-append [] past = refl
+sections_in-append (Take cpu lock ∷ more) past = sections_in-append more past
+sections_in-append (Try cpu lock hit ∷ more) past = sections_in-append more past
+sections_in-append (Give cpu lock name ∷ more) past = ap (λ s. record { cpu = cpu; lock = lock; edit = name } ∷ s) (sections_in-append more past)
+
+pub acts_of-append : {M N : Type 0} (name : M → N) (more past : List (Event M)) → acts_of name (more ++ past) ≡ acts_of name more ++ acts_of name past
+acts_of-append name [] past = refl
+acts_of-append name (e ∷ more) past = ap (λ acts. act_of name e ∷ acts) (acts_of-append name more past)
+
+-- the sections of a words log are those of its actions
+pub sections_acts : {M N : Type 0} (name : M → N) (log : List (Event M)) → sections_in (acts_of name log) ≡ sections_of name log
+sections_acts name [] = refl
+sections_acts name (Draw cpu lock ticket ∷ past) = sections_acts name past
+sections_acts name (Look cpu lock ticket read ∷ past) = sections_acts name past
+sections_acts name (Free cpu lock mark ∷ past) = ap (λ s. record { cpu = cpu; lock = lock; edit = name mark } ∷ s) (sections_acts name past)
+
+pub others_acts : {M N : Type 0} (name : M → N) (c : CpuId) (others : List (Event M)) → AreOthers actor c others → AreOthers doer c (acts_of name others)
+others_acts name c [] foreign = tt
+others_acts name c (e ∷ others) foreign = (subst (λ d. same_cpu d c ≡ false) (sym (doer_is name e)) foreign.0, others_acts name c others foreign.1)
+
+pub others_sections_in : {N : Type 0} (c : CpuId) (others : List (Action N)) → AreOthers doer c others → AreOthers section_actor c (sections_in others)
+others_sections_in c [] foreign = tt
+others_sections_in c (Take cpu lock ∷ others) foreign = others_sections_in c others foreign.1
+others_sections_in c (Try cpu lock hit ∷ others) foreign = others_sections_in c others foreign.1
+others_sections_in c (Give cpu lock name ∷ others) foreign = (foreign.0, others_sections_in c others foreign.1)
+
+pub others_sections_of : {M E : Type 0} (edit : M → E) (c : CpuId) (others : List (Event M)) → AreOthers actor c others → AreOthers section_actor c (sections_of edit others)
+others_sections_of edit c [] foreign = tt
+others_sections_of edit c (Draw cpu lock ticket ∷ others) foreign = others_sections_of edit c others foreign.1
+others_sections_of edit c (Look cpu lock ticket read ∷ others) foreign = others_sections_of edit c others foreign.1
+others_sections_of edit c (Free cpu lock mark ∷ others) foreign = (foreign.0, others_sections_of edit c others foreign.1)
+
+-- whose section it is is a CPU of the machine
+pub sections_in_known : {N : Type 0} (actions : List (Action N)) → IsLawful (λ before a. (doer a).0 < CPUS) actions → IsLawful (λ before s. s.cpu.0 < CPUS) (sections_in actions)
+sections_in_known [] known = tt
+sections_in_known (Take cpu lock ∷ past) known = sections_in_known past known.1
+sections_in_known (Try cpu lock hit ∷ past) known = sections_in_known past known.1
+sections_in_known (Give cpu lock name ∷ past) known = (known.0, sections_in_known past known.1)
+
+pub sections_of_known : {M E : Type 0} (edit : M → E) (log : List (Event M)) → IsLegalWords log → IsLawful (λ before s. s.cpu.0 < CPUS) (sections_of edit log)
+sections_of_known edit log legal =
+    subst (IsLawful (λ before s. s.cpu.0 < CPUS)) (sections_acts edit log)
+    (sections_in_known (acts_of edit log) (doers_known (acts_of edit log) (legal_acts edit log legal)))
