@@ -5,5 +5,6 @@ pub mod Line
 pub mod Exclusion
 pub mod Tickets
 pub mod Foreign
+pub mod Alone
 pub mod DigitsLemmas
 pub mod ReadingLemmas

@@ -33,6 +33,13 @@ unfolding crowd
 crowd_none zero = refl
 crowd_none (suc n) = crowd_none n
 
+pub crowd_absent : (stands : CpuId → Bool) (n : ℕ) → ((c : CpuId) → c.0 < n → stands c ≡ false) → crowd stands n ≡ 0
+unfolding crowd
+crowd_absent stands zero absent = refl
+crowd_absent stands (suc n) absent =
+    ap (λ b. if b then crowd stands n + 1 else crowd stands n) (absent (cpu_numbered n) (omega arith))
+    ∙ crowd_absent stands n (λ c below. absent c (omega arith))
+
 -- below d, where f and g agree, they count the same
 crowd_below : (f g : CpuId → Bool) (n d : ℕ) → n ≤ d → ((k : ℕ) → (d ≡ k → ⊥) → g (cpu_numbered k) ≡ f (cpu_numbered k)) → crowd g n ≡ crowd f n
 unfolding crowd

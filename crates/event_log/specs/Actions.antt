@@ -87,6 +87,14 @@ MayAct past (Give cpu lock name) = phase cpu past ≡ Holds lock
 abbrev pub AreLegal : {N : Type 0} → List (Action N) → Type 0
 AreLegal actions = IsLawful MayAct actions
 
+-- the lock is free: it was given on as often as a place in its line was taken
+abbrev pub IsFree : {N : Type 0} → LockId → List (Action N) → Type 0
+IsFree lock actions = takes lock actions ≡ gives lock actions
+
+-- every lock is free
+abbrev pub AreFree : {N : Type 0} → List (Action N) → Type 0
+AreFree actions = (lock : LockId) → IsFree lock actions
+
 -- the action that is due to a CPU in this phase: at this lock, and its section to be given this name
 abbrev pub action_in : {N : Type 0} → CpuId → LockId → N → List (Action N) → Phase → Action N
 action_in cpu lock name past Rests = Take cpu lock

@@ -1,10 +1,12 @@
 -- What holds of every legal log, of marks or names of any type.
-use Rattle.std.specs.Prelude.{◌≡◌, ℕ, List}
+use Rattle.std.specs.Prelude.{◌≡◌, ℕ, ◌<◌, ◌↔◌, true, List, ◌∷◌}
 use Rattle.event_log.specs.declared.ids.CpuId.{CpuId}
 use Rattle.event_log.specs.declared.ids.LockId.{LockId}
 use Rattle.event_log.specs.declared.events.Event.{Event}
 use Rattle.event_log.specs.WordsLog.{IsLegalWords, Inside, standing}
-use Rattle.event_log.specs.Actions.{Action, Holds, phase, AreLegal, acts_of}
+use Rattle.event_log.specs.declared.ids.TheConstants.{CPUS}
+use Rattle.event_log.specs.Actions.{Action, Take, Try, Give, Rests, Holds, phase, AreLegal, IsFree, AreFree, next_action, acts_of}
+use Rattle.event_log.specs.Sections.{Section, sections_in}
 
 -- two CPUs never hold one lock
 abbrev pub OneHolds : Type 0 → Type 0
@@ -19,3 +21,23 @@ OneInside M = (log : List (Event M)) → IsLegalWords log → (a b : CpuId) (loc
 -- a legal words log is a legal list of actions: its tickets, modulo 2^64, tell the true places
 abbrev pub TicketsTellPlaces : Type 0 → Type 0
 TicketsTellPlaces M = (log : List (Event M)) → IsLegalWords log → AreLegal (acts_of (λ (m : M). m) log)
+
+-- a CPU that rests, alone at a free lock: its next three actions are one section, of this name, and leave the lock free
+abbrev pub IsOneSection : {N : Type 0} → CpuId → LockId → N → List (Action N) → Type 0
+IsOneSection cpu lock name past =
+    let first = next_action cpu lock name past in
+    let second = next_action cpu lock name (first ∷ past) in
+    let third = next_action cpu lock name (second ∷ first ∷ past) in
+    (first ≡ Take cpu lock) × (second ≡ Try cpu lock true) × (third ≡ Give cpu lock name)
+    × (sections_in (third ∷ second ∷ first ∷ past) ≡ record { cpu = cpu; lock = lock; edit = name } ∷ sections_in past)
+    × IsFree lock (third ∷ second ∷ first ∷ past)
+
+-- three actions of a CPU alone are exactly one section
+abbrev pub ThreeAreOneSection : Type 0 → Type 0
+ThreeAreOneSection N = (cpu : CpuId) (lock : LockId) (name : N) (past : List (Action N))
+    → phase cpu past ≡ Rests → IsFree lock past → IsOneSection cpu lock name past
+
+-- where each CPU of the machine rests, every lock is free, and the other way round
+abbrev pub FreeWhereAllRest : Type 0 → Type 0
+FreeWhereAllRest N = (actions : List (Action N)) → AreLegal actions
+    → ((c : CpuId) → c.0 < CPUS → phase c actions ≡ Rests) ↔ AreFree actions

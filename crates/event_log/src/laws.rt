@@ -2,9 +2,9 @@
 //! the law is proved with the crate.
 
 ghost use Rattle.event_log.specs.Forms.{BothFormsAgree};
-ghost use Rattle.event_log.specs.Laws.{OneHolds, OneInside, TicketsTellPlaces};
+ghost use Rattle.event_log.specs.Laws.{FreeWhereAllRest, OneHolds, OneInside, ThreeAreOneSection, TicketsTellPlaces};
 ghost use Rattle.event_log.specs.History.{Adds, Grows, own, IsLawful};
-ghost use Rattle.event_log.specs.Actions.{next_action, renamed};
+ghost use Rattle.event_log.specs.Actions.{renamed};
 ghost use Rattle.event_log.specs.Sections.{Section, section_actor, sections_of, sections_in, block_after};
 
 /// A words log, oldest first, is legal where each event may follow what stands before it, however
@@ -28,4 +28,15 @@ pub fn one_inside<M>()
 /// often as it had been drawn at before the CPU's draw.
 pub fn tickets_tell_places<M>()
     ensures { TicketsTellPlaces M }
+{}
+
+/// Where a CPU is alone at a free lock, three of its actions are exactly one section: it takes a
+/// place, enters at its first try and gives the lock on.
+pub fn three_are_one_section<N>()
+    ensures { ThreeAreOneSection N }
+{}
+
+/// Every lock is free exactly where no CPU of the machine waits at a lock or holds one.
+pub fn free_where_all_rest<N>()
+    ensures { FreeWhereAllRest N }
 {}

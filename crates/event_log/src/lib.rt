@@ -15,7 +15,10 @@ pub use digits::{is_number, number_has_one_spelling, number_to};
 pub use entries::{Entry, Kind};
 pub use events::Event;
 pub use ids::{BUFFERS, BufId, CPUS, CpuId, LockId, THREADS, Tid};
-pub use laws::{both_forms_agree, one_holds, one_inside, tickets_tell_places};
+pub use laws::{
+    both_forms_agree, free_where_all_rest, one_holds, one_inside, three_are_one_section,
+    tickets_tell_places,
+};
 pub use logs::EventLog;
 pub use refusals::{LogFull, NoMemory};
 pub use runs::{run_by_index, run_grows, run_has_op_order};
