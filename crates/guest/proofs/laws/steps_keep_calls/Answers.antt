@@ -1,0 +1,5 @@
+use Rattle.guest.proofs.CallsLemmas.{calls-local, calls-yield, calls-send, calls-recv}
+use Rattle.guest.proofs.laws.steps_keep_calls.Goals as goal
+
+pub returns : goal.returns
+returns c = record { at_local = calls-local; at_yield = calls-yield; at_send = calls-send; at_recv = calls-recv }

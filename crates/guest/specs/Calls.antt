@@ -1,0 +1,31 @@
+-- The calls that a program makes, given what it receives. Lists of entries are newest first.
+use Rattle.std.specs.Prelude.{◌≡◌, ◌≢◌, ℕ, List, [], ◌∷◌, reverse}
+use Rattle.event_log.specs.declared.ids.BufId.{BufId}
+use Rattle.event_log.specs.declared.entries.Kind.TheVariants.{Send as SendKind, Recv as RecvKind}
+use Rattle.event_log.specs.declared.entries.Entry.{Entry}
+use Rattle.guest.specs.declared.instructions.Register.{Register}
+use Rattle.guest.specs.declared.instructions.Instruction.{Instruction}
+use Rattle.guest.specs.declared.instructions.Instruction.TheVariants.{Set, Add, Sub, Jnz, Send, Recv, Yield, Exit}
+use Rattle.guest.specs.State.{State, at_start, next_of, value_in, moved_on, moved_with, moved_to, wrapped_sum, wrapped_difference}
+
+-- the program has made just the calls of these entries, newest first, when it stands in this state
+pub data IsProgramsCalls (program : List Instruction) : List Entry → State → Type 0 where
+  starts : IsProgramsCalls program [] at_start
+  sets : {es : List Entry} {s : State} (r : Register) (n : ℕ) → IsProgramsCalls program es s → next_of program s ≡ Set r n → IsProgramsCalls program es (moved_with s r n)
+  adds : {es : List Entry} {s : State} (r q : Register) → IsProgramsCalls program es s → next_of program s ≡ Add r q → IsProgramsCalls program es (moved_with s r (wrapped_sum (value_in s r) (value_in s q)))
+  subtracts : {es : List Entry} {s : State} (r q : Register) → IsProgramsCalls program es s → next_of program s ≡ Sub r q → IsProgramsCalls program es (moved_with s r (wrapped_difference (value_in s r) (value_in s q)))
+  jumps : {es : List Entry} {s : State} (r : Register) (k : ℕ) → IsProgramsCalls program es s → next_of program s ≡ Jnz r k → value_in s r ≢ 0 → IsProgramsCalls program es (moved_to s k)
+  goes_on : {es : List Entry} {s : State} (r : Register) (k : ℕ) → IsProgramsCalls program es s → next_of program s ≡ Jnz r k → value_in s r ≡ 0 → IsProgramsCalls program es (moved_on s)
+  yields : {es : List Entry} {s : State} → IsProgramsCalls program es s → next_of program s ≡ Yield → IsProgramsCalls program es (moved_on s)
+  sends : {es : List Entry} {s : State} (b : BufId) (r : Register) (e : Entry) → IsProgramsCalls program es s → next_of program s ≡ Send b r
+      → e.kind ≡ SendKind → e.buffer ≡ b → e.value ≡ value_in s r → IsProgramsCalls program (e ∷ es) (moved_on s)
+  receives : {es : List Entry} {s : State} (b : BufId) (r : Register) (e : Entry) → IsProgramsCalls program es s → next_of program s ≡ Recv b r
+      → e.kind ≡ RecvKind → e.buffer ≡ b → IsProgramsCalls program (e ∷ es) (moved_with s r e.value)
+
+-- the program has ended: it stands at `exit`, or past its last line
+abbrev pub HasEnded : List Instruction → State → Type 0
+HasEnded program s = next_of program s ≡ Exit
+
+-- a thread's entries, oldest first as a trace has them, are the program's calls up to some state
+abbrev pub AreProgramsCalls : List Instruction → List Entry → Type 0
+AreProgramsCalls program entries = (s : State) × IsProgramsCalls program (reverse entries) s

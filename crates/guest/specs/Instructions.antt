@@ -1,0 +1,34 @@
+-- Registers by their numbers, and the instruction of a line.
+use Rattle.std.specs.Prelude.{ℕ, ◌<◌, ◌≤◌, List, length, All, slice_get, unwrap_or}
+use Rattle.guest.specs.declared.instructions.Register.{Register}
+use Rattle.guest.specs.declared.instructions.Register.TheVariants.{R0, R1, R2, R3}
+use Rattle.guest.specs.declared.instructions.Instruction.{Instruction}
+use Rattle.guest.specs.declared.instructions.Instruction.TheVariants.{Set, Add, Sub, Jnz, Send, Recv, Yield, Exit}
+
+-- a register's number
+abbrev pub number_of : Register → ℕ
+number_of R0 = 0
+number_of R1 = 1
+number_of R2 = 2
+number_of R3 = 3
+
+-- the instruction of a line; past the last line it is `exit`
+abbrev pub instruction_at : List Instruction → ℕ → Instruction
+instruction_at program line = unwrap_or (slice_get program line) Exit
+
+-- an instruction of a program of so many lines: it jumps to one of them, and calls one of the buffers 0 to 15
+abbrev pub IsWithin : ℕ → Instruction → Type 0
+IsWithin lines (Set r n) = Unit {0}
+IsWithin lines (Add r q) = Unit {0}
+IsWithin lines (Sub r q) = Unit {0}
+IsWithin lines (Jnz r k) = k < lines
+IsWithin lines (Send b r) = b.0 < 16
+IsWithin lines (Recv b r) = b.0 < 16
+IsWithin lines Yield = Unit {0}
+IsWithin lines Exit = Unit {0}
+
+-- 1 to 256 instructions, each within the limits
+pub record IsProgram (program : List Instruction) : Type 0 where
+  pub some : 0 < length program
+  pub most : length program ≤ 256
+  pub within : All (IsWithin (length program)) program

@@ -1,0 +1,4 @@
+pub mod Instructions
+pub mod State
+pub mod Calls
+pub mod Laws

@@ -1,0 +1,99 @@
+//! Registers, instructions and programs.
+
+use event_log::BufId;
+use std::marker::Model;
+
+/// A register. Each holds a number from 0 to 2^64 - 1, and 0 at the start.
+#[derive(Clone, Copy, Debug, PartialEq, Eq)]
+pub enum Register {
+    /// `r0`
+    R0,
+    /// `r1`
+    R1,
+    /// `r2`
+    R2,
+    /// `r3`
+    R3,
+}
+
+impl Register {
+    ghost use Rattle.std.specs.Prelude.{◌≡◌, ◌<◌};
+    ghost use Rattle.guest.specs.Instructions.{number_of};
+
+    /// The register's number, from 0 to 3.
+    pub fn number(self) -> usize
+        ensures number { result ≡ number_of self }
+        ensures below { result < 4 }
+    {
+        match self {
+            Register::R0 => 0,
+            Register::R1 => 1,
+            Register::R2 => 2,
+            Register::R3 => 3,
+        }
+    }
+}
+
+/// One instruction. A line of a program is one of these.
+#[derive(Clone, Copy, Debug, PartialEq, Eq)]
+pub enum Instruction {
+    /// `set rD n`: the register becomes the number.
+    Set(Register, u64),
+    /// `add rD rS`: the first register becomes the sum of both, modulo 2^64.
+    Add(Register, Register),
+    /// `sub rD rS`: the first register becomes the first less the second, modulo 2^64.
+    Sub(Register, Register),
+    /// `jnz rS k`: where the register is not 0 the next line is `k`, counted from 0.
+    Jnz(Register, usize),
+    /// `send b rS`: sends the register to the buffer.
+    Send(BufId, Register),
+    /// `recv b rD`: receives from the buffer into the register.
+    Recv(BufId, Register),
+    /// `yield`: lets another thread of the CPU run.
+    Yield,
+    /// `exit`: ends the thread.
+    Exit,
+}
+
+/// A program: 1 to 256 instructions, each jump to one of its lines, each call of one of the
+/// buffers 0 to 15.
+#[derive(Drop)]
+pub struct Program {
+    lines: Vec<Instruction>,
+}
+
+impl Model for Program {
+    ghost use Rattle.std.specs.Prelude.{List};
+    ghost use Rattle.guest.specs.declared.instructions.Instruction.{Instruction};
+    ghost use Rattle.guest.specs.Instructions.{IsProgram};
+
+    ghost Value = { List Instruction };
+
+    ghost view = { λ p. p.lines.items };
+
+    ghost invariant = { λ p. IsProgram p.lines.items };
+}
+
+impl Program {
+    ghost use Rattle.std.specs.Prelude.{◌≡◌, ◌≢◌, ◌<◌, length};
+    ghost use Rattle.guest.specs.declared.instructions.Instruction.TheVariants.{Exit};
+    ghost use Rattle.guest.specs.Instructions.{IsProgram, instruction_at};
+
+    /// How many lines the program has, from 1 to 256.
+    pub fn len(&self) -> usize
+        ensures len { result ≡ length self.now }
+        ensures within { IsProgram self.now }
+    {
+        self.lines.len()
+    }
+
+    /// The instruction of a line, counted from 0. Past the last line it is `exit`.
+    pub fn instruction(&self, line: usize) -> Instruction
+        ensures instruction { result ≡ instruction_at self.now line }
+        // Only `exit` stands past the last line.
+        ensures inside { result ≢ Exit → line < length self.now }
+        ensures within { IsProgram self.now }
+    {
+        self.lines.get(line).copied().unwrap_or(Instruction::Exit)
+    }
+}

@@ -1,0 +1,14 @@
+//! The guest language: programs of a few instructions over four registers, and the threads that
+//! run them one instruction at a time.
+//!
+//! A program's next call is a function of what it received: the relation of a program to the calls
+//! that it makes stands in this crate's definitions.
+#![tactic(auto)]
+
+mod instructions;
+mod laws;
+mod threads;
+
+pub use instructions::{Instruction, Program, Register};
+pub use laws::steps_keep_calls;
+pub use threads::Thread;
