@@ -1,0 +1,51 @@
+-- One write after another.
+use Rattle.std.proofs.Common.{◌≡◌, ℕ, ◌+◌, ◌<◌, Bool, true, false, List, [], ◌∷◌, ◌++◌, length, get_or, take, drop, Option, Some, None, sym, ap, ◌∙◌, append_assoc}
+use Rattle.std.proofs.lemmas.List.{append-nil, take-append-drop, drop_more}
+use Rattle.std.proofs.lemmas.List.Concat.{flat_map-append}
+use Rattle.std.specs.List.{flat_map}
+use Rattle.std.specs.Io.KnownBytes.{Appends, Keeps}
+use Rattle.tracer.specs.Sinks.{Outs}
+
+-- what was known stays known
+pub appends_nothing : (old : Option (List ℕ)) → Appends old old []
+appends_nothing None = tt
+appends_nothing (Some xs) = sym (append-nil xs)
+
+pub appends_then : (old mid new : Option (List ℕ)) (a b : List ℕ) → Appends old mid a → Appends mid new b → Appends old new (a ++ b)
+appends_then None mid new a b first second = tt
+appends_then (Some xs) None new a b first second = absurd first
+appends_then (Some xs) (Some ys) None a b first second = absurd second
+appends_then (Some xs) (Some ys) (Some zs) a b first second = second ∙ ap (λ (t : List ℕ). t ++ b) first ∙ append_assoc xs a b
+
+pub appends_kept : (old mid new : Option (List ℕ)) (a : List ℕ) → Appends old mid a → Keeps mid new → Appends old new a
+appends_kept None mid new a first kept = tt
+appends_kept (Some xs) None new a first kept = absurd first
+appends_kept (Some xs) (Some ys) None a first kept = absurd kept
+appends_kept (Some xs) (Some ys) (Some zs) a first kept = kept ∙ first
+
+-- a text whose front is out, and then what comes of the next
+pub outs_then : (failed : Bool) (old mid new : Option (List ℕ)) (a b : List ℕ) → Appends old mid a → Outs failed mid new b → Outs failed old new (a ++ b)
+outs_then false old mid new a b first second = appends_then old mid new a b first second
+outs_then true old mid new a b first second =
+    (a ++ second.0, second.1, ap (λ (t : List ℕ). a ++ t) second.2 ∙ sym (append_assoc a second.0 second.1), appends_then old mid new a second.0 first second.3)
+
+-- where a front failed, the whole did
+pub outs_before : (failed : Bool) (old new : Option (List ℕ)) (a b : List ℕ) → failed ≡ true → Outs failed old new a → Outs failed old new (a ++ b)
+outs_before false old new a b e out = absurd cc
+outs_before true old new a b e out = (out.0, out.1 ++ b, ap (λ (t : List ℕ). t ++ b) out.2 ∙ append_assoc out.0 out.1 b, out.3)
+
+-- a write without fault is all out
+pub all_out : (failed : Bool) (old new : Option (List ℕ)) (a : List ℕ) → failed ≡ false → Outs failed old new a → Appends old new a
+all_out false old new a e out = out
+all_out true old new a e out = absurd cc
+
+-- a text of pieces, cut round the piece at i
+pub flat_map_at : {X : Type 0} (f : X → List ℕ) (xs : List X) (i : ℕ) (d : X) → i < length xs → flat_map f xs ≡ flat_map f (take i xs) ++ (f (get_or xs i d) ++ flat_map f (drop (i + 1) xs))
+flat_map_at f xs i d lt =
+    let cut : take i xs ++ get_or xs i d ∷ drop (i + 1) xs ≡ xs = rw (← drop_more xs i d lt) (take-append-drop i xs) in
+    ap (flat_map f) (sym cut) ∙ flat_map-append f (take i xs) (get_or xs i d ∷ drop (i + 1) xs)
+
+-- the pieces before are out, and this one failed
+pub failed_in : {X : Type 0} (f : X → List ℕ) (xs : List X) (i : ℕ) (d : X) (failed : Bool) (old mid new : Option (List ℕ)) → i < length xs → Appends old mid (flat_map f (take i xs)) → failed ≡ true → Outs failed mid new (f (get_or xs i d)) → Outs failed old new (flat_map f xs)
+failed_in f xs i d failed old mid new lt front e out =
+    rw (flat_map_at f xs i d lt) (outs_then failed old mid new (flat_map f (take i xs)) (f (get_or xs i d) ++ flat_map f (drop (i + 1) xs)) front (outs_before failed mid new (f (get_or xs i d)) (flat_map f (drop (i + 1) xs)) e out))

@@ -1,0 +1,13 @@
+-- The pieces of a line as the writer has them.
+use Rattle.std.specs.Prelude.{ℕ, List, ◌∷◌, decimal}
+use Rattle.tracer.specs.declared.writing.Piece.{Piece}
+use Rattle.tracer.specs.declared.writing.Piece.TheVariants.{Word, Number}
+
+-- how a piece is spelled
+abbrev pub text_of : Piece → List ℕ
+text_of (Word word) = word.now
+text_of (Number number) = decimal number
+
+-- a piece behind a space
+abbrev pub spaced : List ℕ → List ℕ
+spaced text = 32 ∷ text

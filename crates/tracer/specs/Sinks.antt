@@ -1,0 +1,18 @@
+-- What a sink shows, and what writing a text to a writer leaves.
+use Rattle.std.specs.Prelude.{◌≡◌, ℕ, Bool, true, false, List, ◌++◌, Option}
+use Rattle.std.specs.Io.KnownBytes.{Appends}
+use Rattle.tracer.specs.declared.sinks.Sink.{Sink}
+
+-- whether a write failed
+abbrev pub has_failed : {W : Type 0} → Sink W → Bool
+has_failed sink = sink.failed
+
+-- the writer behind a sink
+abbrev pub writer_of : {W : Type 0} → Sink W → W
+writer_of sink = sink.writer
+
+-- The bytes that the writer holds, where they are known, have grown by the text; where the sink
+-- failed, by a beginning of it.
+abbrev pub Outs : Bool → Option (List ℕ) → Option (List ℕ) → List ℕ → Type 0
+Outs false old new text = Appends old new text
+Outs true old new text = (front : List ℕ) × (rest : List ℕ) × (text ≡ front ++ rest) × Appends old new front

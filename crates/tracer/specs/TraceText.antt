@@ -1,0 +1,78 @@
+-- The text of a trace: the one spelling of capacities, entries and what is left.
+-- The capacities are a list by buffer number; what is left is a list by buffer number of the buffer's items, front first.
+use Rattle.std.specs.Prelude.{◌≡◌, ℕ, ◌+◌, ◌<◌, ◌≤◌, ◌^◌, List, [], ◌∷◌, ◌++◌, length, map, codes, decimal, flat_map}
+use Rattle.std.specs.List.{AllByRecursion, join_with_byte}
+use Rattle.event_log.specs.declared.entries.Kind.{Kind}
+use Rattle.event_log.specs.declared.entries.Kind.TheVariants.{Send, Recv}
+use Rattle.event_log.specs.declared.entries.Entry.{Entry}
+
+-- a line: its pieces with one space between each two, and a line feed
+abbrev pub line_of : List (List ℕ) → List ℕ
+line_of pieces = join_with_byte 32 pieces ++ 10 ∷ []
+
+-- the head line names the format and its version
+abbrev pub head_pieces : List (List ℕ)
+head_pieces = codes "mctower-trace" ∷ codes "1" ∷ []
+
+-- how many buffers there are
+abbrev pub count_pieces : ℕ → List (List ℕ)
+count_pieces n = codes "buffers" ∷ decimal n ∷ []
+
+-- a buffer's capacity
+abbrev pub cap_pieces : ℕ → ℕ → List (List ℕ)
+cap_pieces b capacity = codes "cap" ∷ decimal b ∷ decimal capacity ∷ []
+
+abbrev pub kind_word : Kind → List ℕ
+kind_word Send = codes "send"
+kind_word Recv = codes "recv"
+
+-- an entry
+abbrev pub entry_pieces : Entry → List (List ℕ)
+entry_pieces e = codes "e" ∷ decimal e.cpu.0 ∷ decimal e.thread.0 ∷ kind_word e.kind ∷ decimal e.buffer.0 ∷ decimal e.value ∷ decimal e.op ∷ decimal e.pos ∷ []
+
+-- what is left in a buffer, front first
+abbrev pub left_pieces : ℕ → List ℕ → List (List ℕ)
+left_pieces b items = codes "left" ∷ decimal b ∷ map decimal items
+
+abbrev pub end_pieces : List (List ℕ)
+end_pieces = codes "end" ∷ []
+
+-- a line for each item, with the number of its buffer, from b on
+abbrev pub numbered : {X : Type 0} → (ℕ → X → List (List ℕ)) → ℕ → List X → List (List (List ℕ))
+numbered line b [] = []
+numbered line b (x ∷ xs) = line b x ∷ numbered line (b + 1) xs
+
+-- all lines of a trace, each as its pieces
+unfoldable pub lines_of : List ℕ → List Entry → List (List ℕ) → List (List (List ℕ))
+lines_of caps es left = head_pieces ∷ count_pieces (length caps) ∷ (numbered cap_pieces 0 caps ++ (map entry_pieces es ++ (numbered left_pieces 0 left ++ end_pieces ∷ [])))
+
+-- the one spelling
+unfoldable pub spelling : List ℕ → List Entry → List (List ℕ) → List ℕ
+spelling caps es left = flat_map line_of (lines_of caps es left)
+
+abbrev pub IsCapacity : ℕ → Type 0
+IsCapacity capacity = (1 ≤ capacity) × (capacity ≤ 32)
+
+-- the numbers of an entry are in range, where there are n buffers
+pub record IsEntryOf (n : ℕ) (e : Entry) : Type 0 where
+  pub cpu : e.cpu.0 < 8
+  pub thread : e.thread.0 < 64
+  pub buffer : e.buffer.0 < n
+  pub value : e.value < 2 ^ 64
+  pub op : e.op < 524288
+  pub pos : e.pos < 524288
+
+-- what has a spelling
+pub record IsSpellable (caps : List ℕ) (es : List Entry) (left : List (List ℕ)) : Type 0 where
+  pub some_buffer : 1 ≤ length caps
+  pub few_buffers : length caps ≤ 16
+  pub capacities : AllByRecursion IsCapacity caps
+  pub few_entries : length es ≤ 524288
+  pub entries : AllByRecursion (IsEntryOf (length caps)) es
+  pub each_left : length left ≡ length caps
+  pub values : AllByRecursion (AllByRecursion (λ v. v < 2 ^ 64)) left
+
+-- the text is the trace text of these capacities, entries and contents
+pub record IsTraceText (text : List ℕ) (caps : List ℕ) (es : List Entry) (left : List (List ℕ)) : Type 0 where
+  pub spellable : IsSpellable caps es left
+  pub spelled : text ≡ spelling caps es left

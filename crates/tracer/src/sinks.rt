@@ -1,0 +1,78 @@
+//! A writer that remembers whether it failed.
+
+ghost use Rattle.std.specs.Prelude.{◌≡◌, ◌<◌, length, take, is_err, Bool, true, false};
+ghost use Rattle.std.specs.Io.KnownBytes.{Keeps};
+ghost use Rattle.tracer.specs.Sinks.{has_failed, writer_of, Outs};
+
+use std::io::Write;
+use thiserror::Error;
+
+/// A write to a sink failed. A beginning of what was to be written may be out.
+#[derive(Clone, Copy, Debug, PartialEq, Eq, Error)]
+#[error("WriteFault(8)")]
+pub struct WriteFault;
+
+/// A writer, and whether a write of it failed. A write fails where it answers an error, of whatever
+/// kind, or takes no byte of a piece that isn't empty.
+#[derive(Drop)]
+pub struct Sink<W> {
+    writer: W,
+    failed: bool,
+}
+
+impl<W: Write> Sink<W> {
+    /// A sink over `writer` that has not failed.
+    pub fn new(writer: W) -> Sink<W>
+        ensures failed { has_failed result ≡ false }
+        ensures writer { writer_of result ≡ writer }
+    {
+        Sink {
+            writer,
+            failed: false,
+        }
+    }
+
+    /// Whether a write failed.
+    pub fn failed(&self) -> bool
+        ensures { result ≡ has_failed self.now }
+    {
+        self.failed
+    }
+
+    /// Writes all of `piece`, by as many writes as the writer needs.
+    ///
+    /// Errors: `WriteFault` exactly where a write failed; then a beginning of `piece` is out, and
+    /// the sink has failed.
+    pub fn put(&mut self, piece: &[u8]) -> Result<(), WriteFault>
+        requires { has_failed self.old ≡ false }
+        ensures failed { is_err result ≡ has_failed self.new }
+        ensures out { Outs (has_failed self.new) (W.contents (writer_of self.old)) (W.contents (writer_of self.new)) piece.now }
+    {
+        let mut rest = piece;
+        while !rest.is_empty() {
+            match self.writer.write(rest) {
+                Ok(0) | Err(_) => {
+                    self.failed = true;
+                    return Err(WriteFault);
+                }
+                Ok(n) => rest = rest.split_at(n).1,
+            }
+        }
+        Ok(())
+    }
+
+    /// Asks the writer to pass on what it holds back.
+    ///
+    /// Errors: `WriteFault` exactly where the writer answers an error; then the sink has failed.
+    pub fn flush(&mut self) -> Result<(), WriteFault>
+        requires { has_failed self.old ≡ false }
+        ensures failed { is_err result ≡ has_failed self.new }
+        ensures out { Keeps (W.contents (writer_of self.old)) (W.contents (writer_of self.new)) }
+    {
+        if self.writer.flush().is_err() {
+            self.failed = true;
+            return Err(WriteFault);
+        }
+        Ok(())
+    }
+}

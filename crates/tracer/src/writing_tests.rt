@@ -1,0 +1,85 @@
+//! What reaches a writer: all of the text, or a beginning of it where the writer fails.
+
+ghost use Rattle.std.specs.Prelude.{◌≡◌, false};
+ghost use Rattle.tracer.specs.Sinks.{has_failed};
+
+use crate::{Entry, Kind, Sink, write_trace};
+use arrayvec::ArrayVec;
+use event_log::{BufId, CpuId, Tid};
+use std::alloc::Global;
+use std::io::{self, Write};
+use std::test::*;
+
+const ROW: &[u8; 66] = b"mctower-trace 1\nbuffers 1\ncap 0 1\ne 0 0 send 0 7 0 0\nleft 0 7\nend\n";
+
+/// A writer that takes at most `piece` bytes at a time, and no byte behind the first `room`.
+#[derive(Drop)]
+struct Narrow {
+    out: Vec<u8>,
+    room: usize,
+    piece: usize,
+}
+
+impl Write for Narrow {
+    fn write(&mut self, buf: &[u8]) -> io::Result<usize> {
+        let left = self.room.saturating_sub(self.out.len());
+        if left == 0 && !buf.is_empty() {
+            return Err(io::Error::from(io::ErrorKind::BrokenPipe));
+        }
+        let n = buf.len().min(left).min(self.piece);
+        self.out.extend_from_slice(&buf[..n])?;
+        Ok(n)
+    }
+
+    fn flush(&mut self) -> io::Result<()> {
+        Ok(())
+    }
+}
+
+/// The trace of one send of 7 to the one buffer.
+fn one_send(sink: &mut Sink<&mut Narrow>) -> bool
+    requires { has_failed sink.old ≡ false }
+{
+    let entry = Entry {
+        cpu: CpuId(0),
+        thread: Tid(0),
+        kind: Kind::Send,
+        buffer: BufId(0),
+        value: 7,
+        op: 0,
+        pos: 0,
+    };
+    let mut items = ArrayVec::new();
+    items.push(7);
+    write_trace(sink, &[1], &[entry], &[items]).is_ok()
+}
+
+fn writer_with(alloc: Global, room: usize, piece: usize) -> Narrow {
+    Narrow {
+        out: Vec::new(alloc),
+        room,
+        piece,
+    }
+}
+
+#[test]
+fn a_writer_that_fails_anywhere(rt: HostRuntime) {
+    for room in 0..67 {
+        for piece in 1..70 {
+            let mut writer = writer_with(rt.alloc(), room, piece);
+            let mut sink = Sink::new(&mut writer);
+            let answer = one_send(&mut sink);
+            assert_eq!(rt; answer, room == 66);
+            assert_eq!(rt; sink.failed(), room < 66);
+            assert_eq!(rt; writer.out.as_slice(), &ROW[..room]);
+        }
+    }
+}
+
+#[test]
+fn ten_bytes_one_at_a_time(rt: HostRuntime) {
+    let mut writer = writer_with(rt.alloc(), 10, 1);
+    let answer = one_send(&mut Sink::new(&mut writer));
+    assert!(rt; !answer);
+    assert_eq!(rt; writer.out.as_slice(), b"mctower-tr".as_slice());
+}
