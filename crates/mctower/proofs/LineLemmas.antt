@@ -1,0 +1,98 @@
+-- Facts on the reading of the command line.
+use Rattle.std.proofs.Common.{◌≡◌, ◌≤◌, ◌<◌, ◌^◌, ◌∙◌, ◌∷◌, [], inl, inr, ℕ, Bool, true, false, List, codes, Option, Some, None, refl, sym, ap, ap₂}
+use Rattle.std.specs.Prelude.{if◌then◌else◌, option_and_then}
+use Rattle.std.specs.Str.Parse.{IsNumeral, digits_value, without_leading_plus}
+use Rattle.clap.specs.Built.{AddsSubcommand}
+use Rattle.clap.specs.Matches.{first_value}
+use Rattle.clap.specs.Faults.{fault_of, is_simple_and_free}
+use Rattle.clap.specs.Kinds.{HasKind, Kinds}
+use Rattle.clap.specs.Simple.{App, HasMatchesOf, app_of, is_simple, subcommand_of, subcommand_rows_of, with_subcommand}
+use Rattle.clap.specs.Values.{kind_of}
+use Rattle.clap.specs.ValueTests.{is_unsigned_in}
+use Rattle.clap.specs.Walk.{rows_of}
+use Rattle.clap.specs.declared.builder.command.Command.{Command}
+use Rattle.clap.specs.declared.builder.command.Command.TheViews.{out-Command}
+use Rattle.clap.specs.declared.builder.value_parser.ValueParser.TheVariants as vp
+use Rattle.clap.specs.declared.error.Error.{Error}
+use Rattle.clap.specs.declared.error.kind.ErrorKind.TheVariants.{OutOfMemory}
+use Rattle.clap.specs.declared.parser.matches.ArgMatches.{ArgMatches}
+use Rattle.clap.specs.declared.parser.matches.Found.{Found}
+use Rattle.clap.proofs.OnLiterals.{clap_on_literals}
+use Rattle.clap.proofs.ValueTestLemmas.{accepts-Accepts, Accepts-accepts}
+use Rattle.clap.proofs.WalkLemmas.{first_value-rows}
+use Rattle.mctower.specs.Line.{found_in, is_faultless, is_taken, run_in, Meant, run, number_at, number_in, program}
+
+abbrev pub Text : Type 0
+Text = List ℕ
+
+-- ---- numbers
+
+-- a number in range is the one that the text spells
+pub number_taken : (least most n : ℕ) (text : Text) → IsNumeral 10 (without_leading_plus text)
+    → digits_value 10 (without_leading_plus text) < 2 ^ 64 → n ≡ digits_value 10 (without_leading_plus text)
+    → least ≤ n → n ≤ most → Some n ≡ number_in least most text
+number_taken least most n text numeral below same low high =
+    ap Some same ∙ ap (λ b. if b then Some (digits_value 10 (without_leading_plus text)) else None)
+    (sym (Accepts-accepts false (vp.Unsigned least most) text (numeral, below, rw (← same) low, rw (← same) high)))
+
+-- a text that is no number of 64 bits has no number in any range
+pub number_refused : (least most : ℕ) (text : Text)
+    → ((IsNumeral 10 (without_leading_plus text) × (digits_value 10 (without_leading_plus text) < 2 ^ 64)) → ⊥)
+    → None ≡ number_in least most text
+number_refused least most text none = go (is_unsigned_in least most text) refl where
+  go : (b : Bool) → is_unsigned_in least most text ≡ b → None ≡ (if b then Some (digits_value 10 (without_leading_plus text)) else None)
+  go true e = let all = accepts-Accepts false (vp.Unsigned least most) text e in absurd (none (all.0, all.1))
+  go false e = refl
+
+-- the number of an option is the one of its first value
+pub number_found : (least most : ℕ) (name : Text) (found : Found) (text : Option Text)
+    → text ≡ first_value found name
+    → option_and_then (number_in least most) text ≡ number_at least most name (rows_of found)
+number_found least most name found text e = ap (option_and_then (number_in least most)) (e ∙ first_value-rows found name)
+
+-- the schedule of `run` is its option's first value
+pub schedule_found : (found : Found) (text : Option Text) → text ≡ first_value found (codes "schedule")
+    → run_in (rows_of found) ≡ Some (run text)
+schedule_found found text e = let as_order : Option Text → Option Meant = λ t. Some (run t) in sym (ap as_order (e ∙ first_value-rows found (codes "schedule")))
+
+-- ---- the program's commands
+
+-- what a program with one command more reads
+pub grown : (old sub new : Command) (a b : App) → AddsSubcommand old sub new → app_of old ≡ a → app_of sub ≡ b
+    → (out-Command sub).has_globals ≡ false → app_of new ≡ with_subcommand a b.top
+grown old sub new a b adds above below local =
+    adds.shape local ∙ ap₂ with_subcommand above (ap (λ (x : App). x.top) below)
+
+-- ---- what clap makes of the words
+
+-- clap gives the faults of the program's commands exactly
+exact : is_simple_and_free program ≡ true
+unfolding program clap_on_literals
+exact = refl
+
+-- clap gives the matches of the program's commands
+simple : is_simple program ≡ true
+unfolding program clap_on_literals
+simple = refl
+
+-- a parse that succeeds has the command and the values that its rules find, and they find no fault
+pub parse_taken : (a : App) (words : List Text) (matches : ArgMatches) → a ≡ program
+    → HasMatchesOf a words matches → (is_simple_and_free a ≡ true → fault_of a words ≡ [])
+    → (is_taken words ≡ true) × (subcommand_rows_of matches ≡ found_in words)
+unfolding is_taken found_in
+parse_taken a words matches same has free = (
+  ap (λ p. is_faultless (fault_of p words)) (sym same) ∙ ap is_faultless (free (ap is_simple_and_free same ∙ exact)),
+  (has (ap is_simple same ∙ simple)).1 ∙ ap (λ p. subcommand_of p words) same,
+)
+
+-- a parse that fails for another cause than memory has a fault
+pub parse_refused : (a : App) (words : List Text) (error : Error) → a ≡ program
+    → (is_simple_and_free a ≡ true → HasKind (fault_of a words) error) → (kind_of error ≡ OutOfMemory → ⊥)
+    → is_taken words ≡ false
+unfolding is_taken
+parse_refused a words error same has other =
+    ap (λ p. is_faultless (fault_of p words)) (sym same) ∙ go (fault_of a words) (has (ap is_simple_and_free same ∙ exact)) where
+      go : (kinds : Kinds) → HasKind kinds error → is_faultless kinds ≡ false
+      go [] (inl memory) = absurd (other memory)
+      go [] (inr among) = absurd among
+      go (k ∷ ks) has = refl

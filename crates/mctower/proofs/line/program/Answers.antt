@@ -1,0 +1,18 @@
+use Rattle.std.proofs.Common.{◌∙◌, ap}
+use Rattle.std.proofs.lemmas.Result.{IfOk-weaker}
+use Rattle.clap.specs.Simple.{app_of_fields, on_top}
+use Rattle.mctower.specs.Line.{program, without_binary_name}
+use Rattle.mctower.proofs.LineLemmas.{grown}
+use Rattle.mctower.proofs.line.program.Goals as goal
+
+pub returns : goal.returns
+unfolding program
+returns c =
+    let bare = ap app_of_fields c.no_binary_name.ensures ∙ ap (on_top without_binary_name) c.new.ensures.app in
+    let count = c.in_ok-count_command.ensures in
+    let run = c.in_ok-run_command.ensures in
+    let threads = c.in_ok-threads_command.ensures in
+    let one = grown _ _ _ _ _ c.in_ok-subcommand.ensures bare count.0 count.1 in
+    let two = grown _ _ _ _ _ c.in_ok-subcommand-2.ensures one run.0 run.1 in
+    let three = grown _ _ _ _ _ c.in_ok-subcommand-3.ensures two threads.0 threads.1 in
+    IfOk-weaker c.subcommand-4.result _ _ (λ r adds. grown _ _ _ _ _ adds three c.new-2.ensures.app c.new-2.ensures.local) c.subcommand-4.ensures

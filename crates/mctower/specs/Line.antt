@@ -1,0 +1,143 @@
+-- The command line: which order the words after the program's name mean, by clap's reading of them.
+use Rattle.std.specs.Prelude.{◌≡◌, ℕ, Bool, true, false, List, [], ◌∷◌, codes}
+use Rattle.std.specs.Prelude.{Option, Some, None, Result, Ok, Err, option_map, option_and_then}
+use Rattle.std.specs.Prelude.{if◌then◌else◌, string_bytes}
+use Rattle.std.specs.Str.{bytes_eq}
+use Rattle.std.specs.Str.Parse.{digits_value, without_leading_plus}
+use Rattle.clap.specs.Walk.{Row, Rule, Text, first_of}
+use Rattle.clap.specs.ValueTests.{is_unsigned_in}
+use Rattle.clap.specs.Simple.{App, Shape, new_app, new_rule, on_top, subcommand_of}
+use Rattle.clap.specs.Simple.{with_rule, with_subcommand, subcommand_rows_of}
+use Rattle.clap.specs.declared.parser.matches.ArgMatches.{ArgMatches}
+use Rattle.clap.specs.Faults.{fault_of}
+use Rattle.clap.specs.Kinds.{Kinds}
+use Rattle.mctower.specs.declared.line.TheConstants.{MOST_CPUS, MOST_TIMES, MOST_TURNS, SERVES_COUNT, SERVES_RUN, SERVES_THREADS, SERVES_CHECK}
+use Rattle.mctower.specs.declared.line.Order.{Order}
+use Rattle.mctower.specs.declared.line.Order.TheVariants.{Count, Run, Threads, Check}
+use Rattle.mctower.specs.declared.line.LineError.{LineError}
+use Rattle.mctower.specs.declared.line.LineError.TheVariants.{NoMemory, Refused}
+
+-- ---- the commands and their options
+
+-- an option `--name VALUE` that has to be there
+abbrev pub wanted : Text → Rule
+wanted name = record (new_rule name) { long = Some name; required = true }
+
+-- an option `--name VALUE` that may be left out
+abbrev pub optional : Text → Rule
+optional name = record (new_rule name) { long = Some name }
+
+-- `count --cpus n --times k`
+abbrev pub count_app : App
+count_app = with_rule (with_rule (new_app (codes "count")) (wanted (codes "cpus"))) (wanted (codes "times"))
+
+-- `run [--schedule S]`
+abbrev pub run_app : App
+run_app = with_rule (new_app (codes "run")) (optional (codes "schedule"))
+
+-- `threads --turns n`
+abbrev pub threads_app : App
+threads_app = with_rule (new_app (codes "threads")) (wanted (codes "turns"))
+
+-- `check`
+abbrev pub check_app : App
+check_app = new_app (codes "check")
+
+-- the words begin behind the program's name
+abbrev pub without_binary_name : Shape → Shape
+without_binary_name s = record s { no_binary_name = true }
+
+-- the program before its commands
+abbrev pub bare_program : App
+bare_program = on_top without_binary_name (new_app (codes "mctower"))
+
+-- the program with its four commands
+unfoldable pub program : App
+program = with_subcommand (with_subcommand (with_subcommand (with_subcommand bare_program count_app.top) run_app.top) threads_app.top) check_app.top
+
+-- ---- the order that the words mean
+
+-- an order as its command and values
+pub data Meant : Type 0 where
+  count : ℕ → ℕ → Meant
+  run : Option Text → Meant
+  threads : ℕ → Meant
+  check : Meant
+
+-- the number that a text spells by clap's rules (a plus sign and leading zeros may stand there), in this range
+abbrev pub number_in : ℕ → ℕ → Text → Option ℕ
+number_in least most text = if is_unsigned_in least most text then Some (digits_value 10 (without_leading_plus text)) else None
+
+-- the number that the option of this name has, in this range
+abbrev pub number_at : ℕ → ℕ → Text → List Row → Option ℕ
+number_at least most name rows = option_and_then (number_in least most) (first_of name rows)
+
+-- the order of the command `count` with these values
+abbrev pub count_in : List Row → Option Meant
+count_in rows = option_and_then (λ cpus. option_map (λ times. count cpus times) (number_at 1 MOST_TIMES (codes "times") rows)) (number_at 1 MOST_CPUS (codes "cpus") rows)
+
+-- the order of the command `run` with these values
+abbrev pub run_in : List Row → Option Meant
+run_in rows = Some (run (first_of (codes "schedule") rows))
+
+-- the order of the command `threads` with these values
+abbrev pub threads_in : List Row → Option Meant
+threads_in rows = option_map (λ turns. threads turns) (number_at 1 MOST_TURNS (codes "turns") rows)
+
+-- the order of a command by its name and its values
+abbrev pub order_in : Text × List Row → Option Meant
+order_in found = if bytes_eq found.0 (codes "count") then count_in found.1
+    else (if bytes_eq found.0 (codes "run") then run_in found.1
+    else (if bytes_eq found.0 (codes "threads") then threads_in found.1
+    else (if bytes_eq found.0 (codes "check") then Some check else None)))
+
+-- the command that the words name, with its values
+unfoldable pub found_in : List Text → Option (Text × List Row)
+found_in words = subcommand_of program words
+
+-- there is no kind of fault
+abbrev pub is_faultless : Kinds → Bool
+is_faultless [] = true
+is_faultless (kind ∷ kinds) = false
+
+-- clap's rules find no fault in the words
+unfoldable pub is_taken : List Text → Bool
+is_taken words = is_faultless (fault_of program words)
+
+-- a server stands for the command
+abbrev pub is_served : Meant → Bool
+is_served (count _ _) = SERVES_COUNT
+is_served (run _) = SERVES_RUN
+is_served (threads _) = SERVES_THREADS
+is_served check = SERVES_CHECK
+
+-- the order, if its command is served
+abbrev pub if_served : Meant → Option Meant
+if_served meant = if is_served meant then Some meant else None
+
+-- the order of a command that is served, by its name and its values
+abbrev pub served_order : Text × List Row → Option Meant
+served_order found = option_and_then if_served (order_in found)
+
+-- the order that the words mean, if the rules take them, each number is in its range and the command is served
+abbrev pub order_of : List Text → Option Meant
+order_of words = if is_taken words then option_and_then served_order (found_in words) else None
+
+-- what an order stands for
+abbrev pub meant_by : Order → Meant
+meant_by (Count cpus times) = count cpus times
+meant_by (Run schedule) = run (option_map string_bytes schedule)
+meant_by (Threads turns) = threads turns
+meant_by Check = check
+
+-- a reading gives the order that is meant, or refuses where none is meant, memory aside
+abbrev pub Reads : Option Meant → Result Order LineError → Type 0
+Reads meant (Ok order) = meant ≡ Some (meant_by order)
+Reads meant (Err NoMemory) = Unit {0}
+Reads meant (Err Refused) = meant ≡ None
+
+-- clap's parse takes the words exactly if its rules do, memory aside, and finds their command and values
+abbrev pub Finds : List Text → Result ArgMatches LineError → Type 0
+Finds words (Ok matches) = (is_taken words ≡ true) × (subcommand_rows_of matches ≡ found_in words)
+Finds words (Err NoMemory) = Unit {0}
+Finds words (Err Refused) = is_taken words ≡ false

@@ -1,0 +1,95 @@
+//! The texts that teach the command line: for each command what goes in, what comes out, and an
+//! example. They go to standard error where the words are refused, also where they ask for help.
+
+const PROGRAM: &str = "\
+mctower: a verified thread tower, from ticket locks to kernel threads
+
+usage: mctower COMMAND [OPTIONS]
+
+  count     adds up one number in critical sections of several CPUs
+  run       runs a plan's threads, step by step, by a schedule
+  threads   runs a plan's threads, with one worker thread for each CPU (not served yet)
+  check     says whether a trace text is the trace of a run
+
+mctower COMMAND --help says what goes in and what comes out, with an example.
+
+exit status: 0 a good run or a yes, 1 a refusal (one line 'error: Name(N)'),
+2 a bad command line, 3 a no of check
+";
+
+const COUNT: &str = "\
+mctower count --cpus N --times K
+
+Each of N CPUs (1 to 8) does K critical sections (1 to 1000); each section adds 1 to one number.
+Input: none. Output: the number, 'plain T' from the machine that one thread steps.
+
+example: mctower count --cpus 2 --times 3
+prints:  plain 6
+";
+
+const RUN: &str = "\
+mctower run [--schedule S]
+
+Input: a plan, in TOML. Output: the trace text of the run; on standard error where each CPU and
+each thread stands. S says which CPU takes each step: items 'c' or 'c*n' (n steps of CPU c),
+joined by commas, 1,048,576 steps at most. Without a schedule no step is taken.
+
+example: mctower run --schedule '0*21' < plan.toml
+where plan.toml is:
+  cpus = 1
+  trace = 4
+  buffers = [1]
+  [[thread]]
+  cpu = 0
+  program = [\"set r0 7\", \"send 0 r0\", \"exit\"]
+";
+
+const THREADS: &str = "\
+mctower threads --turns N
+
+Not served yet: it is refused. It is to run a plan with one worker thread for each CPU, each of
+which takes at most N turns (1 to 1,000,000,000).
+
+example: mctower threads --turns 1000000 < plan.toml
+";
+
+const CHECK: &str = "\
+mctower check
+
+Input: a trace text, as run prints it. Output: 'yes', or 'no L Name(N)' with the first line L at
+fault and its reason; then the exit status is 3.
+
+example: mctower run --schedule '0*21' < plan.toml | mctower check
+prints:  yes
+";
+
+/// The help on the command that the words name, or on the whole program.
+pub(crate) fn help_on(words: &[&str]) -> &'static str {
+    let name = match words {
+        [] => "",
+        ["help", name, ..] => name,
+        [name, ..] => name,
+    };
+    match name {
+        "count" => COUNT,
+        "run" => RUN,
+        "threads" => THREADS,
+        "check" => CHECK,
+        _ => PROGRAM,
+    }
+}
+
+#[cfg(test)]
+mod tests {
+    use super::*;
+
+    #[test]
+    fn each_command_has_its_help(rt: HostRuntime) {
+        assert!(rt; help_on([].as_slice()).starts_with("mctower: "));
+        assert!(rt; help_on(["--help"].as_slice()).starts_with("mctower: "));
+        assert!(rt; help_on(["count", "--help"].as_slice()).starts_with("mctower count"));
+        assert!(rt; help_on(["help", "run"].as_slice()).starts_with("mctower run"));
+        assert!(rt; help_on(["threads"].as_slice()).starts_with("mctower threads"));
+        assert!(rt; help_on(["check", "more"].as_slice()).starts_with("mctower check"));
+    }
+}

@@ -1,0 +1,309 @@
+//! The command line: which order the words after the program's name make.
+ghost use Rattle.std.specs.Prelude.{◌≡◌, IfOk, OkIff, map, option_map, true, false};
+ghost use Rattle.clap.specs.Simple.{app_of, subcommand_rows_of};
+ghost use Rattle.clap.specs.Matches.{found_of};
+ghost use Rattle.clap.specs.Walk.{rows_of, rule_of};
+ghost use Rattle.clap.specs.declared.builder.command.Command.TheViews.{out-Command};
+ghost use Rattle.mctower.specs.declared.line.LineError.TheVariants.{NoMemory};
+ghost use Rattle.mctower.specs.Line.{Reads, check_app, count_app, count_in, number_in, number_at};
+ghost use Rattle.mctower.specs.Line.{optional, order_of, program, run_app, threads_app, wanted};
+ghost use Rattle.mctower.specs.Line.{threads_in, run_in, order_in, is_served, meant_by, served_order, Finds};
+
+use clap::error::ErrorKind;
+use clap::{Arg, ArgMatches, Command};
+use std::alloc::{AllocError, AllocFailed, Global};
+use thiserror::Error;
+
+/// The most CPUs that `count` takes.
+pub const MOST_CPUS: u64 = 8;
+/// The most sections that `count` does for each CPU.
+pub const MOST_TIMES: u64 = 1000;
+/// The most turns that `threads` gives each CPU.
+pub const MOST_TURNS: u64 = 1_000_000_000;
+
+/// The commands that a server stands for; each other one is refused.
+pub const SERVES_COUNT: bool = false;
+
+pub const SERVES_RUN: bool = false;
+
+pub const SERVES_THREADS: bool = false;
+
+pub const SERVES_CHECK: bool = false;
+
+/// What the program is asked to do.
+#[derive(Debug, Drop)]
+pub enum Order {
+    /// Adds 1 to one number in sections of several CPUs: how many CPUs (1 to 8), and how many
+    /// sections for each (1 to 1000).
+    Count(u8, u64),
+    /// Runs the plan on standard input under this schedule; without one no step is taken.
+    Run(Option<String>),
+    /// Runs the plan on standard input with one thread for each CPU, each with at most that many
+    /// turns (1 to 1,000,000,000).
+    Threads(u64),
+    /// Says whether standard input is the trace text of a run.
+    Check,
+}
+
+/// Why the words make no order.
+#[derive(Debug, Clone, Copy, PartialEq, Eq, Error)]
+pub enum LineError {
+    /// Memory ran out.
+    #[error("NoMemory(1)")]
+    NoMemory,
+    /// The words are no command line of this program, or ask for help.
+    #[error("bad command line")]
+    Refused,
+}
+
+impl From<AllocError> for LineError {
+    ghost from_gives = { λ _ e. e ≡ NoMemory };
+
+    fn from(_error: AllocError) -> LineError {
+        LineError::NoMemory
+    }
+}
+
+fn needed<'a>(alloc: Global, name: &'a str) -> Arg<'a>
+    ensures rule { rule_of result ≡ wanted name.entry.now }
+    ensures local { result.global ≡ false }
+{
+    Arg::new(alloc, name).long(name).required(true)
+}
+
+fn count_command<'a>(alloc: Global) -> Result<Command<'a>, AllocError>
+    ensures { IfOk result (λ c. (app_of c ≡ count_app) × ((out-Command c).has_globals ≡ false)) }
+{
+    Command::new(alloc, "count")
+        .arg(needed(alloc, "cpus"))?
+        .arg(needed(alloc, "times"))
+}
+
+fn run_command<'a>(alloc: Global) -> Result<Command<'a>, AllocError>
+    ensures { IfOk result (λ c. (app_of c ≡ run_app) × ((out-Command c).has_globals ≡ false)) }
+{
+    Command::new(alloc, "run").arg(Arg::new(alloc, "schedule").long("schedule"))
+}
+
+fn threads_command<'a>(alloc: Global) -> Result<Command<'a>, AllocError>
+    ensures { IfOk result (λ c. (app_of c ≡ threads_app) × ((out-Command c).has_globals ≡ false)) }
+{
+    Command::new(alloc, "threads").arg(needed(alloc, "turns"))
+}
+
+fn program<'a>(alloc: Global) -> Result<Command<'a>, AllocError>
+    ensures { IfOk result (λ c. app_of c ≡ program) }
+{
+    Command::new(alloc, "mctower")
+        .no_binary_name(true)
+        .subcommand(count_command(alloc)?)?
+        .subcommand(run_command(alloc)?)?
+        .subcommand(threads_command(alloc)?)?
+        .subcommand(Command::new(alloc, "check"))
+}
+
+// What clap makes of the words; its refusal for memory is told from the others.
+fn matches_in<'a>(alloc: Global, words: &'a [&'a str]) -> Result<ArgMatches<'a>, LineError>
+    ensures { Finds (map (λ w. w.now) words.entry.now) result }
+{
+    match program(alloc)?.try_get_matches_from(words) {
+        Ok(matches) => Ok(matches),
+        Err(error) => {
+            if error.kind() == ErrorKind::OutOfMemory {
+                Err(LineError::NoMemory)
+            } else {
+                Err(LineError::Refused)
+            }
+        }
+    }
+}
+
+// The number that a text spells, from `least` to `most`.
+fn number(text: &str, least: u64, most: u64) -> Option<u64>
+    ensures { result ≡ number_in least most text.now }
+{
+    match text.parse::<u64>() {
+        Ok(n) => {
+            if least <= n && n <= most {
+                Some(n)
+            } else {
+                None
+            }
+        }
+        Err(_) => None,
+    }
+}
+
+// The number that the option of this name has, from `least` to `most`.
+fn number_of(matches: &ArgMatches<'_>, name: &str, least: u64, most: u64) -> Option<u64>
+    ensures { result ≡ number_at least most name.now (rows_of (found_of matches.now)) }
+{
+    number(matches.get_str(name)?, least, most)
+}
+
+fn count_order(matches: &ArgMatches<'_>) -> Result<Order, LineError>
+    ensures { Reads (count_in (rows_of (found_of matches.now))) result }
+{
+    let Some(cpus) = number_of(matches, "cpus", 1, MOST_CPUS) else {
+        return Err(LineError::Refused);
+    };
+    let Some(times) = number_of(matches, "times", 1, MOST_TIMES) else {
+        return Err(LineError::Refused);
+    };
+    Ok(Order::Count(cpus as u8, times))
+}
+
+fn threads_order(matches: &ArgMatches<'_>) -> Result<Order, LineError>
+    ensures { Reads (threads_in (rows_of (found_of matches.now))) result }
+{
+    match number_of(matches, "turns", 1, MOST_TURNS) {
+        Some(turns) => Ok(Order::Threads(turns)),
+        None => Err(LineError::Refused),
+    }
+}
+
+fn run_order(alloc: Global, matches: &ArgMatches<'_>) -> Result<Order, LineError>
+    ensures { Reads (run_in (rows_of (found_of matches.now))) result }
+{
+    match matches.get_str("schedule") {
+        Some(text) => Ok(Order::Run(Some(String::from_str(alloc, text)?))),
+        None => Ok(Order::Run(None)),
+    }
+}
+
+// The order of the command of this name.
+fn order_named(alloc: Global, name: &str, matches: &ArgMatches<'_>) -> Result<Order, LineError>
+    ensures { Reads (order_in (name.now, rows_of (found_of matches.now))) result }
+{
+    match name {
+        "count" => count_order(matches),
+        "run" => run_order(alloc, matches),
+        "threads" => threads_order(matches),
+        "check" => Ok(Order::Check),
+        _ => Err(LineError::Refused),
+    }
+}
+
+fn is_served(order: &Order) -> bool
+    ensures { result ≡ is_served (meant_by order.now) }
+{
+    match order {
+        Order::Count(_, _) => SERVES_COUNT,
+        Order::Run(_) => SERVES_RUN,
+        Order::Threads(_) => SERVES_THREADS,
+        Order::Check => SERVES_CHECK,
+    }
+}
+
+// The order of the command of this name, if it is served.
+fn served_order(alloc: Global, name: &str, matches: &ArgMatches<'_>) -> Result<Order, LineError>
+    ensures { Reads (served_order (name.now, rows_of (found_of matches.now))) result }
+{
+    let order = order_named(alloc, name, matches)?;
+    if is_served(&order) {
+        Ok(order)
+    } else {
+        Err(LineError::Refused)
+    }
+}
+
+/// Reads the words after the program's name, by the rules of `clap`.
+///
+/// The order is given exactly where those rules find no fault in the words, each number is in its
+/// range (as `clap` reads a number, so `+2` and `007` are numbers) and the command is served. A
+/// request for help and no word at all are refused. `NoMemory` comes only where memory ran out.
+pub fn read_line(alloc: Global, words: &[&str]) -> Result<Order, LineError>
+    ensures { Reads (order_of (map (λ w. w.now) words.now)) result }
+{
+    let matches = matches_in(alloc, words)?;
+    match matches.subcommand() {
+        Some((name, inner)) => served_order(alloc, name, inner),
+        None => Err(LineError::Refused),
+    }
+}
+
+#[cfg(test)]
+mod tests {
+    use super::*;
+    use std::test::Fail;
+
+    fn is_refused(alloc: Global, words: &[&str]) -> bool {
+        matches!(read_line(alloc, words), Err(LineError::Refused))
+    }
+
+    #[test]
+    fn count_has_its_two_values(rt: HostRuntime) -> Result<(), Fail> {
+        if !SERVES_COUNT {
+            return Ok(());
+        }
+        let words = ["count", "--cpus", "2", "--times", "3"];
+        assert!(rt; matches!(read_line(rt.alloc(), words.as_slice())?, Order::Count(2, 3)));
+        let joined = ["count", "--times=1000", "--cpus=8"];
+        assert!(rt;
+            matches!(
+                read_line(rt.alloc(), joined.as_slice())?,
+                Order::Count(8, 1000)
+            )
+        );
+        let spelled = ["count", "--times", "007", "--cpus=+1"];
+        assert!(rt;
+            matches!(
+                read_line(rt.alloc(), spelled.as_slice())?,
+                Order::Count(1, 7)
+            )
+        );
+        Ok(())
+    }
+
+    #[test]
+    fn bad_lines_are_refused(rt: HostRuntime) {
+        let alloc = rt.alloc();
+        assert!(rt; is_refused(alloc, [].as_slice()));
+        assert!(rt; is_refused(alloc, ["--help"].as_slice()));
+        assert!(rt; is_refused(alloc, ["help", "count"].as_slice()));
+        assert!(rt; is_refused(alloc, ["count", "--help"].as_slice()));
+        assert!(rt; is_refused(alloc, ["counts"].as_slice()));
+        assert!(rt; is_refused(alloc, ["count"].as_slice()));
+        assert!(rt; is_refused(alloc, ["count", "--cpus", "2"].as_slice()));
+        assert!(rt; is_refused(alloc, ["count", "--cpus", "2", "--times"].as_slice()));
+        assert!(rt;
+            is_refused(
+                alloc,
+                ["count", "--cpus", "2", "--times", "3", "4"].as_slice()
+            )
+        );
+        assert!(rt; is_refused(alloc, ["count", "--cpus", "2", "--times", "0"].as_slice()));
+        assert!(rt;
+            is_refused(
+                alloc,
+                ["count", "--cpus", "2", "--times", "1001"].as_slice()
+            )
+        );
+        assert!(rt; is_refused(alloc, ["count", "--cpus", "9", "--times", "1"].as_slice()));
+        assert!(rt; is_refused(alloc, ["count", "--cpus", "0", "--times", "1"].as_slice()));
+        assert!(rt; is_refused(alloc, ["count", "--cpus", "two", "--times", "1"].as_slice()));
+        assert!(rt; is_refused(alloc, ["count", "--cpus", "-1", "--times", "1"].as_slice()));
+        assert!(rt;
+            is_refused(
+                alloc,
+                ["count", "--cpus", "1", "--cpus", "1", "--times", "1"].as_slice()
+            )
+        );
+    }
+
+    #[test]
+    fn a_command_without_a_server_is_refused(rt: HostRuntime) {
+        assert!(rt;
+            is_refused(rt.alloc(), ["threads", "--turns", "5"].as_slice()) || SERVES_THREADS
+        );
+        assert!(rt; is_refused(rt.alloc(), ["run"].as_slice()) || SERVES_RUN);
+        assert!(rt; is_refused(rt.alloc(), ["check"].as_slice()) || SERVES_CHECK);
+    }
+
+    #[test]
+    fn errors_have_their_names(rt: HostRuntime) -> Result<(), Fail> {
+        let text = format!(in rt.alloc(); "{}", LineError::NoMemory)?;
+        assert_eq!(rt; text.as_str(), "NoMemory(1)");
+        Ok(())
+    }
+}
