@@ -82,7 +82,7 @@ line_take {N = N} lock past line d m known rests true here =
     (ap (λ b. if b then takes m past else place d past) (same_cpu_self d) ∙ ap (λ l. takes l past) (sym same))
     (others_same lock past line (Take d m))
 
-at_either : (lock m : LockId) (hit : Bool) → is_at lock (if hit then Holds m else Waits m) ≡ same_lock lock m
+pub at_either : (lock m : LockId) (hit : Bool) → is_at lock (if hit then Holds m else Waits m) ≡ same_lock lock m
 at_either lock m true = refl
 at_either lock m false = refl
 

@@ -6,5 +6,7 @@ pub mod Exclusion
 pub mod Tickets
 pub mod Foreign
 pub mod Alone
+pub mod Renaming
+pub mod OneFree
 pub mod DigitsLemmas
 pub mod ReadingLemmas

@@ -1,11 +1,13 @@
 -- What holds of every legal log, of marks or names of any type.
-use Rattle.std.specs.Prelude.{◌≡◌, ℕ, ◌<◌, ◌↔◌, true, List, ◌∷◌}
+use Rattle.std.specs.Prelude.{◌≡◌, ℕ, ◌<◌, ◌≤◌, ◌↔◌, true, false, List, [], ◌∷◌, ◌++◌}
 use Rattle.event_log.specs.declared.ids.CpuId.{CpuId}
 use Rattle.event_log.specs.declared.ids.LockId.{LockId}
 use Rattle.event_log.specs.declared.events.Event.{Event}
-use Rattle.event_log.specs.WordsLog.{IsLegalWords, Inside, standing}
+use Rattle.event_log.specs.declared.events.Event.TheVariants.{Draw, Look, Free}
+use Rattle.event_log.specs.History.{same_cpu, own}
+use Rattle.event_log.specs.WordsLog.{actor, frees, IsLegalWords, Inside, standing}
 use Rattle.event_log.specs.declared.ids.TheConstants.{CPUS}
-use Rattle.event_log.specs.Actions.{Action, Take, Try, Give, Rests, Holds, phase, AreLegal, IsFree, AreFree, next_action, acts_of}
+use Rattle.event_log.specs.Actions.{Action, Take, Try, Give, Rests, Holds, doer, gives, phase, AreLegal, IsFree, AreFree, next_action, acts_of}
 use Rattle.event_log.specs.Sections.{Section, sections_in}
 
 -- two CPUs never hold one lock
@@ -41,3 +43,29 @@ ThreeAreOneSection N = (cpu : CpuId) (lock : LockId) (name : N) (past : List (Ac
 abbrev pub FreeWhereAllRest : Type 0 → Type 0
 FreeWhereAllRest N = (actions : List (Action N)) → AreLegal actions
     → ((c : CpuId) → c.0 < CPUS → phase c actions ≡ Rests) ↔ AreFree actions
+
+-- each of these actions is a try
+abbrev pub OnlyTries : {N : Type 0} → List (Action N) → Type 0
+OnlyTries [] = Unit {0}
+OnlyTries (Take cpu lock ∷ past) = ⊥
+OnlyTries (Try cpu lock hit ∷ past) = OnlyTries past
+OnlyTries (Give cpu lock name ∷ past) = ⊥
+
+-- from the Take of a CPU on, while it does nothing but try, no other CPU gives that lock on twice
+abbrev pub GivenOnceMeanwhile : Type 0 → Type 0
+GivenOnceMeanwhile N = (past between : List (Action N)) (cpu other : CpuId) (lock : LockId)
+    → AreLegal (between ++ (Take cpu lock ∷ past)) → OnlyTries (own doer cpu between) → same_cpu cpu other ≡ false
+    → gives lock (own doer other between) ≤ 1
+
+-- each of these events is a look
+abbrev pub OnlyLooks : {M : Type 0} → List (Event M) → Type 0
+OnlyLooks [] = Unit {0}
+OnlyLooks (Draw cpu lock ticket ∷ past) = ⊥
+OnlyLooks (Look cpu lock ticket read ∷ past) = OnlyLooks past
+OnlyLooks (Free cpu lock mark ∷ past) = ⊥
+
+-- from the Draw of a CPU on, while it does nothing but look, no other CPU frees that lock twice
+abbrev pub FreedOnceMeanwhile : Type 0 → Type 0
+FreedOnceMeanwhile M = (past between : List (Event M)) (cpu other : CpuId) (lock : LockId) (ticket : ℕ)
+    → IsLegalWords (between ++ (Draw cpu lock ticket ∷ past)) → OnlyLooks (own actor cpu between) → same_cpu cpu other ≡ false
+    → frees lock (own actor other between) ≤ 1

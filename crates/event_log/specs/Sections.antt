@@ -17,6 +17,10 @@ pub record Section (E : Type 0) : Type 0 where
 abbrev pub section_actor : {E : Type 0} → Section E → CpuId
 section_actor s = s.cpu
 
+-- the same section, its edit under another name
+abbrev pub renamed_section : {N L : Type 0} → (N → L) → Section N → Section L
+renamed_section f s = record { cpu = s.cpu; lock = s.lock; edit = f s.edit }
+
 -- the sections of a words log: its Frees, each with the edit that its mark tells
 abbrev pub sections_of : {M E : Type 0} → (M → E) → List (Event M) → List (Section E)
 sections_of edit [] = []

@@ -2,7 +2,7 @@
 //! the law is proved with the crate.
 
 ghost use Rattle.event_log.specs.Forms.{BothFormsAgree};
-ghost use Rattle.event_log.specs.Laws.{FreeWhereAllRest, OneHolds, OneInside, ThreeAreOneSection, TicketsTellPlaces};
+ghost use Rattle.event_log.specs.Laws.{FreedOnceMeanwhile, FreeWhereAllRest, GivenOnceMeanwhile, OneHolds, OneInside, ThreeAreOneSection, TicketsTellPlaces};
 ghost use Rattle.event_log.specs.History.{Adds, Grows, own, IsLawful};
 ghost use Rattle.event_log.specs.Actions.{renamed};
 ghost use Rattle.event_log.specs.Sections.{Section, section_actor, sections_of, sections_in, block_after};
@@ -39,4 +39,16 @@ pub fn three_are_one_section<N>()
 /// Every lock is free exactly where no CPU of the machine waits at a lock or holds one.
 pub fn free_where_all_rest<N>()
     ensures { FreeWhereAllRest N }
+{}
+
+/// From the time that a CPU takes a place in the line of a lock, and while it does nothing but try,
+/// no other CPU gives that lock on twice: to come back it would have to pass the first one.
+pub fn given_once_meanwhile<N>()
+    ensures { GivenOnceMeanwhile N }
+{}
+
+/// From the draw of a CPU on, and while it does nothing but look, no other CPU frees that lock
+/// twice. So it holds between a draw and the look that hits for it.
+pub fn freed_once_meanwhile<M>()
+    ensures { FreedOnceMeanwhile M }
 {}

@@ -16,8 +16,8 @@ pub use entries::{Entry, Kind};
 pub use events::Event;
 pub use ids::{BUFFERS, BufId, CPUS, CpuId, LockId, THREADS, Tid};
 pub use laws::{
-    both_forms_agree, free_where_all_rest, one_holds, one_inside, three_are_one_section,
-    tickets_tell_places,
+    both_forms_agree, free_where_all_rest, freed_once_meanwhile, given_once_meanwhile, one_holds,
+    one_inside, three_are_one_section, tickets_tell_places,
 };
 pub use logs::EventLog;
 pub use refusals::{LogFull, NoMemory};

@@ -1,0 +1,91 @@
+-- Actions under other names: nothing changes but the names of the sections.
+use Rattle.std.proofs.Common.{◌≡◌, ℕ, ◌+◌, Bool, true, false, List, [], ◌∷◌, ◌++◌, ◌==◌, if◌then◌else◌, map, refl, ap, sym, subst, ◌∙◌}
+use Rattle.event_log.specs.declared.ids.CpuId.{CpuId}
+use Rattle.event_log.specs.declared.ids.LockId.{LockId}
+use Rattle.event_log.specs.declared.events.Event.{Event}
+use Rattle.event_log.specs.declared.events.Event.TheVariants.{Draw, Look, Free}
+use Rattle.event_log.specs.History.{same_cpu, AreOthers}
+use Rattle.event_log.specs.Actions.{Action, Take, Try, Give, Phase, Rests, Waits, Holds, phase, left_in, doer, place, takes, gives, is_take, is_give, MayAct, AreLegal, action_in, next_action, renamed, act_of, acts_of}
+use Rattle.event_log.specs.Sections.{Section, renamed_section, sections_in}
+
+module _ {N L : Type 0} (f : N → L) where
+  doer_renamed : (a : Action N) → doer (renamed f a) ≡ doer a
+  doer_renamed (Take cpu lock) = refl
+  doer_renamed (Try cpu lock hit) = refl
+  doer_renamed (Give cpu lock name) = refl
+
+  left_in_renamed : (a : Action N) → left_in (renamed f a) ≡ left_in a
+  left_in_renamed (Take cpu lock) = refl
+  left_in_renamed (Try cpu lock hit) = refl
+  left_in_renamed (Give cpu lock name) = refl
+
+  pub phase_renamed : (c : CpuId) (past : List (Action N)) → phase c (map (renamed f) past) ≡ phase c past
+  phase_renamed c [] = refl
+  phase_renamed c (a ∷ past) = λ i. if same_cpu (doer_renamed a i) c then left_in_renamed a i else phase_renamed c past i
+
+  is_take_renamed : (lock : LockId) (a : Action N) → is_take lock (renamed f a) ≡ is_take lock a
+  is_take_renamed lock (Take cpu at) = refl
+  is_take_renamed lock (Try cpu at hit) = refl
+  is_take_renamed lock (Give cpu at name) = refl
+
+  is_give_renamed : (lock : LockId) (a : Action N) → is_give lock (renamed f a) ≡ is_give lock a
+  is_give_renamed lock (Take cpu at) = refl
+  is_give_renamed lock (Try cpu at hit) = refl
+  is_give_renamed lock (Give cpu at name) = refl
+
+  pub takes_renamed : (lock : LockId) (past : List (Action N)) → takes lock (map (renamed f) past) ≡ takes lock past
+  takes_renamed lock [] = refl
+  takes_renamed lock (a ∷ past) = λ i. if is_take_renamed lock a i then takes_renamed lock past i + 1 else takes_renamed lock past i
+
+  pub gives_renamed : (lock : LockId) (past : List (Action N)) → gives lock (map (renamed f) past) ≡ gives lock past
+  gives_renamed lock [] = refl
+  gives_renamed lock (a ∷ past) = λ i. if is_give_renamed lock a i then gives_renamed lock past i + 1 else gives_renamed lock past i
+
+  pub place_renamed : (c : CpuId) (past : List (Action N)) → place c (map (renamed f) past) ≡ place c past
+  place_renamed c [] = refl
+  place_renamed c (Take cpu lock ∷ past) = λ i. if same_cpu cpu c then takes_renamed lock past i else place_renamed c past i
+  place_renamed c (Try cpu lock hit ∷ past) = place_renamed c past
+  place_renamed c (Give cpu lock name ∷ past) = place_renamed c past
+
+  may_act_renamed : (a : Action N) (past : List (Action N)) → MayAct past a → MayAct (map (renamed f) past) (renamed f a)
+  may_act_renamed (Take cpu lock) past may = (may.0, phase_renamed cpu past ∙ may.1)
+  may_act_renamed (Try cpu lock hit) past may =
+      (phase_renamed cpu past ∙ may.0, may.1 ∙ (λ i. sym (gives_renamed lock past) i == sym (place_renamed cpu past) i))
+  may_act_renamed (Give cpu lock name) past may = phase_renamed cpu past ∙ may
+
+  -- legal actions are legal under other names
+  pub legal_renamed : (actions : List (Action N)) → AreLegal actions → AreLegal (map (renamed f) actions)
+  legal_renamed [] legal = tt
+  legal_renamed (a ∷ past) legal = (may_act_renamed a past legal.0, legal_renamed past legal.1)
+
+  action_in_renamed : (cpu : CpuId) (lock : LockId) (name : N) (past : List (Action N)) (p : Phase)
+      → action_in cpu lock (f name) (map (renamed f) past) p ≡ renamed f (action_in cpu lock name past p)
+  action_in_renamed cpu lock name past Rests = refl
+  action_in_renamed cpu lock name past (Waits at) = λ i. Try cpu at (gives_renamed at past i == place_renamed cpu past i)
+  action_in_renamed cpu lock name past (Holds at) = refl
+
+  -- the next action is the same, under the other name
+  pub next_action_renamed : (cpu : CpuId) (lock : LockId) (name : N) (past : List (Action N))
+      → next_action cpu lock (f name) (map (renamed f) past) ≡ renamed f (next_action cpu lock name past)
+  next_action_renamed cpu lock name past =
+      ap (action_in cpu lock (f name) (map (renamed f) past)) (phase_renamed cpu past) ∙ action_in_renamed cpu lock name past (phase cpu past)
+
+  pub others_renamed : (c : CpuId) (others : List (Action N)) → AreOthers doer c others → AreOthers doer c (map (renamed f) others)
+  others_renamed c [] foreign = tt
+  others_renamed c (a ∷ others) foreign = (ap (λ d. same_cpu d c) (doer_renamed a) ∙ foreign.0, others_renamed c others foreign.1)
+
+  pub sections_in_renamed : (past : List (Action N)) → sections_in (map (renamed f) past) ≡ map (renamed_section f) (sections_in past)
+  sections_in_renamed [] = refl
+  sections_in_renamed (Take cpu lock ∷ past) = sections_in_renamed past
+  sections_in_renamed (Try cpu lock hit ∷ past) = sections_in_renamed past
+  sections_in_renamed (Give cpu lock name ∷ past) = ap (λ s. record { cpu = cpu; lock = lock; edit = f name } ∷ s) (sections_in_renamed past)
+
+-- an event's action under another name is the action under that name
+pub act_of_renamed : {M N L : Type 0} (name : M → N) (f : N → L) (e : Event M) → renamed f (act_of name e) ≡ act_of (λ m. f (name m)) e
+act_of_renamed name f (Draw cpu lock ticket) = refl
+act_of_renamed name f (Look cpu lock ticket read) = refl
+act_of_renamed name f (Free cpu lock mark) = refl
+
+pub acts_of_renamed : {M N L : Type 0} (name : M → N) (f : N → L) (log : List (Event M)) → map (renamed f) (acts_of name log) ≡ acts_of (λ m. f (name m)) log
+acts_of_renamed name f [] = refl
+acts_of_renamed name f (e ∷ log) = λ i. act_of_renamed name f e i ∷ acts_of_renamed name f log i
