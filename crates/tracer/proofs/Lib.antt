@@ -1,2 +1,4 @@
 pub mod SinkLemmas
 pub mod LineLemmas
+pub mod OrderLemmas
+pub mod GatherLemmas

@@ -1,3 +1,4 @@
 pub mod TraceText
 pub mod Sinks
 pub mod Pieces
+pub mod Gather

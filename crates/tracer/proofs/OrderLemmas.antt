@@ -1,0 +1,194 @@
+-- Orders of traces: an entry that is due at the head of its trace may come first.
+use Rattle.std.proofs.Common.{◌≡◌, ◌≢◌, ℕ, ◌+◌, ◌<◌, ◌≤◌, Bool, cond, eqb, ◌&&◌, List, [], ◌∷◌, ◌++◌, length, get_or, set, Some, sym, ap, ◌∙◌, subst, inl, inr, arith, count_by}
+use Rattle.std.proofs.lemmas.List.{set_comm, get_or-set_other}
+use Rattle.std.proofs.lemmas.List.Sums.{sum_by_push}
+use Rattle.std.proofs.lemmas.Bool.{cases_eq, cases_lt}
+use Rattle.std.proofs.lemmas.Bool.Decides.{nat_tests}
+use Rattle.std.proofs.lemmas.Option.{get_or_from_slice_get, slice_get-get_or}
+use Rattle.std.proofs.lemmas.List.{get_or_past}
+use Rattle.std.specs.Prelude.{slice_get, slice_index}
+use Rattle.event_log.specs.declared.entries.Entry.{Entry}
+use Rattle.event_log.specs.declared.entries.Kind.{Kind}
+use Rattle.event_log.specs.Buffers.{items_of, IsAllowedEffect, after_effect, empty_buffers}
+use Rattle.event_log.specs.Runs.{count_of, count_of_kind, kind_eq, IsNext, IsRunFrom, after_entry}
+use Rattle.event_log.specs.Traces.{IsInterleaving, HasOpOrderFrom}
+use Rattle.event_log.proofs.RunLemmas.{op_order_from}
+use Rattle.tracer.specs.Gather.{RunsHaveOrder, OrdersRunAlike}
+
+-- the entries of a trace, from a look at its head and back
+pub at_head : (traces : List (List Entry)) (k : ℕ) (e : Entry) (rest : List Entry) → slice_get traces k ≡ Some (e ∷ rest) → get_or traces k [] ≡ e ∷ rest
+at_head traces k e rest at = get_or_from_slice_get traces k (e ∷ rest) [] at
+
+pub head_within : (traces : List (List Entry)) (k : ℕ) (e : Entry) (rest : List Entry) → get_or traces k [] ≡ e ∷ rest → k < length traces
+head_within traces k e rest at =
+    elim (cases_lt k (length traces)) [
+      | inl within ↦ within
+      | inr past ↦ let bad : [] ≡ e ∷ rest = sym (get_or_past traces k [] past) ∙ at in absurd (cc)
+    ]
+
+pub head_at : (traces : List (List Entry)) (k : ℕ) (e : Entry) (rest : List Entry) → get_or traces k [] ≡ e ∷ rest → slice_get traces k ≡ Some (e ∷ rest)
+head_at traces k e rest at = slice_get-get_or traces k [] (head_within traces k e rest at) ∙ ap Some at
+
+-- how one entry more changes the count of a buffer
+count_more : (earlier : List Entry) (e : Entry) (b : ℕ) → count_of (earlier ++ e ∷ []) b ≡ count_of earlier b + cond (eqb e.buffer.0 b) 1 0
+count_more earlier e b = sum_by_push (λ x. cond (eqb x.buffer.0 b) 1 0) earlier e
+
+pub count_more_same : (earlier : List Entry) (e : Entry) (b : ℕ) → e.buffer.0 ≡ b → count_of (earlier ++ e ∷ []) b ≡ count_of earlier b + 1
+count_more_same earlier e b same = grind (arith, nat_tests, count_more earlier e b)
+
+pub count_more_other : (earlier : List Entry) (e : Entry) (b : ℕ) → e.buffer.0 ≢ b → count_of (earlier ++ e ∷ []) b ≡ count_of earlier b
+count_more_other earlier e b differ = grind (arith, nat_tests, count_more earlier e b)
+
+kind_more : (earlier : List Entry) (e : Entry) (b : ℕ) (kind : Kind) → count_of_kind (earlier ++ e ∷ []) b kind ≡ count_of_kind earlier b kind + cond (eqb e.buffer.0 b && kind_eq e.kind kind) 1 0
+kind_more earlier e b kind = sum_by_push (λ x. cond (eqb x.buffer.0 b && kind_eq x.kind kind) 1 0) earlier e
+
+kind_more_other : (earlier : List Entry) (e : Entry) (b : ℕ) (kind : Kind) → e.buffer.0 ≢ b → count_of_kind (earlier ++ e ∷ []) b kind ≡ count_of_kind earlier b kind
+kind_more_other earlier e b kind differ = grind (arith, nat_tests, kind_more earlier e b kind)
+
+-- an entry whose op number has gone by is never taken
+stuck : (earlier : List Entry) (traces : List (List Entry)) (order : List Entry) (k : ℕ) (e : Entry) (rest : List Entry) → IsInterleaving traces order → HasOpOrderFrom earlier order → get_or traces k [] ≡ e ∷ rest → e.op < count_of earlier e.buffer.0 → ⊥
+stuck earlier traces [] k e rest keeps ops at gone = let bad : [] ≡ e ∷ rest = sym (keeps k) ∙ at in (cc)
+stuck earlier traces (f ∷ order) k e rest keeps ops at gone =
+    elim (cases_eq k keeps.0) [
+      | inl same ↦
+          let here : f ∷ keeps.1 ≡ e ∷ rest = sym (at_head traces keeps.0 f keeps.1 keeps.2) ∙ (ap (λ n. get_or traces n []) (sym same) ∙ at) in
+          let it : f ≡ e = cc in
+          let now : e.op ≡ count_of earlier e.buffer.0 = subst (λ x. x.op ≡ count_of earlier x.buffer.0) it ops.0 in
+          omega (arith, now, gone)
+      | inr differ ↦
+          let still : count_of earlier e.buffer.0 ≤ count_of (earlier ++ f ∷ []) e.buffer.0 = omega (arith, count_more earlier f e.buffer.0) in
+          stuck (earlier ++ f ∷ []) (set traces keeps.0 keeps.1) order k e rest keeps.3 ops.1 (get_or-set_other traces keeps.0 k keeps.1 [] differ ∙ at) (omega (arith, gone, still))
+    ]
+
+-- two lists of earlier entries that count the same for every test
+record SameCounts (a b : List Entry) : Type 0 where
+  pub same : (p : Entry → Bool) → count_by p a ≡ count_by p b
+
+counts_more : (a b : List Entry) (e : Entry) → SameCounts a b → SameCounts (a ++ e ∷ []) (b ++ e ∷ [])
+counts_more a b e s = record { same = λ p. sum_by_push (λ x. cond (p x) 1 0) a e ∙ (ap (λ n. n + cond (p e) 1 0) (s.same p) ∙ sym (sum_by_push (λ x. cond (p x) 1 0) b e)) }
+
+counts_swap : (a : List Entry) (e f : Entry) → SameCounts ((a ++ f ∷ []) ++ e ∷ []) ((a ++ e ∷ []) ++ f ∷ [])
+counts_swap a e f = record {
+  same = λ p.
+      omega (
+        arith,
+        sum_by_push (λ x. cond (p x) 1 0) a e,
+        sum_by_push (λ x. cond (p x) 1 0) a f,
+        sum_by_push (λ x. cond (p x) 1 0) (a ++ f ∷ []) e,
+        sum_by_push (λ x. cond (p x) 1 0) (a ++ e ∷ []) f,
+      );
+}
+
+ops_like : (a b order : List Entry) → SameCounts a b → HasOpOrderFrom a order → HasOpOrderFrom b order
+ops_like a b [] s ops = tt
+ops_like a b (e ∷ order) s ops = (ops.0 ∙ s.same (λ x. eqb x.buffer.0 e.buffer.0), ops_like (a ++ e ∷ []) (b ++ e ∷ []) order (counts_more a b e s) ops.1)
+
+next_like : (caps : List ℕ) (a b : List Entry) (contents : List (List ℕ)) (e : Entry) → SameCounts a b → IsNext caps a contents e → IsNext caps b contents e
+next_like caps a b contents e s n = record {
+  known = n.known;
+  allowed = n.allowed;
+  op = n.op ∙ s.same (λ x. eqb x.buffer.0 e.buffer.0);
+  pos = n.pos ∙ s.same (λ x. eqb x.buffer.0 e.buffer.0 && kind_eq x.kind e.kind);
+}
+
+run_like : (caps : List ℕ) (a b : List Entry) (contents : List (List ℕ)) (order : List Entry) (left : List (List ℕ)) → SameCounts a b → IsRunFrom caps a contents order left → IsRunFrom caps b contents order left
+run_like caps a b contents [] left s run = run
+run_like caps a b contents (e ∷ order) left s run =
+    (next_like caps a b contents e s run.0, run_like caps (a ++ e ∷ []) (b ++ e ∷ []) (after_entry contents e) order left (counts_more a b e s) run.1)
+
+-- an entry leaves the items of other buffers as they are
+items_other : (contents : List (List ℕ)) (e : Entry) (b : ℕ) → b ≢ e.buffer.0 → items_of (after_entry contents e) b ≡ items_of contents b
+items_other contents e b differ = get_or-set_other contents e.buffer.0 b (after_effect e.kind (items_of contents e.buffer.0) e.value) [] differ
+
+-- entries of two buffers may change places
+next_before : (caps : List ℕ) (earlier : List Entry) (contents : List (List ℕ)) (e f : Entry) → f.buffer.0 ≢ e.buffer.0 → IsNext caps (earlier ++ f ∷ []) (after_entry contents f) e → IsNext caps earlier contents e
+next_before caps earlier contents e f differ n = record {
+  known = n.known;
+  allowed = subst (λ items. IsAllowedEffect e.kind (slice_index caps e.buffer.0) items e.value) (items_other contents f e.buffer.0 (λ same. differ (sym same))) n.allowed;
+  op = n.op ∙ count_more_other earlier f e.buffer.0 differ;
+  pos = n.pos ∙ kind_more_other earlier f e.buffer.0 e.kind differ;
+}
+
+next_behind : (caps : List ℕ) (earlier : List Entry) (contents : List (List ℕ)) (e f : Entry) → f.buffer.0 ≢ e.buffer.0 → IsNext caps earlier contents e → IsNext caps (earlier ++ f ∷ []) (after_entry contents f) e
+next_behind caps earlier contents e f differ n = record {
+  known = n.known;
+  allowed = subst (λ items. IsAllowedEffect e.kind (slice_index caps e.buffer.0) items e.value) (sym (items_other contents f e.buffer.0 (λ same. differ (sym same)))) n.allowed;
+  op = n.op ∙ sym (count_more_other earlier f e.buffer.0 differ);
+  pos = n.pos ∙ sym (kind_more_other earlier f e.buffer.0 e.kind differ);
+}
+
+after_swap : (contents : List (List ℕ)) (e f : Entry) → f.buffer.0 ≢ e.buffer.0 → after_entry (after_entry contents f) e ≡ after_entry (after_entry contents e) f
+after_swap contents e f differ =
+    ap (λ items. set (after_entry contents f) e.buffer.0 (after_effect e.kind items e.value)) (items_other contents f e.buffer.0 (λ same. differ (sym same)))
+    ∙ (set_comm contents f.buffer.0 e.buffer.0 (after_effect f.kind (items_of contents f.buffer.0) f.value) (after_effect e.kind (items_of contents e.buffer.0) e.value) differ
+    ∙ sym (ap (λ items. set (after_entry contents e) f.buffer.0 (after_effect f.kind items f.value)) (items_other contents e f.buffer.0 differ)))
+
+-- the traces without e at the head of one have an order behind e; and where the order is a run, e and then that order are one, which ends in the same contents
+pub record CameFirst (earlier : List Entry) (others : List (List Entry)) (order : List Entry) (e : Entry) : Type 0 where
+  pub later : List Entry
+  pub keeps : IsInterleaving others later
+  pub ops : HasOpOrderFrom (earlier ++ e ∷ []) later
+  pub runs : (caps : List ℕ) (contents left : List (List ℕ)) → IsRunFrom caps earlier contents order left → IsRunFrom caps earlier contents (e ∷ later) left
+
+-- what is due at the head of a trace may come first
+pub may_come_first : (earlier : List Entry) (traces : List (List Entry)) (order : List Entry) (k : ℕ) (e : Entry) (rest : List Entry) → IsInterleaving traces order → HasOpOrderFrom earlier order → get_or traces k [] ≡ e ∷ rest → e.op ≡ count_of earlier e.buffer.0 → CameFirst earlier (set traces k rest) order e
+may_come_first earlier traces [] k e rest keeps ops at due = let bad : [] ≡ e ∷ rest = sym (keeps k) ∙ at in absurd (cc)
+may_come_first earlier traces (f ∷ order) k e rest keeps ops at due =
+    elim (cases_eq k keeps.0) [
+      | inl same ↦
+          let here : f ∷ keeps.1 ≡ e ∷ rest = sym (at_head traces keeps.0 f keeps.1 keeps.2) ∙ (ap (λ n. get_or traces n []) (sym same) ∙ at) in
+          let it : f ≡ e = cc in
+          let there : keeps.1 ≡ rest = cc in
+          record {
+            later = order;
+            keeps = subst (λ n. IsInterleaving (set traces n rest) order) (sym same) (subst (λ r. IsInterleaving (set traces keeps.0 r) order) there keeps.3);
+            ops = subst (λ x. HasOpOrderFrom (earlier ++ x ∷ []) order) it ops.1;
+            runs = λ caps contents left run. subst (λ x. IsRunFrom caps earlier contents (x ∷ order) left) it run;
+          }
+      | inr differ ↦ elim (cases_eq f.buffer.0 e.buffer.0) [
+        | inl alike ↦
+            absurd (stuck (earlier ++ f ∷ []) (set traces keeps.0 keeps.1) order k e rest keeps.3 ops.1 (get_or-set_other traces keeps.0 k keeps.1 [] differ ∙ at) (omega (arith, due, count_more_same earlier f e.buffer.0 alike)))
+        | inr apart ↦
+            let r : CameFirst (earlier ++ f ∷ []) (set (set traces keeps.0 keeps.1) k rest) order e
+            = may_come_first (earlier ++ f ∷ []) (set traces keeps.0 keeps.1) order k e rest keeps.3 ops.1 (get_or-set_other traces keeps.0 k keeps.1 [] differ ∙ at) (due ∙ sym (count_more_other earlier f e.buffer.0 apart)) in
+            record {
+              later = f ∷ r.later;
+              keeps = (
+                keeps.0,
+                keeps.1,
+                head_at (set traces k rest) keeps.0 f keeps.1 (get_or-set_other traces k keeps.0 rest [] (λ same. differ (sym same)) ∙ at_head traces keeps.0 f keeps.1 keeps.2),
+                subst (λ ts. IsInterleaving ts r.later) (set_comm traces keeps.0 k keeps.1 rest (λ same. differ (sym same))) r.keeps,
+              );
+              ops = (
+                ops.0 ∙ sym (count_more_other earlier e f.buffer.0 (λ same. apart (sym same))),
+                ops_like ((earlier ++ f ∷ []) ++ e ∷ []) ((earlier ++ e ∷ []) ++ f ∷ []) r.later (counts_swap earlier e f) r.ops,
+              );
+              runs = λ caps contents left run.
+                  let behind : IsRunFrom caps (earlier ++ f ∷ []) (after_entry contents f) (e ∷ r.later) left = r.runs caps (after_entry contents f) left run.1 in (
+                    next_before caps earlier contents e f apart behind.0,
+                    (
+                      next_behind caps earlier contents f e (λ same. apart (sym same)) run.0,
+                      run_like caps ((earlier ++ f ∷ []) ++ e ∷ []) ((earlier ++ e ∷ []) ++ f ∷ []) (after_entry (after_entry contents e) f) r.later left (counts_swap earlier e f)
+                          (subst (λ c. IsRunFrom caps ((earlier ++ f ∷ []) ++ e ∷ []) c r.later left) (after_swap contents e f apart) behind.1),
+                    ),
+                  );
+            }
+      ]
+    ]
+
+-- behind a run of some order each other order is a run too
+run_alike_from : (caps : List ℕ) (earlier : List Entry) (contents : List (List ℕ)) (traces : List (List Entry)) (order other : List Entry) (left : List (List ℕ)) → IsInterleaving traces order → IsRunFrom caps earlier contents order left → IsInterleaving traces other → HasOpOrderFrom earlier other → IsRunFrom caps earlier contents other left
+run_alike_from caps earlier contents traces [] [] left keeps run others ops = run
+run_alike_from caps earlier contents traces (f ∷ order) [] left keeps run others ops =
+    let bad : [] ≡ f ∷ keeps.1 = sym (others keeps.0) ∙ at_head traces keeps.0 f keeps.1 keeps.2 in absurd (cc)
+run_alike_from caps earlier contents traces order (e ∷ other) left keeps run others ops =
+    let first : CameFirst earlier (set traces others.0 others.1) order e
+    = may_come_first earlier traces order others.0 e others.1 keeps (op_order_from caps earlier contents order left run) (at_head traces others.0 e others.1 others.2) ops.0 in
+    let now : IsRunFrom caps earlier contents (e ∷ first.later) left = first.runs caps contents left run in
+    (now.0, run_alike_from caps (earlier ++ e ∷ []) (after_entry contents e) (set traces others.0 others.1) first.later other left first.keeps now.1 others.3 ops.1)
+
+pub runs_have_order : (traces : List (List Entry)) → RunsHaveOrder traces
+runs_have_order traces caps order left keeps run none = none order (keeps, op_order_from caps [] (empty_buffers caps) order left run)
+
+pub run_alike : (traces : List (List Entry)) → OrdersRunAlike traces
+run_alike traces caps order other left keeps run others = run_alike_from caps [] (empty_buffers caps) traces order other left keeps run others.0 others.1

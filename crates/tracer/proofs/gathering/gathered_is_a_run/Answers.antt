@@ -1,0 +1,8 @@
+use Rattle.tracer.proofs.OrderLemmas.{runs_have_order, run_alike}
+use Rattle.tracer.proofs.gathering.gathered_is_a_run.Goals as goal
+
+pub returns-clause-found : goal.returns-clause-found
+returns-clause-found c = runs_have_order
+
+pub returns-clause-alike : goal.returns-clause-alike
+returns-clause-alike c = run_alike

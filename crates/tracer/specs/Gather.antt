@@ -1,0 +1,55 @@
+-- Which order of several traces is gathered.
+use Rattle.std.specs.Prelude.{◌≡◌, ◌<◌, ℕ, List, [], ◌∷◌, ◌++◌, Option, Some, map, Vec, slice_get, slice_index, slice_index_or, slice_set}
+use Rattle.std.specs.Global.{Global}
+use Rattle.event_log.specs.declared.entries.Entry.{Entry}
+use Rattle.event_log.specs.Runs.{count_of, IsRun}
+use Rattle.event_log.specs.Traces.{IsInterleaving, HasOpOrder}
+
+-- the traces that vectors hold
+abbrev pub traces_in : List (Vec Entry Global) → List (List Entry)
+traces_in vectors = map (λ trace. trace.items) vectors
+
+-- a list that keeps every trace, in which the op numbers of each buffer are 0, 1, 2 and so on
+abbrev pub IsOrder : List (List Entry) → List Entry → Type 0
+IsOrder traces order = IsInterleaving traces order × HasOpOrder order
+
+-- behind the earlier entries, the first entry of a trace has the op number that its buffer waits for
+abbrev pub IsReady : List Entry → List Entry → Type 0
+IsReady earlier [] = ⊥
+IsReady earlier (e ∷ _) = e.op ≡ count_of earlier e.buffer.0
+
+-- behind the earlier entries, each entry is taken from the first trace that is ready
+abbrev pub TakesFirstReadyFrom : List Entry → List (List Entry) → List Entry → Type 0
+TakesFirstReadyFrom earlier traces [] = Unit {0}
+TakesFirstReadyFrom earlier traces (e ∷ es) = (k : ℕ) × (rest : List Entry) × (slice_get traces k ≡ Some (e ∷ rest))
+    × IsReady earlier (e ∷ rest) × ((j : ℕ) → j < k → ¬ IsReady earlier (slice_index_or traces j []))
+    × TakesFirstReadyFrom (earlier ++ e ∷ []) (slice_set traces k rest) es
+
+-- at each point the order takes the first trace whose next entry has the op number that its buffer waits for
+abbrev pub TakesFirstReady : List (List Entry) → List Entry → Type 0
+TakesFirstReady traces order = TakesFirstReadyFrom [] traces order
+
+-- no list is an order of these traces
+abbrev pub HasNoOrder : List (List Entry) → Type 0
+HasNoOrder traces = (order : List Entry) → ¬ IsOrder traces order
+
+-- traces of which some order is a run have an order
+abbrev pub RunsHaveOrder : List (List Entry) → Type 0
+RunsHaveOrder traces = (caps : List ℕ) (order : List Entry) (left : List (List ℕ)) → IsInterleaving traces order → IsRun caps order left → ¬ HasNoOrder traces
+
+-- where some order of the traces is a run, each order of them is a run that ends in the same contents
+abbrev pub OrdersRunAlike : List (List Entry) → Type 0
+OrdersRunAlike traces = (caps : List ℕ) (order other : List Entry) (left : List (List ℕ)) → IsInterleaving traces order
+    → IsRun caps order left → IsOrder traces other → IsRun caps other left
+
+-- the entry of trace k that comes next, where so many of each trace are taken
+abbrev pub next_entry : List (List Entry) → List ℕ → ℕ → Option Entry
+next_entry traces taken k = slice_get (slice_index_or traces k []) (slice_index taken k)
+
+-- the entry has the op number that its buffer waits for, by the number of entries taken of each buffer
+abbrev pub IsDue : List ℕ → Entry → Type 0
+IsDue counts e = e.op ≡ slice_index counts e.buffer.0
+
+-- of the first n traces none has a next entry that is due
+abbrev pub NoneDueBelow : List (List Entry) → List ℕ → List ℕ → ℕ → Type 0
+NoneDueBelow traces taken counts n = (j : ℕ) (e : Entry) → j < n → next_entry traces taken j ≡ Some e → ¬ IsDue counts e

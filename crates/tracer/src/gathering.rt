@@ -1,0 +1,195 @@
+//! One order of the traces of several CPUs.
+
+ghost use Rattle.std.specs.Prelude.{◌≡◌, ◌<◌, ◌≤◌, ◌+◌, ℕ, List, length, map, sum_by, vec_len, slice_get, slice_index, IfOk, IsErrOf, IsTrue, ◌↔◌, IfSome, IfNone, option_map};
+ghost use Rattle.event_log.specs.declared.entries.Entry.{Entry as AnEntry};
+ghost use Rattle.event_log.specs.Runs.{count_of};
+ghost use Rattle.tracer.specs.declared.gathering.GatherError.TheVariants.{NoMemory};
+ghost use Rattle.tracer.specs.Gather.{IsOrder, TakesFirstReady, HasNoOrder, RunsHaveOrder, OrdersRunAlike, traces_in, next_entry, IsDue, NoneDueBelow};
+
+use event_log::Entry;
+use std::alloc::{AllocError, AllocFailed, Global};
+use thiserror::Error;
+
+/// Why traces could not be put in one order.
+#[derive(Clone, Copy, Debug, PartialEq, Eq, Error)]
+pub enum GatherError {
+    /// An allocation was refused, before any entry was taken.
+    #[error("NoMemory(1)")]
+    NoMemory,
+    /// No order keeps each trace and counts the effects of each buffer from 0.
+    #[error("NoOrder(6)")]
+    NoOrder,
+}
+
+impl From<AllocError> for GatherError {
+    ghost from_gives = { λ _ e. e ≡ NoMemory };
+
+    fn from(_: AllocError) -> GatherError {
+        GatherError::NoMemory
+    }
+}
+
+impl<T: Drop> From<AllocFailed<T>> for GatherError {
+    ghost from_gives = { λ _ e. e ≡ NoMemory };
+
+    fn from(_: AllocFailed<T>) -> GatherError {
+        GatherError::NoMemory
+    }
+}
+
+/// How many buffers an entry can name.
+const NAMES: usize = 256;
+
+/// Puts the traces of several CPUs in one order that keeps each trace and in which the op numbers
+/// of each buffer are 0, 1, 2 and so on. Where several such orders exist, it takes at each point
+/// the first trace whose next entry has the op number that its buffer waits for.
+///
+/// Errors: `NoOrder` exactly where no such order exists; `NoMemory` where an allocation was
+/// refused. All memory is taken before the first entry is.
+pub fn gather(alloc: Global, traces: &[Vec<Entry>]) -> Result<Vec<Entry>, GatherError>
+    ensures order { IfOk result (λ out. IsOrder (traces_in traces.now) out.items) }
+    ensures greedy { IfOk result (λ out. TakesFirstReady (traces_in traces.now) out.items) }
+    ensures none { IsErrOf result GatherError.NoOrder → HasNoOrder (traces_in traces.now) }
+{
+    let Some(total) = entry_count(traces) else {
+        return Err(GatherError::NoMemory);
+    };
+    let mut order = Vec::with_capacity(alloc, total)?;
+    let mut taken = vec![in alloc; 0usize; traces.len()]?;
+    let mut counts = [0u64; NAMES];
+    while let Some((trace, entry)) = first_ready(traces, &taken, &counts) {
+        taken[trace] += 1;
+        counts[place_of(entry)] += 1;
+        order.push(entry).unwrap();
+    }
+    if order.len() == total {
+        Ok(order)
+    } else {
+        Err(GatherError::NoOrder)
+    }
+}
+
+/// How many entries stand in the traces; `None` where the number is beyond any memory.
+fn entry_count(traces: &[Vec<Entry>]) -> Option<usize>
+    ensures { IfSome result (λ n. n ≡ sum_by (λ trace. length trace.items) traces.now) }
+{
+    let mut total = 0usize;
+    for trace in traces {
+        total = total.checked_add(trace.len())?;
+    }
+    Some(total)
+}
+
+/// Where the count of an entry's buffer stands.
+fn place_of(entry: Entry) -> usize
+    ensures is { result ≡ entry.buffer.0 }
+    ensures within { result < 256 }
+{
+    usize::from(entry.buffer.0)
+}
+
+/// Whether an entry has the op number that its buffer waits for, where `counts` says how many
+/// entries of each buffer stand in the order.
+fn is_due(counts: &[u64; NAMES], entry: Entry) -> bool
+    ensures { IsTrue result ↔ IsDue counts.now entry }
+{
+    entry.op == counts[place_of(entry)]
+}
+
+/// The first trace whose next entry has the op number that its buffer waits for, and that entry.
+/// `taken` says how many entries of each trace stand in the order, `counts` how many of each buffer.
+fn first_ready(
+    traces: &[Vec<Entry>],
+    taken: &[usize],
+    counts: &[u64; NAMES],
+) -> Option<(usize, Entry)>
+    requires { length taken.now ≡ length traces.now }
+    ensures found { IfSome result (λ f. next_entry (traces_in traces.now) taken.now f.0 ≡ Some f.1) }
+    ensures due { IfSome result (λ f. IsDue counts.now f.1) }
+    ensures first { IfSome result (λ f. NoneDueBelow (traces_in traces.now) taken.now counts.now f.0) }
+    ensures none { IfNone result (NoneDueBelow (traces_in traces.now) taken.now counts.now (length traces.now)) }
+{
+    for (i, trace) in traces.iter().enumerate() {
+        if let Some(entry) = trace.get(taken[i]) {
+            if is_due(counts, *entry) {
+                return Some((i, *entry));
+            }
+        }
+    }
+    None
+}
+
+/// A law: traces of which some order is a run have an order for [`gather`] to find, and each order
+/// of them is a run that ends in the same contents. So the gathered order of a system's traces is
+/// a run that ends in the system's contents.
+pub fn gathered_is_a_run()
+    ensures found { (traces : List (List AnEntry)) → RunsHaveOrder traces }
+    ensures alike { (traces : List (List AnEntry)) → OrdersRunAlike traces }
+{}
+
+#[cfg(test)]
+mod tests {
+    use super::*;
+    use event_log::{BufId, CpuId, Kind, Tid};
+
+    fn sent(cpu: u8, buffer: u8, op: u64) -> Entry {
+        Entry {
+            cpu: CpuId(cpu),
+            thread: Tid(cpu),
+            kind: Kind::Send,
+            buffer: BufId(buffer),
+            value: 0,
+            op,
+            pos: op,
+        }
+    }
+
+    // Gathers the traces of CPU 0, in buffer 0 op 1, and of CPU 1, in buffer 0 op 0 and buffer 1 op 0.
+    fn gathered(alloc: Global) -> Result<Vec<Entry>, GatherError> {
+        let first = vec![in alloc; sent(0, 0, 1)]?;
+        let second = vec![in alloc; sent(1, 0, 0), sent(1, 1, 0)]?;
+        let traces = Vec::from_array(alloc, [first, second])?;
+        gather(alloc, &traces)
+    }
+
+    #[test]
+    fn a_trace_waits_for_another(rt: HostRuntime) -> Result<(), GatherError> {
+        let order = gathered(rt.alloc())?;
+        let wanted = [sent(1, 0, 0), sent(0, 0, 1), sent(1, 1, 0)];
+        assert!(rt; order.as_slice() == wanted.as_slice());
+        Ok(())
+    }
+
+    #[test]
+    fn two_traces_that_wait_for_each_other(rt: HostRuntime) -> Result<(), GatherError> {
+        let alloc = rt.alloc();
+        let first = vec![in alloc; sent(0, 0, 1), sent(0, 1, 0)]?;
+        let second = vec![in alloc; sent(1, 1, 1), sent(1, 0, 0)]?;
+        let traces = Vec::from_array(alloc, [first, second])?;
+        assert!(rt; matches!(gather(alloc, &traces), Err(GatherError::NoOrder)));
+        Ok(())
+    }
+
+    // To be run with each allocation refused in turn: the answer is the order, or `NoMemory`.
+    #[test]
+    fn a_refused_allocation_is_no_memory(rt: HostRuntime) {
+        match gathered(rt.alloc()) {
+            Ok(all) => assert_eq!(rt; all.len(), 3),
+            Err(error) => assert_eq!(rt; error, GatherError::NoMemory),
+        }
+    }
+
+    #[test]
+    fn refusals_print_their_names(rt: HostRuntime) -> Result<(), GatherError> {
+        let alloc = rt.alloc();
+        assert_eq!(rt;
+            format!(in alloc; "{}", GatherError::NoMemory)?.as_str(),
+            "NoMemory(1)"
+        );
+        assert_eq!(rt;
+            format!(in alloc; "{}", GatherError::NoOrder)?.as_str(),
+            "NoOrder(6)"
+        );
+        Ok(())
+    }
+}
