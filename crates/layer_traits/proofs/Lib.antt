@@ -1,2 +1,3 @@
 pub mod Seen
 pub mod OneLockLemmas
+pub mod PlanLemmas

@@ -1,0 +1,28 @@
+-- How far a section of a ticket lock has come, read against the words log.
+use Rattle.std.specs.Prelude.{◌≡◌, ℕ, List, Option, Some, None}
+use Rattle.event_log.specs.declared.ids.CpuId.{CpuId}
+use Rattle.event_log.specs.declared.ids.LockId.{LockId}
+use Rattle.event_log.specs.declared.events.Event.{Event}
+use Rattle.event_log.specs.WordsLog.{Outside, Waiting, Inside, standing}
+use Rattle.event_log.specs.Sections.{Section, block_after}
+use Rattle.layer_traits.specs.declared.edits.Mark.{Mark}
+use Rattle.layer_traits.specs.Protocol.{Rules, StaysAllowed, section, sections}
+use Rattle.spinlock.specs.declared.stages.Stage.{Stage}
+use Rattle.spinlock.specs.declared.stages.Stage.TheVariants.{Out, Drawn, Held}
+
+-- the section that is under way at a stage
+abbrev pub stage_section : {E B : Type 0} → CpuId → Stage E B → Option (Section E)
+stage_section cpu Out = None
+stage_section cpu (Drawn lock edit ticket) = Some (section cpu lock edit)
+stage_section cpu (Held lock edit block) = Some (section cpu lock edit)
+
+-- the stage is where the log leaves the CPU: outside, waiting with its ticket, or inside with the lock's block in its hands; and the
+-- section under way stays allowed
+abbrev pub StageFits : {E B O : Type 0} → Rules E B O → (LockId → Option B) → List (Event (Mark E)) → CpuId → Stage E B → Type 0
+StageFits rules opening log cpu Out = standing cpu log ≡ Outside
+StageFits rules opening log cpu (Drawn lock edit ticket) =
+    (standing cpu log ≡ Waiting lock ticket) × StaysAllowed (rules.allowed opening) (sections log) (section cpu lock edit)
+StageFits rules opening log cpu (Held lock edit block) =
+    ((ticket : ℕ) × (standing cpu log ≡ Inside lock ticket))
+    × StaysAllowed (rules.allowed opening) (sections log) (section cpu lock edit)
+    × (block_after rules.edited opening lock (sections log) ≡ Some block)

@@ -1,0 +1,99 @@
+//! The ticket lock.
+
+ghost use Rattle.std.specs.Prelude.{◌≡◌};
+
+use crate::stages::Stage;
+use event_log::{CpuId, LockId};
+use layer_traits::{Edit, LockLayer, Words};
+use std::mem;
+
+/// One CPU's part of a ticket lock (Gu et al., OSDI 2016): a section draws a ticket, looks until
+/// `serving` is that ticket, and frees with its edit done. Each poll does one of these.
+#[derive(Drop)]
+pub struct Ticket<W: Words> {
+    cpu: CpuId,
+    stage: Stage<W::Edit, <W::Edit as Edit>::Block>,
+    // Always None: it names the machine's type, and what that borrows.
+    words: Option<W>,
+}
+
+impl<W: Words> LockLayer<W::Edit> for Ticket<W> {
+    ghost use Rattle.event_log.specs.WordsLog.{standing, Outside};
+    ghost use Rattle.event_log.specs.Actions.{acts_of};
+    ghost use Rattle.layer_traits.specs.Protocol.{edit_of, sections};
+    ghost use Rattle.event_log.proofs.Tickets.{legal_acts};
+    ghost use Rattle.layer_traits.proofs.Seen.{sections_allowed, sections_known, words_legal};
+    ghost use Rattle.layer_traits.proofs.PlanLemmas.{sections_acts};
+    ghost use Rattle.spinlock.specs.Stages.{stage_section, StageFits};
+    ghost use Rattle.spinlock.specs.StageLaws.{stage_busy};
+
+    type Machine = W;
+
+    ghost opening = { λ m. W.opening m };
+
+    ghost seen = { λ m. sections (W.seen m) };
+
+    ghost ActsFor = { λ m c. W.ActsFor m c };
+
+    ghost room = { λ m. W.room m };
+
+    ghost IsOutside = { λ m c. standing c (W.seen m) ≡ Outside };
+
+    ghost cpu_of = { λ p. p.cpu };
+
+    ghost under_way = { λ p. stage_section p.cpu p.stage };
+
+    ghost Fits = { λ p m. W.ActsFor m p.cpu × StageFits W.Edit.rules (W.opening m) (W.seen m) p.cpu p.stage };
+
+    ghost IsStepwise = { Unit {0} };
+
+    ghost acts = { λ m. acts_of edit_of (W.seen m) };
+
+    fn part(cpu: CpuId, _homes: &[CpuId], _buffers: u8) -> Self {
+        Ticket {
+            cpu,
+            stage: Stage::Out,
+            words: None,
+        }
+    }
+
+    fn is_busy(&self) -> bool {
+        !matches!(self.stage, Stage::Out)
+    }
+
+    fn poll(&mut self, m: &mut W, lock: LockId, edit: W::Edit) -> Option<<W::Edit as Edit>::Out> {
+        match mem::replace(&mut self.stage, Stage::Out) {
+            Stage::Out => {
+                let ticket = m.draw(self.cpu, lock);
+                self.stage = Stage::Drawn { lock, edit, ticket };
+                None
+            }
+            Stage::Drawn { lock, edit, ticket } => {
+                let found = m.look(self.cpu, lock, ticket);
+                self.stage = Stage::after_look(lock, edit, ticket, found);
+                None
+            }
+            Stage::Held {
+                lock,
+                edit,
+                mut block,
+            } => {
+                let out = edit.apply(&mut block);
+                m.free(self.cpu, lock, block, W::mark(edit));
+                Some(out)
+            }
+        }
+    }
+
+    ghost own = { λ p m fits. fits.0 };
+
+    ghost lawful = { λ m c acts. sections_allowed (W.Edit.rules.allowed (W.opening m)) (W.seen m) (W.legal m c acts) };
+
+    ghost known = { λ m c acts. sections_known (W.seen m) (words_legal (W.Edit.rules.allowed (W.opening m)) (W.seen m) (W.legal m c acts)) };
+
+    ghost legal = { λ m c acts. legal_acts edit_of (W.seen m) (words_legal (W.Edit.rules.allowed (W.opening m)) (W.seen m) (W.legal m c acts)) };
+
+    ghost seen_is = { λ step m. sections_acts (W.seen m) };
+
+    ghost busy = { λ p m fits step. stage_busy W.Edit.rules (W.opening m) (W.seen m) p.cpu p.stage fits.1 };
+}
