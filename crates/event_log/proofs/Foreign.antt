@@ -11,7 +11,7 @@ use Rattle.event_log.specs.Actions.{Action, Take, Try, Give, Phase, Rests, Waits
 use Rattle.event_log.specs.Sections.{Section, section_actor, sections_of, sections_in}
 use Rattle.event_log.proofs.Same.{same_cpu_self, same_lock_self}
 use Rattle.event_log.proofs.Exclusion.{is_at, phase_other, place_other, knows}
-use Rattle.event_log.proofs.Tickets.{phase_acts, phase_of, standing_other, legal_acts, doer_is}
+use Rattle.event_log.proofs.Tickets.{phase_acts, standing_other, legal_acts, doer_is}
 
 -- Any relation and any event.
 

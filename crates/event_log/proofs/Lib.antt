@@ -3,10 +3,12 @@ pub mod Same
 pub mod Forms
 pub mod Line
 pub mod Exclusion
+pub mod Told
 pub mod Tickets
 pub mod Foreign
 pub mod Alone
 pub mod Renaming
 pub mod OneFree
+pub mod GrantWords
 pub mod DigitsLemmas
 pub mod ReadingLemmas

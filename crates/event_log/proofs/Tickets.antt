@@ -1,6 +1,5 @@
 -- A legal words log is a legal list of actions: the rests modulo 2^64 tell the true counts, since at most CPUS places wait.
 use Rattle.std.proofs.Common.{◌≡◌, ℕ, ◌+◌, ◌%◌, ◌^◌, ◌<◌, ◌≤◌, Bool, true, false, List, [], ◌∷◌, ◌==◌, if◌then◌else◌, refl, ap, sym, subst, ◌∙◌, arith}
-use Rattle.std.proofs.lemmas.Bool.{eqb-true, eq-eqb}
 use Rattle.event_log.specs.declared.ids.CpuId.{CpuId}
 use Rattle.event_log.specs.declared.ids.LockId.{LockId}
 use Rattle.event_log.specs.declared.ids.TheConstants.{CPUS}
@@ -10,39 +9,26 @@ use Rattle.event_log.specs.History.{same_cpu, same_lock, how_many}
 use Rattle.event_log.specs.WordsLog.{actor, draws, frees, is_draw, is_free, Standing, Outside, Waiting, Inside, left_by, standing, MayFollow, IsLegalWords}
 use Rattle.event_log.specs.Actions.{Action, Take, Try, Give, Phase, Rests, Waits, Holds, phase, left_in, doer, place, takes, gives, is_take, is_give, MayAct, AreLegal, act_of, acts_of}
 use Rattle.event_log.proofs.Same.{same_cpu_self, same_lock_self}
-use Rattle.event_log.proofs.Line.{by_cpu}
-use Rattle.event_log.proofs.Exclusion.{is_at, phase_other, place_other, one_holds, near}
-
--- what a CPU does that stands here
-abbrev pub phase_of : Standing → Phase
-phase_of Outside = Rests
-phase_of (Waiting lock ticket) = Waits lock
-phase_of (Inside lock ticket) = Holds lock
-
-phase_either : (b : Bool) (lock : LockId) (ticket : ℕ) → (if b then Holds lock else Waits lock) ≡ phase_of (if b then Inside lock ticket else Waiting lock ticket)
-phase_either true lock ticket = refl
-phase_either false lock ticket = refl
-
-phase_left : {M N : Type 0} (name : M → N) (e : Event M) → left_in (act_of name e) ≡ phase_of (left_by e)
-phase_left name (Draw cpu lock ticket) = refl
-phase_left name (Look cpu lock ticket read) = phase_either (read == ticket) lock ticket
-phase_left name (Free cpu lock mark) = refl
+use Rattle.event_log.proofs.Exclusion.{is_at, one_holds, near}
+pub use Rattle.event_log.proofs.Told.{phase_of, TicketOf}
+use Rattle.event_log.proofs.Told.{phase_either, ticket_either, how_many-map, Tells, told_phase, told_ticket, eqb_same}
 
 pub doer_is : {M N : Type 0} (name : M → N) (e : Event M) → doer (act_of name e) ≡ actor e
 doer_is name (Draw cpu lock ticket) = refl
 doer_is name (Look cpu lock ticket read) = refl
 doer_is name (Free cpu lock mark) = refl
 
-phase_choice : (b : Bool) (p q : Phase) (s t : Standing) → p ≡ phase_of s → q ≡ phase_of t → (if b then p else q) ≡ phase_of (if b then s else t)
-phase_choice true p q s t left before = left
-phase_choice false p q s t left before = before
+phase_left : {M N : Type 0} (name : M → N) (e : Event M) → left_in (act_of name e) ≡ phase_of (left_by e)
+phase_left name (Draw cpu lock ticket) = refl
+phase_left name (Look cpu lock ticket read) = phase_either (read == ticket) lock ticket
+phase_left name (Free cpu lock mark) = refl
+
+words_tell : {M N : Type 0} (name : M → N) → Tells actor left_by standing (act_of name)
+words_tell name = record { at_start = λ c. refl; at_next = λ c e past. refl; doer_is = doer_is name; left_is = phase_left name }
 
 -- the standing of a CPU tells its phase
 pub phase_acts : {M N : Type 0} (name : M → N) (c : CpuId) (log : List (Event M)) → phase c (acts_of name log) ≡ phase_of (standing c log)
-phase_acts name c [] = refl
-phase_acts name c (e ∷ past) =
-    ap (λ d. if same_cpu d c then left_in (act_of name e) else phase c (acts_of name past)) (doer_is name e)
-    ∙ phase_choice (same_cpu (actor e) c) (left_in (act_of name e)) (phase c (acts_of name past)) (left_by e) (standing c past) (phase_left name e) (phase_acts name c past)
+phase_acts name c log = told_phase actor left_by standing (act_of name) (words_tell name) c log
 
 is_take_draw : {M N : Type 0} (name : M → N) (lock : LockId) (e : Event M) → is_take lock (act_of name e) ≡ is_draw lock e
 is_take_draw name lock (Draw cpu at ticket) = refl
@@ -54,28 +40,13 @@ is_give_free name lock (Draw cpu at ticket) = refl
 is_give_free name lock (Look cpu at ticket read) = refl
 is_give_free name lock (Free cpu at mark) = refl
 
-one_more : (b c : Bool) (k n : ℕ) → b ≡ c → k ≡ n → (if b then k + 1 else k) ≡ (if c then n + 1 else n)
-one_more b c k n picks count = ap (λ x. if x then k + 1 else k) picks ∙ ap (λ x. if c then x + 1 else x) count
-
 -- the places taken are the draws
 pub takes_acts : {M N : Type 0} (name : M → N) (lock : LockId) (log : List (Event M)) → takes lock (acts_of name log) ≡ draws lock log
-takes_acts name lock [] = refl
-takes_acts name lock (e ∷ past) = one_more (is_take lock (act_of name e)) (is_draw lock e) (takes lock (acts_of name past)) (draws lock past) (is_take_draw name lock e) (takes_acts name lock past)
+takes_acts name lock log = how_many-map (act_of name) (is_draw lock) (is_take lock) (is_take_draw name lock) log
 
 -- the gives are the frees
 pub gives_acts : {M N : Type 0} (name : M → N) (lock : LockId) (log : List (Event M)) → gives lock (acts_of name log) ≡ frees lock log
-gives_acts name lock [] = refl
-gives_acts name lock (e ∷ past) = one_more (is_give lock (act_of name e)) (is_free lock e) (gives lock (acts_of name past)) (frees lock past) (is_give_free name lock e) (gives_acts name lock past)
-
--- a ticket is the rest of the place modulo 2^64
-abbrev pub TicketOf : Standing → ℕ → Type 0
-TicketOf Outside place = Unit {0}
-TicketOf (Waiting lock ticket) place = ticket ≡ place % 2 ^ 64
-TicketOf (Inside lock ticket) place = ticket ≡ place % 2 ^ 64
-
-ticket_either : (b : Bool) (lock : LockId) (ticket place : ℕ) → ticket ≡ place % 2 ^ 64 → TicketOf (if b then Inside lock ticket else Waiting lock ticket) place
-ticket_either true lock ticket place is = is
-ticket_either false lock ticket place is = is
+gives_acts name lock log = how_many-map (act_of name) (is_free lock) (is_give lock) (is_give_free name lock) log
 
 -- where its own event leaves a CPU, with the place that it then has
 ticket_left : {M N : Type 0} (name : M → N) (e : Event M) (past : List (Event M)) → MayFollow past e
@@ -88,35 +59,13 @@ ticket_left name (Look cpu lock ticket read) past may had =
     (subst (λ s. TicketOf s (place cpu (acts_of name past))) may.0 had)
 ticket_left name (Free cpu lock mark) past may had = tt
 
-standing_own : {M : Type 0} (e : Event M) (past : List (Event M)) → standing (actor e) (e ∷ past) ≡ left_by e
-standing_own e past = ap (λ b. if b then left_by e else standing (actor e) past) (same_cpu_self (actor e))
-
 -- an event changes the standing of no other CPU
 pub standing_other : {M : Type 0} (e : Event M) (past : List (Event M)) (c : CpuId) → same_cpu (actor e) c ≡ false → standing c (e ∷ past) ≡ standing c past
 standing_other e past c other = ap (λ b. if b then left_by e else standing c past) other
 
-place_acts_other : {M N : Type 0} (name : M → N) (e : Event M) (past : List (Event M)) (c : CpuId) → same_cpu (actor e) c ≡ false
-    → place c (acts_of name (e ∷ past)) ≡ place c (acts_of name past)
-place_acts_other name e past c other = place_other (act_of name e) (acts_of name past) c (subst (λ d. same_cpu d c ≡ false) (sym (doer_is name e)) other)
-
 -- in a legal log each ticket is the rest of the true place
 pub ticket_at : {M N : Type 0} (name : M → N) (log : List (Event M)) → IsLegalWords log → (c : CpuId) → TicketOf (standing c log) (place c (acts_of name log))
-ticket_at name [] legal c = tt
-ticket_at name (e ∷ past) legal c =
-    by_cpu (actor e) (λ d. TicketOf (standing d (e ∷ past)) (place d (acts_of name (e ∷ past))))
-    (subst (λ s. TicketOf s (place (actor e) (acts_of name (e ∷ past)))) (sym (standing_own e past))
-    (ticket_left name e past legal.0 (ticket_at name past legal.1 (actor e))))
-    (λ d o. subst (λ s. TicketOf s (place d (acts_of name (e ∷ past)))) (sym (standing_other e past d o))
-    (subst (TicketOf (standing d past)) (sym (place_acts_other name e past d o)) (ticket_at name past legal.1 d)))
-    c
-
-eqb_same : (a b c d : ℕ) → (a ≡ b → c ≡ d) → (c ≡ d → a ≡ b) → (a == b) ≡ (c == d)
-eqb_same a b c d there back = go (a == b) (c == d) refl refl
-  where
-    go : (x y : Bool) → (a == b) ≡ x → (c == d) ≡ y → x ≡ y
-    go true y first second = sym (eq-eqb c d (there (eqb-true a b first))) ∙ second
-    go false true first second = sym first ∙ eq-eqb a b (back (eqb-true c d second))
-    go false false first second = refl
+ticket_at name log legal c = told_ticket actor left_by standing (act_of name) (words_tell name) MayFollow (ticket_left name) log legal c
 
 near_rests : (given spot : ℕ) → given ≤ spot → spot < given + CPUS → given % 2 ^ 64 ≡ spot % 2 ^ 64 → given ≡ spot
 near_rests given spot ahead close same = omega arith

@@ -5,6 +5,7 @@ pub mod WordsLog
 pub mod Actions
 pub mod Sections
 pub mod Laws
+pub mod Grants
 pub mod Buffers
 pub mod Runs
 pub mod Traces

@@ -3,6 +3,7 @@
 
 ghost use Rattle.event_log.specs.Forms.{BothFormsAgree};
 ghost use Rattle.event_log.specs.Laws.{FreedOnceMeanwhile, FreeWhereAllRest, GivenOnceMeanwhile, OneHolds, OneInside, ThreeAreOneSection, TicketsTellPlaces};
+ghost use Rattle.event_log.specs.Grants.{GrantsTellPlaces, OneInsideGrants};
 ghost use Rattle.event_log.specs.History.{Adds, Grows, own, IsLawful};
 ghost use Rattle.event_log.specs.Actions.{renamed};
 ghost use Rattle.event_log.specs.Sections.{Section, section_actor, sections_of, sections_in, block_after};
@@ -51,4 +52,15 @@ pub fn given_once_meanwhile<N>()
 /// twice. So it holds between a draw and the look that hits for it.
 pub fn freed_once_meanwhile<M>()
     ensures { FreedOnceMeanwhile M }
+{}
+
+/// A legal log of grant words is a legal list of actions: a peek hits exactly where its lock was
+/// given on as often as tickets had been taken before the CPU's own.
+pub fn grants_tell_places<M>()
+    ensures { GrantsTellPlaces M }
+{}
+
+/// In a legal log of grant words two CPUs are never inside one lock.
+pub fn one_inside_grants<M>()
+    ensures { OneInsideGrants M }
 {}

@@ -5,6 +5,7 @@
 mod digits;
 mod entries;
 mod events;
+mod grants;
 mod ids;
 mod laws;
 mod logs;
@@ -14,10 +15,12 @@ mod runs;
 pub use digits::{is_number, number_has_one_spelling, number_to};
 pub use entries::{Entry, Kind};
 pub use events::Event;
+pub use grants::GrantEvent;
 pub use ids::{BUFFERS, BufId, CPUS, CpuId, LockId, THREADS, Tid};
 pub use laws::{
-    both_forms_agree, free_where_all_rest, freed_once_meanwhile, given_once_meanwhile, one_holds,
-    one_inside, three_are_one_section, tickets_tell_places,
+    both_forms_agree, free_where_all_rest, freed_once_meanwhile, given_once_meanwhile,
+    grants_tell_places, one_holds, one_inside, one_inside_grants, three_are_one_section,
+    tickets_tell_places,
 };
 pub use logs::EventLog;
 pub use refusals::{LogFull, NoMemory};

@@ -1,0 +1,89 @@
+-- The log of locks with a grant word for each waiter, newest first, and which such logs are legal.
+use Rattle.std.specs.Prelude.{◌≡◌, ℕ, ◌+◌, ◌%◌, ◌^◌, ◌<◌, Bool, false, ◌&&◌, List, [], ◌∷◌, ◌==◌, map, if◌then◌else◌}
+use Rattle.event_log.specs.declared.ids.CpuId.{CpuId}
+use Rattle.event_log.specs.declared.ids.LockId.{LockId}
+use Rattle.event_log.specs.declared.ids.TheConstants.{CPUS}
+use Rattle.event_log.specs.declared.grants.GrantEvent.{GrantEvent}
+use Rattle.event_log.specs.declared.grants.GrantEvent.TheVariants.{Take, Peek, Give}
+use Rattle.event_log.specs.History.{same_cpu, same_lock, how_many, IsLawful}
+use Rattle.event_log.specs.WordsLog.{Standing, Outside, Waiting, Inside}
+use Rattle.event_log.specs.Actions.{Action, Take as TakePlace, Try as TryEntry, Give as GiveOn, AreLegal}
+
+-- the CPU that acts
+abbrev pub grant_actor : {M : Type 0} → GrantEvent M → CpuId
+grant_actor (Take cpu lock ticket) = cpu
+grant_actor (Peek cpu lock ticket read) = cpu
+grant_actor (Give cpu lock mark) = cpu
+
+-- whether the event takes a ticket of this lock
+abbrev pub is_ticket : {M : Type 0} → LockId → GrantEvent M → Bool
+is_ticket lock (Take cpu at ticket) = same_lock lock at
+is_ticket lock (Peek cpu at ticket read) = false
+is_ticket lock (Give cpu at mark) = false
+
+-- how many tickets of this lock were taken: the true count, of which the word `next` holds the rest modulo 2^64
+abbrev pub tickets : {M : Type 0} → LockId → List (GrantEvent M) → ℕ
+tickets lock past = how_many (is_ticket lock) past
+
+-- where an event leaves the CPU that acts: a Peek hits where it reads its ticket plus 1
+abbrev pub left_by_grant : {M : Type 0} → GrantEvent M → Standing
+left_by_grant (Take cpu lock ticket) = Waiting lock ticket
+left_by_grant (Peek cpu lock ticket read) = if read == (ticket + 1) % 2 ^ 64 then Inside lock ticket else Waiting lock ticket
+left_by_grant (Give cpu lock mark) = Outside
+
+-- where a CPU is: its newest event tells
+abbrev pub grant_standing : {M : Type 0} → CpuId → List (GrantEvent M) → Standing
+grant_standing cpu [] = Outside
+grant_standing cpu (e ∷ past) = if same_cpu (grant_actor e) cpu then left_by_grant e else grant_standing cpu past
+
+-- the ticket that a CPU holds; 0 where it holds none
+abbrev pub ticket_in : Standing → ℕ
+ticket_in Outside = 0
+ticket_in (Waiting lock ticket) = ticket
+ticket_in (Inside lock ticket) = ticket
+
+-- what a Give of this ticket leaves in a grant word: the ticket plus 2 in the next ticket's word, and each other word as it was
+abbrev pub after_give : ℕ → ℕ → ℕ → ℕ
+after_give ticket word was = if word == (ticket + 1) % CPUS then (ticket + 2) % 2 ^ 64 else was
+
+-- a grant word of a lock: at the start the first one holds 1 and the others 0; each Give of the lock stores in one
+abbrev pub grant_word : {M : Type 0} → LockId → ℕ → List (GrantEvent M) → ℕ
+grant_word lock word [] = if word == 0 then 1 else 0
+grant_word lock word (Take cpu at ticket ∷ past) = grant_word lock word past
+grant_word lock word (Peek cpu at ticket read ∷ past) = grant_word lock word past
+grant_word lock word (Give cpu at mark ∷ past) =
+    if same_lock lock at
+    then after_give (ticket_in (grant_standing cpu past)) word (grant_word lock word past)
+    else grant_word lock word past
+
+-- the event may come after this past. A CPU of the machine takes a ticket while it is outside: the number of tickets taken
+-- before. While it waits it peeks, and reads its ticket's grant word. While it is inside it may give the lock on.
+abbrev pub MayFollowGrants : {M : Type 0} → List (GrantEvent M) → GrantEvent M → Type 0
+MayFollowGrants past (Take cpu lock ticket) =
+    (cpu.0 < CPUS) × (grant_standing cpu past ≡ Outside) × (ticket ≡ tickets lock past % 2 ^ 64)
+MayFollowGrants past (Peek cpu lock ticket read) =
+    (grant_standing cpu past ≡ Waiting lock ticket) × (read ≡ grant_word lock (ticket % CPUS) past)
+MayFollowGrants past (Give cpu lock mark) = (ticket : ℕ) × (grant_standing cpu past ≡ Inside lock ticket)
+
+-- a legal log of grant words
+abbrev pub IsLegalGrants : {M : Type 0} → List (GrantEvent M) → Type 0
+IsLegalGrants log = IsLawful MayFollowGrants log
+
+-- an event of such a lock as an action, its section named by its mark
+abbrev pub act_of_grant : {M N : Type 0} → (M → N) → GrantEvent M → Action N
+act_of_grant name (Take cpu lock ticket) = TakePlace cpu lock
+act_of_grant name (Peek cpu lock ticket read) = TryEntry cpu lock (read == (ticket + 1) % 2 ^ 64)
+act_of_grant name (Give cpu lock mark) = GiveOn cpu lock (name mark)
+
+-- a log of grant words as actions
+abbrev pub acts_of_grants : {M N : Type 0} → (M → N) → List (GrantEvent M) → List (Action N)
+acts_of_grants name log = map (act_of_grant name) log
+
+-- a legal log of grant words is a legal list of actions: a word tells exactly the place that is served
+abbrev pub GrantsTellPlaces : Type 0 → Type 0
+GrantsTellPlaces M = (log : List (GrantEvent M)) → IsLegalGrants log → AreLegal (acts_of_grants (λ (m : M). m) log)
+
+-- two CPUs are never inside one lock, whatever their tickets are
+abbrev pub OneInsideGrants : Type 0 → Type 0
+OneInsideGrants M = (log : List (GrantEvent M)) → IsLegalGrants log → (a b : CpuId) (lock : LockId) (s t : ℕ)
+    → grant_standing a log ≡ Inside lock s → grant_standing b log ≡ Inside lock t → a ≡ b
