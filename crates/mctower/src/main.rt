@@ -3,6 +3,7 @@
 
 mod help;
 pub mod line;
+pub mod schedule;
 
 use line::LineError;
 use std::env;

@@ -1,0 +1,191 @@
+//! Schedules: which CPU takes each step of a run, read from a text such as `0*10,1,0*3`.
+ghost use Rattle.std.specs.Prelude.{◌≡◌, ◌+◌, ◌<◌, ◌≤◌, ◌∷◌, ◌++◌, length, replicate, option_map, IfSome, OnOk, vec_len};
+ghost use Rattle.std.specs.List.{slice_split};
+ghost use Rattle.mctower.specs.Schedule.{cpu_of, item_of, is_comma, pieces_of, ReadsSteps, steps_of};
+ghost use Rattle.mctower.specs.declared.schedule.StepsError.TheVariants.{NoMemory};
+
+use event_log::{CpuId, number_to};
+use std::alloc::{AllocError, AllocFailed, Global};
+use thiserror::Error;
+
+/// The most steps of a schedule.
+pub const MOST_STEPS: usize = 1_048_576;
+
+/// Why a text gives no schedule.
+#[derive(Debug, Clone, Copy, PartialEq, Eq, Error)]
+pub enum StepsError {
+    /// Memory ran out.
+    #[error("NoMemory(1)")]
+    NoMemory,
+    /// The text is not in the grammar of schedules, or its steps are too many.
+    #[error("BadSchedule(9)")]
+    BadSchedule,
+}
+
+impl From<AllocError> for StepsError {
+    ghost from_gives = { λ _ e. e ≡ NoMemory };
+
+    fn from(_error: AllocError) -> StepsError {
+        StepsError::NoMemory
+    }
+}
+
+// An item of a schedule: so many steps of one CPU, one after another.
+#[derive(Debug, Clone, Copy)]
+pub struct Item {
+    cpu: CpuId,
+    steps: usize,
+}
+
+/// Reads a schedule: one or more items, with one comma between two of them.
+///
+/// An item is `c`, one step of CPU c, or `c*n`, n steps of it, with c from 0 to 255 and n from 1 to
+/// 1,048,576, in decimal digits without a leading zero (`0` alone is zero). All items together
+/// have at most 1,048,576 steps. Whether a plan has the CPUs is not asked here.
+///
+/// Errors: `BadSchedule` for any other text; `NoMemory` only where memory ran out.
+pub fn read_steps(alloc: Global, text: &str) -> Result<Vec<CpuId>, StepsError>
+    ensures { ReadsSteps (steps_of text.now) result }
+{
+    let mut steps = Vec::new(alloc);
+    let mut rest = Some(text);
+    while let Some(from) = rest {
+        let (first, after) = cut_item(from);
+        let Some(item) = read_item(first) else {
+            return Err(StepsError::BadSchedule);
+        };
+        if item.steps > MOST_STEPS - steps.len() {
+            return Err(StepsError::BadSchedule);
+        }
+        push_steps(&mut steps, item)?;
+        rest = after;
+    }
+    Ok(steps)
+}
+
+// The text before the first comma, and what stands behind that.
+fn cut_item(text: &str) -> (&str, Option<&str>)
+    ensures pieces { slice_split is_comma text.now ≡ result.0.now ∷ pieces_of (option_map (λ t. t.now) result.1) }
+    ensures shorter { IfSome result.1 (λ t. length t.now < length text.now) }
+{
+    match text.split_once(',') {
+        Some((first, after)) => (first, Some(after)),
+        None => (text, None),
+    }
+}
+
+fn read_item(text: &str) -> Option<Item>
+    ensures { result ≡ item_of text.now }
+{
+    match text.split_once('*') {
+        Some((cpu, steps)) => {
+            let cpu = read_cpu(cpu)?;
+            let steps = number_to(steps.as_bytes(), MOST_STEPS as u64)?;
+            if steps == 0 {
+                return None;
+            }
+            Some(Item {
+                cpu,
+                steps: steps as usize,
+            })
+        }
+        None => Some(Item {
+            cpu: read_cpu(text)?,
+            steps: 1,
+        }),
+    }
+}
+
+fn read_cpu(text: &str) -> Option<CpuId>
+    ensures { result ≡ cpu_of text.now }
+{
+    let number = number_to(text.as_bytes(), 255)?;
+    Some(CpuId(number as u8))
+}
+
+fn push_steps(steps: &mut Vec<CpuId>, item: Item) -> Result<(), AllocError>
+    ensures { OnOk result (steps.new.items ≡ steps.old.items ++ replicate item.steps item.cpu) }
+{
+    for _ in 0..item.steps {
+        steps.push(item.cpu)?;
+    }
+    Ok(())
+}
+
+#[cfg(test)]
+mod tests {
+    use super::*;
+    use std::test::Fail;
+
+    fn is_bad(alloc: Global, text: &str) -> bool {
+        read_steps(alloc, text).is_err_and(|e| e == StepsError::BadSchedule)
+    }
+
+    #[test]
+    fn items_stand_for_their_steps(rt: HostRuntime) -> Result<(), Fail> {
+        let steps = read_steps(rt.alloc(), "0*3,255,1*2,0")?;
+        let expected = [0, 0, 0, 255, 1, 1, 0];
+        assert_eq!(rt; steps.len(), expected.len());
+        for (step, number) in steps.iter().zip(expected.iter()) {
+            assert_eq!(rt; step.0, *number);
+        }
+        Ok(())
+    }
+
+    #[test]
+    fn the_longest_schedule_is_read(rt: HostRuntime) -> Result<(), Fail> {
+        assert_eq!(rt; read_steps(rt.alloc(), "7*1048576")?.len(), MOST_STEPS);
+        assert_eq!(rt; read_steps(rt.alloc(), "7*1048575,3")?.len(), MOST_STEPS);
+        assert!(rt; is_bad(rt.alloc(), "7*1048576,3"));
+        assert!(rt; is_bad(rt.alloc(), "7*1048576,7*1048576"));
+        Ok(())
+    }
+
+    #[test]
+    fn other_texts_are_bad(rt: HostRuntime) {
+        let bad = [
+            "",
+            ",",
+            "0,",
+            ",0",
+            "0,,1",
+            " 0",
+            "0 ",
+            "0, 1",
+            "0\n",
+            "a",
+            "-1",
+            "+1",
+            "00",
+            "01",
+            "256",
+            "0x1",
+            "0*",
+            "*3",
+            "*",
+            "0*0",
+            "0*01",
+            "0*+1",
+            "0*1048577",
+            "0*18446744073709551617",
+            "0*2*3",
+            "0**2",
+            "0;1",
+            "99999999999999999999",
+            "0*1.5",
+            "٣",
+        ];
+        for text in bad.iter() {
+            assert!(rt; is_bad(rt.alloc(), *text), "{text}");
+        }
+    }
+
+    #[test]
+    fn errors_have_their_names(rt: HostRuntime) -> Result<(), Fail> {
+        let no_memory = format!(in rt.alloc(); "{}", StepsError::NoMemory)?;
+        assert_eq!(rt; no_memory.as_str(), "NoMemory(1)");
+        let bad = format!(in rt.alloc(); "{}", StepsError::BadSchedule)?;
+        assert_eq!(rt; bad.as_str(), "BadSchedule(9)");
+        Ok(())
+    }
+}
