@@ -1,6 +1,6 @@
 //! One order of the traces of several CPUs.
 
-ghost use Rattle.std.specs.Prelude.{◌≡◌, ◌<◌, ◌≤◌, ◌+◌, ℕ, List, length, map, sum_by, vec_len, slice_get, slice_index, IfOk, IsErrOf, IsTrue, ◌↔◌, IfSome, IfNone, option_map};
+ghost use Rattle.std.specs.Prelude.{◌≡◌, ◌<◌, ◌≤◌, ◌+◌, ◌^◌, ℕ, List, length, map, sum_by, vec_len, slice_get, slice_index, IfOk, IsErrOf, IsTrue, ◌↔◌, IfSome, IfNone, option_map};
 ghost use Rattle.event_log.specs.declared.entries.Entry.{Entry as AnEntry};
 ghost use Rattle.event_log.specs.Runs.{count_of};
 ghost use Rattle.tracer.specs.declared.gathering.GatherError.TheVariants.{NoMemory};
@@ -71,7 +71,8 @@ pub fn gather(alloc: Global, traces: &[Vec<Entry>]) -> Result<Vec<Entry>, Gather
 
 /// How many entries stand in the traces; `None` where the number is beyond any memory.
 fn entry_count(traces: &[Vec<Entry>]) -> Option<usize>
-    ensures { IfSome result (λ n. n ≡ sum_by (λ trace. length trace.items) traces.now) }
+    ensures some { IfSome result (λ n. n ≡ sum_by (λ trace. length trace.items) traces.now) }
+    ensures none { IfNone result (2 ^ 64 ≤ sum_by (λ trace. length trace.items) traces.now) }
 {
     let mut total = 0usize;
     for trace in traces {

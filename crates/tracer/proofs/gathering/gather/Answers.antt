@@ -9,7 +9,7 @@ pub loop-trace-init : goal.loop-trace-init
 loop-trace-init c = (
   gathers_start (traces_in c.args.traces.now) (length c.args.traces.now) c.in-Some.total c.in_ok-taken.taken.items _ c.in_ok-order.order.items
       (sym (length-map c.args.traces.now (λ trace. trace.items))) (c.in_ok-taken.ensures.items_if_clones_equal (λ y same. same)) refl
-      (c.in-Some.ensures ∙ sym (left_of_vectors c.args.traces.now)) c.in_ok-order.ensures.items,
+      (c.in-Some.ensures.some ∙ sym (left_of_vectors c.args.traces.now)) c.in_ok-order.ensures.items,
   c.in_ok-order.ensures.capacity,
 )
 
