@@ -10,5 +10,6 @@ pub mod Alone
 pub mod Renaming
 pub mod OneFree
 pub mod GrantWords
+mod Worked
 pub mod DigitsLemmas
 pub mod ReadingLemmas

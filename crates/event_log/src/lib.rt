@@ -25,3 +25,6 @@ pub use laws::{
 pub use logs::EventLog;
 pub use refusals::{LogFull, NoMemory};
 pub use runs::{run_by_index, run_grows, run_has_op_order};
+
+#[cfg(test)]
+mod tests;
