@@ -2,3 +2,6 @@ pub mod TraceText
 pub mod Sinks
 pub mod Pieces
 pub mod Gather
+pub mod Judging
+pub mod Lines
+pub mod Tallies

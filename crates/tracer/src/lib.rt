@@ -2,13 +2,26 @@
 #![tactic(auto)]
 
 mod gathering;
+mod checking;
+mod entering;
+mod judge;
+mod stages;
+mod lines;
+mod pieces;
 mod sinks;
+mod tally;
+mod verdicts;
 mod writing;
 
+pub use checking::check;
 pub use event_log::{Entry, Kind};
 pub use gathering::{GatherError, gather, gathered_is_a_run};
 pub use sinks::{Sink, WriteFault};
+pub use verdicts::{Reason, Verdict};
 pub use writing::write_trace;
 
 #[cfg(test)]
 mod writing_tests;
+
+#[cfg(test)]
+mod checking_tests;

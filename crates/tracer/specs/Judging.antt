@@ -1,0 +1,259 @@
+-- How a trace text is judged: line by line, up to the first fault.
+use Rattle.std.specs.Prelude.{◌≡◌, ℕ, zero, suc, ◌+◌, ◌-◌, Bool, true, false, ◌&&◌, ◌==◌, nat_lt, nat_le, List, [], ◌∷◌, ◌++◌, length, map, codes, is_some, Option, Some, None, Result, Ok, Err, slice_get, slice_set, if◌then◌else◌}
+use Rattle.std.specs.List.{list_all, slice_split}
+use Rattle.std.specs.Str.{bytes_eq}
+use Rattle.event_log.specs.declared.ids.CpuId.{CpuId}
+use Rattle.event_log.specs.declared.entries.Kind.{Kind}
+use Rattle.event_log.specs.declared.entries.Kind.TheVariants.{Send, Recv}
+use Rattle.event_log.specs.declared.entries.Entry.{Entry}
+use Rattle.event_log.specs.Digits.{is_number, number_to}
+use Rattle.event_log.specs.Reading.{◌>>=◌}
+use Rattle.tracer.specs.declared.verdicts.Reason.{Reason}
+use Rattle.tracer.specs.declared.verdicts.Reason.TheVariants.{Spelling, Range, Op, Pos, Full, EmptyTake, WrongValue, Left}
+use Rattle.tracer.specs.declared.verdicts.Verdict.{Verdict}
+use Rattle.tracer.specs.declared.verdicts.Verdict.TheVariants.{Yes, No}
+use Rattle.tracer.specs.declared.stages.Stage.{Stage}
+use Rattle.tracer.specs.declared.stages.Stage.TheVariants as stage
+
+-- what a function returned, seen by view, is what reading gives
+abbrev pub Gives : {X Y : Type 0} → (X → Y) → Result X Reason → Result Y Reason → Type 0
+Gives view (Ok x) read = read ≡ Ok (view x)
+Gives view (Err reason) read = read ≡ Err reason
+
+-- goes on where the test holds, else gives the reason
+abbrev pub wanted : {A : Type 0} → Bool → Reason → Result A Reason → Result A Reason
+wanted test reason next = if test then next else Err reason
+
+-- ---- the pieces of a line
+
+-- the pieces between spaces
+abbrev pub pieces_of : List ℕ → List (List ℕ)
+pieces_of line = slice_split (λ b. b == 32) line
+
+-- a piece, and the pieces behind it
+abbrev pub piece_at : List (List ℕ) → Result (List ℕ × List (List ℕ)) Reason
+piece_at [] = Err Spelling
+piece_at (piece ∷ rest) = Ok (piece, rest)
+
+-- this word, and the pieces behind it
+abbrev pub word_at : List ℕ → List (List ℕ) → Result (List (List ℕ)) Reason
+word_at word pieces = piece_at pieces >>= λ p. wanted (bytes_eq p.0 word) Spelling (Ok p.1)
+
+-- a piece that spells a number of any size
+abbrev pub digits_at : List (List ℕ) → Result (List ℕ × List (List ℕ)) Reason
+digits_at pieces = piece_at pieces >>= λ p. wanted (is_number p.0) Spelling (Ok p)
+
+-- nothing stands behind
+abbrev pub ended : List (List ℕ) → Result (Unit {0}) Reason
+ended [] = Ok tt
+ended (piece ∷ rest) = Err Spelling
+
+-- the number, if it is at most so much
+abbrev pub or_range : {A : Type 0} → Option A → Result A Reason
+or_range None = Err Range
+or_range (Some x) = Ok x
+
+abbrev pub in_range : ℕ → List ℕ → Result ℕ Reason
+in_range most digits = or_range (number_to most digits)
+
+-- this very number
+abbrev pub is_just : Option ℕ → ℕ → Bool
+is_just None n = false
+is_just (Some m) n = m == n
+
+abbrev pub is_value : List ℕ → ℕ → Bool
+is_value digits n = is_just (number_to 18446744073709551615 digits) n
+
+-- ---- what is known of the buffers
+
+-- one buffer: its capacity, its items, front first, and how many effects it had
+pub record Seen : Type 0 where
+  pub capacity : ℕ
+  pub items : List ℕ
+  pub ops : ℕ
+  pub sends : ℕ
+  pub recvs : ℕ
+
+-- a buffer that had no effect
+abbrev pub fresh : ℕ → Seen
+fresh capacity = record { capacity = capacity; items = []; ops = 0; sends = 0; recvs = 0 }
+
+-- where the text stands: which line may come, the buffers, and how many entries there were
+pub record Progress : Type 0 where
+  pub at : Stage
+  pub buffers : List Seen
+  pub entries : ℕ
+
+abbrev pub opening : Progress
+opening = record { at = stage.Head; buffers = []; entries = 0 }
+
+-- the pos that an effect of this kind must have
+abbrev pub next_pos : Kind → Seen → ℕ
+next_pos Send seen = seen.sends
+next_pos Recv seen = seen.recvs
+
+-- a send wants room
+abbrev pub put_in : ℕ → Seen → Result Seen Reason
+put_in value seen = wanted (nat_lt (length seen.items) seen.capacity) Full (Ok (record seen { items = seen.items ++ value ∷ []; ops = seen.ops + 1; sends = seen.sends + 1 }))
+
+-- a receive wants its value as the first item
+abbrev pub take_first : ℕ → List ℕ → Seen → Result Seen Reason
+take_first value [] seen = Err EmptyTake
+take_first value (first ∷ rest) seen = wanted (first == value) WrongValue (Ok (record seen { items = rest; ops = seen.ops + 1; recvs = seen.recvs + 1 }))
+
+abbrev pub effect_of : Kind → ℕ → Seen → Result Seen Reason
+effect_of Send value seen = put_in value seen
+effect_of Recv value seen = take_first value seen.items seen
+
+-- the buffer after an entry
+unfoldable pub entry_on : Entry → Seen → Result Seen Reason
+entry_on e seen = wanted (e.op == seen.ops) Op (wanted (e.pos == next_pos e.kind seen) Pos (effect_of e.kind e.value seen))
+
+-- ---- the lines
+
+-- the digits of an entry
+pub record Digits : Type 0 where
+  pub cpu : List ℕ
+  pub thread : List ℕ
+  pub kind : Kind
+  pub buffer : List ℕ
+  pub value : List ℕ
+  pub op : List ℕ
+  pub pos : List ℕ
+
+abbrev pub kind_in : List ℕ → Result Kind Reason
+kind_in word = if bytes_eq word (codes "send") then Ok Send else (if bytes_eq word (codes "recv") then Ok Recv else Err Spelling)
+
+-- an entry, spelled, with numbers of any size
+unfoldable pub entry_digits : List (List ℕ) → Result Digits Reason
+entry_digits pieces = digits_at pieces
+    >>= λ cpu. digits_at cpu.1
+    >>= λ thread. piece_at thread.1
+    >>= λ word. kind_in word.0
+    >>= λ kind. digits_at word.1
+    >>= λ buffer. digits_at buffer.1
+    >>= λ value. digits_at value.1
+    >>= λ op. digits_at op.1
+    >>= λ pos. ended pos.1
+    >>= λ _. Ok (record { cpu = cpu.0; thread = thread.0; kind = kind; buffer = buffer.0; value = value.0; op = op.0; pos = pos.0 })
+
+-- its numbers, where each is in its range
+unfoldable pub entry_in : Digits → Result Entry Reason
+entry_in digits = in_range 7 digits.cpu
+    >>= λ cpu. in_range 63 digits.thread
+    >>= λ thread. in_range 15 digits.buffer
+    >>= λ buffer. in_range 18446744073709551615 digits.value
+    >>= λ value. in_range 524287 digits.op
+    >>= λ op. in_range 524287 digits.pos
+    >>= λ pos. Ok (record { cpu = record { 0 = cpu }; thread = record { 0 = thread }; kind = digits.kind; buffer = record { 0 = buffer }; value = value; op = op; pos = pos })
+
+-- the buffers after an entry of one of them
+unfoldable pub entry_among : Entry → List Seen → Result (List Seen) Reason
+entry_among e buffers = or_range (slice_get buffers e.buffer.0)
+    >>= λ seen. entry_on e seen
+    >>= λ next. Ok (slice_set buffers e.buffer.0 next)
+
+unfoldable pub entry_line : List (List ℕ) → Progress → Result Progress Reason
+entry_line pieces s = entry_digits pieces
+    >>= λ digits. entry_in digits
+    >>= λ e. wanted (nat_lt s.entries 524288) Range (entry_among e s.buffers)
+    >>= λ buffers. Ok (record s { buffers = buffers; entries = s.entries + 1 })
+
+-- the digits of the number of buffers
+unfoldable pub count_digits : List (List ℕ) → Result (List ℕ) Reason
+count_digits pieces = word_at (codes "buffers") pieces
+    >>= λ rest. digits_at rest
+    >>= λ n. ended n.1
+    >>= λ _. Ok n.0
+
+unfoldable pub count_line : List (List ℕ) → Progress → Result Progress Reason
+count_line pieces s = count_digits pieces
+    >>= λ digits. in_range 16 digits
+    >>= λ count. wanted (nat_lt 0 count) Range (Ok (record s { at = stage.Capacities count; buffers = [] }))
+
+-- the digits of the capacity of buffer b
+unfoldable pub capacity_digits : ℕ → List (List ℕ) → Result (List ℕ) Reason
+capacity_digits b pieces = word_at (codes "cap") pieces
+    >>= λ rest. piece_at rest
+    >>= λ number. wanted (is_value number.0 b) Spelling (digits_at number.1)
+    >>= λ capacity. ended capacity.1
+    >>= λ _. Ok capacity.0
+
+unfoldable pub capacity_line : ℕ → List (List ℕ) → Progress → Result Progress Reason
+capacity_line count pieces s = capacity_digits (length s.buffers) pieces
+    >>= λ digits. in_range 32 digits
+    >>= λ capacity. wanted (nat_lt 0 capacity) Range (Ok (record s { at = if nat_lt (length s.buffers + 1) count then stage.Capacities count else stage.Entries; buffers = s.buffers ++ fresh capacity ∷ [] }))
+
+-- the pieces of the items of buffer b
+unfoldable pub left_digits : ℕ → List (List ℕ) → Result (List (List ℕ)) Reason
+left_digits b pieces = word_at (codes "left") pieces
+    >>= λ rest. piece_at rest
+    >>= λ number. wanted (is_value number.0 b) Spelling (wanted (list_all is_number number.1) Spelling (Ok number.1))
+
+-- the pieces are these numbers
+abbrev pub are_values : List (List ℕ) → List ℕ → Bool
+are_values [] [] = true
+are_values [] (n ∷ ns) = false
+are_values (p ∷ ps) [] = false
+are_values (p ∷ ps) (n ∷ ns) = is_value p n && are_values ps ns
+
+abbrev pub is_within : List ℕ → Bool
+is_within digits = is_some (number_to 18446744073709551615 digits)
+
+-- the items of buffer b are what the pieces say
+abbrev pub is_left : List (List ℕ) → Option Seen → Bool
+is_left values None = false
+is_left values (Some seen) = are_values values seen.items
+
+unfoldable pub left_line : ℕ → List (List ℕ) → Progress → Result Progress Reason
+left_line b pieces s = left_digits b pieces
+    >>= λ values. wanted (list_all is_within values) Range (wanted (is_left values (slice_get s.buffers b)) Left (Ok (record s { at = if nat_lt (b + 1) (length s.buffers) then stage.Contents (b + 1) else stage.End })))
+
+-- a line whose first piece is `e` is an entry; any other is what is left of the first buffer
+unfoldable pub entries_line : List (List ℕ) → Progress → Result Progress Reason
+entries_line pieces s = piece_at pieces >>= λ p. if bytes_eq p.0 (codes "e") then entry_line p.1 s else left_line 0 pieces s
+
+unfoldable pub whole_line : List ℕ → Stage → List ℕ → Progress → Result Progress Reason
+whole_line want next line s = wanted (bytes_eq line want) Spelling (Ok (record s { at = next }))
+
+-- a line after which the text may go on, or the first reason against it
+abbrev pub line_at : Stage → Progress → List ℕ → Result Progress Reason
+line_at stage.Head s line = whole_line (codes "mctower-trace 1") stage.Count line s
+line_at stage.Count s line = count_line (pieces_of line) s
+line_at (stage.Capacities count) s line = capacity_line count (pieces_of line) s
+line_at stage.Entries s line = entries_line (pieces_of line) s
+line_at (stage.Contents b) s line = left_line b (pieces_of line) s
+line_at stage.End s line = whole_line (codes "end") stage.Done line s
+line_at stage.Done s line = Err Spelling
+
+unfoldable pub step : Progress → List ℕ → Result Progress Reason
+step s line = line_at s.at s line
+
+abbrev pub is_done : Stage → Bool
+is_done stage.Done = true
+is_done stage.Head = false
+is_done stage.Count = false
+is_done (stage.Capacities count) = false
+is_done stage.Entries = false
+is_done (stage.Contents b) = false
+is_done stage.End = false
+
+-- ---- the text
+
+abbrev pub after_line : Result Progress Reason → ℕ → (Progress → Verdict) → Verdict
+after_line (Ok s) n next = next s
+after_line (Err reason) n next = No n reason
+
+-- the lines from line n on; the last of them is what stands behind the last line feed
+abbrev pub verdict_from : Progress → ℕ → List (List ℕ) → Verdict
+verdict_from s n [] = No n Spelling
+verdict_from s n (rest ∷ []) = if is_done s.at && length rest == 0 then Yes else No n Spelling
+verdict_from s n (line ∷ next ∷ more) = after_line (step s line) n (λ after. verdict_from after (n + 1) (next ∷ more))
+
+-- the parts between line feeds
+abbrev pub lines_in : List ℕ → List (List ℕ)
+lines_in text = slice_split (λ b. b == 10) text
+
+-- the verdict on a text: the first line with a fault, and its first reason
+unfoldable pub verdict_of : List ℕ → Verdict
+verdict_of text = verdict_from opening 1 (lines_in text)

@@ -1,0 +1,12 @@
+-- What the judge's values are seen as.
+use Rattle.std.specs.Prelude.{ℕ, List, [], ◌∷◌, map, Option, Some, None}
+use Rattle.tracer.specs.declared.pieces.Pieces.{Pieces}
+use Rattle.tracer.specs.declared.lines.EntryDigits.{EntryDigits}
+use Rattle.tracer.specs.Judging.{pieces_of, Digits}
+
+-- the pieces that are still to be read
+abbrev pub left_of : Pieces → List (List ℕ)
+left_of pieces = elim pieces.rest [ None ↦ [] | Some line ↦ pieces_of line.now ]
+
+abbrev pub digits_of : EntryDigits → Digits
+digits_of d = record { cpu = d.cpu.now; thread = d.thread.now; kind = d.kind; buffer = d.buffer.now; value = d.value.now; op = d.op.now; pos = d.pos.now }

@@ -1,0 +1,25 @@
+//! An entry among the buffers.
+
+ghost use Rattle.std.specs.Prelude.{◌≡◌, ◌<◌, map};
+ghost use Rattle.tracer.specs.Judging.{entry_among};
+ghost use Rattle.tracer.specs.Tallies.{seen_in, StepsTo};
+
+use crate::tally::Tally;
+use crate::verdicts::Reason;
+use event_log::Entry;
+
+/// Does the effect of an entry whose numbers are in range on its buffer.
+///
+/// Errors: `Range` where there is no such buffer, else the first reason against the entry; then
+/// nothing changed.
+pub fn enter_among(buffers: &mut [Tally], entry: Entry) -> Result<(), Reason>
+    requires { (entry.op < 524288) × (entry.pos < 524288) }
+    ensures { StepsTo (entry_among entry (map seen_in buffers.old)) result (map seen_in buffers.new) }
+{
+    let b = usize::from(entry.buffer.0);
+    if b >= buffers.len() {
+        return Err(Reason::Range);
+    }
+    let buffer = &mut buffers[b];
+    buffer.enter(entry)
+}

@@ -1,0 +1,181 @@
+//! The judge of a trace text.
+
+ghost use Rattle.std.specs.Prelude.{◌≡◌, ◌+◌, ◌≤◌, ◌<◌, ◌==◌, ◌&&◌, ℕ, length, map, codes, nat_lt, slice_get, true};
+ghost use Rattle.tracer.specs.Judging.{opening, whole_line, count_line, capacity_line, entry_line, entries_line, left_line, is_left, step, is_done};
+ghost use Rattle.tracer.specs.Lines.{left_of};
+ghost use Rattle.tracer.specs.declared.stages.Stage.TheVariants.{Count as TheCount, Capacities as WantsCapacities, Done as NoLine};
+
+use crate::lines::{capacity_digits, count_digits, entry_digits, entry_in, left_digits};
+use crate::pieces::{Pieces, are_within, in_range, piece};
+use crate::entering::enter_among;
+use crate::stages::Stage;
+use crate::tally::Tally;
+use crate::verdicts::Reason;
+use arrayvec::ArrayVec;
+
+/// The judge of a text, as far as it has come: which line may come, what is known of the buffers,
+/// and how many entries there were.
+#[derive(Drop)]
+pub struct Judge {
+    at: Stage,
+    buffers: ArrayVec<Tally, 16>,
+    entries: u64,
+    ghost room: { (count : ℕ) → at ≡ WantsCapacities count → (length buffers.items < count) × (count ≤ 16) },
+}
+
+impl Judge {
+    ghost use Rattle.tracer.specs.Tallies.{progress_of, seen_in, StepsTo};
+
+    /// The judge before the first line.
+    pub fn new() -> Judge
+        ensures { progress_of result ≡ opening }
+    {
+        Judge {
+            at: Stage::Head,
+            buffers: ArrayVec::new(),
+            entries: 0,
+        }
+    }
+
+    /// Whether no line is wanted any more.
+    pub fn is_done(&self) -> bool
+        ensures { result ≡ is_done (progress_of self.now).at }
+    {
+        matches!(self.at, Stage::Done)
+    }
+
+    /// The next line, without its line feed.
+    ///
+    /// Errors: the first reason against the line.
+    #[tactic(auto, unfolding(crate::specs::Judging::step))]
+    pub fn step(&mut self, line: &[u8]) -> Result<(), Reason>
+        ensures { StepsTo (step (progress_of self.old) line.now) result (progress_of self.new) }
+    {
+        match self.at {
+            Stage::Head => self.head(line),
+            Stage::Count => self.count(Pieces { rest: Some(line) }),
+            Stage::Capacities(count) => self.capacity(count, Pieces { rest: Some(line) }),
+            Stage::Entries => self.entry_or_left(Pieces { rest: Some(line) }),
+            Stage::Contents(b) => self.left(b, Pieces { rest: Some(line) }),
+            Stage::End => self.end(line),
+            Stage::Done => Err(Reason::Spelling),
+        }
+    }
+
+    /// A line of this one spelling, behind which the count may come.
+    #[tactic(auto, unfolding(crate::specs::Judging::whole_line))]
+    fn head(&mut self, line: &[u8]) -> Result<(), Reason>
+        ensures { StepsTo (whole_line (codes "mctower-trace 1") TheCount line.now (progress_of self.old)) result (progress_of self.new) }
+    {
+        if line != b"mctower-trace 1".as_slice() {
+            return Err(Reason::Spelling);
+        }
+        self.at = Stage::Count;
+        Ok(())
+    }
+
+    /// The last line.
+    #[tactic(auto, unfolding(crate::specs::Judging::whole_line))]
+    fn end(&mut self, line: &[u8]) -> Result<(), Reason>
+        ensures { StepsTo (whole_line (codes "end") NoLine line.now (progress_of self.old)) result (progress_of self.new) }
+    {
+        if line != b"end".as_slice() {
+            return Err(Reason::Spelling);
+        }
+        self.at = Stage::Done;
+        Ok(())
+    }
+
+    /// The line of the number of buffers.
+    #[tactic(auto, unfolding(crate::specs::Judging::count_line))]
+    fn count(&mut self, pieces: Pieces<'_>) -> Result<(), Reason>
+        ensures { StepsTo (count_line (left_of pieces.entry) (progress_of self.old)) result (progress_of self.new) }
+    {
+        let digits = count_digits(pieces)?;
+        let count = in_range(16, digits)?;
+        if count == 0 {
+            return Err(Reason::Range);
+        }
+        self.buffers = ArrayVec::new();
+        self.at = Stage::Capacities(count as usize);
+        Ok(())
+    }
+
+    /// The line of a capacity.
+    #[tactic(auto, unfolding(crate::specs::Judging::capacity_line))]
+    fn capacity(&mut self, count: usize, pieces: Pieces<'_>) -> Result<(), Reason>
+        requires { self.old.at ≡ WantsCapacities count }
+        ensures { StepsTo (capacity_line count (left_of pieces.entry) (progress_of self.old)) result (progress_of self.new) }
+    {
+        let digits = capacity_digits(self.buffers.len() as u64, pieces)?;
+        let capacity = in_range(32, digits)?;
+        if capacity == 0 {
+            return Err(Reason::Range);
+        }
+        if self.buffers.len() + 1 >= count {
+            self.at = Stage::Entries;
+        }
+        self.buffers.push(Tally::new(capacity as usize));
+        Ok(())
+    }
+
+    /// The line of an entry, from its second piece on.
+    #[tactic(auto, unfolding(crate::specs::Judging::entry_line))]
+    fn entry(&mut self, pieces: Pieces<'_>) -> Result<(), Reason>
+        ensures { StepsTo (entry_line (left_of pieces.entry) (progress_of self.old)) result (progress_of self.new) }
+    {
+        let digits = entry_digits(pieces)?;
+        let entry = entry_in(digits)?;
+        if self.entries >= 524_288 {
+            return Err(Reason::Range);
+        }
+        enter_among(self.buffers.as_mut_slice(), entry)?;
+        self.entries += 1;
+        Ok(())
+    }
+
+    /// The line of what is left of buffer `b`.
+    #[tactic(auto, unfolding(crate::specs::Judging::left_line))]
+    fn left(&mut self, b: usize, pieces: Pieces<'_>) -> Result<(), Reason>
+        ensures { StepsTo (left_line b (left_of pieces.entry) (progress_of self.old)) result (progress_of self.new) }
+    {
+        let values = left_digits(b as u64, pieces)?;
+        if !are_within(values) {
+            return Err(Reason::Range);
+        }
+        if !self.holds(b, values) {
+            return Err(Reason::Left);
+        }
+        let count = self.buffers.len();
+        self.at = if b + 1 < count {
+            Stage::Contents(b + 1)
+        } else {
+            Stage::End
+        };
+        Ok(())
+    }
+
+    /// Whether the pieces spell what buffer `b` holds.
+    fn holds(&self, b: usize, values: Pieces<'_>) -> bool
+        ensures exact { result ≡ is_left (left_of values.entry) (slice_get (progress_of self.now).buffers b) }
+        ensures known { result ≡ true → b < length self.now.buffers.items }
+    {
+        match self.buffers.get(b) {
+            Some(buffer) => buffer.holds(values),
+            None => false,
+        }
+    }
+
+    /// The line of an entry, or of what is left of the first buffer.
+    #[tactic(auto, unfolding(crate::specs::Judging::entries_line))]
+    fn entry_or_left(&mut self, pieces: Pieces<'_>) -> Result<(), Reason>
+        ensures { StepsTo (entries_line (left_of pieces.entry) (progress_of self.old)) result (progress_of self.new) }
+    {
+        let (first, rest) = piece(pieces)?;
+        if first == b"e".as_slice() {
+            self.entry(rest)
+        } else {
+            self.left(0, pieces)
+        }
+    }
+}

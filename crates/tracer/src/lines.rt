@@ -1,0 +1,125 @@
+//! The lines of a trace text, read from their pieces.
+
+ghost use Rattle.std.specs.Prelude.{◌≡◌, ◌≤◌, ◌<◌, IfOk, codes};
+ghost use Rattle.tracer.specs.Judging.{Gives, kind_in, entry_digits, entry_in, capacity_digits, left_digits, count_digits};
+ghost use Rattle.tracer.specs.Lines.{left_of, digits_of};
+
+use crate::pieces::{Pieces, are_numbers, digits, ended, in_range, is_value, piece, word};
+use crate::verdicts::Reason;
+use event_log::{BufId, CpuId, Entry, Kind, Tid};
+
+/// The digits of an entry, of any size.
+#[derive(Clone, Copy)]
+pub struct EntryDigits<'a> {
+    pub cpu: &'a [u8],
+    pub thread: &'a [u8],
+    pub kind: Kind,
+    pub buffer: &'a [u8],
+    pub value: &'a [u8],
+    pub op: &'a [u8],
+    pub pos: &'a [u8],
+}
+
+/// The kind that a word names.
+fn kind_in(word: &[u8]) -> Result<Kind, Reason>
+    ensures { result ≡ kind_in word.now }
+{
+    if word == b"send".as_slice() {
+        return Ok(Kind::Send);
+    }
+    if word == b"recv".as_slice() {
+        return Ok(Kind::Recv);
+    }
+    Err(Reason::Spelling)
+}
+
+/// The digits of the entry that the pieces behind its first word spell.
+#[tactic(auto, unfolding(crate::specs::Judging::entry_digits))]
+pub fn entry_digits(pieces: Pieces<'_>) -> Result<EntryDigits<'_>, Reason>
+    ensures { Gives digits_of result (entry_digits (left_of pieces.entry)) }
+{
+    let (cpu, rest) = digits(pieces)?;
+    let (thread, rest) = digits(rest)?;
+    let (word, rest) = piece(rest)?;
+    let kind = kind_in(word)?;
+    let (buffer, rest) = digits(rest)?;
+    let (value, rest) = digits(rest)?;
+    let (op, rest) = digits(rest)?;
+    let (pos, rest) = digits(rest)?;
+    ended(rest)?;
+    Ok(EntryDigits {
+        cpu,
+        thread,
+        kind,
+        buffer,
+        value,
+        op,
+        pos,
+    })
+}
+
+/// The entry of these digits, where each number is in its range.
+#[tactic(auto, unfolding(crate::specs::Judging::entry_in))]
+pub fn entry_in(digits: EntryDigits<'_>) -> Result<Entry, Reason>
+    ensures exact { result ≡ entry_in (digits_of digits.entry) }
+    ensures op { IfOk result (λ e. e.op < 524288) }
+    ensures pos { IfOk result (λ e. e.pos < 524288) }
+{
+    let cpu = in_range(7, digits.cpu)?;
+    let thread = in_range(63, digits.thread)?;
+    let buffer = in_range(15, digits.buffer)?;
+    let value = in_range(u64::MAX, digits.value)?;
+    let op = in_range(524_287, digits.op)?;
+    let pos = in_range(524_287, digits.pos)?;
+    Ok(Entry {
+        cpu: CpuId(cpu as u8),
+        thread: Tid(thread as u8),
+        kind: digits.kind,
+        buffer: BufId(buffer as u8),
+        value,
+        op,
+        pos,
+    })
+}
+
+/// The digits of the number of buffers.
+#[tactic(auto, unfolding(crate::specs::Judging::count_digits))]
+pub fn count_digits(pieces: Pieces<'_>) -> Result<&[u8], Reason>
+    ensures { Gives (λ x. x.now) result (count_digits (left_of pieces.entry)) }
+{
+    let rest = word(b"buffers", pieces)?;
+    let (count, rest) = digits(rest)?;
+    ended(rest)?;
+    Ok(count)
+}
+
+/// The digits of the capacity of buffer `b`.
+#[tactic(auto, unfolding(crate::specs::Judging::capacity_digits))]
+pub fn capacity_digits(b: u64, pieces: Pieces<'_>) -> Result<&[u8], Reason>
+    ensures { Gives (λ x. x.now) result (capacity_digits b (left_of pieces.entry)) }
+{
+    let rest = word(b"cap", pieces)?;
+    let (number, rest) = piece(rest)?;
+    if !is_value(number, b) {
+        return Err(Reason::Spelling);
+    }
+    let (capacity, rest) = digits(rest)?;
+    ended(rest)?;
+    Ok(capacity)
+}
+
+/// The pieces of the items of buffer `b`.
+#[tactic(auto, unfolding(crate::specs::Judging::left_digits))]
+pub fn left_digits(b: u64, pieces: Pieces<'_>) -> Result<Pieces<'_>, Reason>
+    ensures { Gives left_of result (left_digits b (left_of pieces.entry)) }
+{
+    let rest = word(b"left", pieces)?;
+    let (number, rest) = piece(rest)?;
+    if !is_value(number, b) {
+        return Err(Reason::Spelling);
+    }
+    if !are_numbers(rest) {
+        return Err(Reason::Spelling);
+    }
+    Ok(rest)
+}

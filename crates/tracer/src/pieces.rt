@@ -1,0 +1,138 @@
+//! A text cut at a byte, and the pieces of a line.
+
+ghost use Rattle.std.specs.Prelude.{◌≡◌, ◌+◌, ◌≤◌, ◌==◌, ◌∷◌, [], List, ℕ, length, codes, IfNone, IfSome, IfOk};
+ghost use Rattle.std.specs.List.{slice_split, list_all};
+ghost use Rattle.event_log.specs.Digits.{is_number};
+ghost use Rattle.tracer.specs.Judging.{Gives, piece_at, word_at, digits_at, ended, in_range, is_value, is_within, are_values};
+ghost use Rattle.tracer.specs.Lines.{left_of};
+
+use crate::verdicts::Reason;
+use event_log::{is_number, number_to};
+
+/// What stands before the first byte `at` of the text, and what stands behind it.
+pub fn cut(text: &[u8], at: u8) -> Option<(&[u8], &[u8])>
+    ensures none { IfNone result (slice_split (λ b. b == at) text.now ≡ text.now ∷ []) }
+    ensures some { IfSome result (λ p. slice_split (λ b. b == at) text.now ≡ p.0.now ∷ slice_split (λ b. b == at) p.1.now) }
+    ensures shorter { IfSome result (λ p. length p.0.now + 1 + length p.1.now ≡ length text.now) }
+{
+    for (i, byte) in text.iter().enumerate() {
+        if *byte == at {
+            return Some((&text[..i], &text[i + 1..]));
+        }
+    }
+    None
+}
+
+/// The pieces of a line that are still to be read: none, or those of what is left of the line.
+#[derive(Clone, Copy)]
+pub struct Pieces<'a> {
+    pub rest: Option<&'a [u8]>,
+}
+
+/// The next piece, and the pieces behind it.
+pub fn piece(pieces: Pieces<'_>) -> Result<(&[u8], Pieces<'_>), Reason>
+    ensures { Gives (λ x. (x.0.now, left_of x.1)) result (piece_at (left_of pieces.entry)) }
+{
+    let Some(rest) = pieces.rest else {
+        return Err(Reason::Spelling);
+    };
+    match cut(rest, b' ') {
+        Some((front, after)) => Ok((front, Pieces { rest: Some(after) })),
+        None => Ok((rest, Pieces { rest: None })),
+    }
+}
+
+/// The pieces behind the next one, which must be `word`.
+pub fn word<'a>(word: &[u8], pieces: Pieces<'a>) -> Result<Pieces<'a>, Reason>
+    ensures { Gives left_of result (word_at word.now (left_of pieces.entry)) }
+{
+    let (front, rest) = piece(pieces)?;
+    if front != word {
+        return Err(Reason::Spelling);
+    }
+    Ok(rest)
+}
+
+/// The next piece, which must spell a number, and the pieces behind it.
+pub fn digits(pieces: Pieces<'_>) -> Result<(&[u8], Pieces<'_>), Reason>
+    ensures { Gives (λ x. (x.0.now, left_of x.1)) result (digits_at (left_of pieces.entry)) }
+{
+    let (front, rest) = piece(pieces)?;
+    if !is_number(front) {
+        return Err(Reason::Spelling);
+    }
+    Ok((front, rest))
+}
+
+/// That no piece is left.
+pub fn ended(pieces: Pieces<'_>) -> Result<(), Reason>
+    ensures { result ≡ ended (left_of pieces.entry) }
+{
+    match piece(pieces) {
+        Ok((_, _)) => Err(Reason::Spelling),
+        Err(_) => Ok(()),
+    }
+}
+
+/// The number that a piece spells, where it is at most `most`.
+pub fn in_range(most: u64, digits: &[u8]) -> Result<u64, Reason>
+    ensures exact { result ≡ in_range most digits.now }
+    ensures within { IfOk result (λ n. n ≤ most) }
+{
+    match number_to(digits, most) {
+        Some(number) => Ok(number),
+        None => Err(Reason::Range),
+    }
+}
+
+/// Whether a piece spells this number.
+pub fn is_value(digits: &[u8], number: u64) -> bool
+    ensures { result ≡ is_value digits.now number }
+{
+    match number_to(digits, u64::MAX) {
+        Some(read) => read == number,
+        None => false,
+    }
+}
+
+/// Whether each piece spells a number.
+pub fn are_numbers(mut pieces: Pieces<'_>) -> bool
+    ensures { result ≡ list_all is_number (left_of pieces.entry) }
+{
+    while let Ok((front, rest)) = piece(pieces) {
+        if !is_number(front) {
+            return false;
+        }
+        pieces = rest;
+    }
+    true
+}
+
+/// Whether each piece spells a number of 64 bits.
+pub fn are_within(mut pieces: Pieces<'_>) -> bool
+    ensures { result ≡ list_all is_within (left_of pieces.entry) }
+{
+    while let Ok((front, rest)) = piece(pieces) {
+        if number_to(front, u64::MAX).is_none() {
+            return false;
+        }
+        pieces = rest;
+    }
+    true
+}
+
+/// Whether the pieces spell these numbers.
+pub fn are_values(mut pieces: Pieces<'_>, numbers: &[u64]) -> bool
+    ensures { result ≡ are_values (left_of pieces.entry) numbers.now }
+{
+    for number in numbers {
+        let Ok((front, rest)) = piece(pieces) else {
+            return false;
+        };
+        if !is_value(front, *number) {
+            return false;
+        }
+        pieces = rest;
+    }
+    pieces.rest.is_none()
+}
