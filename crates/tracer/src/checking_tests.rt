@@ -4,10 +4,10 @@ use crate::{Reason, Verdict, check};
 use std::alloc::Global;
 use std::test::*;
 
-const ROW: &[u8; 66] =
-    b"mctower-trace 1\nbuffers 1\ncap 0 1\ne 0 0 send 0 7 0 0\nleft 0 7\nend\n";
+const ROW: &[u8; 66] = b"mctower-trace 1\nbuffers 1\ncap 0 1\ne 0 0 send 0 7 0 0\nleft 0 7\nend\n";
 
-const TAKES: &[u8; 121] = b"mctower-trace 1\nbuffers 1\ncap 0 2\ne 0 0 send 0 7 0 0\ne 1 1 recv 0 7 1 0\ne 1 1 recv 0 8 2 1\ne 0 0 send 0 8 3 1\nleft 0\nend\n";
+const TAKES: &[u8; 121] =
+    b"mctower-trace 1\nbuffers 1\ncap 0 2\ne 0 0 send 0 7 0 0\ne 1 1 recv 0 7 1 0\ne 1 1 recv 0 8 2 1\ne 0 0 send 0 8 3 1\nleft 0\nend\n";
 
 /// The text with its line `at`, counted from 1, replaced by `lines`; without its last lines where
 /// `lines` is `None`.
@@ -28,7 +28,8 @@ fn with_line(alloc: Global, text: &[u8], at: usize, lines: &[u8]) -> Result<Vec<
 #[test]
 fn the_three_texts(rt: HostRuntime) -> Result<(), Fail> {
     assert_eq!(rt; check(TAKES), Verdict::No(6, Reason::EmptyTake));
-    let cut = b"mctower-trace 1\nbuffers 1\ncap 0 2\ne 0 0 send 0 7 0 0\ne 1 1 recv 0 7 1 0\nleft 0\n";
+    let cut =
+        b"mctower-trace 1\nbuffers 1\ncap 0 2\ne 0 0 send 0 7 0 0\ne 1 1 recv 0 7 1 0\nleft 0\n";
     assert_eq!(rt; check(cut), Verdict::No(7, Reason::Spelling));
     let zero = with_line(rt.alloc(), TAKES, 5, b"e 1 1 recv 0 7 01 0\n")?;
     assert_eq!(rt; check(&zero), Verdict::No(5, Reason::Spelling));
@@ -47,7 +48,11 @@ fn changes_of_one_text(rt: HostRuntime) -> Result<(), Fail> {
             b"e 0 0 send 0 18446744073709551616 0 0\n",
             Verdict::No(4, Reason::Range),
         ),
-        (4, b"e 0 0 send 0 \xff 0 0\n", Verdict::No(4, Reason::Spelling)),
+        (
+            4,
+            b"e 0 0 send 0 \xff 0 0\n",
+            Verdict::No(4, Reason::Spelling),
+        ),
         (4, b"e 0 0 send 0 7 1 0\n", Verdict::No(4, Reason::Op)),
         (4, b"e 0 0 send 0 7 0 1\n", Verdict::No(4, Reason::Pos)),
         (

@@ -5,9 +5,9 @@ ghost use Rattle.tracer.specs.Judging.{opening, whole_line, count_line, capacity
 ghost use Rattle.tracer.specs.Lines.{left_of};
 ghost use Rattle.tracer.specs.declared.stages.Stage.TheVariants.{Count as TheCount, Capacities as WantsCapacities, Done as NoLine};
 
+use crate::entering::enter_among;
 use crate::lines::{capacity_digits, count_digits, entry_digits, entry_in, left_digits};
 use crate::pieces::{Pieces, are_within, in_range, piece};
-use crate::entering::enter_among;
 use crate::stages::Stage;
 use crate::tally::Tally;
 use crate::verdicts::Reason;

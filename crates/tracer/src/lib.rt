@@ -1,14 +1,14 @@
 //! Traces: the order of several traces, the text of a trace, and the judge of such a text.
 #![tactic(auto)]
 
-mod gathering;
 mod checking;
 mod entering;
+mod gathering;
 mod judge;
-mod stages;
 mod lines;
 mod pieces;
 mod sinks;
+mod stages;
 mod tally;
 mod verdicts;
 mod writing;
@@ -21,7 +21,6 @@ pub use verdicts::{Reason, Verdict};
 pub use writing::write_trace;
 
 #[cfg(test)]
-mod writing_tests;
-
-#[cfg(test)]
 mod checking_tests;
+#[cfg(test)]
+mod writing_tests;
