@@ -1,6 +1,6 @@
 //! Numbers written in decimal digits, as programs, schedules and trace texts spell them.
 
-ghost use Rattle.std.specs.Prelude.{◌≡◌, ◌≤◌, ◌<◌, ◌^◌, ℕ, List, Some, decimal};
+ghost use Rattle.std.specs.Prelude.{◌≡◌, ◌≤◌, ◌<◌, ◌^◌, ℕ, List, Some, decimal, IfSome};
 ghost use Rattle.std.specs.Char.{is_ascii_digit};
 ghost use Rattle.std.specs.List.{list_all};
 ghost use Rattle.event_log.specs.Digits.{is_number, number_to};
@@ -28,7 +28,8 @@ fn has_only_digits(text: &[u8]) -> bool
 /// The number that `text` spells, if it spells one of at most `most`: `0`, or digits of which the
 /// first is not `0`. Any other text gives `None`, a sign or a leading zero included.
 pub fn number_to(text: &[u8], most: u64) -> Option<u64>
-    ensures { result ≡ number_to most text.now }
+    ensures number { result ≡ number_to most text.now }
+    ensures within { IfSome result (λ number. number ≤ most) }
 {
     if text.is_empty() {
         return None;

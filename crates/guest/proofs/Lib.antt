@@ -1,1 +1,3 @@
 pub mod CallsLemmas
+pub mod ProgramLemmas
+pub mod SpellingLemmas

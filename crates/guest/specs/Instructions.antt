@@ -1,5 +1,5 @@
 -- Registers by their numbers, and the instruction of a line.
-use Rattle.std.specs.Prelude.{ℕ, ◌<◌, ◌≤◌, List, length, All, slice_get, unwrap_or}
+use Rattle.std.specs.Prelude.{ℕ, ◌<◌, ◌≤◌, ◌^◌, List, length, All, slice_get, unwrap_or}
 use Rattle.guest.specs.declared.instructions.Register.{Register}
 use Rattle.guest.specs.declared.instructions.Register.TheVariants.{R0, R1, R2, R3}
 use Rattle.guest.specs.declared.instructions.Instruction.{Instruction}
@@ -16,9 +16,9 @@ number_of R3 = 3
 abbrev pub instruction_at : List Instruction → ℕ → Instruction
 instruction_at program line = unwrap_or (slice_get program line) Exit
 
--- an instruction of a program of so many lines: it jumps to one of them, and calls one of the buffers 0 to 15
+-- an instruction of a program of so many lines: it sets a number of 64 bits, jumps to one of them, or calls one of the buffers 0 to 15
 abbrev pub IsWithin : ℕ → Instruction → Type 0
-IsWithin lines (Set r n) = Unit {0}
+IsWithin lines (Set r n) = n < 2 ^ 64
 IsWithin lines (Add r q) = Unit {0}
 IsWithin lines (Sub r q) = Unit {0}
 IsWithin lines (Jnz r k) = k < lines

@@ -1,7 +1,13 @@
 //! Registers, instructions and programs.
 
+use crate::reading::instructions_in;
+use crate::refusals::{GuestError, GuestFault};
 use event_log::BufId;
+use std::alloc::Global;
 use std::marker::Model;
+
+/// How many lines a program may have.
+pub const LINES: usize = 256;
 
 /// A register. Each holds a number from 0 to 2^64 - 1, and 0 at the start.
 #[derive(Clone, Copy, Debug, PartialEq, Eq)]
@@ -75,9 +81,32 @@ impl Model for Program {
 }
 
 impl Program {
-    ghost use Rattle.std.specs.Prelude.{◌≡◌, ◌≢◌, ◌<◌, length};
+    ghost use Rattle.std.specs.Prelude.{◌≡◌, ◌≢◌, ◌<◌, length, map, IfOk};
     ghost use Rattle.guest.specs.declared.instructions.Instruction.TheVariants.{Exit};
     ghost use Rattle.guest.specs.Instructions.{IsProgram, instruction_at};
+    ghost use Rattle.guest.specs.Language.{program_in, Gives};
+
+    /// Reads the lines of a program, one instruction each.
+    ///
+    /// Errors: `At(0, Empty)` where there is no line; `At(256, TooLong)` where there are more than
+    /// 256; otherwise the first line with a fault, counted from 0, and the first fault in it, its
+    /// pieces taken from left to right. `NoMemory` where an allocation was refused.
+    #[tactic(auto, unfolding(crate::specs::Language::program_in))]
+    pub fn read(alloc: Global, lines: &[&str]) -> Result<Program, GuestError>
+        ensures read { Gives (λ program. program) result (program_in (map (λ line. line.now) lines.now)) }
+        ensures within { IfOk result IsProgram }
+    {
+        if lines.is_empty() {
+            return Err(GuestError::At(0, GuestFault::Empty));
+        }
+        if lines.len() > LINES {
+            return Err(GuestError::At(LINES, GuestFault::TooLong));
+        }
+        match instructions_in(alloc, lines) {
+            Ok(lines) => Ok(Program { lines }),
+            Err(error) => Err(error),
+        }
+    }
 
     /// How many lines the program has, from 1 to 256.
     pub fn len(&self) -> usize

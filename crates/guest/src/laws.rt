@@ -1,9 +1,17 @@
-//! What holds of every program and its calls, as a function without work: each promise is a law.
+//! What holds of every program, as functions without work: each promise is a law.
 
+ghost use Rattle.std.specs.Prelude.{ℕ, ◌<◌, ◌≤◌, ◌^◌};
+ghost use Rattle.guest.specs.declared.instructions.Instruction.{Instruction};
 ghost use Rattle.guest.specs.Laws.{StepsKeepCalls};
+ghost use Rattle.guest.specs.Spelling.{HasOneLine};
 
 /// The law of steps: whatever a thread of a program does, the entries of its calls, newest first,
 /// stay the program's calls at the thread's new state.
 pub fn steps_keep_calls()
     ensures { StepsKeepCalls }
+{}
+
+/// The law of the spelling: each instruction has one line that reads as it.
+pub fn instruction_has_one_line()
+    ensures { (count : ℕ) (i : Instruction) → 0 < count → count ≤ 2 ^ 64 → HasOneLine count i }
 {}

@@ -7,8 +7,13 @@
 
 mod instructions;
 mod laws;
+mod reading;
+mod refusals;
+#[cfg(test)]
+mod tests;
 mod threads;
 
-pub use instructions::{Instruction, Program, Register};
-pub use laws::steps_keep_calls;
+pub use instructions::{Instruction, LINES, Program, Register};
+pub use laws::{instruction_has_one_line, steps_keep_calls};
+pub use refusals::{GuestError, GuestFault};
 pub use threads::Thread;

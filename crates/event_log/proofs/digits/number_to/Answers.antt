@@ -12,23 +12,23 @@ above most digit number h = omega arith
 within : (most digit number : ℕ) → digit ≤ most → number ≤ (most - digit) / 10 → number * 10 + digit ≤ most
 within most digit number small h = omega arith
 
-pub returns-then-is_empty : goal.returns-then-is_empty
-returns-then-is_empty c = sym (number_to-empty c.args.most c.args.text.now (grind (arith, nat_tests)))
+pub returns-then-is_empty-clause-number : goal.returns-then-is_empty-clause-number
+returns-then-is_empty-clause-number c = sym (number_to-empty c.args.most c.args.text.now (grind (arith, nat_tests)))
 
-pub returns-then-text-gt1 : goal.returns-then-text-gt1
-returns-then-text-gt1 c = sym (number_to-leading_zero c.args.most c.args.text.now c.if-text-eq48.true c.if-text-gt1.true)
+pub returns-then-text-gt1-clause-number : goal.returns-then-text-gt1-clause-number
+returns-then-text-gt1-clause-number c = sym (number_to-leading_zero c.args.most c.args.text.now c.if-text-eq48.true c.if-text-gt1.true)
 
-pub returns-then-not-is_ascii_digit : goal.returns-then-not-is_ascii_digit
-returns-then-not-is_ascii_digit c =
+pub returns-then-not-is_ascii_digit-clause-number : goal.returns-then-not-is_ascii_digit-clause-number
+returns-then-not-is_ascii_digit-clause-number c =
     sym (number_to-not_a_digit c.args.most c.args.text.now c.loop-byte.byte-index c.loop-byte-test.true (sym c.is_ascii_digit.ensures.value ∙ c.if-not-is_ascii_digit.true))
 
-pub returns-then-most-digit : goal.returns-then-most-digit
-returns-then-most-digit c =
+pub returns-then-most-digit-clause-number : goal.returns-then-most-digit-clause-number
+returns-then-most-digit-clause-number c =
     let large : c.args.most < c.loop-byte.number * 10 + (get_or c.args.text.now c.loop-byte.byte-index 0 - 48) = omega arith in
     sym (number_to-too_large c.args.most c.args.text.now c.loop-byte.byte-index c.loop-byte.number c.loop-byte.invariant c.loop-byte-test.true (sym c.is_ascii_digit.ensures.value ∙ c.if-not-is_ascii_digit.false) large)
 
-pub returns-then-number-most : goal.returns-then-number-most
-returns-then-number-most c =
+pub returns-then-number-most-clause-number : goal.returns-then-number-most-clause-number
+returns-then-number-most-clause-number c =
     let large : c.args.most < c.loop-byte.number * 10 + (get_or c.args.text.now c.loop-byte.byte-index 0 - 48) =
     omega (arith, above c.args.most c.from-digit.result c.loop-byte.number c.if-number-most.true) in
     sym (number_to-too_large c.args.most c.args.text.now c.loop-byte.byte-index c.loop-byte.number c.loop-byte.invariant c.loop-byte-test.true (sym c.is_ascii_digit.ensures.value ∙ c.if-not-is_ascii_digit.false) large)
@@ -50,5 +50,5 @@ lead c e =
       | else-text-eq48-via-else-text-eq48 w ↦ absurd (w.if-text-eq48.false e)
     ]
 
-pub returns : goal.returns
-returns c = sym (reads_all c.args.most c.args.text.now c.loop-byte.byte-index c.loop-byte.number c.loop-byte.invariant c.loop-byte-test.false (some c) (lead c))
+pub returns-clause-number : goal.returns-clause-number
+returns-clause-number c = sym (reads_all c.args.most c.args.text.now c.loop-byte.byte-index c.loop-byte.number c.loop-byte.invariant c.loop-byte-test.false (some c) (lead c))

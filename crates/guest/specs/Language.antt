@@ -1,0 +1,97 @@
+-- The guest language: which line is which instruction, and the first fault of a line and of a program.
+use Rattle.std.specs.Prelude.{◌≡◌, ℕ, ◌==◌, ◌-◌, List, [], ◌∷◌, length, codes, bytes_eq, nat_lt, Option, Some, None, Result, Ok, Err, if◌then◌else◌}
+use Rattle.std.specs.List.{slice_split}
+use Rattle.event_log.specs.declared.ids.BufId.{BufId}
+use Rattle.event_log.specs.Digits.{is_number, number_to}
+use Rattle.event_log.specs.Reading.{◌>>=◌, read_from}
+use Rattle.guest.specs.declared.instructions.Register.{Register}
+use Rattle.guest.specs.declared.instructions.Register.TheVariants.{R0, R1, R2, R3}
+use Rattle.guest.specs.declared.instructions.Instruction.{Instruction}
+use Rattle.guest.specs.declared.instructions.Instruction.TheVariants.{Set, Add, Sub, Jnz, Send, Recv, Yield, Exit}
+use Rattle.guest.specs.declared.refusals.GuestFault.{GuestFault}
+use Rattle.guest.specs.declared.refusals.GuestFault.TheVariants.{UnknownWord, BadRegister, BadNumber, BadTarget, TooLong, Empty}
+use Rattle.guest.specs.declared.refusals.GuestError.{GuestError}
+use Rattle.guest.specs.declared.refusals.GuestError.TheVariants.{NoMemory, At}
+
+-- the value, if there is one, or else this fault
+abbrev pub or_fault : {A : Type 0} → GuestFault → Option A → Result A GuestFault
+or_fault fault None = Err fault
+or_fault fault (Some x) = Ok x
+
+-- the register that a piece names
+unfoldable pub register_in : List ℕ → Result Register GuestFault
+register_in piece =
+    if bytes_eq piece (codes "r0") then Ok R0
+    else if bytes_eq piece (codes "r1") then Ok R1
+    else if bytes_eq piece (codes "r2") then Ok R2
+    else if bytes_eq piece (codes "r3") then Ok R3
+    else Err BadRegister
+
+-- the number of 64 bits that a piece spells
+unfoldable pub word_in : List ℕ → Result ℕ GuestFault
+word_in piece = or_fault BadNumber (number_to 18446744073709551615 piece)
+
+-- the buffer that a piece spells
+unfoldable pub buffer_in : List ℕ → Result BufId GuestFault
+buffer_in piece = or_fault BadNumber (number_to 15 piece) >>= λ b. Ok (record { 0 = b })
+
+-- the line that a piece spells, of so many
+unfoldable pub target_in : ℕ → List ℕ → Result ℕ GuestFault
+target_in count piece = if is_number piece then or_fault BadTarget (number_to (count - 1) piece) else Err BadNumber
+
+-- the instruction of one piece
+unfoldable pub one_piece : List ℕ → Result Instruction GuestFault
+one_piece word =
+    if bytes_eq word (codes "yield") then Ok Yield
+    else if bytes_eq word (codes "exit") then Ok Exit
+    else Err UnknownWord
+
+-- the instruction of three pieces, of a program of so many lines
+unfoldable pub three_pieces : ℕ → List ℕ → List ℕ → List ℕ → Result Instruction GuestFault
+three_pieces count word a b =
+    if bytes_eq word (codes "set") then (register_in a >>= λ d. word_in b >>= λ n. Ok (Set d n))
+    else if bytes_eq word (codes "add") then (register_in a >>= λ d. register_in b >>= λ s. Ok (Add d s))
+    else if bytes_eq word (codes "sub") then (register_in a >>= λ d. register_in b >>= λ s. Ok (Sub d s))
+    else if bytes_eq word (codes "jnz") then (register_in a >>= λ s. target_in count b >>= λ k. Ok (Jnz s k))
+    else if bytes_eq word (codes "send") then (buffer_in a >>= λ n. register_in b >>= λ s. Ok (Send n s))
+    else if bytes_eq word (codes "recv") then (buffer_in a >>= λ n. register_in b >>= λ d. Ok (Recv n d))
+    else Err UnknownWord
+
+abbrev pub pieces_in : ℕ → List (List ℕ) → Result Instruction GuestFault
+pieces_in count (word ∷ []) = one_piece word
+pieces_in count (word ∷ a ∷ b ∷ []) = three_pieces count word a b
+pieces_in count _ = Err UnknownWord
+
+-- the instruction of a line of a program of so many lines: its pieces stand between single spaces
+unfoldable pub line_in : ℕ → List ℕ → Result Instruction GuestFault
+line_in count text = pieces_in count (slice_split (λ byte. byte == 32) text)
+
+-- a fault at its line
+abbrev pub at_line : {A : Type 0} → ℕ → Result A GuestFault → Result A GuestError
+at_line line (Ok x) = Ok x
+at_line line (Err fault) = Err (At line fault)
+
+-- a line by its number, of a program of so many lines
+abbrev pub numbered_line : ℕ → ℕ → List ℕ → Result Instruction GuestError
+numbered_line count line text = at_line line (line_in count text)
+
+-- the instructions of a program's lines, or the first line's fault
+unfoldable pub program_lines : List (List ℕ) → Result (List Instruction) GuestError
+program_lines lines = read_from (numbered_line (length lines)) 0 lines
+
+-- the program of some lines, or its first fault
+unfoldable pub program_in : List (List ℕ) → Result (List Instruction) GuestError
+program_in lines =
+    if length lines == 0 then Err (At 0 Empty)
+    else if nat_lt 256 (length lines) then Err (At 256 TooLong)
+    else program_lines lines
+
+-- what an error says of what is meant: that fault, but nothing where memory was refused
+abbrev pub Fails : {Y : Type 0} → GuestError → Result Y GuestError → Type 0
+Fails NoMemory meant = Unit {0}
+Fails (At line fault) meant = meant ≡ Err (At line fault)
+
+-- a call gives the value that is meant, as it is viewed, or the fault; want of memory aside
+abbrev pub Gives : {X Y : Type 0} → (X → Y) → Result X GuestError → Result Y GuestError → Type 0
+Gives view (Ok x) meant = meant ≡ Ok (view x)
+Gives view (Err e) meant = Fails e meant

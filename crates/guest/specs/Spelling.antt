@@ -1,0 +1,36 @@
+-- The one spelling of an instruction.
+use Rattle.std.specs.Prelude.{◌≡◌, ℕ, List, [], ◌∷◌, Ok, codes, decimal}
+use Rattle.std.specs.List.{join_with_byte}
+use Rattle.guest.specs.declared.instructions.Register.{Register}
+use Rattle.guest.specs.declared.instructions.Register.TheVariants.{R0, R1, R2, R3}
+use Rattle.guest.specs.declared.instructions.Instruction.{Instruction}
+use Rattle.guest.specs.declared.instructions.Instruction.TheVariants.{Set, Add, Sub, Jnz, Send, Recv, Yield, Exit}
+use Rattle.guest.specs.Instructions.{IsWithin}
+use Rattle.guest.specs.Language.{line_in}
+
+-- the name of a register
+abbrev pub name_of : Register → List ℕ
+name_of R0 = codes "r0"
+name_of R1 = codes "r1"
+name_of R2 = codes "r2"
+name_of R3 = codes "r3"
+
+-- the pieces of an instruction's line
+abbrev pub pieces_of : Instruction → List (List ℕ)
+pieces_of (Set r n) = codes "set" ∷ name_of r ∷ decimal n ∷ []
+pieces_of (Add r q) = codes "add" ∷ name_of r ∷ name_of q ∷ []
+pieces_of (Sub r q) = codes "sub" ∷ name_of r ∷ name_of q ∷ []
+pieces_of (Jnz r k) = codes "jnz" ∷ name_of r ∷ decimal k ∷ []
+pieces_of (Send b r) = codes "send" ∷ decimal b.0 ∷ name_of r ∷ []
+pieces_of (Recv b r) = codes "recv" ∷ decimal b.0 ∷ name_of r ∷ []
+pieces_of Yield = codes "yield" ∷ []
+pieces_of Exit = codes "exit" ∷ []
+
+-- the line of an instruction: its pieces with one space (32) between
+unfoldable pub line_of : Instruction → List ℕ
+line_of i = join_with_byte 32 (pieces_of i)
+
+-- each instruction within the limits of a program of so many lines has one line that reads as it
+pub record HasOneLine (count : ℕ) (i : Instruction) : Type 0 where
+  pub read_back : IsWithin count i → line_in count (line_of i) ≡ Ok i
+  pub only : (text : List ℕ) → line_in count text ≡ Ok i → text ≡ line_of i

@@ -1,0 +1,144 @@
+//! Reads the lines of a program. One line is one instruction; its pieces are separated by one
+//! space each.
+
+ghost use Rattle.std.specs.Prelude.{◌≡◌, ◌<◌, ◌≤◌, ◌^◌, ℕ, List, Ok, map, length, All, IfOk};
+ghost use Rattle.guest.specs.Instructions.{IsWithin};
+ghost use Rattle.event_log.specs.Reading.{read_from};
+ghost use Rattle.guest.specs.Language.{register_in, word_in, buffer_in, target_in, one_piece, three_pieces, pieces_in, line_in, at_line, program_lines, Gives};
+
+use crate::instructions::{Instruction, Register};
+use crate::refusals::{GuestError, GuestFault};
+use event_log::{BUFFERS, BufId};
+use std::alloc::Global;
+
+/// The register that a piece names.
+#[tactic(auto, unfolding(crate::specs::Language::register_in))]
+fn register(piece: &str) -> Result<Register, GuestFault>
+    ensures { result ≡ register_in piece.now }
+{
+    match piece {
+        "r0" => Ok(Register::R0),
+        "r1" => Ok(Register::R1),
+        "r2" => Ok(Register::R2),
+        "r3" => Ok(Register::R3),
+        _ => Err(GuestFault::BadRegister),
+    }
+}
+
+/// The number that a piece spells, from 0 to 2^64 - 1.
+#[tactic(auto, unfolding(crate::specs::Language::word_in))]
+fn word(piece: &str) -> Result<u64, GuestFault>
+    ensures { result ≡ word_in piece.now }
+{
+    event_log::number_to(piece.as_bytes(), u64::MAX).ok_or(GuestFault::BadNumber)
+}
+
+/// The buffer that a piece spells, from 0 to 15.
+#[tactic(auto, unfolding(crate::specs::Language::buffer_in))]
+fn buffer(piece: &str) -> Result<BufId, GuestFault>
+    ensures buffer { result ≡ buffer_in piece.now }
+    ensures within { IfOk result (λ buffer. buffer.0 < 16) }
+{
+    match event_log::number_to(piece.as_bytes(), u64::from(BUFFERS) - 1) {
+        Some(number) => Ok(BufId(number as u8)),
+        None => Err(GuestFault::BadNumber),
+    }
+}
+
+/// The line that a piece spells, of a program of `count` lines.
+#[tactic(auto, unfolding(crate::specs::Language::target_in))]
+fn target(piece: &str, count: usize) -> Result<usize, GuestFault>
+    requires { 0 < count }
+    ensures target { result ≡ target_in count piece.now }
+    ensures within { IfOk result (λ line. line < count) }
+{
+    if !event_log::is_number(piece.as_bytes()) {
+        return Err(GuestFault::BadNumber);
+    }
+    match event_log::number_to(piece.as_bytes(), count as u64 - 1) {
+        Some(line) => Ok(line as usize),
+        None => Err(GuestFault::BadTarget),
+    }
+}
+
+/// The instruction of three pieces.
+#[tactic(auto, unfolding(crate::specs::Language::three_pieces))]
+fn three_pieces(
+    word: &str,
+    first: &str,
+    second: &str,
+    count: usize,
+) -> Result<Instruction, GuestFault>
+    requires { 0 < count }
+    ensures instruction { result ≡ three_pieces count word.now first.now second.now }
+    ensures within { IfOk result (IsWithin count) }
+{
+    match word {
+        "set" => Ok(Instruction::Set(register(first)?, self::word(second)?)),
+        "add" => Ok(Instruction::Add(register(first)?, register(second)?)),
+        "sub" => Ok(Instruction::Sub(register(first)?, register(second)?)),
+        "jnz" => Ok(Instruction::Jnz(register(first)?, target(second, count)?)),
+        "send" => Ok(Instruction::Send(buffer(first)?, register(second)?)),
+        "recv" => Ok(Instruction::Recv(buffer(first)?, register(second)?)),
+        _ => Err(GuestFault::UnknownWord),
+    }
+}
+
+/// The instruction of one piece.
+#[tactic(auto, unfolding(crate::specs::Language::one_piece))]
+fn one_piece(word: &str) -> Result<Instruction, GuestFault>
+    ensures instruction { result ≡ one_piece word.now }
+    ensures within { IfOk result (IsWithin 0) }
+{
+    match word {
+        "yield" => Ok(Instruction::Yield),
+        "exit" => Ok(Instruction::Exit),
+        _ => Err(GuestFault::UnknownWord),
+    }
+}
+
+/// The instruction of a line's pieces.
+fn pieces(pieces: &[&str], count: usize) -> Result<Instruction, GuestFault>
+    requires { 0 < count }
+    ensures instruction { result ≡ pieces_in count (map (λ piece. piece.now) pieces.now) }
+    ensures within { IfOk result (IsWithin count) }
+{
+    match pieces {
+        [word] => one_piece(word),
+        [word, first, second] => three_pieces(word, first, second, count),
+        _ => Err(GuestFault::UnknownWord),
+    }
+}
+
+/// The instruction of a line of a program of `count` lines.
+#[tactic(auto, unfolding(crate::specs::Language::line_in))]
+fn line_at(alloc: Global, text: &str, count: usize, line: usize) -> Result<Instruction, GuestError>
+    requires { 0 < count }
+    ensures instruction { Gives (λ i. i) result (at_line line (line_in count text.now)) }
+    ensures within { IfOk result (IsWithin count) }
+{
+    let Ok(parts) = text.split(' ').collect::<Vec<&str>>(alloc) else {
+        return Err(GuestError::NoMemory);
+    };
+    match pieces(&parts, count) {
+        Ok(instruction) => Ok(instruction),
+        Err(fault) => Err(GuestError::At(line, fault)),
+    }
+}
+
+/// The instructions of a program's lines, or the first line's fault.
+pub fn instructions_in(alloc: Global, lines: &[&str]) -> Result<Vec<Instruction>, GuestError>
+    requires { 0 < length lines.now }
+    ensures instructions { Gives (λ read. read.items) result (program_lines (map (λ line. line.now) lines.now)) }
+    ensures len { IfOk result (λ read. length read.items ≡ length lines.now) }
+    ensures within { IfOk result (λ read. All (IsWithin (length lines.now)) read.items) }
+{
+    let mut instructions = Vec::new(alloc);
+    for (index, line) in lines.iter().enumerate() {
+        let instruction = line_at(alloc, line, lines.len(), index)?;
+        if instructions.push(instruction).is_err() {
+            return Err(GuestError::NoMemory);
+        }
+    }
+    Ok(instructions)
+}

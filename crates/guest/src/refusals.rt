@@ -1,0 +1,37 @@
+//! What is refused of a program, and where.
+
+use thiserror::Error;
+
+/// What is wrong with a line of a program. Each prints as its name and its number.
+#[derive(Clone, Copy, Debug, PartialEq, Eq, Error)]
+pub enum GuestFault {
+    /// The first piece is none of the eight words, or the line has not the word's number of pieces.
+    #[error("UnknownWord(10)")]
+    UnknownWord,
+    /// A register is wanted, and the piece is none of `r0` to `r3`.
+    #[error("BadRegister(11)")]
+    BadRegister,
+    /// A number is wanted, and the piece spells none, or one that is too large.
+    #[error("BadNumber(12)")]
+    BadNumber,
+    /// A jump's target is no line of the program.
+    #[error("BadTarget(13)")]
+    BadTarget,
+    /// The program has more than 256 lines.
+    #[error("TooLong(14)")]
+    TooLong,
+    /// The program has no line.
+    #[error("Empty(15)")]
+    Empty,
+}
+
+/// Why a program was not read.
+#[derive(Clone, Copy, Debug, PartialEq, Eq, Error)]
+pub enum GuestError {
+    /// An allocation was refused.
+    #[error("NoMemory(1)")]
+    NoMemory,
+    /// The first line with a fault, counted from 0, and its first fault.
+    #[error("line {0} {1}")]
+    At(usize, GuestFault),
+}

@@ -1,0 +1,222 @@
+//! Programs that are read and refused, and each instruction once.
+
+use crate::{GuestError, GuestFault, Instruction, Program, Register, Thread};
+use event_log::BufId;
+use std::test::Fail;
+
+/// The text of the refusal of a program, or `read`.
+fn refusal(rt: &HostRuntime, lines: &[&str]) -> Result<String, Fail> {
+    let text = match Program::read(rt.alloc(), lines) {
+        Ok(_) => format!(in rt.alloc(); "read")?,
+        Err(error) => format!(in rt.alloc(); "{error}")?,
+    };
+    Ok(text)
+}
+
+#[test]
+fn each_line_is_its_instruction(rt: HostRuntime) -> Result<(), Fail> {
+    let lines = [
+        "set r0 18446744073709551615",
+        "add r1 r2",
+        "sub r3 r0",
+        "jnz r2 7",
+        "send 15 r1",
+        "recv 0 r3",
+        "yield",
+        "exit",
+    ];
+    let program = Program::read(rt.alloc(), &lines)?;
+    assert_eq!(rt; program.len(), 8);
+    assert_eq!(rt;
+        program.instruction(0),
+        Instruction::Set(Register::R0, 18446744073709551615)
+    );
+    assert_eq!(rt;
+        program.instruction(1),
+        Instruction::Add(Register::R1, Register::R2)
+    );
+    assert_eq!(rt;
+        program.instruction(2),
+        Instruction::Sub(Register::R3, Register::R0)
+    );
+    assert_eq!(rt; program.instruction(3), Instruction::Jnz(Register::R2, 7));
+    assert_eq!(rt;
+        program.instruction(4),
+        Instruction::Send(BufId(15), Register::R1)
+    );
+    assert_eq!(rt;
+        program.instruction(5),
+        Instruction::Recv(BufId(0), Register::R3)
+    );
+    assert_eq!(rt; program.instruction(6), Instruction::Yield);
+    assert_eq!(rt; program.instruction(7), Instruction::Exit);
+    assert_eq!(rt; program.instruction(8), Instruction::Exit);
+    Ok(())
+}
+
+#[test]
+fn each_fault_has_its_line_and_number(rt: HostRuntime) -> Result<(), Fail> {
+    assert_eq!(rt; refusal(&rt, &[])?.as_str(), "line 0 Empty(15)");
+    assert_eq!(rt;
+        refusal(&rt, &["set  r0 7"])?.as_str(),
+        "line 0 UnknownWord(10)"
+    );
+    assert_eq!(rt;
+        refusal(&rt, &["exit", " exit"])?.as_str(),
+        "line 1 UnknownWord(10)"
+    );
+    assert_eq!(rt;
+        refusal(&rt, &["exit "])?.as_str(),
+        "line 0 UnknownWord(10)"
+    );
+    assert_eq!(rt; refusal(&rt, &[""])?.as_str(), "line 0 UnknownWord(10)");
+    assert_eq!(rt;
+        refusal(&rt, &["exit r0"])?.as_str(),
+        "line 0 UnknownWord(10)"
+    );
+    assert_eq!(rt;
+        refusal(&rt, &["set r0"])?.as_str(),
+        "line 0 UnknownWord(10)"
+    );
+    assert_eq!(rt;
+        refusal(&rt, &["mul r0 r1"])?.as_str(),
+        "line 0 UnknownWord(10)"
+    );
+    assert_eq!(rt;
+        refusal(&rt, &["set r9 7"])?.as_str(),
+        "line 0 BadRegister(11)"
+    );
+    assert_eq!(rt;
+        refusal(&rt, &["add r0 7"])?.as_str(),
+        "line 0 BadRegister(11)"
+    );
+    assert_eq!(rt;
+        refusal(&rt, &["set r0 07"])?.as_str(),
+        "line 0 BadNumber(12)"
+    );
+    assert_eq!(rt;
+        refusal(&rt, &["set r0 +7"])?.as_str(),
+        "line 0 BadNumber(12)"
+    );
+    assert_eq!(rt;
+        refusal(&rt, &["set r0 18446744073709551616"])?.as_str(),
+        "line 0 BadNumber(12)"
+    );
+    assert_eq!(rt;
+        refusal(&rt, &["send 16 r0"])?.as_str(),
+        "line 0 BadNumber(12)"
+    );
+    assert_eq!(rt;
+        refusal(&rt, &["jnz r0 x"])?.as_str(),
+        "line 0 BadNumber(12)"
+    );
+    assert_eq!(rt;
+        refusal(&rt, &["set r0 1", "jnz r0 3", "exit"])?.as_str(),
+        "line 1 BadTarget(13)"
+    );
+    assert_eq!(rt;
+        refusal(&rt, &["jnz r0 99999999999999999999"])?.as_str(),
+        "line 0 BadTarget(13)"
+    );
+    Ok(())
+}
+
+#[test]
+fn the_first_fault_of_the_first_line_counts(rt: HostRuntime) -> Result<(), Fail> {
+    assert_eq!(rt;
+        refusal(&rt, &["set r9 07"])?.as_str(),
+        "line 0 BadRegister(11)"
+    );
+    assert_eq!(rt;
+        refusal(&rt, &["send 16 r9"])?.as_str(),
+        "line 0 BadNumber(12)"
+    );
+    assert_eq!(rt;
+        refusal(&rt, &["exit", "jnz r9 9", "what"])?.as_str(),
+        "line 1 BadRegister(11)"
+    );
+    Ok(())
+}
+
+#[test]
+fn a_program_has_at_most_256_lines(rt: HostRuntime) -> Result<(), Fail> {
+    let most = ["exit"; 256];
+    let program = Program::read(rt.alloc(), &most)?;
+    assert_eq!(rt; program.len(), 256);
+    let more = ["what"; 257];
+    assert_eq!(rt; refusal(&rt, &more)?.as_str(), "line 256 TooLong(14)");
+    Ok(())
+}
+
+#[test]
+fn sums_and_differences_wrap(rt: HostRuntime) -> Result<(), Fail> {
+    let lines = [
+        "set r0 18446744073709551615",
+        "set r1 1",
+        "add r0 r1",
+        "sub r2 r1",
+        "exit",
+    ];
+    let program = Program::read(rt.alloc(), &lines)?;
+    let mut thread = Thread::new();
+    for _ in 0..4 {
+        thread.step_local(&program);
+    }
+    assert_eq!(rt; thread.value(Register::R0), 0);
+    assert_eq!(rt; thread.value(Register::R2), 18446744073709551615);
+    assert_eq!(rt; thread.next(&program), Instruction::Exit);
+    Ok(())
+}
+
+#[test]
+fn a_loop_counts_down(rt: HostRuntime) -> Result<(), Fail> {
+    let program = Program::read(
+        rt.alloc(),
+        &["set r0 3", "set r1 1", "sub r0 r1", "jnz r0 2"],
+    )?;
+    let mut thread = Thread::new();
+    for _ in 0..8 {
+        assert_ne!(rt; thread.next(&program), Instruction::Exit);
+        thread.step_local(&program);
+    }
+    assert_eq!(rt; thread.value(Register::R0), 0);
+    assert_eq!(rt; thread.next(&program), Instruction::Exit);
+    Ok(())
+}
+
+#[test]
+fn calls_move_the_thread_only_where_it_stands_at_them(rt: HostRuntime) -> Result<(), Fail> {
+    let program = Program::read(rt.alloc(), &["send 0 r0", "recv 0 r3", "yield"])?;
+    let mut thread = Thread::new();
+    thread.step_local(&program);
+    thread.after_yield(&program);
+    thread.after_recv(&program, 7);
+    assert_eq!(rt;
+        thread.next(&program),
+        Instruction::Send(BufId(0), Register::R0)
+    );
+    thread.after_send(&program);
+    thread.after_recv(&program, 7);
+    assert_eq!(rt; thread.value(Register::R3), 7);
+    assert_eq!(rt; thread.next(&program), Instruction::Yield);
+    thread.after_yield(&program);
+    assert_eq!(rt; thread.next(&program), Instruction::Exit);
+    Ok(())
+}
+
+#[test]
+fn a_refusal_prints_its_name_and_number(rt: HostRuntime) -> Result<(), Fail> {
+    assert_eq!(rt;
+        format!(in rt.alloc(); "{}", GuestError::NoMemory)?.as_str(),
+        "NoMemory(1)"
+    );
+    assert_eq!(rt;
+        format!(in rt.alloc(); "{}", GuestFault::TooLong)?.as_str(),
+        "TooLong(14)"
+    );
+    assert_eq!(rt;
+        format!(in rt.alloc(); "{}", GuestError::At(9, GuestFault::BadRegister))?.as_str(),
+        "line 9 BadRegister(11)"
+    );
+    Ok(())
+}
