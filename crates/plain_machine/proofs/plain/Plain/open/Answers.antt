@@ -1,0 +1,21 @@
+use Rattle.std.proofs.Common.{◌<◌, All, reverse, ap, subst, sym}
+use Rattle.layer_traits.specs.OneLock.{opened}
+use Rattle.plain_machine.proofs.MachineLemmas.{fresh_sound}
+use Rattle.plain_machine.specs.Machine.{IsSound}
+use Rattle.plain_machine.specs.Table.{address_of}
+use Rattle.plain_machine.proofs.plain.Plain.open.Goals as goal
+
+pub fill-requires-clause-within : goal.fill-requires-clause-within
+fill-requires-clause-within g c = subst (λ n. All (λ entry. address_of entry.0 < n) c.args.blocks.items) (sym c.in_ok-cells.ensures) c.table_len-len.ensures
+
+pub returns-clause-opening : goal.returns-clause-opening
+returns-clause-opening g c = ap (λ blocks. opened blocks.items) c.of-opening.ensures
+
+pub returns-clause-acts : goal.returns-clause-acts
+returns-clause-acts g c = λ cpu known.
+    let rules = g.E.Edit.rules in
+    let cells = c.fill.new.cells.items in (
+      known,
+      subst (λ blocks. IsSound rules (opened blocks.items) (reverse c.in_ok-log.log.events.items) cells) (sym c.of-opening.ensures)
+          (subst (λ log. IsSound rules (opened c.args.blocks.items) log cells) (sym (ap reverse c.in_ok-log.ensures.empty)) (fresh_sound rules c.args.blocks.items cells c.fill.ensures)),
+    )

@@ -1,0 +1,39 @@
+-- The table of lock cells: a lock's place in it, and what the actions make of a cell.
+use Rattle.std.specs.Prelude.{◌≡◌, ℕ, ◌+◌, ◌*◌, ◌%◌, ◌^◌, ◌==◌, List, [], ◌∷◌, Option, Some, None, if◌then◌else◌, slice_index_or, slice_set}
+use Rattle.event_log.specs.declared.ids.LockId.{LockId}
+use Rattle.event_log.specs.declared.ids.LockId.TheVariants.{Pending, Buffer}
+use Rattle.plain_machine.specs.declared.cells.Cell.{Cell}
+
+-- the place of a lock in the table: even for the pending locks, odd for those of buffers
+abbrev pub address_of : LockId → ℕ
+address_of (Pending cpu) = 2 * cpu.0
+address_of (Buffer buffer) = 2 * buffer.0 + 1
+
+-- the cell of a lock, None where the table has none
+abbrev pub cell_at : {B : Type 0} → List (Option (Cell B)) → LockId → Option (Cell B)
+cell_at cells lock = slice_index_or cells (address_of lock) None
+
+-- the table with this cell put in the lock's place
+abbrev pub with_cell : {B : Type 0} → List (Option (Cell B)) → LockId → Cell B → List (Option (Cell B))
+with_cell cells lock cell = slice_set cells (address_of lock) (Some cell)
+
+-- the cell at the start: both words are 0 and the block is home
+abbrev pub fresh_cell : {B : Type 0} → B → Cell B
+fresh_cell block = record { next = 0; serving = 0; home = Some block }
+
+-- the cell after a draw
+abbrev pub drawn_cell : {B : Type 0} → Cell B → Cell B
+drawn_cell cell = record cell { next = (cell.next + 1) % 2 ^ 64 }
+
+-- the cell after a look: where it hits, the block has left
+abbrev pub looked_cell : {B : Type 0} → Cell B → ℕ → Cell B
+looked_cell cell ticket = if cell.serving == ticket then record cell { home = None } else cell
+
+-- the cell after a free: the block is home
+abbrev pub freed_cell : {B : Type 0} → Cell B → B → Cell B
+freed_cell cell block = record { next = cell.next; serving = (cell.serving + 1) % 2 ^ 64; home = Some block }
+
+-- each of these locks has a fresh cell with its block
+abbrev pub AreFresh : {B : Type 0} → List (LockId × B) → List (Option (Cell B)) → Type 0
+AreFresh [] cells = Unit {0}
+AreFresh (o ∷ rest) cells = (cell_at cells o.0 ≡ Some (fresh_cell o.1)) × AreFresh rest cells

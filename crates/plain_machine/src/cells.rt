@@ -1,0 +1,165 @@
+//! The words and the block of each lock, in a table that is indexed by the lock.
+
+ghost use Rattle.std.specs.Prelude.{◌≡◌, ℕ, ◌+◌, ◌<◌, ◌==◌, IsSome, IfSome, IfOk, All, Some, None, option_map, if◌then◌else◌, length};
+ghost use Rattle.layer_traits.specs.OneLock.{AreDistinct};
+ghost use Rattle.plain_machine.specs.Table.{address_of, cell_at, with_cell, fresh_cell, drawn_cell, looked_cell, freed_cell, AreFresh};
+
+use event_log::{LockId, NoMemory};
+use std::alloc::Global;
+
+/// The two words of a ticket lock, both modulo 2^64.
+#[derive(Clone, Copy, Debug, PartialEq, Eq)]
+pub struct LockWords {
+    /// The ticket that the next draw gives: how often the lock was drawn at.
+    pub next: u64,
+    /// The ticket whose look hits: how often the lock was freed.
+    pub serving: u64,
+}
+
+/// The words of one lock, and its block while that is home.
+#[derive(Drop)]
+pub struct Cell<B> {
+    /// The ticket that the next draw gives.
+    pub next: u64,
+    /// The ticket whose look hits.
+    pub serving: u64,
+    /// The block; None while a CPU has it.
+    pub home: Option<B>,
+}
+
+/// The place of `lock` in a table: even for the pending locks, odd for those of buffers.
+pub fn address(lock: LockId) -> usize
+    ensures place { result ≡ address_of lock }
+    ensures within { result < 512 }
+{
+    match lock {
+        LockId::Pending(cpu) => 2 * usize::from(cpu.0),
+        LockId::Buffer(buffer) => 2 * usize::from(buffer.0) + 1,
+    }
+}
+
+/// Draws at `lock`, and gives the ticket.
+pub fn draw<B>(cells: &mut Vec<Option<Cell<B>>>, lock: LockId) -> u64
+    requires { IsSome (cell_at cells.old.items lock) }
+    ensures { IfSome (cell_at cells.old.items lock) (λ cell. (result ≡ cell.next) × (cells.new.items ≡ with_cell cells.old.items lock (drawn_cell cell))) }
+{
+    match &mut cells[address(lock)] {
+        Some(cell) => {
+            let ticket = cell.next;
+            cell.next = ticket.wrapping_add(1);
+            ticket
+        }
+        None => unreachable!(),
+    }
+}
+
+/// Looks at `lock` with `ticket`, and gives what it read with the block, if it hits and the block
+/// is home.
+pub fn look<B>(cells: &mut Vec<Option<Cell<B>>>, lock: LockId, ticket: u64) -> (u64, Option<B>)
+    requires { IsSome (cell_at cells.old.items lock) }
+    ensures { IfSome (cell_at cells.old.items lock) (λ cell. (result.0 ≡ cell.serving)
+        × (result.1 ≡ (if cell.serving == ticket then cell.home else None))
+        × (cells.new.items ≡ with_cell cells.old.items lock (looked_cell cell ticket))) }
+{
+    match &mut cells[address(lock)] {
+        Some(cell) => {
+            let read = cell.serving;
+            let found = if read == ticket {
+                cell.home.take()
+            } else {
+                None
+            };
+            (read, found)
+        }
+        None => unreachable!(),
+    }
+}
+
+/// Frees `lock`, and `block` is home.
+pub fn free<B: Drop>(cells: &mut Vec<Option<Cell<B>>>, lock: LockId, block: B)
+    requires { IsSome (cell_at cells.old.items lock) }
+    ensures { IfSome (cell_at cells.old.items lock) (λ cell. cells.new.items ≡ with_cell cells.old.items lock (freed_cell cell block)) }
+{
+    match &mut cells[address(lock)] {
+        Some(cell) => {
+            cell.serving = cell.serving.wrapping_add(1);
+            cell.home = Some(block);
+        }
+        None => unreachable!(),
+    }
+}
+
+/// The block of `lock`, if it is home.
+pub fn home<B>(cells: &Vec<Option<Cell<B>>>, lock: LockId) -> Option<&B>
+    requires { IsSome (cell_at cells.now.items lock) }
+    ensures { IfSome (cell_at cells.now.items lock) (λ cell. option_map (λ block. block.now) result ≡ cell.home) }
+{
+    match &cells[address(lock)] {
+        Some(cell) => cell.home.as_ref(),
+        None => unreachable!(),
+    }
+}
+
+/// The words of `lock`.
+pub fn words<B>(cells: &Vec<Option<Cell<B>>>, lock: LockId) -> LockWords
+    requires { IsSome (cell_at cells.now.items lock) }
+    ensures { IfSome (cell_at cells.now.items lock) (λ cell. (result.next ≡ cell.next) × (result.serving ≡ cell.serving)) }
+{
+    match &cells[address(lock)] {
+        Some(cell) => LockWords {
+            next: cell.next,
+            serving: cell.serving,
+        },
+        None => unreachable!(),
+    }
+}
+
+/// How long a table has to be, so that each of these locks has a place in it.
+pub fn table_len<B>(blocks: &Vec<(LockId, B)>) -> usize
+    ensures { All (λ entry. address_of entry.0 < result) blocks.now.items }
+{
+    let mut len = 0;
+    for entry in blocks {
+        let end = address(entry.0) + 1;
+        if len < end {
+            len = end;
+        }
+    }
+    len
+}
+
+/// A table of `len` places, all empty.
+pub fn empty_table<B: Drop>(alloc: Global, len: usize) -> Result<Vec<Option<Cell<B>>>, NoMemory>
+    ensures { IfOk result (λ cells. length cells.items ≡ len) }
+{
+    let Ok(mut cells) = Vec::with_capacity(alloc, len) else {
+        return Err(NoMemory);
+    };
+    for _ in 0..len {
+        cells.push(None).unwrap();
+    }
+    Ok(cells)
+}
+
+/// Puts a fresh cell with this block in the place of `lock`.
+pub fn put<B: Drop>(cells: &mut Vec<Option<Cell<B>>>, lock: LockId, block: B)
+    requires { address_of lock < length cells.old.items }
+    ensures { cells.new.items ≡ with_cell cells.old.items lock (fresh_cell block) }
+{
+    cells[address(lock)] = Some(Cell {
+        next: 0,
+        serving: 0,
+        home: Some(block),
+    });
+}
+
+/// Puts a fresh cell with its block in the place of each lock.
+pub fn fill<B: Drop>(cells: &mut Vec<Option<Cell<B>>>, blocks: Vec<(LockId, B)>)
+    requires distinct { AreDistinct blocks.items }
+    requires within { All (λ entry. address_of entry.0 < length cells.old.items) blocks.items }
+    ensures { AreFresh blocks.items cells.new.items }
+{
+    for (lock, block) in blocks {
+        put(cells, lock, block);
+    }
+}

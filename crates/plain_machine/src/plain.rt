@@ -1,0 +1,135 @@
+//! The owned machine.
+
+ghost use Rattle.std.specs.Prelude.{◌≡◌, ◌+◌, ◌%◌, ◌^◌, ◌<◌, ◌≤◌, ◌∷◌, [], IsSome, IsNone, IfSome, IfOk, ◌↔◌};
+ghost use Rattle.plain_machine.specs.Machine.{history, room_left};
+
+use crate::cells::{self, Cell, LockWords};
+use event_log::{CPUS, CpuId, Event, EventLog, LockId, NoMemory};
+use layer_traits::{Edit, Mark, Words};
+use std::alloc::Global;
+use std::snapshot::Snapshot;
+
+/// One owned state that has the words and the blocks of all locks, and stores the log of what
+/// happened to them. It acts for every CPU. No call after [`Plain::open`] takes memory.
+#[derive(Drop)]
+pub struct Plain<E: Edit> {
+    log: EventLog<Event<Mark<E>>>,
+    cells: Vec<Option<Cell<E::Block>>>,
+    // The blocks that the locks opened with, for clauses alone.
+    opening: Snapshot<Vec<(LockId, E::Block)>>,
+}
+
+impl<E: Edit> Plain<E> {
+    ghost use Rattle.event_log.specs.WordsLog.{draws, frees};
+    ghost use Rattle.event_log.specs.Sections.{block_after};
+    ghost use Rattle.layer_traits.specs.OneLock.{AreDistinct, SomeoneInside, opened};
+    ghost use Rattle.layer_traits.specs.Protocol.{sections};
+
+    /// A machine in which each lock has its block at home and both words are 0, with room for
+    /// `room` events.
+    ///
+    /// Errors: `NoMemory` where the room or the table of locks could not be had.
+    pub fn open(
+        alloc: Global,
+        blocks: Vec<(LockId, E::Block)>,
+        room: usize,
+    ) -> Result<Plain<E>, NoMemory>
+        requires distinct { AreDistinct blocks.items }
+        ensures seen { IfOk result (λ w. ⟦<Plain<E> as Words>⟧.seen w ≡ []) }
+        ensures opening { IfOk result (λ w. ⟦<Plain<E> as Words>⟧.opening w ≡ opened blocks.items) }
+        ensures room { IfOk result (λ w. ⟦<Plain<E> as Words>⟧.room w ≡ room) }
+        ensures acts { IfOk result (λ w. (c : _) → c.0 < CPUS → ⟦<Plain<E> as Words>⟧.ActsFor w c) }
+    {
+        let opening = Snapshot::of(&blocks);
+        let log = EventLog::with_room(alloc, room)?;
+        let len = cells::table_len(&blocks);
+        let mut cells = cells::empty_table(alloc, len)?;
+        cells::fill(&mut cells, blocks);
+        Ok(Plain {
+            log,
+            cells,
+            opening,
+        })
+    }
+
+    /// The block of `lock`: `None` exactly while a CPU has it.
+    pub fn home(&self, lock: LockId) -> Option<&E::Block>
+        requires acts { (c : _) × ⟦<Plain<E> as Words>⟧.ActsFor self.now c }
+        requires lock { IsSome (⟦<Plain<E> as Words>⟧.opening self.now lock) }
+        ensures away { IsNone result ↔ SomeoneInside lock (⟦<Plain<E> as Words>⟧.seen self.now) }
+        ensures block { IfSome result (λ block.
+            block_after E.rules.edited (⟦<Plain<E> as Words>⟧.opening self.now) lock (sections (⟦<Plain<E> as Words>⟧.seen self.now)) ≡ Some block.now) }
+    {
+        cells::home(&self.cells, lock)
+    }
+
+    /// The words of `lock`, modulo 2^64: how often it was drawn at, and how often it was freed.
+    pub fn words(&self, lock: LockId) -> LockWords
+        requires acts { (c : _) × ⟦<Plain<E> as Words>⟧.ActsFor self.now c }
+        requires lock { IsSome (⟦<Plain<E> as Words>⟧.opening self.now lock) }
+        ensures next { result.next ≡ draws lock (⟦<Plain<E> as Words>⟧.seen self.now) % 2 ^ 64 }
+        ensures serving { result.serving ≡ frees lock (⟦<Plain<E> as Words>⟧.seen self.now) % 2 ^ 64 }
+    {
+        cells::words(&self.cells, lock)
+    }
+}
+
+/// Puts `event` into a log that has room.
+fn note<X: Drop>(log: &mut EventLog<X>, event: X)
+    requires { 0 < room_left log.old }
+    ensures history { history log.new ≡ event ∷ history log.old }
+    ensures room { room_left log.old ≡ room_left log.new + 1 }
+{
+    log.push(event).unwrap();
+}
+
+impl<E: Edit> Words for Plain<E> {
+    ghost use Rattle.event_log.specs.declared.ids.TheConstants.{CPUS};
+    ghost use Rattle.layer_traits.specs.OneLock.{opened};
+    ghost use Rattle.plain_machine.specs.Machine.{IsSound};
+
+    type Edit = E;
+
+    type Mark = Mark<E>;
+
+    ghost edit_in = { λ mark. mark.edit };
+
+    ghost opening = { λ w. opened w.opening.value.items };
+
+    ghost seen = { λ w. history w.log };
+
+    ghost ActsFor = { λ w c. (c.0 < CPUS) × IsSound E.rules (opened w.opening.value.items) (history w.log) w.cells.items };
+
+    ghost room = { λ w. room_left w.log };
+
+    fn mark(edit: E) -> Mark<E> {
+        Mark { edit }
+    }
+
+    fn draw(&mut self, cpu: CpuId, lock: LockId) -> u64 {
+        let ticket = cells::draw(&mut self.cells, lock);
+        note(&mut self.log, Event::Draw { cpu, lock, ticket });
+        ticket
+    }
+
+    fn look(&mut self, cpu: CpuId, lock: LockId, ticket: u64) -> Option<E::Block> {
+        let (read, found) = cells::look(&mut self.cells, lock, ticket);
+        note(
+            &mut self.log,
+            Event::Look {
+                cpu,
+                lock,
+                ticket,
+                read,
+            },
+        );
+        found
+    }
+
+    fn free(&mut self, cpu: CpuId, lock: LockId, block: E::Block, mark: Mark<E>) {
+        cells::free(&mut self.cells, lock, block);
+        note(&mut self.log, Event::Free { cpu, lock, mark });
+    }
+
+    ghost legal = { λ w c acts. acts.1.legal };
+}
