@@ -1,14 +1,14 @@
 -- A CPU alone: at a lock that is free its next three actions are one section, and then the lock is free again.
-use Rattle.std.proofs.Common.{◌≡◌, ℕ, zero, suc, ◌+◌, ◌<◌, Bool, true, false, List, [], ◌∷◌, ◌==◌, if◌then◌else◌, refl, ap, sym, subst, ◌∙◌, arith}
+use Rattle.std.proofs.Common.{◌≡◌, ℕ, ◌+◌, ◌<◌, Bool, true, false, List, ◌∷◌, ◌==◌, if◌then◌else◌, refl, ap, sym, subst, ◌∙◌, arith}
 use Rattle.std.proofs.lemmas.Bool.{eq-eqb}
 use Rattle.event_log.specs.declared.ids.CpuId.{CpuId}
 use Rattle.event_log.specs.declared.ids.LockId.{LockId}
 use Rattle.event_log.specs.declared.ids.TheConstants.{CPUS}
-use Rattle.event_log.specs.History.{same_cpu, same_lock}
-use Rattle.event_log.specs.Actions.{Action, Take, Try, Give, Phase, Rests, Waits, Holds, phase, left_in, doer, place, takes, gives, AreLegal, action_in, next_action, IsFree, AreFree}
-use Rattle.event_log.specs.Sections.{Section, sections_in}
+use Rattle.event_log.specs.History.{same_lock}
+use Rattle.event_log.specs.Actions.{Action, Take, Try, Give, Phase, Rests, Waits, Holds, phase, place, takes, gives, AreLegal, action_in, next_action, IsFree, AreFree}
+use Rattle.event_log.specs.Sections.{sections_in}
 use Rattle.event_log.specs.Laws.{IsOneSection}
-use Rattle.event_log.proofs.Same.{cpu_numbered, same_cpu_self, same_lock_self}
+use Rattle.event_log.proofs.Same.{same_cpu_self, same_lock_self}
 use Rattle.event_log.proofs.Line.{crowd, crowd_absent}
 use Rattle.event_log.proofs.Exclusion.{is_at, phase_own, line_at}
 

@@ -1,17 +1,16 @@
 -- Events of other CPUs: they change nothing of a CPU's own, and where a holder acts for every CPU there are none.
-use Rattle.std.proofs.Common.{◌≡◌, ℕ, ◌<◌, Bool, true, false, List, [], ◌∷◌, ◌++◌, if◌then◌else◌, map, refl, ap, sym, subst, ◌∙◌}
+use Rattle.std.proofs.Common.{◌≡◌, ◌<◌, Bool, true, false, List, [], ◌∷◌, ◌++◌, if◌then◌else◌, refl, ap, sym, subst, ◌∙◌}
 use Rattle.event_log.specs.declared.ids.CpuId.{CpuId}
-use Rattle.event_log.specs.declared.ids.LockId.{LockId}
 use Rattle.event_log.specs.declared.ids.TheConstants.{CPUS}
 use Rattle.event_log.specs.declared.events.Event.{Event}
 use Rattle.event_log.specs.declared.events.Event.TheVariants.{Draw, Look, Free}
-use Rattle.event_log.specs.History.{same_cpu, same_lock, own, IsLawful, AreOthers, AreForeign}
-use Rattle.event_log.specs.WordsLog.{actor, standing, left_by, Waiting, Inside, MayFollow, IsLegalWords}
-use Rattle.event_log.specs.Actions.{Action, Take, Try, Give, Phase, Rests, Waits, Holds, phase, left_in, doer, place, MayAct, AreLegal, act_of, acts_of}
-use Rattle.event_log.specs.Sections.{Section, section_actor, sections_of, sections_in}
+use Rattle.event_log.specs.History.{same_cpu, own, IsLawful, AreOthers, AreForeign}
+use Rattle.event_log.specs.WordsLog.{actor, standing, IsLegalWords}
+use Rattle.event_log.specs.Actions.{Action, Take, Try, Give, phase, doer, place, MayAct, AreLegal, act_of, acts_of}
+use Rattle.event_log.specs.Sections.{section_actor, sections_of, sections_in}
 use Rattle.event_log.proofs.Same.{same_cpu_self, same_lock_self}
 use Rattle.event_log.proofs.Exclusion.{is_at, phase_other, place_other, knows}
-use Rattle.event_log.proofs.Tickets.{phase_acts, standing_other, legal_acts, doer_is}
+use Rattle.event_log.proofs.Tickets.{standing_other, legal_acts, doer_is}
 
 -- Any relation and any event.
 

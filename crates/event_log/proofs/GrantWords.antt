@@ -1,15 +1,15 @@
 -- A legal log of grant words is a legal list of actions: what a word holds says exactly whether its waiter is served.
 use Rattle.std.proofs.Common.{◌≡◌, ℕ, ◌+◌, ◌%◌, ◌^◌, ◌<◌, ◌≤◌, ◌⊎◌, inl, inr, Bool, true, false, List, [], ◌∷◌, ◌==◌, if◌then◌else◌, refl, ap, sym, subst, ◌∙◌, arith}
-use Rattle.std.proofs.lemmas.Bool.{eqb-true, eqb-false, eq-eqb}
+use Rattle.std.proofs.lemmas.Bool.{eqb-true, eqb-false}
 use Rattle.event_log.specs.declared.ids.CpuId.{CpuId}
 use Rattle.event_log.specs.declared.ids.LockId.{LockId}
 use Rattle.event_log.specs.declared.ids.TheConstants.{CPUS}
 use Rattle.event_log.specs.declared.grants.GrantEvent.{GrantEvent}
 use Rattle.event_log.specs.declared.grants.GrantEvent.TheVariants.{Take, Peek, Give}
-use Rattle.event_log.specs.History.{same_cpu, same_lock, how_many}
-use Rattle.event_log.specs.WordsLog.{Standing, Outside, Waiting, Inside}
+use Rattle.event_log.specs.History.{same_lock}
+use Rattle.event_log.specs.WordsLog.{Inside}
 use Rattle.event_log.specs.Grants.{grant_actor, is_ticket, tickets, left_by_grant, grant_standing, ticket_in, after_give, grant_word, MayFollowGrants, IsLegalGrants, act_of_grant, acts_of_grants}
-use Rattle.event_log.specs.Actions.{Action, Rests, Waits, Holds, phase, left_in, doer, place, takes, gives, is_take, is_give, MayAct, AreLegal}
+use Rattle.event_log.specs.Actions.{Waits, Holds, phase, left_in, doer, place, takes, gives, is_take, MayAct, AreLegal}
 use Rattle.event_log.proofs.Same.{same_cpu_self, same_lock_self, same_lock_true}
 use Rattle.event_log.proofs.Exclusion.{is_at, is_holding, line_at, one_holds, near}
 use Rattle.event_log.proofs.Told.{phase_of, phase_either, TicketOf, ticket_either, how_many-map, Tells, told_phase, told_ticket, eqb_same}

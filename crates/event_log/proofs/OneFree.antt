@@ -6,7 +6,7 @@ use Rattle.event_log.specs.declared.events.Event.{Event}
 use Rattle.event_log.specs.declared.events.Event.TheVariants.{Draw, Look, Free}
 use Rattle.event_log.specs.History.{same_cpu, same_lock, own}
 use Rattle.event_log.specs.WordsLog.{actor, frees, IsLegalWords}
-use Rattle.event_log.specs.Actions.{Action, Take, Try, Give, Phase, Rests, Waits, Holds, phase, left_in, doer, place, takes, gives, MayAct, AreLegal, act_of, acts_of}
+use Rattle.event_log.specs.Actions.{Action, Take, Try, Give, Waits, Holds, phase, left_in, doer, place, takes, gives, MayAct, AreLegal, act_of, acts_of}
 use Rattle.event_log.specs.Laws.{OnlyTries, OnlyLooks}
 use Rattle.event_log.proofs.Same.{same_cpu_self, same_cpu_true, same_lock_self, same_lock_true}
 use Rattle.event_log.proofs.Exclusion.{is_at, is_holding, at_either, phase_own, phase_other, place_other, line_at}

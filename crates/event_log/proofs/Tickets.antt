@@ -1,13 +1,13 @@
 -- A legal words log is a legal list of actions: the rests modulo 2^64 tell the true counts, since at most CPUS places wait.
-use Rattle.std.proofs.Common.{◌≡◌, ℕ, ◌+◌, ◌%◌, ◌^◌, ◌<◌, ◌≤◌, Bool, true, false, List, [], ◌∷◌, ◌==◌, if◌then◌else◌, refl, ap, sym, subst, ◌∙◌, arith}
+use Rattle.std.proofs.Common.{◌≡◌, ℕ, ◌+◌, ◌%◌, ◌^◌, ◌<◌, ◌≤◌, true, false, List, [], ◌∷◌, ◌==◌, if◌then◌else◌, refl, ap, sym, subst, ◌∙◌, arith}
 use Rattle.event_log.specs.declared.ids.CpuId.{CpuId}
 use Rattle.event_log.specs.declared.ids.LockId.{LockId}
 use Rattle.event_log.specs.declared.ids.TheConstants.{CPUS}
 use Rattle.event_log.specs.declared.events.Event.{Event}
 use Rattle.event_log.specs.declared.events.Event.TheVariants.{Draw, Look, Free}
-use Rattle.event_log.specs.History.{same_cpu, same_lock, how_many}
-use Rattle.event_log.specs.WordsLog.{actor, draws, frees, is_draw, is_free, Standing, Outside, Waiting, Inside, left_by, standing, MayFollow, IsLegalWords}
-use Rattle.event_log.specs.Actions.{Action, Take, Try, Give, Phase, Rests, Waits, Holds, phase, left_in, doer, place, takes, gives, is_take, is_give, MayAct, AreLegal, act_of, acts_of}
+use Rattle.event_log.specs.History.{same_cpu}
+use Rattle.event_log.specs.WordsLog.{actor, draws, frees, is_draw, is_free, Inside, left_by, standing, MayFollow, IsLegalWords}
+use Rattle.event_log.specs.Actions.{Waits, phase, left_in, doer, place, takes, gives, is_take, is_give, MayAct, AreLegal, act_of, acts_of}
 use Rattle.event_log.proofs.Same.{same_cpu_self, same_lock_self}
 use Rattle.event_log.proofs.Exclusion.{is_at, one_holds, near}
 pub use Rattle.event_log.proofs.Told.{phase_of, TicketOf}

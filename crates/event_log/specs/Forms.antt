@@ -1,7 +1,6 @@
 -- Lawful logs, to be read aloud: oldest first, and each event may follow what stands before it.
-use Rattle.std.specs.Prelude.{◌≡◌, ◌↔◌, List, ◌∷◌, ◌++◌, reverse}
+use Rattle.std.specs.Prelude.{◌≡◌, ◌↔◌, List, [], ◌∷◌, ◌++◌, reverse}
 use Rattle.event_log.specs.declared.events.Event.{Event}
-use Rattle.event_log.specs.History.{IsLawful}
 use Rattle.event_log.specs.WordsLog.{MayFollow, IsLegalWords}
 
 -- wherever the log, oldest first, is split at an event, the event may follow the history of what stands before it
@@ -15,3 +14,7 @@ IsLegalLog log = IsLawfulLog MayFollow log
 -- both forms say the same of every words log
 abbrev pub BothFormsAgree : Type 0 → Type 0
 BothFormsAgree M = (log : List (Event M)) → IsLegalLog log ↔ IsLegalWords (reverse log)
+
+-- a log with one more event is legal exactly where it was, and the event may follow it
+abbrev pub LegalLogsGrow : Type 0 → Type 0
+LegalLogsGrow M = (log : List (Event M)) (e : Event M) → IsLegalLog (log ++ (e ∷ [])) ↔ (IsLegalLog log × MayFollow (reverse log) e)

@@ -1,5 +1,5 @@
 -- The log of locks with a grant word for each waiter, newest first, and which such logs are legal.
-use Rattle.std.specs.Prelude.{◌≡◌, ℕ, ◌+◌, ◌%◌, ◌^◌, ◌<◌, Bool, false, ◌&&◌, List, [], ◌∷◌, ◌==◌, map, if◌then◌else◌}
+use Rattle.std.specs.Prelude.{◌≡◌, ℕ, ◌+◌, ◌%◌, ◌^◌, ◌<◌, Bool, false, List, [], ◌∷◌, ◌==◌, map, if◌then◌else◌}
 use Rattle.event_log.specs.declared.ids.CpuId.{CpuId}
 use Rattle.event_log.specs.declared.ids.LockId.{LockId}
 use Rattle.event_log.specs.declared.ids.TheConstants.{CPUS}

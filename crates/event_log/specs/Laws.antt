@@ -8,7 +8,7 @@ use Rattle.event_log.specs.History.{same_cpu, own}
 use Rattle.event_log.specs.WordsLog.{actor, frees, IsLegalWords, Inside, standing}
 use Rattle.event_log.specs.declared.ids.TheConstants.{CPUS}
 use Rattle.event_log.specs.Actions.{Action, Take, Try, Give, Rests, Holds, doer, gives, phase, AreLegal, IsFree, AreFree, next_action, acts_of}
-use Rattle.event_log.specs.Sections.{Section, sections_in}
+use Rattle.event_log.specs.Sections.{sections_in}
 
 -- two CPUs never hold one lock
 abbrev pub OneHolds : Type 0 → Type 0

@@ -1,17 +1,20 @@
 //! What holds of every legal log. Each law is the contract of a function that does nothing, so that
 //! the law is proved with the crate.
 
-ghost use Rattle.event_log.specs.Forms.{BothFormsAgree};
+ghost use Rattle.event_log.specs.Forms.{BothFormsAgree, LegalLogsGrow};
 ghost use Rattle.event_log.specs.Laws.{FreedOnceMeanwhile, FreeWhereAllRest, GivenOnceMeanwhile, OneHolds, OneInside, ThreeAreOneSection, TicketsTellPlaces};
 ghost use Rattle.event_log.specs.Grants.{GrantsTellPlaces, OneInsideGrants};
-ghost use Rattle.event_log.specs.History.{Adds, Grows, own, IsLawful};
-ghost use Rattle.event_log.specs.Actions.{renamed};
-ghost use Rattle.event_log.specs.Sections.{Section, section_actor, sections_of, sections_in, block_after};
 
 /// A words log, oldest first, is legal where each event may follow what stands before it, however
 /// the log is split. The recursion on its history, newest first, says the same.
 pub fn both_forms_agree<M>()
     ensures { BothFormsAgree M }
+{}
+
+/// A words log grows, at its end, by exactly the events that may follow it, and a legal one has
+/// grown so.
+pub fn legal_logs_grow<M>()
+    ensures { LegalLogsGrow M }
 {}
 
 /// In a legal list of actions two CPUs never hold one lock.

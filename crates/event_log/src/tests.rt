@@ -208,6 +208,7 @@ fn refusals_print_their_names_and_numbers(rt: HostRuntime) -> Result<(), Fail> {
 #[test]
 fn each_law_can_be_called(_rt: HostRuntime) {
     both_forms_agree::<u8>();
+    legal_logs_grow::<u8>();
     one_holds::<u8>();
     one_inside::<u8>();
     tickets_tell_places::<u8>();
