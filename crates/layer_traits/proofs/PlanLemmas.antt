@@ -1,5 +1,5 @@
 -- What a legal words log that grew by one event says in terms of plans: the event was the action that was due.
-use Rattle.std.proofs.Common.{◌≡◌, ℕ, List, [], ◌∷◌, ◌++◌, Option, Some, None, option_map, refl, ap, sym, ◌∙◌, subst}
+use Rattle.std.proofs.Common.{◌≡◌, ℕ, List, ◌∷◌, ◌++◌, Option, Some, None, option_map, refl, ap, sym, ◌∙◌, subst}
 use Rattle.event_log.specs.declared.ids.CpuId.{CpuId}
 use Rattle.event_log.specs.declared.ids.LockId.{LockId}
 use Rattle.event_log.specs.declared.events.Event.{Event}
@@ -8,27 +8,21 @@ use Rattle.event_log.specs.History.{Adds, AreOthers}
 use Rattle.event_log.specs.WordsLog.{IsLegalWords, Standing, Outside, Waiting, Inside, actor, standing}
 use Rattle.event_log.specs.Actions.{Action, Try, action_in, act_of, acts_of, doer, phase}
 use Rattle.event_log.specs.Sections.{block_after, sections_in}
+use Rattle.event_log.proofs.Foreign.{acts_of-append, sections_acts as acts_sections, others_acts as acts_others}
 use Rattle.event_log.proofs.Tickets.{phase_of, phase_acts, legal_acts}
 use Rattle.layer_traits.specs.declared.edits.Mark.{Mark}
 use Rattle.layer_traits.specs.Plans.{Follows, table_of, at_give, section_plan, answered}
-use Rattle.layer_traits.specs.Protocol.{Rules, edit_of, section, sections}
+use Rattle.layer_traits.specs.Protocol.{Rules, edit_of, sections}
 
 pub acts-append : {E : Type 0} (more log : List (Event (Mark E))) → acts_of edit_of (more ++ log) ≡ acts_of edit_of more ++ acts_of edit_of log
-acts-append [] log = refl
-acts-append (e ∷ more) log = ap (λ rest. act_of edit_of e ∷ rest) (acts-append more log)
+acts-append more log = acts_of-append edit_of more log
 
 -- the sections of a words log are those of its actions
 pub sections_acts : {E : Type 0} (log : List (Event (Mark E))) → sections log ≡ sections_in (acts_of edit_of log)
-sections_acts [] = refl
-sections_acts (Draw cpu lock ticket ∷ log) = sections_acts log
-sections_acts (Look cpu lock ticket read ∷ log) = sections_acts log
-sections_acts (Free cpu lock mark ∷ log) = ap (λ rest. section cpu lock mark.edit ∷ rest) (sections_acts log)
+sections_acts log = sym (acts_sections edit_of log)
 
 pub others_acts : {E : Type 0} (cpu : CpuId) (more : List (Event (Mark E))) → AreOthers actor cpu more → AreOthers doer cpu (acts_of edit_of more)
-others_acts cpu [] others = tt
-others_acts cpu (Draw by lock ticket ∷ more) others = (others.0, others_acts cpu more others.1)
-others_acts cpu (Look by lock ticket read ∷ more) others = (others.0, others_acts cpu more others.1)
-others_acts cpu (Free by lock mark ∷ more) others = (others.0, others_acts cpu more others.1)
+others_acts cpu more others = acts_others edit_of cpu more others
 
 module _ {E B O : Type 0} (rules : Rules E B O) (opening : LockId → Option B) (ActsFor : CpuId → Type 0) (cpu : CpuId) (lock : LockId) (edit : E)
     (old new : List (Event (Mark E))) where

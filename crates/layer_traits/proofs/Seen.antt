@@ -10,33 +10,19 @@ use Rattle.event_log.specs.WordsLog.{IsLegalWords, Inside, actor, standing}
 use Rattle.event_log.specs.Sections.{Section, section_actor, block_after}
 use Rattle.event_log.specs.Actions.{acts_of}
 use Rattle.event_log.proofs.Exclusion.{is_at, knows}
+pub use Rattle.event_log.proofs.Foreign.{lawful_before as lawful_rest, standing_others}
+use Rattle.event_log.proofs.Foreign.{sections_of-append, others_sections_of, sections_of_known}
 use Rattle.event_log.proofs.Same.{same_cpu_self, same_lock_self, same_lock_true}
 use Rattle.event_log.proofs.Tickets.{phase_of, phase_acts, legal_acts, one_inside}
 use Rattle.layer_traits.specs.declared.edits.Mark.{Mark}
-use Rattle.layer_traits.specs.Protocol.{MayCome, StaysAllowed, IsKnown, sections, section}
-
--- a lawful history is lawful without its newest events
-pub lawful_rest : {E : Type 0} (May : List E → E → Type 0) (more old : List E) → IsLawful May (more ++ old) → IsLawful May old
-lawful_rest May [] old h = h
-lawful_rest May (e ∷ more) old h = lawful_rest May more old h.1
-
--- where a CPU is does not change by events of others
-pub standing_others : {M : Type 0} (cpu : CpuId) (more log : List (Event M)) → AreOthers actor cpu more → standing cpu (more ++ log) ≡ standing cpu log
-standing_others cpu [] log h = refl
-standing_others cpu (e ∷ more) log h = rw h.0 (standing_others cpu more log h.1)
+use Rattle.layer_traits.specs.Protocol.{MayCome, StaysAllowed, IsKnown, edit_of, sections}
 
 pub sections-append : {E : Type 0} (more log : List (Event (Mark E))) → sections (more ++ log) ≡ sections more ++ sections log
-sections-append [] log = refl
-sections-append (Draw cpu lock ticket ∷ more) log = sections-append more log
-sections-append (Look cpu lock ticket read ∷ more) log = sections-append more log
-sections-append (Free cpu lock mark ∷ more) log = ap (λ rest. section cpu lock mark.edit ∷ rest) (sections-append more log)
+sections-append more log = sections_of-append edit_of more log
 
 -- the sections of others' events are others' sections
 pub others_sections : {E : Type 0} (cpu : CpuId) (more : List (Event (Mark E))) → AreOthers actor cpu more → AreOthers section_actor cpu (sections more)
-others_sections cpu [] h = tt
-others_sections cpu (Draw by lock ticket ∷ more) h = others_sections cpu more h.1
-others_sections cpu (Look by lock ticket read ∷ more) h = others_sections cpu more h.1
-others_sections cpu (Free by lock mark ∷ more) h = (h.0, others_sections cpu more h.1)
+others_sections cpu more others = others_sections_of edit_of cpu more others
 
 -- the sections of foreign events are foreign
 pub foreign_sections : {E : Type 0} (ActsFor : CpuId → Type 0) (more : List (Event (Mark E))) → AreForeign ActsFor actor more → AreForeign ActsFor section_actor (sections more)
@@ -73,10 +59,7 @@ inside_known {M = M} log legal c lock t inside =
 
 -- the sections of a legal words log are of CPUs that a machine may have
 pub sections_known : {E : Type 0} (log : List (Event (Mark E))) → IsLegalWords log → IsLawful IsKnown (sections log)
-sections_known [] legal = tt
-sections_known (Draw cpu lock ticket ∷ past) legal = sections_known past legal.1
-sections_known (Look cpu lock ticket read ∷ past) legal = sections_known past legal.1
-sections_known (Free cpu lock mark ∷ past) legal = (inside_known past legal.1 cpu lock legal.0.0 legal.0.1, sections_known past legal.1)
+sections_known log legal = sections_of_known edit_of log legal
 
 module _ {E B : Type 0} (edited : E → B → B) (opening : LockId → Option B) (cpu : CpuId) (lock : LockId) (ticket : ℕ) where
   -- while a CPU is inside a lock, another frees another lock
