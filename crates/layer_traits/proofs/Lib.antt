@@ -1,3 +1,4 @@
 pub mod Seen
 pub mod OneLockLemmas
 pub mod PlanLemmas
+pub mod Alone

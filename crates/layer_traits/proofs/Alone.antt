@@ -1,0 +1,140 @@
+-- A machine whose holder acts for every CPU sees no foreign events; and a section where every CPU rests.
+use Rattle.std.proofs.Common.{◌≡◌, ◌<◌, Bool, true, false, List, [], ◌∷◌, ◌++◌, Option, Some, None, IsSome, option_map, if◌then◌else◌, refl, ap, sym, ◌∙◌, subst, arith}
+use Rattle.std.proofs.lemmas.Bool.{eq-eqb}
+use Rattle.event_log.specs.declared.ids.CpuId.{CpuId}
+use Rattle.event_log.specs.declared.ids.LockId.{LockId}
+use Rattle.event_log.specs.declared.ids.TheConstants.{CPUS}
+use Rattle.event_log.specs.History.{AreForeign, IsLawful, same_cpu, same_lock}
+use Rattle.event_log.specs.Actions.{Action, Take, Try, Give, Phase, Rests, Waits, Holds, doer, phase, takes, gives, place, MayAct, AreLegal, next_action, action_in}
+use Rattle.event_log.specs.Sections.{Section, section_actor, sections_in, block_after}
+use Rattle.event_log.proofs.Exclusion.{is_at, line_at, knows, phase_own, phase_other}
+use Rattle.event_log.proofs.Line.{crowd, crowd_same, crowd_none}
+use Rattle.event_log.proofs.Same.{same_cpu_self, same_lock_self}
+use Rattle.layer_traits.specs.Plans.{Table, Left, Acting, at_give, reply}
+use Rattle.layer_traits.specs.Protocol.{IsKnown}
+
+-- each CPU that acts is one that a machine may have
+pub doer_known : {N : Type 0} (a : Action N) (past : List (Action N)) → MayAct past a → AreLegal past → (doer a).0 < CPUS
+doer_known (Take cpu lock) past may legal = may.0
+doer_known (Try cpu lock hit) past may legal = knows past legal cpu lock (ap (is_at lock) may.0 ∙ same_lock_self lock)
+doer_known (Give cpu lock name) past may legal = knows past legal cpu lock (ap (is_at lock) may ∙ same_lock_self lock)
+
+-- no action is foreign to a holder that acts for every CPU
+pub no_foreign_acts : {N : Type 0} (ActsFor : CpuId → Type 0) → ((c : CpuId) → c.0 < CPUS → ActsFor c) → (others old : List (Action N)) → AreLegal (others ++ old)
+    → AreForeign ActsFor doer others → others ≡ []
+no_foreign_acts ActsFor all [] old legal foreign = refl
+no_foreign_acts ActsFor all (a ∷ others) old legal foreign =
+    let other : same_cpu (doer a) (doer a) ≡ false = (foreign (doer a) (all (doer a) (doer_known a (others ++ old) legal.0 legal.1))).0 in
+    let itself : same_cpu (doer a) (doer a) ≡ true = same_cpu_self (doer a) in
+    absurd (cc (other, itself))
+
+-- nor is a section
+pub no_foreign_sections : {E : Type 0} (ActsFor : CpuId → Type 0) → ((c : CpuId) → c.0 < CPUS → ActsFor c) → (others old : List (Section E)) → IsLawful IsKnown (others ++ old)
+    → AreForeign ActsFor section_actor others → others ≡ []
+no_foreign_sections ActsFor all [] old known foreign = refl
+no_foreign_sections ActsFor all (s ∷ others) old known foreign =
+    let other : same_cpu s.cpu s.cpu ≡ false = (foreign s.cpu (all s.cpu known.0)).0 in
+    let itself : same_cpu s.cpu s.cpu ≡ true = same_cpu_self s.cpu in
+    absurd (cc (other, itself))
+
+-- a lock that opened with a block has one after any sections
+pub block_there : {E B : Type 0} (edited : E → B → B) (opening : LockId → Option B) (lock : LockId) (past : List (Section E)) → IsSome (opening lock)
+    → IsSome (block_after edited opening lock past)
+block_there {B = B} edited opening lock [] some = some
+block_there {B = B} edited opening lock (s ∷ past) some = either (same_lock lock s.lock) (block_after edited opening lock past) (block_there edited opening lock past some)
+  where
+    mapped : (o : Option B) → IsSome o → IsSome (option_map (edited s.edit) o)
+    mapped None there = there
+    mapped (Some block) there = refl
+
+    either : (b : Bool) (o : Option B) → IsSome o → IsSome (if b then option_map (edited s.edit) o else o)
+    either true o there = mapped o there
+    either false o there = there
+
+module _ {N : Type 0} (cpu : CpuId) (lock : LockId) (name : N) (past : List (Action N)) (rests : (c : CpuId) → phase c past ≡ Rests) where
+  -- where every CPU rests, each lock was given on as often as it was taken
+  all_given : AreLegal past → takes lock past ≡ gives lock past
+  all_given legal =
+      let line = line_at lock past legal in
+      let nobody : crowd (λ c. is_at lock (phase c past)) CPUS ≡ 0 = crowd_same (λ c. false) (λ c. is_at lock (phase c past)) CPUS (λ c. ap (is_at lock) (rests c)) ∙ crowd_none CPUS in
+      omega (arith, line.balance, nobody)
+
+  -- the three actions of a section where every CPU rests
+  pub first_action : next_action cpu lock name past ≡ Take cpu lock
+  first_action = ap (action_in cpu lock name past) (rests cpu)
+
+  waits : phase {N = N} cpu (Take cpu lock ∷ past) ≡ Waits lock
+  waits = phase_own {N = N} (Take cpu lock) past
+
+  pub second_action : AreLegal past → next_action cpu lock name (Take cpu lock ∷ past) ≡ Try cpu lock true
+  second_action legal =
+      let placed : place {N = N} cpu (Take cpu lock ∷ past) ≡ gives lock past = ap (λ b. if b then takes lock past else place cpu past) (same_cpu_self cpu) ∙ all_given legal in
+      ap (action_in cpu lock name (Take cpu lock ∷ past)) waits ∙ ap (Try cpu lock) (eq-eqb (gives lock past) (place {N = N} cpu (Take cpu lock ∷ past)) (sym placed))
+
+  holds : phase cpu (Try cpu lock true ∷ Take cpu lock ∷ past) ≡ Holds lock
+  holds = phase_own {N = N} (Try cpu lock true) (Take cpu lock ∷ past)
+
+  pub third_action : next_action cpu lock name (Try cpu lock true ∷ Take cpu lock ∷ past) ≡ Give cpu lock name
+  third_action = ap (action_in cpu lock name (Try cpu lock true ∷ Take cpu lock ∷ past)) holds
+
+  -- of which the third answers
+  pub first_reply : {B R : Type 0} (table : Table N B R) (opening : LockId → Option B) → reply table opening cpu lock name past ≡ None
+  first_reply table opening = ap (λ p. at_give p (option_map (table.answer name) (block_after table.edited opening lock (sections_in past)))) (rests cpu)
+
+  pub second_reply : {B R : Type 0} (table : Table N B R) (opening : LockId → Option B) → reply table opening cpu lock name (Take cpu lock ∷ past) ≡ None
+  second_reply table opening = ap (λ p. at_give p (option_map (table.answer name) (block_after table.edited opening lock (sections_in past)))) waits
+
+  pub third_reply : {B R : Type 0} (table : Table N B R) (opening : LockId → Option B)
+      → reply table opening cpu lock name (Try cpu lock true ∷ Take cpu lock ∷ past) ≡ option_map (table.answer name) (block_after table.edited opening lock (sections_in past))
+  third_reply table opening = ap (λ p. at_give p (option_map (table.answer name) (block_after table.edited opening lock (sections_in past)))) holds
+
+  -- and then every CPU rests again
+  pub rest_again : (c : CpuId) → phase c (Give cpu lock name ∷ Try cpu lock true ∷ Take cpu lock ∷ past) ≡ Rests
+  rest_again c = go (same_cpu cpu c) refl
+    where
+      after : Bool → Phase
+      after b = if b then Rests else (if b then Holds lock else (if b then Waits lock else phase c past))
+
+      go : (b : Bool) → same_cpu cpu c ≡ b → phase c (Give cpu lock name ∷ Try cpu lock true ∷ Take cpu lock ∷ past) ≡ Rests
+      go true same = ap (λ b. if b then Rests else phase c (Try cpu lock true ∷ Take cpu lock ∷ past)) same
+      go false other =
+          phase_other (Give cpu lock name) (Try cpu lock true ∷ Take cpu lock ∷ past) c other
+          ∙ (phase_other {N = N} (Try cpu lock true) (Take cpu lock ∷ past) c other ∙ (phase_other {N = N} (Take cpu lock) past c other ∙ rests c))
+
+-- where the holder acts for every CPU, a planned action is exactly the one that is due
+pub acts_alone : {N B R S A : Type 0} (ActsFor : CpuId → Type 0) (table : Table N B R) (opening : LockId → Option B) (cpu : CpuId) (lock : LockId) (name : N) (react : Option R → Left S A)
+    (old new : List (Action N)) (got : Left S A) → ((c : CpuId) → c.0 < CPUS → ActsFor c) → AreLegal new → Acting ActsFor table opening cpu lock name react old new got
+    → (new ≡ next_action cpu lock name old ∷ old) × (got ≡ react (reply table opening cpu lock name old))
+acts_alone ActsFor table opening cpu lock name react old new got all legal acting =
+    let past_legal : AreLegal acting.past = (subst (λ l. AreLegal l) acting.acted.grows legal).1 in
+    let none : acting.acted.others ≡ [] = no_foreign_acts ActsFor all acting.acted.others old (subst (λ l. AreLegal l) acting.acted.joined past_legal) acting.acted.foreign in
+    let same : acting.past ≡ old = acting.acted.joined ∙ ap (λ l. l ++ old) none in
+    (acting.acted.grows ∙ ap (λ past. next_action cpu lock name past ∷ past) same, acting.moves ∙ ap (λ past. react (reply table opening cpu lock name past)) same)
+
+-- what three polls in a row leave where every CPU rests
+pub record Section3 {N B R : Type 0} (table : Table N B R) (opening : LockId → Option B) (cpu : CpuId) (lock : LockId) (name : N) (first third fourth : List (Action N)) (answer : Option R) : Type 0 where
+  pub tried : third ≡ Try cpu lock true ∷ Take cpu lock ∷ first
+  pub given : fourth ≡ Give cpu lock name ∷ Try cpu lock true ∷ Take cpu lock ∷ first
+  pub answers : answer ≡ option_map (table.answer name) (block_after table.edited opening lock (sections_in first))
+
+pub three_polls : {N B R : Type 0} (table : Table N B R) (lock : LockId) (name : N) (o o' o'' : LockId → Option B) (cpu cpu' cpu'' : CpuId) (first second third fourth : List (Action N)) (answer : Option R)
+    → ((c : CpuId) → phase c first ≡ Rests) → AreLegal first → cpu' ≡ cpu → cpu'' ≡ cpu' → o' ≡ o → o'' ≡ o'
+    → second ≡ next_action cpu lock name first ∷ first → third ≡ next_action cpu' lock name second ∷ second → fourth ≡ next_action cpu'' lock name third ∷ third
+    → answer ≡ reply table o'' cpu'' lock name third → Section3 table o cpu lock name first third fourth answer
+three_polls {N = N} table lock name o o' o'' cpu cpu' cpu'' first second third fourth answer rests legal same same' kept kept' one two three gives =
+    let cpu2 : cpu'' ≡ cpu = same' ∙ same in
+    let taken : second ≡ Take cpu lock ∷ first = one ∙ ap (λ a. a ∷ first) (first_action cpu lock name first rests) in
+    let tried : third ≡ Try cpu lock true ∷ Take cpu lock ∷ first
+    = two ∙ (ap (λ c. next_action c lock name second ∷ second) same ∙ (ap (λ l. next_action cpu lock name l ∷ l) taken ∙ ap (λ a. a ∷ Take cpu lock ∷ first) (second_action cpu lock name first rests legal))) in
+    let given : fourth ≡ Give cpu lock name ∷ Try cpu lock true ∷ Take cpu lock ∷ first
+    = three ∙ (ap (λ c. next_action c lock name third ∷ third) cpu2 ∙ (ap (λ l. next_action cpu lock name l ∷ l) tried ∙ ap (λ a. a ∷ Try cpu lock true ∷ Take cpu lock ∷ first) (third_action cpu lock name first rests))) in
+    record {
+      tried = tried;
+      given = given;
+      answers = gives ∙ (ap (λ x. reply table x cpu'' lock name third) (kept' ∙ kept) ∙ (ap (λ c. reply table o c lock name third) cpu2
+          ∙ (ap (λ l. reply table o cpu lock name l) tried ∙ third_reply cpu lock name first rests table o)));
+    }
+
+pub answer_there : {B R : Type 0} (f : B → R) (block : Option B) → IsSome block → IsSome (option_map f block)
+answer_there f None there = there
+answer_there f (Some block) there = refl

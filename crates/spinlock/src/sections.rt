@@ -1,0 +1,72 @@
+//! A whole section at once, where no CPU has a ticket.
+
+ghost use Rattle.std.specs.Prelude.{◌≡◌, ◌+◌, ◌<◌, ◌≤◌, ◌∷◌, true, IsSome, OnSome, is_some, if◌then◌else◌};
+ghost use Rattle.event_log.specs.declared.ids.CpuId.{CpuId};
+ghost use Rattle.event_log.specs.Actions.{Take, Try, Give, Rests, phase, next_action};
+ghost use Rattle.layer_traits.specs.Plans.{table_of, reply};
+ghost use Rattle.layer_traits.specs.Protocol.{section, StaysAllowed};
+ghost use Rattle.layer_traits.specs.Turns.{MayPoll, Answers};
+
+use event_log::{CPUS, LockId};
+use layer_traits::{Edit, LockLayer};
+
+/// One poll on a machine whose holder acts for every CPU: exactly the action that is due.
+fn alone<E: Edit, L: LockLayer<E>>(
+    part: &mut L,
+    m: &mut L::Machine,
+    lock: LockId,
+    edit: E,
+) -> Option<E::Out>
+    requires stepwise { L.IsStepwise }
+    requires all { (c : CpuId) → c.0 < CPUS → L.ActsFor m.old c }
+    requires fits { L.Fits part.old m.old }
+    requires lock { IsSome (L.opening m.old lock) }
+    requires room { 0 < L.room m.old }
+    requires call { MayPoll (E.rules.allowed (L.opening m.old)) (L.seen m.old) (L.under_way part.old) (section (L.cpu_of part.old) lock edit) }
+    ensures acts { L.acts m.new ≡ next_action (L.cpu_of part.old) lock edit (L.acts m.old) ∷ L.acts m.old }
+    ensures answer { result ≡ reply (table_of E.rules) (L.opening m.old) (L.cpu_of part.old) lock edit (L.acts m.old) }
+    ensures all { (c : CpuId) → c.0 < CPUS → L.ActsFor m.new c }
+    ensures fits { L.Fits part.new m.new }
+    ensures cpu { L.cpu_of part.new ≡ L.cpu_of part.old }
+    ensures call { L.under_way part.new ≡ (if is_some result then None else Some (section (L.cpu_of part.old) lock edit)) }
+    ensures opening { L.opening m.new ≡ L.opening m.old }
+    ensures room { L.room m.old ≤ L.room m.new + 1 }
+    ensures outside { OnSome result (L.IsOutside m.new (L.cpu_of part.old)) }
+{
+    part.poll(m, lock, edit)
+}
+
+/// Does the whole section of `edit` at `lock`, where no CPU has a ticket and the holder of the
+/// machine acts for every CPU: three polls, of which the first draws, the second hits and the third
+/// frees with the answer.
+pub fn whole<E: Edit, L: LockLayer<E>>(
+    part: &mut L,
+    m: &mut L::Machine,
+    lock: LockId,
+    edit: E,
+) -> E::Out
+    requires stepwise { L.IsStepwise }
+    requires all { (c : CpuId) → c.0 < CPUS → L.ActsFor m.old c }
+    requires rests { (c : CpuId) → phase c (L.acts m.old) ≡ Rests }
+    requires fits { L.Fits part.old m.old }
+    requires lock { IsSome (L.opening m.old lock) }
+    requires room { 2 < L.room m.old }
+    requires call { L.under_way part.old ≡ None }
+    requires allowed { StaysAllowed (E.rules.allowed (L.opening m.old)) (L.seen m.old) (section (L.cpu_of part.old) lock edit) }
+    ensures seen { L.seen m.new ≡ section (L.cpu_of part.old) lock edit ∷ L.seen m.old }
+    ensures answer { Answers E.rules (L.opening m.old) (L.seen m.old) (section (L.cpu_of part.old) lock edit) result }
+    ensures acts { L.acts m.new
+        ≡ Give (L.cpu_of part.old) lock edit ∷ Try (L.cpu_of part.old) lock true ∷ Take (L.cpu_of part.old) lock ∷ L.acts m.old }
+    ensures rests { (c : CpuId) → phase c (L.acts m.new) ≡ Rests }
+    ensures all { (c : CpuId) → c.0 < CPUS → L.ActsFor m.new c }
+    ensures fits { L.Fits part.new m.new }
+    ensures cpu { L.cpu_of part.new ≡ L.cpu_of part.old }
+    ensures call { L.under_way part.new ≡ None }
+    ensures opening { L.opening m.new ≡ L.opening m.old }
+    ensures room { L.room m.old ≤ L.room m.new + 3 }
+    ensures outside { L.IsOutside m.new (L.cpu_of part.old) }
+{
+    let _drawn = alone(part, m, lock, edit);
+    let _looked = alone(part, m, lock, edit);
+    alone(part, m, lock, edit).unwrap()
+}
