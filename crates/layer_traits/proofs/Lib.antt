@@ -2,3 +2,4 @@ pub mod Seen
 pub mod OneLockLemmas
 pub mod PlanLemmas
 pub mod Alone
+pub mod PlanRenaming

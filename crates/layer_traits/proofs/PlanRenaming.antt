@@ -1,0 +1,71 @@
+-- A layer that wraps its edits in those of the layer beneath: a poll that followed its plan there followed it here, under the layer's own names.
+use Rattle.std.proofs.Common.{◌≡◌, Bool, true, false, List, [], ◌∷◌, ◌++◌, Option, Some, None, option_map, if◌then◌else◌, map, refl, ap, sym, ◌∙◌}
+use Rattle.event_log.specs.declared.ids.CpuId.{CpuId}
+use Rattle.event_log.specs.declared.ids.LockId.{LockId}
+use Rattle.event_log.specs.History.{same_lock}
+use Rattle.event_log.specs.Actions.{Action, Phase, Rests, Waits, Holds, phase, next_action, renamed}
+use Rattle.event_log.specs.Sections.{Section, renamed_section, sections_in, block_after}
+use Rattle.event_log.proofs.Renaming.{phase_renamed, next_action_renamed, others_renamed, sections_in_renamed}
+use Rattle.layer_traits.specs.Plans.{Table, Left, Plan, Now, Act, Follows, at_give, reply, lowered}
+
+pub map-append : {X Y : Type 0} (f : X → Y) (xs ys : List X) → map f (xs ++ ys) ≡ map f xs ++ map f ys
+map-append f [] ys = refl
+map-append f (x ∷ xs) ys = ap (λ l. f x ∷ l) (map-append f xs ys)
+
+-- M, A and Q are the names, blocks and answers beneath, and N, B and R those of the layer
+module _ {M N A B Q R : Type 0} (low : Table M A Q) (high : Table N B R) (name : M → N) (view : A → B) (told : Q → R)
+    (edits : (m : M) (block : A) → view (low.edited m block) ≡ high.edited (name m) (view block))
+    (answers : (m : M) (block : A) → told (low.answer m block) ≡ high.answer (name m) (view block)) (opening : LockId → Option A) where
+  viewed_edit : (m : M) (block : Option A) → option_map (high.edited (name m)) (option_map view block) ≡ option_map view (option_map (low.edited m) block)
+  viewed_edit m None = refl
+  viewed_edit m (Some block) = ap Some (sym (edits m block))
+
+  viewed_answer : (m : M) (block : Option A) → option_map told (option_map (low.answer m) block) ≡ option_map (high.answer (name m)) (option_map view block)
+  viewed_answer m None = refl
+  viewed_answer m (Some block) = ap Some (answers m block)
+
+  -- the layer's block is its view of the block beneath
+  pub block_viewed : (lock : LockId) (past : List (Section M))
+      → block_after high.edited (λ l. option_map view (opening l)) lock (map (renamed_section name) past) ≡ option_map view (block_after low.edited opening lock past)
+  block_viewed lock [] = refl
+  block_viewed lock (s ∷ past) = either (same_lock lock s.lock) (block_after high.edited (λ l. option_map view (opening l)) lock (map (renamed_section name) past)) (block_after low.edited opening lock past) (block_viewed lock past)
+    where
+      either : (b : Bool) (above : Option B) (beneath : Option A) → above ≡ option_map view beneath
+          → (if b then option_map (high.edited (name s.edit)) above else above) ≡ option_map view (if b then option_map (low.edited s.edit) beneath else beneath)
+      either true above beneath same = ap (option_map (high.edited (name s.edit))) same ∙ viewed_edit s.edit beneath
+      either false above beneath same = same
+
+  at_give_told : (p : Phase) (answer : Option Q) → option_map told (at_give p answer) ≡ at_give p (option_map told answer)
+  at_give_told Rests answer = refl
+  at_give_told (Waits lock) answer = refl
+  at_give_told (Holds lock) answer = refl
+
+  -- and its reply is what the reply beneath tells
+  pub reply_viewed : (cpu : CpuId) (lock : LockId) (m : M) (past : List (Action M))
+      → option_map told (reply low opening cpu lock m past) ≡ reply high (λ l. option_map view (opening l)) cpu lock (name m) (map (renamed name) past)
+  reply_viewed cpu lock m past =
+      let block : Option A = block_after low.edited opening lock (sections_in past) in
+      at_give_told (phase cpu past) (option_map (low.answer m) block)
+      ∙ (ap (at_give (phase cpu past)) (viewed_answer m block)
+      ∙ (ap (λ b. at_give (phase cpu past) (option_map (high.answer (name m)) b)) (sym (block_viewed lock (sections_in past)))
+      ∙ (ap (λ l. at_give (phase cpu past) (option_map (high.answer (name m)) (block_after high.edited (λ k. option_map view (opening k)) lock l))) (sym (sections_in_renamed name past))
+      ∙ ap (λ p. at_give p (option_map (high.answer (name m)) (block_after high.edited (λ k. option_map view (opening k)) lock (sections_in (map (renamed name) past))))) (sym (phase_renamed name cpu past)))))
+
+  -- a poll that followed the lowered plan beneath followed the plan here
+  pub follows_renamed : {S T : Type 0} (code : N → M) → ((n : N) → name (code n) ≡ n) → (ActsFor : CpuId → Type 0) (cpu : CpuId) (plan : Plan N R S T) (old new : List (Action M)) (got : Left S T)
+      → Follows ActsFor low opening cpu (lowered code told plan) old new got
+      → Follows ActsFor high (λ l. option_map view (opening l)) cpu plan (map (renamed name) old) (map (renamed name) new) got
+  follows_renamed code codes ActsFor cpu (Now left) old new got follows = (ap (map (renamed name)) follows.0, follows.1)
+  follows_renamed code codes ActsFor cpu (Act lock n react) old new got follows = record {
+    past = map (renamed name) follows.past;
+    acted = record {
+      others = map (renamed name) follows.acted.others;
+      foreign = λ c acts. others_renamed name c follows.acted.others (follows.acted.foreign c acts);
+      joined = ap (map (renamed name)) follows.acted.joined ∙ map-append (renamed name) follows.acted.others old;
+      grows = ap (map (renamed name)) follows.acted.grows
+          ∙ (ap (λ a. a ∷ map (renamed name) follows.past) (sym (next_action_renamed name cpu lock (code n) follows.past))
+          ∙ ap (λ k. next_action cpu lock k (map (renamed name) follows.past) ∷ map (renamed name) follows.past) (codes n));
+    };
+    moves = follows.moves ∙ ap react (reply_viewed cpu lock (code n) follows.past
+        ∙ ap (λ k. reply high (λ l. option_map view (opening l)) cpu lock k (map (renamed name) follows.past)) (codes n));
+  }
