@@ -1,5 +1,5 @@
 -- Registers by their numbers, and the instruction of a line.
-use Rattle.std.specs.Prelude.{ℕ, ◌<◌, ◌≤◌, ◌^◌, List, length, All, slice_get, unwrap_or}
+use Rattle.std.specs.Prelude.{ℕ, Bool, true, nat_lt, ◌<◌, ◌≤◌, ◌^◌, List, length, All, slice_get, unwrap_or}
 use Rattle.guest.specs.declared.instructions.Register.{Register}
 use Rattle.guest.specs.declared.instructions.Register.TheVariants.{R0, R1, R2, R3}
 use Rattle.guest.specs.declared.instructions.Instruction.{Instruction}
@@ -32,3 +32,14 @@ pub record IsProgram (program : List Instruction) : Type 0 where
   pub some : 0 < length program
   pub most : length program ≤ 256
   pub within : All (IsWithin (length program)) program
+
+-- whether an instruction names no buffer past these
+abbrev pub names_below : ℕ → Instruction → Bool
+names_below buffers (Send b r) = nat_lt b.0 buffers
+names_below buffers (Recv b r) = nat_lt b.0 buffers
+names_below buffers (Set r n) = true
+names_below buffers (Add r q) = true
+names_below buffers (Sub r q) = true
+names_below buffers (Jnz r k) = true
+names_below buffers Yield = true
+names_below buffers Exit = true

@@ -61,6 +61,27 @@ pub enum Instruction {
     Exit,
 }
 
+impl Instruction {
+    ghost use Rattle.std.specs.Prelude.{◌≡◌};
+    ghost use Rattle.guest.specs.Instructions.{names_below};
+
+    /// Whether the instruction names none but the first `buffers` buffers.
+    pub fn names_below(&self, buffers: usize) -> bool
+        ensures { result ≡ names_below buffers self.now }
+    {
+        match self {
+            Instruction::Send(buffer, _) | Instruction::Recv(buffer, _) => usize::from(buffer.0)
+                < buffers,
+            Instruction::Set(..)
+            | Instruction::Add(..)
+            | Instruction::Sub(..)
+            | Instruction::Jnz(..)
+            | Instruction::Yield
+            | Instruction::Exit => true,
+        }
+    }
+}
+
 /// A program: 1 to 256 instructions, each jump to one of its lines, each call of one of the
 /// buffers 0 to 15.
 #[derive(Drop)]
@@ -83,7 +104,8 @@ impl Model for Program {
 impl Program {
     ghost use Rattle.std.specs.Prelude.{◌≡◌, ◌≢◌, ◌<◌, length, map, IfOk};
     ghost use Rattle.guest.specs.declared.instructions.Instruction.TheVariants.{Exit};
-    ghost use Rattle.guest.specs.Instructions.{IsProgram, instruction_at};
+    ghost use Rattle.std.specs.List.{list_all};
+    ghost use Rattle.guest.specs.Instructions.{IsProgram, instruction_at, names_below};
     ghost use Rattle.guest.specs.Language.{program_in, Gives};
 
     /// Reads the lines of a program, one instruction each.
@@ -114,6 +136,15 @@ impl Program {
         ensures within { IsProgram self.now }
     {
         self.lines.len()
+    }
+
+    /// Whether the program names none but the first `buffers` buffers.
+    pub fn names_below(&self, buffers: usize) -> bool
+        ensures { result ≡ list_all (names_below buffers) self.now }
+    {
+        self.lines
+            .iter()
+            .all(|instruction| instruction.names_below(buffers))
     }
 
     /// The instruction of a line, counted from 0. Past the last line it is `exit`.

@@ -1,0 +1,4 @@
+pub mod SeenLemmas
+pub mod CapsLemmas
+pub mod TasksLemmas
+pub mod PlanLemmas

@@ -1,0 +1,6 @@
+use Rattle.toml.specs.Data.{as_str}
+use Rattle.boot.proofs.SeenLemmas.{so_far_none}
+use Rattle.boot.proofs.tables.texts.Goals as goal
+
+pub loop-value-init : goal.loop-value-init
+loop-value-init c = rw c.new-found.ensures.items (so_far_none as_str c.args.values.now.items)

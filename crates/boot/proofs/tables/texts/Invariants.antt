@@ -1,0 +1,7 @@
+use Rattle.std.proofs.Common.{map}
+use Rattle.toml.specs.Data.{as_str}
+use Rattle.boot.proofs.SeenLemmas.{SeenSoFar}
+use Rattle.boot.proofs.tables.texts.Given as goal
+
+abbrev pub invariant-loop-value : goal.invariant-loop-value
+invariant-loop-value l = SeenSoFar as_str l.values.items l.value-index (map (λ text. text.now) l.found.items)

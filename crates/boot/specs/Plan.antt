@@ -1,0 +1,156 @@
+-- What a plan says, and the first fault of one.
+use Rattle.std.specs.Prelude.{◌≡◌, ℕ, ◌-◌, ◌<◌, ◌≤◌, Bool, ◌&&◌, ℤ, pos, negsuc, List, [], ◌∷◌, length, codes, nat_le, map, slice_index, slice_index_or, All, IsTrue, Option, Some, None, Result, Ok, Err, if◌then◌else◌, option_and_then}
+use Rattle.std.specs.List.{list_all}
+use Rattle.toml.specs.Data.{Data, Items, no_items, item, Members, as_integer, as_array, as_str, as_table, get_member}
+use Rattle.toml.specs.Parse.{parse_document}
+use Rattle.event_log.specs.Reading.{◌>>=◌, read_from, all_as}
+use Rattle.guest.specs.declared.instructions.Instruction.{Instruction}
+use Rattle.guest.specs.declared.refusals.GuestError.{GuestError}
+use Rattle.guest.specs.declared.refusals.GuestError.TheVariants.{NoMemory as GuestNoMemory, At}
+use Rattle.guest.specs.Instructions.{IsProgram, names_below}
+use Rattle.guest.specs.Language.{program_in}
+use Rattle.boot.specs.declared.refusals.PlanKey.{PlanKey}
+use Rattle.boot.specs.declared.refusals.PlanKey.TheVariants.{Cpus, Trace, Buffers, Threads, Cpu, Program}
+use Rattle.boot.specs.declared.refusals.BootError.{BootError}
+use Rattle.boot.specs.declared.refusals.BootError.TheVariants.{NoMemory, BadToml, MissingKey, OutOfRange, Guest}
+
+-- a thread: its home CPU and its program
+pub record Task : Type 0 where
+  pub home : ℕ
+  pub program : List Instruction
+
+-- what a plan says: the number of CPUs, the entries that each may trace, the capacities by buffer, the threads
+pub record Plan : Type 0 where
+  pub cpus : ℕ
+  pub trace : ℕ
+  pub caps : List ℕ
+  pub tasks : List Task
+
+-- the items of an array, as a list
+abbrev pub data_in : Items → List Data
+data_in no_items = []
+data_in (item d ds) = d ∷ data_in ds
+
+-- the value, if there is one: else the key is missing, or out of range
+abbrev pub wanted : {A : Type 0} → PlanKey → Option A → Result A BootError
+wanted key None = Err (MissingKey key)
+wanted key (Some x) = Ok x
+
+abbrev pub ranged : {A : Type 0} → PlanKey → Option A → Result A BootError
+ranged key None = Err (OutOfRange key)
+ranged key (Some x) = Ok x
+
+-- the value, if the test passes
+abbrev pub kept : {A : Type 0} → Bool → A → Option A
+kept passes x = if passes then Some x else None
+
+-- an integer from `least` to `most`
+abbrev pub number_within : ℕ → ℕ → ℤ → Option ℕ
+number_within least most (pos n) = kept (nat_le least n && nat_le n most) n
+number_within least most (negsuc n) = None
+
+-- an integer's key
+unfoldable pub number_at : PlanKey → ℕ → ℕ → Option Data → Result ℕ BootError
+number_at key least most d = wanted key (option_and_then as_integer d) >>= λ z. ranged key (number_within least most z)
+
+-- an array of items of one kind
+abbrev pub list_at : {A : Type 0} → (Data → Option A) → Option Data → Option (List A)
+list_at kind d = option_and_then (λ items. all_as kind (data_in items)) (option_and_then as_array d)
+
+-- from 1 to `most` items
+abbrev pub some_to : {A : Type 0} → ℕ → List A → Option (List A)
+some_to most xs = kept (nat_le 1 (length xs) && nat_le (length xs) most) xs
+
+-- the capacities
+unfoldable pub caps_at : Option Data → Result (List ℕ) BootError
+caps_at d = wanted Buffers (list_at as_integer d) >>= λ zs. ranged Buffers (some_to 16 zs) >>= λ zs. ranged Buffers (all_as (number_within 1 32) zs)
+
+-- the threads' tables
+unfoldable pub tables_at : Option Data → Result (List Members) BootError
+tables_at d = wanted Threads (list_at as_table d) >>= λ tables. ranged Threads (some_to 64 tables)
+
+-- a program's fault in the words of the plan
+abbrev pub of_thread : {A : Type 0} → ℕ → Result A GuestError → Result A BootError
+of_thread t (Ok x) = Ok x
+of_thread t (Err (At line fault)) = Err (Guest (record { 0 = t }) line fault)
+of_thread t (Err GuestNoMemory) = Err NoMemory
+
+-- a thread's program, which names only buffers that the plan has
+unfoldable pub program_at : ℕ → ℕ → Option Data → Result (List Instruction) BootError
+program_at buffers t d =
+    wanted (Program (record { 0 = t })) (list_at as_str d)
+    >>= λ lines. of_thread t (program_in lines)
+    >>= λ program. ranged (Program (record { 0 = t })) (kept (list_all (names_below buffers) program) program)
+
+-- a thread's table
+unfoldable pub task_at : ℕ → ℕ → ℕ → Members → Result Task BootError
+task_at cpus buffers t table =
+    number_at (Cpu (record { 0 = t })) 0 (cpus - 1) (get_member (codes "cpu") table)
+    >>= λ home. program_at buffers t (get_member (codes "program") table)
+    >>= λ program. Ok (record { home = home; program = program })
+
+-- a document's plan
+unfoldable pub plan_in : Members → Result Plan BootError
+plan_in document =
+    number_at Cpus 1 8 (get_member (codes "cpus") document)
+    >>= λ cpus. number_at Trace 1 65536 (get_member (codes "trace") document)
+    >>= λ trace. caps_at (get_member (codes "buffers") document)
+    >>= λ caps. tables_at (get_member (codes "thread") document)
+    >>= λ tables. read_from (task_at cpus (length caps)) 0 tables
+    >>= λ tasks. Ok (record { cpus = cpus; trace = trace; caps = caps; tasks = tasks })
+
+-- a document, if the text is one
+abbrev pub document_of : Option Members → Result Members BootError
+document_of None = Err BadToml
+document_of (Some document) = Ok document
+
+-- a text's plan, or its first fault
+unfoldable pub plan_of : List ℕ → Result Plan BootError
+plan_of text = document_of (parse_document text) >>= plan_in
+
+-- what an error says of what is meant: that error, but nothing where memory was refused
+abbrev pub Fails : {Y : Type 0} → BootError → Result Y BootError → Type 0
+Fails NoMemory meant = Unit {0}
+Fails BadToml meant = meant ≡ Err BadToml
+Fails (MissingKey key) meant = meant ≡ Err (MissingKey key)
+Fails (OutOfRange key) meant = meant ≡ Err (OutOfRange key)
+Fails (Guest t line fault) meant = meant ≡ Err (Guest t line fault)
+
+-- a call gives the value that is meant, as it is viewed, or the error; want of memory aside
+abbrev pub Gives : {X Y : Type 0} → (X → Y) → Result X BootError → Result Y BootError → Type 0
+Gives view (Ok x) meant = meant ≡ Ok (view x)
+Gives view (Err e) meant = Fails e meant
+
+-- the home of a thread, and its program
+abbrev pub home_of : Plan → ℕ → ℕ
+home_of plan t = slice_index (map (λ task. task.home) plan.tasks) t
+
+abbrev pub program_of : Plan → ℕ → List Instruction
+program_of plan t = slice_index_or (map (λ task. task.program) plan.tasks) t []
+
+-- a thread of so many CPUs and buffers: one of the CPUs is its home, and its program names only these buffers
+pub record IsTask (cpus buffers : ℕ) (task : Task) : Type 0 where
+  pub home : task.home < cpus
+  pub program : IsProgram task.program
+  pub known : All (λ i. IsTrue (names_below buffers i)) task.program
+
+-- the capacities of 1 to 16 buffers, each of 1 to 32 messages
+pub record AreCaps (caps : List ℕ) : Type 0 where
+  pub some : 1 ≤ length caps
+  pub most : length caps ≤ 16
+  pub each : All (λ capacity. (1 ≤ capacity) × (capacity ≤ 32)) caps
+
+-- 1 to 64 threads
+pub record AreTasks (cpus buffers : ℕ) (tasks : List Task) : Type 0 where
+  pub some : 1 ≤ length tasks
+  pub most : length tasks ≤ 64
+  pub each : All (IsTask cpus buffers) tasks
+
+-- a plan is within all limits
+pub record IsPlan (plan : Plan) : Type 0 where
+  pub some_cpus : 1 ≤ plan.cpus
+  pub most_cpus : plan.cpus ≤ 8
+  pub some_trace : 1 ≤ plan.trace
+  pub most_trace : plan.trace ≤ 65536
+  pub caps : AreCaps plan.caps
+  pub tasks : AreTasks plan.cpus (length plan.caps) plan.tasks

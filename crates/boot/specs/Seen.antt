@@ -1,0 +1,12 @@
+-- A boot's threads as its plan has them.
+use Rattle.std.specs.Prelude.{List, map}
+use Rattle.boot.specs.declared.tasks.Task.{Task as TaskInside}
+use Rattle.boot.specs.Plan.{Task}
+
+-- a thread
+abbrev pub task_of : TaskInside → Task
+task_of t = record { home = t.home.0; program = t.program }
+
+-- the threads
+abbrev pub tasks_of : List TaskInside → List Task
+tasks_of tasks = map task_of tasks

@@ -1,0 +1,16 @@
+//! Reads a plan: how many CPUs a system has, how many entries each may trace, the capacities of
+//! its buffers, and each thread's CPU and program. A plan is a TOML document.
+//!
+//! A `Boot` is within all limits, so whatever is built from one needs no test of its own.
+#![tactic(auto)]
+
+mod numbers;
+mod plans;
+mod refusals;
+mod tables;
+mod tasks;
+#[cfg(test)]
+mod tests;
+
+pub use plans::{Boot, TRACE};
+pub use refusals::{BootError, PlanKey};

@@ -1,0 +1,96 @@
+//! Reads the numbers of a plan.
+
+ghost use Rattle.std.specs.Prelude.{◌≡◌, ◌<◌, ◌≤◌, length, codes, option_map, All, IfOk, IfSome};
+ghost use Rattle.event_log.specs.Reading.{all_as};
+ghost use Rattle.toml.specs.Data.{get_member};
+ghost use Rattle.toml.specs.View.{table_view};
+ghost use Rattle.boot.specs.Plan.{number_within, number_at, caps_at, AreCaps, Gives};
+
+use crate::refusals::{BootError, PlanKey};
+use crate::tables::{array_at, integers, value_at};
+use arrayvec::ArrayVec;
+use event_log::BUFFERS;
+use std::alloc::Global;
+use toml::Table;
+
+/// The integer, if it is from `least` to `most`.
+fn number_within(integer: i64, least: u64, most: u64) -> Option<u64>
+    ensures number { result ≡ number_within least most integer }
+    ensures within { IfSome result (λ number. (least ≤ number) × (number ≤ most)) }
+{
+    let Ok(number) = u64::try_from(integer) else {
+        return None;
+    };
+    if number < least {
+        return None;
+    }
+    if most < number {
+        return None;
+    }
+    Some(number)
+}
+
+/// The integer of a key, from `least` to `most`.
+#[tactic(auto, unfolding(crate::specs::Plan::number_at))]
+pub fn number_at(
+    table: &Table,
+    name: &str,
+    key: PlanKey,
+    least: u64,
+    most: u64,
+) -> Result<u64, BootError>
+    ensures number { result ≡ number_at key least most (get_member name.now (table_view table.now)) }
+    ensures within { IfOk result (λ number. (least ≤ number) × (number ≤ most)) }
+{
+    let Some(value) = value_at(table, name) else {
+        return Err(BootError::MissingKey(key));
+    };
+    let Some(integer) = value.as_integer() else {
+        return Err(BootError::MissingKey(key));
+    };
+    match number_within(integer, least, most) {
+        Some(number) => Ok(number),
+        None => Err(BootError::OutOfRange(key)),
+    }
+}
+
+/// The capacities that some integers are, or `None` where one is out of range.
+fn caps_of(integers: &[i64]) -> Option<ArrayVec<u8, 16>>
+    requires { length integers.now ≤ 16 }
+    ensures caps { option_map (λ caps. caps.items) result ≡ all_as (number_within 1 32) integers.now }
+    ensures len { IfSome result (λ caps. length caps.items ≡ length integers.now) }
+    ensures within { IfSome result (λ caps. All (λ capacity. (1 ≤ capacity) × (capacity ≤ 32)) caps.items) }
+{
+    let mut caps = ArrayVec::new();
+    for integer in integers {
+        let Some(capacity) = number_within(*integer, 1, 32) else {
+            return None;
+        };
+        caps.push(capacity as u8);
+    }
+    Some(caps)
+}
+
+/// The capacities of a plan's buffers.
+#[tactic(auto, unfolding(crate::specs::Plan::caps_at))]
+pub fn caps_at(alloc: Global, table: &Table) -> Result<ArrayVec<u8, 16>, BootError>
+    ensures caps { Gives (λ caps. caps.items) result (caps_at (get_member (codes "buffers") (table_view table.now))) }
+    ensures within { IfOk result (λ caps. AreCaps caps.items) }
+{
+    let Some(array) = array_at(table, "buffers") else {
+        return Err(BootError::MissingKey(PlanKey::Buffers));
+    };
+    let Some(integers) = integers(alloc, array)? else {
+        return Err(BootError::MissingKey(PlanKey::Buffers));
+    };
+    if integers.is_empty() {
+        return Err(BootError::OutOfRange(PlanKey::Buffers));
+    }
+    if integers.len() > usize::from(BUFFERS) {
+        return Err(BootError::OutOfRange(PlanKey::Buffers));
+    }
+    match caps_of(&integers) {
+        Some(caps) => Ok(caps),
+        None => Err(BootError::OutOfRange(PlanKey::Buffers)),
+    }
+}

@@ -1,0 +1,137 @@
+//! What a plan says, once it is read.
+
+use crate::numbers::{caps_at, number_at};
+use crate::refusals::{BootError, PlanKey};
+use crate::tasks::{Task, tables_at, tasks_of};
+use arrayvec::ArrayVec;
+use event_log::{CPUS, CpuId, Tid};
+use guest::Program;
+use std::alloc::Global;
+use std::marker::Model;
+use toml::Table;
+
+/// How many entries a CPU may trace at most.
+pub const TRACE: u32 = 65_536;
+
+/// A plan that was read: it is within all limits.
+#[derive(Drop)]
+pub struct Boot {
+    cpus: u8,
+    trace: u32,
+    caps: ArrayVec<u8, 16>,
+    tasks: Vec<Task>,
+}
+
+impl Model for Boot {
+    ghost use Rattle.boot.specs.Plan.{Plan, IsPlan};
+    ghost use Rattle.boot.specs.Seen.{tasks_of};
+
+    ghost Value = { Plan };
+
+    ghost view = { λ b. record { cpus = b.cpus; trace = b.trace; caps = b.caps.items; tasks = tasks_of b.tasks.items } };
+
+    ghost invariant = { λ b. IsPlan (record { cpus = b.cpus; trace = b.trace; caps = b.caps.items; tasks = tasks_of b.tasks.items }) };
+}
+
+impl Boot {
+    ghost use Rattle.std.specs.Prelude.{◌≡◌, ◌<◌, length, IfOk};
+    ghost use Rattle.toml.specs.View.{table_view};
+    ghost use Rattle.boot.specs.Plan.{plan_of, plan_in, home_of, program_of, IsPlan, Gives};
+
+    /// Reads a plan from its text.
+    ///
+    /// Errors: `BadToml` where the text is no TOML document. Then the keys are tested in the order
+    /// `cpus`, `trace`, `buffers`, `thread`, and in each thread's table `cpu` before `program`:
+    /// `MissingKey` where a key is absent, is of another kind or has an item of another kind;
+    /// otherwise `OutOfRange` where a length or a number is out of range. A program that is no
+    /// program gives `Guest`, and one that names a buffer that the plan has not `OutOfRange`. The
+    /// first of these is the answer. `NoMemory` where an allocation was refused.
+    #[tactic(auto, unfolding(crate::specs::Plan::plan_of))]
+    pub fn read(alloc: Global, text: &str) -> Result<Boot, BootError>
+        ensures plan { Gives (λ boot. boot) result (plan_of text.now) }
+        ensures within { IfOk result IsPlan }
+    {
+        match toml::table_from_str(alloc, text) {
+            Ok(document) => Boot::in_document(alloc, &document),
+            Err(error) => {
+                if error.is_memory() {
+                    Err(BootError::NoMemory)
+                } else {
+                    Err(BootError::BadToml)
+                }
+            }
+        }
+    }
+
+    /// The plan of a document.
+    #[tactic(auto, unfolding(crate::specs::Plan::plan_in))]
+    fn in_document(alloc: Global, document: &Table) -> Result<Boot, BootError>
+        ensures plan { Gives (λ boot. boot) result (plan_in (table_view document.now)) }
+        ensures within { IfOk result IsPlan }
+    {
+        let cpus = number_at(document, "cpus", PlanKey::Cpus, 1, u64::from(CPUS))? as u8;
+        let trace = number_at(document, "trace", PlanKey::Trace, 1, u64::from(TRACE))? as u32;
+        let caps = caps_at(alloc, document)?;
+        let tables = tables_at(alloc, document)?;
+        let tasks = tasks_of(alloc, &tables, cpus, caps.len())?;
+        Ok(Boot {
+            cpus,
+            trace,
+            caps,
+            tasks,
+        })
+    }
+
+    /// How many CPUs the system has, from 1 to 8. They are numbered from 0.
+    pub fn cpus(&self) -> u8
+        ensures cpus { result ≡ self.now.cpus }
+        ensures within { IsPlan self.now }
+    {
+        self.cpus
+    }
+
+    /// How many entries each CPU may trace, from 1 to 65,536.
+    pub fn trace(&self) -> u32
+        ensures trace { result ≡ self.now.trace }
+        ensures within { IsPlan self.now }
+    {
+        self.trace
+    }
+
+    /// The capacity of each buffer by its number: 1 to 16 buffers, each of 1 to 32 messages.
+    pub fn caps(&self) -> ArrayVec<u8, 16>
+        ensures caps { result.items ≡ self.now.caps }
+        ensures within { IsPlan self.now }
+    {
+        let mut caps = ArrayVec::new();
+        caps.try_extend_from_slice(self.caps.as_slice()).unwrap();
+        caps
+    }
+
+    /// How many threads the system has, from 1 to 64. They are numbered from 0.
+    pub fn threads(&self) -> usize
+        ensures threads { result ≡ length self.now.tasks }
+        ensures within { IsPlan self.now }
+    {
+        self.tasks.len()
+    }
+
+    /// The CPU that is the home of a thread. The thread must exist.
+    pub fn home(&self, thread: Tid) -> CpuId
+        requires { thread.0 < length self.now.tasks }
+        ensures home { result.0 ≡ home_of self.now thread.0 }
+        ensures exists { result.0 < self.now.cpus }
+    {
+        self.tasks[usize::from(thread.0)].home
+    }
+
+    /// The program of a thread. The thread must exist. The program names only buffers that the
+    /// plan has.
+    pub fn program(&self, thread: Tid) -> &Program
+        requires { thread.0 < length self.now.tasks }
+        ensures program { result.now ≡ program_of self.now thread.0 }
+        ensures within { IsPlan self.now }
+    {
+        &self.tasks[usize::from(thread.0)].program
+    }
+}

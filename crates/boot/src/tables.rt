@@ -1,0 +1,72 @@
+//! Reads the values of a table: what a key holds, and arrays whose items are all of one kind.
+
+ghost use Rattle.std.specs.Prelude.{◌≡◌, map, option_map, option_and_then, IfOk};
+ghost use Rattle.event_log.specs.Reading.{all_as};
+ghost use Rattle.toml.specs.Data.{as_array, as_integer, as_str, as_table, get_member};
+ghost use Rattle.toml.specs.View.{view, array_view, table_view};
+ghost use Rattle.boot.specs.Plan.{data_in};
+
+use std::alloc::{AllocError, Global};
+use toml::{Table, Value};
+
+/// What a key of a table holds.
+pub fn value_at<'a>(table: &'a Table, name: &str) -> Option<&'a Value>
+    ensures { option_map (λ value. view value.now) result ≡ get_member name.now (table_view table.now) }
+{
+    table.get(name)
+}
+
+/// The array at a key of a table.
+pub fn array_at<'a>(table: &'a Table, name: &str) -> Option<&'a Vec<Value>>
+    ensures { option_map (λ array. array_view array.now) result ≡ option_and_then as_array (get_member name.now (table_view table.now)) }
+{
+    match value_at(table, name) {
+        Some(value) => value.as_array(),
+        None => None,
+    }
+}
+
+/// The integers of an array, or `None` where one item is no integer.
+pub fn integers(alloc: Global, values: &Vec<Value>) -> Result<Option<Vec<i64>>, AllocError>
+    ensures { IfOk result (λ seen. option_map (λ found. found.items) seen ≡ all_as as_integer (data_in (array_view values.now))) }
+{
+    let mut found = Vec::new(alloc);
+    for value in values {
+        let Some(integer) = value.as_integer() else {
+            return Ok(None);
+        };
+        found.push(integer)?;
+    }
+    Ok(Some(found))
+}
+
+/// The texts of an array, or `None` where one item is no string.
+pub fn texts<'a>(alloc: Global, values: &'a Vec<Value>) -> Result<Option<Vec<&'a str>>, AllocError>
+    ensures { IfOk result (λ seen. option_map (λ found. map (λ text. text.now) found.items) seen ≡ all_as as_str (data_in (array_view values.now))) }
+{
+    let mut found = Vec::new(alloc);
+    for value in values {
+        let Some(text) = value.as_str() else {
+            return Ok(None);
+        };
+        found.push(text)?;
+    }
+    Ok(Some(found))
+}
+
+/// The tables of an array, or `None` where one item is no table.
+pub fn tables<'a>(
+    alloc: Global,
+    values: &'a Vec<Value>,
+) -> Result<Option<Vec<&'a Table>>, AllocError>
+    ensures { IfOk result (λ seen. option_map (λ found. map (λ table. table_view table.now) found.items) seen ≡ all_as as_table (data_in (array_view values.now))) }
+{
+    let mut found = Vec::new(alloc);
+    for value in values {
+        let Some(table) = value.as_table() else {
+            return Ok(None);
+        };
+        found.push(table)?;
+    }
+    Ok(Some(found))
+}

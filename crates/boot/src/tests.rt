@@ -1,0 +1,186 @@
+//! Plans that are read, and each change of one plan with its error line.
+
+use crate::{Boot, BootError, PlanKey};
+use event_log::{BufId, CpuId, Tid};
+use guest::{Instruction, Register};
+use std::test::Fail;
+
+/// The plan of one thread that sends one message.
+const ONE_SEND: &str =
+    "cpus = 1\ntrace = 4\nbuffers = [1]\n\n[[thread]]\ncpu = 0\nprogram = [\"set r0 7\", \"send 0 r0\", \"exit\"]\n";
+
+/// The error line of a plan, or `read`.
+fn line(rt: &HostRuntime, plan: &str) -> Result<String, Fail> {
+    let text = match Boot::read(rt.alloc(), plan) {
+        Ok(_) => format!(in rt.alloc(); "read")?,
+        Err(error) => format!(in rt.alloc(); "{error}")?,
+    };
+    Ok(text)
+}
+
+/// The plan of one send with a part of its text replaced.
+fn changed(rt: &HostRuntime, from: &str, to: &str) -> Result<String, Fail> {
+    let plan = ONE_SEND.replace(rt.alloc(), from, to)?;
+    line(rt, plan.as_str())
+}
+
+#[test]
+fn a_plan_is_read_whole(rt: HostRuntime) -> Result<(), Fail> {
+    let plan =
+        "cpus = 2\ntrace = 65536\nbuffers = [1, 32]\nother = 1\n[[thread]]\ncpu = 1\nprogram = [\"recv 1 r2\"]\n[[thread]]\ncpu = 0\nname = \"b\"\nprogram = [\"yield\", \"exit\"]\n";
+    let boot = Boot::read(rt.alloc(), plan)?;
+    assert_eq!(rt; boot.cpus(), 2);
+    assert_eq!(rt; boot.trace(), 65536);
+    assert_eq!(rt; boot.caps().as_slice(), [1u8, 32].as_slice());
+    let threads = boot.threads();
+    assert_eq!(rt; threads, 2);
+    assert_eq!(rt; boot.home(Tid(0)), CpuId(1));
+    assert_eq!(rt; boot.home(Tid(1)), CpuId(0));
+    assert_eq!(rt;
+        boot.program(Tid(0)).instruction(0),
+        Instruction::Recv(BufId(1), Register::R2)
+    );
+    assert_eq!(rt; boot.program(Tid(1)).len(), 2);
+    Ok(())
+}
+
+#[test]
+fn each_change_of_a_number_has_its_line(rt: HostRuntime) -> Result<(), Fail> {
+    assert_eq!(rt; changed(&rt, "nothing", "else")?.as_str(), "read");
+    assert_eq!(rt;
+        changed(&rt, "cpus = 1", "cpus = \"1\"")?.as_str(),
+        "MissingKey(21) cpus"
+    );
+    assert_eq!(rt;
+        changed(&rt, "cpus = 1", "")?.as_str(),
+        "MissingKey(21) cpus"
+    );
+    assert_eq!(rt;
+        changed(&rt, "cpus = 1", "cpus = 9")?.as_str(),
+        "OutOfRange(22) cpus"
+    );
+    assert_eq!(rt;
+        changed(&rt, "cpus = 1", "cpus = 0")?.as_str(),
+        "OutOfRange(22) cpus"
+    );
+    assert_eq!(rt;
+        changed(&rt, "cpus = 1", "cpus = -1")?.as_str(),
+        "OutOfRange(22) cpus"
+    );
+    assert_eq!(rt;
+        changed(&rt, "trace = 4", "trace = 1.5")?.as_str(),
+        "MissingKey(21) trace"
+    );
+    assert_eq!(rt;
+        changed(&rt, "trace = 4", "trace = 65537")?.as_str(),
+        "OutOfRange(22) trace"
+    );
+    assert_eq!(rt;
+        changed(&rt, "[1]", "[33]")?.as_str(),
+        "OutOfRange(22) buffers"
+    );
+    assert_eq!(rt;
+        changed(&rt, "[1]", "[1, 0]")?.as_str(),
+        "OutOfRange(22) buffers"
+    );
+    assert_eq!(rt;
+        changed(&rt, "[1]", "[]")?.as_str(),
+        "OutOfRange(22) buffers"
+    );
+    assert_eq!(rt;
+        changed(&rt, "[1]", "[33, \"a\"]")?.as_str(),
+        "MissingKey(21) buffers"
+    );
+    assert_eq!(rt;
+        changed(&rt, "[1]", "[1,1,1,1,1,1,1,1,1,1,1,1,1,1,1,1,1]")?.as_str(),
+        "OutOfRange(22) buffers"
+    );
+    assert_eq!(rt;
+        changed(&rt, "cpus = 1", "cpus = 99999999999999999999")?.as_str(),
+        "BadToml(20)"
+    );
+    Ok(())
+}
+
+#[test]
+fn each_change_of_a_thread_has_its_line(rt: HostRuntime) -> Result<(), Fail> {
+    assert_eq!(rt;
+        line(&rt, "cpus = 1\ntrace = 4\nbuffers = [1]\n")?.as_str(),
+        "MissingKey(21) thread"
+    );
+    assert_eq!(rt;
+        line(&rt, "cpus = 1\ntrace = 4\nbuffers = [1]\nthread = []\n")?.as_str(),
+        "OutOfRange(22) thread"
+    );
+    assert_eq!(rt;
+        line(&rt, "cpus = 1\ntrace = 4\nbuffers = [1]\nthread = [1]\n")?.as_str(),
+        "MissingKey(21) thread"
+    );
+    assert_eq!(rt;
+        changed(&rt, "cpu = 0", "cpu = 1")?.as_str(),
+        "OutOfRange(22) thread 0 cpu"
+    );
+    assert_eq!(rt;
+        changed(&rt, "cpu = 0", "")?.as_str(),
+        "MissingKey(21) thread 0 cpu"
+    );
+    assert_eq!(rt;
+        changed(&rt, "\"exit\"", "1")?.as_str(),
+        "MissingKey(21) thread 0 program"
+    );
+    assert_eq!(rt;
+        changed(&rt, "send 0 r0", "send 1 r0")?.as_str(),
+        "OutOfRange(22) thread 0 program"
+    );
+    let second = format!(in rt.alloc(); "{ONE_SEND}[[thread]]\nprogram = []\n")?;
+    assert_eq!(rt;
+        line(&rt, second.as_str())?.as_str(),
+        "MissingKey(21) thread 1 cpu"
+    );
+    Ok(())
+}
+
+#[test]
+fn each_change_of_a_program_has_its_line(rt: HostRuntime) -> Result<(), Fail> {
+    assert_eq!(rt;
+        changed(&rt, "\"set r0 7\", \"send 0 r0\", \"exit\"", "")?.as_str(),
+        "Guest(23) thread 0 line 0 Empty(15)"
+    );
+    assert_eq!(rt;
+        changed(&rt, "set r0 7", "set  r0 7")?.as_str(),
+        "Guest(23) thread 0 line 0 UnknownWord(10)"
+    );
+    assert_eq!(rt;
+        changed(&rt, "set r0 7", "set r9 7")?.as_str(),
+        "Guest(23) thread 0 line 0 BadRegister(11)"
+    );
+    assert_eq!(rt;
+        changed(&rt, "set r0 7", "set r0 07")?.as_str(),
+        "Guest(23) thread 0 line 0 BadNumber(12)"
+    );
+    assert_eq!(rt;
+        changed(&rt, "send 0 r0", "jnz r0 3")?.as_str(),
+        "Guest(23) thread 0 line 1 BadTarget(13)"
+    );
+    let lines = "\"exit\", ".repeat(rt.alloc(), 256)?;
+    assert_eq!(rt;
+        changed(&rt, "\"set r0 7\", \"send 0 r0\", ", lines.as_str())?.as_str(),
+        "Guest(23) thread 0 line 256 TooLong(14)"
+    );
+    Ok(())
+}
+
+#[test]
+fn a_text_that_is_no_document_is_refused(rt: HostRuntime) -> Result<(), Fail> {
+    assert_eq!(rt; line(&rt, "cpus =")?.as_str(), "BadToml(20)");
+    assert_eq!(rt; line(&rt, "")?.as_str(), "MissingKey(21) cpus");
+    assert_eq!(rt;
+        format!(in rt.alloc(); "{}", BootError::NoMemory)?.as_str(),
+        "NoMemory(1)"
+    );
+    assert_eq!(rt;
+        format!(in rt.alloc(); "{}", BootError::MissingKey(PlanKey::Cpu(Tid(3))))?.as_str(),
+        "MissingKey(21) thread 3 cpu"
+    );
+    Ok(())
+}
