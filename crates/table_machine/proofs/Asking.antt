@@ -1,0 +1,116 @@
+-- What the steps of a key ask of the table, and what they tell.
+use Rattle.std.proofs.Common.{◌≡◌, ℕ, ◌+◌, ◌<◌, ◌%◌, ◌^◌, List, [], ◌∷◌, ◌++◌, IsSome, refl, ap, sym, ◌∙◌, subst, arith}
+use mathlib.Core.Option.{none}
+use Rattle.atomic_table.specs.Seated.{TableId}
+use Rattle.atomic_table.specs.Table.{Me, step, Allows}
+use Rattle.event_log.specs.declared.ids.CpuId.{CpuId}
+use Rattle.event_log.specs.declared.ids.LockId.{LockId}
+use Rattle.event_log.specs.declared.events.Event.{Event}
+use Rattle.event_log.specs.declared.events.Event.TheVariants.{Draw}
+use Rattle.event_log.specs.History.{Adds, Grows, IsLawful}
+use Rattle.event_log.specs.WordsLog.{actor, standing, Standing, Outside, Waiting, Inside}
+use Rattle.layer_traits.specs.declared.edits.Mark.{Mark}
+use Rattle.layer_traits.specs.Protocol.{Rules, MayCome}
+use Rattle.layer_traits.specs.OneLock.{opened}
+use Rattle.table_machine.specs.declared.views.Home.{Home}
+use Rattle.table_machine.specs.declared.views.View.{View}
+use Rattle.table_machine.specs.Places.{index_of, next_at, IsLaidOut}
+use Rattle.table_machine.specs.Views.{mine, owner, IsCpu}
+use Rattle.table_machine.specs.Rule.{Kept}
+use Rattle.table_machine.specs.Plays.{Moves, Drew}
+use Rattle.table_machine.specs.Desks.{Board, Desk, IsOf, Carries, IsKey}
+use Rattle.layer_traits.proofs.OneLockLemmas.{standing_own}
+use Rattle.table_machine.proofs.Finding.{index_same}
+use Rattle.table_machine.proofs.Showing.{next_within}
+use Rattle.table_machine.proofs.Stepping.{draws_allowed}
+
+abbrev pub desk_of : {E B : Type 0} → CpuId → TableId → Me (Home E B) (View E B) → Desk E B
+desk_of cpu table me = record { cpu = cpu; table = table; start = me.0.start; seen = me.0.seen }
+
+abbrev pub board_of : {B : Type 0} → TableId → List (LockId × B) → ℕ → Board B
+board_of table start cpus = record { table = table; start = start; cpus = cpus }
+
+module _ {E B O : Type 0} (R : Rules E B O) where
+  -- a key's token, at the opening blocks of its table
+  pub me_is : (cpu : CpuId) (me : Me (Home E B) (View E B)) (start : List (LockId × B)) → IsKey R cpu me → me.0.start ≡ start → me ≡ (mine start cpu me.0.seen, me.1)
+  me_is cpu me start key st = ap (λ (v : View E B). (v, me.1)) (key.view ∙ ap (λ (s : List (LockId × B)). mine s cpu me.0.seen) st)
+
+  module _ (table z : TableId) (start : List (LockId × B)) (n id word : ℕ) (places : List ℕ) (locks : List LockId) (cpu : CpuId) (me : Me (Home E B) (View E B)) (laid : IsLaidOut start z.words z.slots places locks) (key : IsKey R cpu me) where
+    draw_plain : (lock : LockId) → IsOf (board_of z start n) (desk_of cpu table me) → IsSome (opened me.0.start lock) → standing cpu me.0.seen ≡ Outside → word ≡ next_at (index_of start lock)
+        → (table ≡ z) × (word < z.words) × Allows (Kept R n start) z.slots id me word (λ m. (m + 1) % 2 ^ 64) (Drew R (step z.slots word 1 0 none) me)
+    draw_plain lock of exists out word_is =
+        let there : IsSome (opened start lock) = subst (λ s. IsSome (opened s lock)) of.1 exists in (
+          of.0,
+          subst (λ (w : ℕ). w < z.words) (sym word_is) (subst (λ (w : ℕ). next_at (index_of start lock) < w) (sym laid.words_are) (next_within R.edited start lock there)),
+          subst (λ (m : Me (Home E B) (View E B)). Allows (Kept R n start) z.slots id m word (λ m. (m + 1) % 2 ^ 64) (Drew R (step z.slots word 1 0 none) m)) (sym (me_is cpu me start key of.1))
+              (subst (λ (w : ℕ). Allows (Kept R n start) z.slots id (mine start cpu me.0.seen, me.1) w (λ m. (m + 1) % 2 ^ 64) (Drew R (step z.slots w 1 0 none) (mine start cpu me.0.seen, me.1))) (sym word_is)
+              (draws_allowed R n start z.slots id cpu me.0.seen me.1 lock there out)),
+        )
+
+    pub draw_asks : (d : Desk E B) (b : Board B) (lock : LockId) → desk_of cpu table me ≡ d → board_of z start n ≡ b → IsOf b d → IsSome (opened d.start lock) → standing d.cpu d.seen ≡ Outside → word ≡ next_at (index_of b.start lock)
+        → (table ≡ z) × (word < z.words) × Allows (Kept R n start) z.slots id me word (λ m. (m + 1) % 2 ^ 64) (Drew R (step z.slots word 1 0 none) me)
+    draw_asks d b lock d_is b_is of exists out word_is =
+        let P : Desk E B → Board B → Type 0 = λ d b. IsOf b d → IsSome (opened d.start lock) → standing d.cpu d.seen ≡ Outside → word ≡ next_at (index_of b.start lock)
+        → (table ≡ z) × (word < z.words) × Allows (Kept R n start) z.slots id me word (λ m. (m + 1) % 2 ^ 64) (Drew R (step z.slots word 1 0 none) me) in
+        subst (λ d. P d b) d_is (subst (λ b. P (desk_of cpu table me) b) b_is (draw_plain lock)) of exists out word_is
+
+  -- a step of a key: its token goes on from the event
+  pub record Went (cpu : CpuId) (v w : Me (Home E B) (View E B)) (e : Event (Mark E)) : Type 0 where
+    pub start : w.0.start ≡ v.0.start
+    pub adds : Adds (IsCpu cpu) actor e v.0.seen w.0.seen
+    pub key : IsKey R cpu w
+
+  pub went : (cpu : CpuId) (v w : Me (Home E B) (View E B)) (e : Event (Mark E)) → IsKey R cpu v → Moves R v.0 w.0 e → Carries v.0.start (standing cpu w.0.seen) w.1 → Went cpu v w e
+  went cpu v w e key moves carries =
+      let mine_is : owner v.0.cpus ≡ cpu = ap (λ (u : View E B). owner u.cpus) key.view in
+      let view : w.0 ≡ mine v.0.start cpu w.0.seen = subst (λ c. w.0 ≡ mine v.0.start c w.0.seen) mine_is moves.view in
+      let start : w.0.start ≡ v.0.start = ap (λ (u : View E B). u.start) view in
+      record {
+        start = start;
+        adds = subst (λ c. Adds (IsCpu c) actor e v.0.seen w.0.seen) mine_is moves.adds;
+        key = record {
+          view = subst (λ (s : List (LockId × B)). w.0 ≡ mine s cpu w.0.seen) (sym start) view;
+          held = subst (λ (s : List (LockId × B)). Carries s (standing cpu w.0.seen) w.1) (sym start) carries;
+          legal = subst (λ (s : List (LockId × B)). IsLawful (MayCome (R.allowed (opened s))) w.0.seen) (sym start) moves.legal;
+        };
+      }
+
+  -- where a CPU stands after its own event
+  pub stands_after : (cpu : CpuId) (e : Event (Mark E)) (v w : View E B) → actor e ≡ cpu → Moves R v w e → standing cpu w.seen ≡ Rattle.event_log.specs.WordsLog.left_by e
+  stands_after cpu e v w its moves = subst (λ c. standing c w.seen ≡ Rattle.event_log.specs.WordsLog.left_by e) its (ap (standing (actor e)) moves.adds.is ∙ standing_own e (moves.adds.others ++ v.seen))
+
+  pub draw_went : (cpu : CpuId) (v w : Me (Home E B) (View E B)) (slots word found : ℕ) (lock : LockId) → IsKey R cpu v → standing cpu v.0.seen ≡ Outside → IsSome (opened v.0.start lock) → word ≡ next_at (index_of v.0.start lock)
+      → Drew R (step slots word 1 0 none) v found w → Went cpu v w (Draw cpu lock found)
+  draw_went cpu v w slots word found lock key out exists word_is told =
+      let mine_is : owner v.0.cpus ≡ cpu = ap (λ (u : View E B). owner u.cpus) key.view in
+      let places_same : next_at (index_of v.0.start told.lock) ≡ next_at (index_of v.0.start lock) = sym told.word ∙ word_is in
+      let index_is : index_of v.0.start told.lock ≡ index_of v.0.start lock = omega arith in
+      let lock_is : told.lock ≡ lock = index_same v.0.start told.lock lock told.exists index_is in
+      let moves : Moves R v.0 w.0 (Draw cpu lock found) = subst (λ c. Moves R v.0 w.0 (Draw c lock found)) mine_is (subst (λ l. Moves R v.0 w.0 (Draw (owner v.0.cpus) l found)) lock_is told.moves) in
+      let nothing : v.1 ≡ [] = subst (λ st. Carries v.0.start st v.1) out key.held in
+      went cpu v w (Draw cpu lock found) key moves (subst (λ st. Carries v.0.start st w.1) (sym (stands_after cpu (Draw cpu lock found) v.0 w.0 refl moves)) (told.held ∙ nothing))
+
+  pub draw_tells : (cpu : CpuId) (table : TableId) (v w : Me (Home E B) (View E B)) (slots word found : ℕ) (lock : LockId) (d : Desk E B) (b : Board B) → desk_of cpu table v ≡ d → IsKey R cpu v
+      → IsOf b d → IsSome (opened d.start lock) → standing d.cpu d.seen ≡ Outside → word ≡ next_at (index_of b.start lock)
+      → Drew R (step slots word 1 0 none) v found w → (d.start ≡ w.0.start) × Adds (IsCpu d.cpu) actor (Draw d.cpu lock found) d.seen w.0.seen × IsKey R cpu w
+  draw_tells cpu table v w slots word found lock d b d_is key of exists out word_is told =
+      let P : Desk E B → Type 0 = λ d. IsOf b d → IsSome (opened d.start lock) → standing d.cpu d.seen ≡ Outside
+      → (d.start ≡ w.0.start) × Adds (IsCpu d.cpu) actor (Draw d.cpu lock found) d.seen w.0.seen × IsKey R cpu w in
+      let plain : P (desk_of cpu table v) = λ of exists out. (
+      let word_is' : word ≡ next_at (index_of v.0.start lock) = word_is ∙ ap (λ s. next_at (index_of s lock)) (sym of.1) in
+      let done = draw_went cpu v w slots word found lock key out exists word_is' told in (sym done.start, done.adds, done.key)) in
+      subst P d_is plain of exists out
+
+-- an event of the own CPU, to the holder that acts for that CPU alone
+pub acts_adds : {M : Type 0} (cpu own : CpuId) (e : CpuId → Event M) (P : Type 0) (old new : List (Event M)) → cpu ≡ own → Adds (IsCpu own) actor (e own) old new → Adds (λ c. (c ≡ own) × P) actor (e cpu) old new
+acts_adds cpu own e P old new same adds = record {
+  others = adds.others;
+  foreign = λ c acts. adds.foreign c acts.0;
+  is = adds.is ∙ ap (λ c. e c ∷ (adds.others ++ old)) (sym same);
+}
+
+pub seat_adds : {E B : Type 0} (k d : Desk E B) (cpu : CpuId) (e : CpuId → Event (Mark E)) (P : Type 0) (new : List (Event (Mark E))) → k ≡ d → cpu ≡ d.cpu → Adds (IsCpu k.cpu) actor (e k.cpu) k.seen new → Adds (λ c. (c ≡ d.cpu) × P) actor (e cpu) d.seen new
+seat_adds k d cpu e P new k_is same adds = acts_adds cpu d.cpu e P d.seen new same (subst (λ (d : Desk _ _). Adds (IsCpu d.cpu) actor (e d.cpu) d.seen new) k_is adds)
+
+pub seat_grows : {E B : Type 0} (k d : Desk E B) (new : List (Event (Mark E))) → k ≡ d → Grows (IsCpu k.cpu) actor k.seen new → Grows (IsCpu d.cpu) actor d.seen new
+seat_grows k d new k_is grows = subst (λ (d : Desk _ _). Grows (IsCpu d.cpu) actor d.seen new) k_is grows

@@ -1,0 +1,12 @@
+pub mod Logs
+pub mod Finding
+pub mod Seeing
+pub mod Showing
+pub mod Stepping
+pub mod Dealing
+pub mod Asking
+pub mod Holding
+pub mod Meeting
+pub mod Laying
+pub mod Closing
+pub mod Returning

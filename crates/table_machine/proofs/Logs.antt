@@ -1,0 +1,116 @@
+-- What events of others leave alone.
+use Rattle.std.proofs.Common.{◌≡◌, ℕ, Bool, true, false, if◌then◌else◌, List, [], ◌∷◌, ◌++◌, Option, option_map, refl, ap, sym, ◌∙◌, subst, append_assoc, append-nil, eq-eqb}
+use Rattle.event_log.specs.declared.ids.CpuId.{CpuId}
+use Rattle.event_log.specs.declared.ids.LockId.{LockId}
+use Rattle.event_log.specs.declared.events.Event.{Event}
+use Rattle.event_log.specs.declared.events.Event.TheVariants.{Draw, Look, Free}
+use Rattle.event_log.specs.History.{same_cpu, same_lock, AreOthers, IsLawful, own}
+use Rattle.event_log.specs.WordsLog.{actor, standing, left_by, IsLegalWords, Inside}
+use Rattle.event_log.specs.Sections.{block_after, Section, section_actor}
+use Rattle.event_log.proofs.Same.{same_lock_true}
+use Rattle.layer_traits.specs.declared.edits.Mark.{Mark}
+use Rattle.layer_traits.specs.Protocol.{sections, MayCome, section}
+use Rattle.table_machine.specs.Views.{EndsWith, IsSince}
+use Rattle.event_log.proofs.Tickets.{one_inside}
+
+module _ {M : Type 0} where
+  -- a CPU stands where it stood while others act
+  pub standing_others : (c : CpuId) (more past : List (Event M)) → AreOthers actor c more → standing c (more ++ past) ≡ standing c past
+  standing_others c [] past h = refl
+  standing_others c (e ∷ more) past h = ap (λ b. if b then left_by e else standing c (more ++ past)) h.0 ∙ standing_others c more past h.1
+
+  -- a CPU has the events that it had while others act
+  pub own_others : (c : CpuId) (more past : List (Event M)) → AreOthers actor c more → own actor c (more ++ past) ≡ own actor c past
+  own_others c [] past h = refl
+  own_others c (e ∷ more) past h = ap (λ b. if b then e ∷ own actor c (more ++ past) else own actor c (more ++ past)) h.0 ∙ own_others c more past h.1
+
+  pub others_append : (c : CpuId) (a b : List (Event M)) → AreOthers actor c a → AreOthers actor c b → AreOthers actor c (a ++ b)
+  others_append c [] b h k = k
+  others_append c (e ∷ a) b h k = (h.0, others_append c a b h.1 k)
+
+  -- events of others put on top of what stood since
+  pub since_more : (c : CpuId) (es log seen : List (Event M)) → AreOthers actor c es → IsSince log seen c → IsSince (es ++ log) seen c
+  since_more c es log seen h s = record {
+    more = es ++ s.more;
+    is = ap (λ l. es ++ l) s.is ∙ sym (append_assoc es s.more seen);
+    others = others_append c es s.more h s.others;
+  }
+
+  pub since_all : (c : CpuId) (log : List (Event M)) → IsSince log log c
+  since_all c log = record { more = []; is = refl; others = tt }
+
+  pub standing_since : (c : CpuId) (log seen : List (Event M)) → IsSince log seen c → standing c log ≡ standing c seen
+  standing_since c log seen s = ap (standing c) s.is ∙ standing_others c s.more seen s.others
+
+  pub own_since : (c : CpuId) (log seen : List (Event M)) → IsSince log seen c → own actor c log ≡ own actor c seen
+  own_since c log seen s = ap (own actor c) s.is ∙ own_others c s.more seen s.others
+
+  -- a log goes on from nothing
+  pub ends_nil : (log : List (Event M)) → EndsWith log []
+  ends_nil log = record { more = log; is = sym (append-nil log) }
+
+  pub ends_more : (es log seen : List (Event M)) → EndsWith log seen → EndsWith (es ++ log) seen
+  ends_more es log seen s = record { more = es ++ s.more; is = ap (λ l. es ++ l) s.is ∙ sym (append_assoc es s.more seen) }
+
+  pub ends_all : (log : List (Event M)) → EndsWith log log
+  ends_all log = record { more = []; is = refl }
+
+  pub ends_trans : (a b c : List (Event M)) → EndsWith a b → EndsWith b c → EndsWith a c
+  ends_trans a b c s t = record { more = s.more ++ t.more; is = s.is ∙ (ap (λ l. s.more ++ l) t.is ∙ sym (append_assoc s.more t.more c)) }
+
+  pub none_of_others : (c : CpuId) (log : List (Event M)) → AreOthers actor c log → own actor c log ≡ []
+  none_of_others c [] h = refl
+  none_of_others c (e ∷ log) h = ap (λ b. if b then e ∷ own actor c log else own actor c log) h.0 ∙ none_of_others c log h.1
+
+module _ {E : Type 0} (Allowed : List (Section E) → Section E → Type 0) where
+  -- a log that keeps the protocol is a legal words log
+  pub legal_words : (log : List (Event (Mark E))) → IsLawful (MayCome Allowed) log → IsLegalWords log
+  legal_words [] h = tt
+  legal_words (e ∷ log) h = (h.0.0, legal_words log h.1)
+
+  pub legal_tail : (more log : List (Event (Mark E))) → IsLawful (MayCome Allowed) (more ++ log) → IsLawful (MayCome Allowed) log
+  legal_tail [] log h = h
+  legal_tail (e ∷ more) log h = legal_tail more log h.1
+
+  -- its sections keep the protocol
+  pub lawful_sections : (log : List (Event (Mark E))) → IsLawful (MayCome Allowed) log → IsLawful Allowed (sections log)
+  lawful_sections [] h = tt
+  lawful_sections (Draw c l t ∷ log) h = lawful_sections log h.1
+  lawful_sections (Look c l t r ∷ log) h = lawful_sections log h.1
+  lawful_sections (Free c l m ∷ log) h = (h.0.1, lawful_sections log h.1)
+
+module _ {E : Type 0} where
+  pub sections_more : (more log : List (Event (Mark E))) → sections (more ++ log) ≡ sections more ++ sections log
+  sections_more [] log = refl
+  sections_more (Draw c l t ∷ more) log = sections_more more log
+  sections_more (Look c l t r ∷ more) log = sections_more more log
+  sections_more (Free c l m ∷ more) log = ap (λ s. section c l m.edit ∷ s) (sections_more more log)
+
+  pub sections_others : (c : CpuId) (more : List (Event (Mark E))) → AreOthers actor c more → AreOthers section_actor c (sections more)
+  sections_others c [] h = tt
+  sections_others c (Draw d l t ∷ more) h = sections_others c more h.1
+  sections_others c (Look d l t r ∷ more) h = sections_others c more h.1
+  sections_others c (Free d l m ∷ more) h = (h.0, sections_others c more h.1)
+
+module _ {E B : Type 0} (edited : E → B → B) (opening : LockId → Option B) where
+  -- what a Free by another CPU does to a lock that this CPU is inside: nothing, since it is not of that lock
+  inside_step : (c d : CpuId) (lock at : LockId) (mark : Mark E) (s t : ℕ) (log : List (Event (Mark E))) → IsLegalWords log
+      → standing d log ≡ Inside at s → standing c log ≡ Inside lock t → same_cpu d c ≡ false
+      → block_after edited opening lock (sections (Free d at mark ∷ log)) ≡ block_after edited opening lock (sections log)
+  inside_step c d lock at mark s t log legal di ci other = go (same_lock lock at) refl
+    where
+      go : (b : Bool) → same_lock lock at ≡ b → block_after edited opening lock (sections (Free d at mark ∷ log)) ≡ block_after edited opening lock (sections log)
+      go true same = absurd (
+          let here : standing d log ≡ Inside lock s = subst (λ l. standing d log ≡ Inside l s) (sym (same_lock_true lock at same)) di in
+          let one : same_cpu d c ≡ true = eq-eqb d.0 c.0 (ap (λ x. x.0) (one_inside log legal d c lock s t here ci)) in cc)
+      go false same = ap (λ b. if b then option_map (edited mark.edit) (block_after edited opening lock (sections log)) else block_after edited opening lock (sections log)) same
+
+  -- while a CPU is inside, nobody else edits the block
+  pub inside_keeps : (c : CpuId) (lock : LockId) (t : ℕ) (more log : List (Event (Mark E))) → IsLegalWords (more ++ log) → AreOthers actor c more → standing c log ≡ Inside lock t
+      → block_after edited opening lock (sections (more ++ log)) ≡ block_after edited opening lock (sections log)
+  inside_keeps c lock t [] log legal h ci = refl
+  inside_keeps c lock t (Draw d l k ∷ more) log legal h ci = inside_keeps c lock t more log legal.1 h.1 ci
+  inside_keeps c lock t (Look d l k r ∷ more) log legal h ci = inside_keeps c lock t more log legal.1 h.1 ci
+  inside_keeps c lock t (Free d l m ∷ more) log legal h ci =
+      inside_step c d lock l m legal.0.0 t (more ++ log) legal.1 legal.0.1 (standing_others c more log h.1 ∙ ci) h.0
+      ∙ inside_keeps c lock t more log legal.1 h.1 ci

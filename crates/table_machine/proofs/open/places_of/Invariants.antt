@@ -1,0 +1,13 @@
+use Rattle.std.proofs.Common.{◌≡◌, ◌≤◌, length}
+use Rattle.table_machine.proofs.Laying.{TellsFrom}
+use Rattle.table_machine.proofs.open.places_of.Given as goal
+
+abbrev pub invariant-loop-place : goal.invariant-loop-place
+invariant-loop-place g l = record {
+  row : length l.places.items ≡ 512;
+  within : l.place ≤ length l.blocks;
+  tells : TellsFrom l.places.items l.blocks l.place;
+}
+
+abbrev pub decreases-loop-place : goal.decreases-loop-place
+decreases-loop-place g l = l.place

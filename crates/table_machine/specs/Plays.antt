@@ -1,0 +1,78 @@
+-- What each atomic step tells the seat that makes it.
+use Rattle.std.specs.Prelude.{◌≡◌, ℕ, ◌==◌, true, false, [], ◌∷◌, ◌++◌, ◌⊎◌, IsSome, Some}
+use Rattle.atomic_table.specs.Table.{Step, Me}
+use Rattle.event_log.specs.declared.ids.LockId.{LockId}
+use Rattle.event_log.specs.declared.events.Event.{Event}
+use Rattle.event_log.specs.declared.events.Event.TheVariants.{Draw, Look, Free}
+use Rattle.event_log.specs.History.{IsLawful, Adds}
+use Rattle.event_log.specs.WordsLog.{actor, standing, Waiting, Inside}
+use Rattle.layer_traits.specs.declared.edits.Mark.{Mark}
+use Rattle.event_log.specs.Sections.{block_after}
+use Rattle.layer_traits.specs.Protocol.{Rules, MayCome, sections, mark_of}
+use Rattle.layer_traits.specs.OneLock.{opened}
+use Rattle.table_machine.specs.declared.views.View.{View}
+use Rattle.table_machine.specs.declared.views.Home.{Home}
+use Rattle.table_machine.specs.Places.{index_of, next_at}
+use Rattle.table_machine.specs.Views.{viewed, mine, owner, IsCpu, Fits}
+
+-- events of others, then this one; the whole is legal
+pub record Moves {E B O : Type 0} (rules : Rules E B O) (v w : View E B) (e : Event (Mark E)) : Type 0 where
+  pub view : w ≡ mine v.start (owner v.cpus) w.seen
+  pub adds : Adds (IsCpu (owner v.cpus)) actor e v.seen w.seen
+  pub legal : IsLawful (MayCome (rules.allowed (opened v.start))) w.seen
+
+-- a Draw of the lock whose word `next` this is
+pub record Drew {E B O : Type 0} (rules : Rules E B O) (at : Step (Home E B)) (v : Me (Home E B) (View E B)) (found : ℕ) (w : Me (Home E B) (View E B)) : Type 0 where
+  pub lock : LockId
+  pub exists : IsSome (opened v.0.start lock)
+  pub word : at.word ≡ next_at (index_of v.0.start lock)
+  pub moves : Moves rules v.0 w.0 (Draw (owner v.0.cpus) lock found)
+  pub held : w.1 ≡ v.1
+
+-- a look that read another number than its ticket
+pub record Misses {E B : Type 0} (lock : LockId) (ticket : ℕ) (v : Me (Home E B) (View E B)) (found : ℕ) (w : Me (Home E B) (View E B)) : Type 0 where
+  pub other : (found == ticket) ≡ false
+  pub waits : standing (owner v.0.cpus) w.0.seen ≡ Waiting lock ticket
+  pub held : w.1 ≡ v.1
+
+-- a look that read its ticket: the block that it took is the fold of the lock's sections
+pub record Hits {E B O : Type 0} (rules : Rules E B O) (lock : LockId) (ticket : ℕ) (v : Me (Home E B) (View E B)) (found : ℕ) (w : Me (Home E B) (View E B)) : Type 0 where
+  pub same : (found == ticket) ≡ true
+  pub inside : standing (owner v.0.cpus) w.0.seen ≡ Inside lock ticket
+  pub home : Home E B
+  pub block : B
+  pub held : w.1 ≡ (index_of v.0.start lock, home) ∷ v.1
+  pub is : home.block ≡ Some block
+  pub folds : block_after rules.edited (opened v.0.start) lock (sections w.0.seen) ≡ Some block
+
+-- a Look for the ticket that this CPU waits with; the block is taken exactly where it hits
+pub record Looked {E B O : Type 0} (rules : Rules E B O) (at : Step (Home E B)) (v : Me (Home E B) (View E B)) (found : ℕ) (w : Me (Home E B) (View E B)) : Type 0 where
+  pub lock : LockId
+  pub ticket : ℕ
+  pub waits : standing (owner v.0.cpus) v.0.seen ≡ Waiting lock ticket
+  pub moves : Moves rules v.0 w.0 (Look (owner v.0.cpus) lock ticket found)
+  pub finds : Misses lock ticket v found w ⊎ Hits rules lock ticket v found w
+
+-- a Free of the lock that this CPU is inside, with the edit that lies in its slot
+pub record Freed {E B O : Type 0} (rules : Rules E B O) (at : Step (Home E B)) (v : Me (Home E B) (View E B)) (found : ℕ) (w : Me (Home E B) (View E B)) : Type 0 where
+  pub lock : LockId
+  pub ticket : ℕ
+  pub inside : standing (owner v.0.cpus) v.0.seen ≡ Inside lock ticket
+  pub edit : E
+  pub home : Home E B
+  pub slot : ℕ
+  pub carried : v.1 ≡ (slot, home) ∷ []
+  pub is : home.edit ≡ Some edit
+  pub moves : Moves rules v.0 w.0 (Free (owner v.0.cpus) lock (mark_of edit))
+  pub held : w.1 ≡ []
+
+-- what was told is taken in: the view is now the whole log, which goes on from both
+pub record Met {E B O : Type 0} (rules : Rules E B O) (at : Step (Home E B)) (v : Me (Home E B) (View E B)) (found : ℕ) (w : Me (Home E B) (View E B)) : Type 0 where
+  pub view : w.0 ≡ viewed v.0.start (v.0.lent ++ v.0.cpus) w.0.seen
+  pub fits : Fits w.0.seen v.0
+  pub legal : IsLawful (MayCome (rules.allowed (opened v.0.start))) w.0.seen
+  pub held : w.1 ≡ v.1
+
+-- a new seat has seen nothing and acts for no CPU
+abbrev pub Entered : {E B : Type 0} → Step (Home E B) → Me (Home E B) (View E B) → ℕ → Me (Home E B) (View E B) → Type 0
+Entered at v found w = w ≡ (viewed v.0.start [] [], [])

@@ -1,0 +1,48 @@
+-- The rule of the table: there is one legal log.
+use Rattle.std.specs.Prelude.{◌≡◌, ℕ, ◌≤◌, List, length, slice_index, IsSome, Option, Some, None}
+use mathlib.Core.Option.{Option as Maybe, none, some}
+use lib.ListN.{get_elem?}
+use Rattle.atomic_table.specs.Table.{State}
+use Rattle.event_log.specs.declared.ids.TheConstants.{CPUS}
+use Rattle.event_log.specs.declared.ids.CpuId.{CpuId}
+use Rattle.event_log.specs.declared.ids.LockId.{LockId}
+use Rattle.event_log.specs.declared.events.Event.{Event}
+use Rattle.event_log.specs.History.{IsLawful, AreOthers}
+use Rattle.event_log.specs.WordsLog.{actor}
+use Rattle.layer_traits.specs.declared.edits.Mark.{Mark}
+use Rattle.layer_traits.specs.Protocol.{Rules, MayCome}
+use Rattle.layer_traits.specs.OneLock.{LockFits, opened}
+use Rattle.table_machine.specs.declared.views.View.{View}
+use Rattle.table_machine.specs.declared.views.Home.{Home}
+use Rattle.table_machine.specs.Places.{index_of, next_at, serving_at, word_count}
+use Rattle.table_machine.specs.Views.{Sees}
+
+-- the block in a slot; none while the slot is out with a seat
+abbrev pub home_block : {E B : Type 0} → Maybe (Home E B) → Option B
+home_block none = None
+home_block (some home) = home.block
+
+-- a slot with the opening block
+abbrev pub fresh_home : {E B : Type 0} → B → Home E B
+fresh_home block = record { block = Some block; edit = None }
+
+-- the words and the slot of one lock are what the log leaves of them
+pub record Stands {E B : Type 0} (edited : E → B → B) (start : List (LockId × B)) (words : List ℕ) (homes : List (Maybe (Home E B))) (log : List (Event (Mark E))) (lock : LockId) : Type 0 where
+  pub home : Maybe (Home E B)
+  pub at : get_elem? homes (index_of start lock) ≡ some home
+  pub is : LockFits edited (opened start) log lock (slice_index words (next_at (index_of start lock))) (slice_index words (serving_at (index_of start lock))) (home_block home)
+
+-- all words and slots are the replay of the log
+pub record Shows {E B : Type 0} (edited : E → B → B) (start : List (LockId × B)) (words : List ℕ) (homes : List (Maybe (Home E B))) (log : List (Event (Mark E))) : Type 0 where
+  pub word_length : length words ≡ word_count (length start)
+  pub home_length : length homes ≡ length start
+  pub stand : (lock : LockId) → IsSome (opened start lock) → Stands edited start words homes log lock
+
+-- there is one legal log of the CPUs of this table: the words and slots are its replay, the views are fronts of it
+pub record Kept {E B O : Type 0} (rules : Rules E B O) (cpu_count : ℕ) (start : List (LockId × B)) (s : State (Home E B) (View E B)) : Type 0 where
+  pub few : cpu_count ≤ CPUS
+  pub log : List (Event (Mark E))
+  pub legal : IsLawful (MayCome (rules.allowed (opened start))) log
+  pub shows : Shows rules.edited start s.words s.homes log
+  pub sees : Sees cpu_count s.views log
+  pub rest : (c : CpuId) → cpu_count ≤ c.0 → AreOthers actor c log

@@ -1,0 +1,67 @@
+-- What a seat knows of the log, and which CPUs it acts for.
+use Rattle.std.specs.Prelude.{◌≡◌, ℕ, zero, suc, ◌+◌, ◌<◌, List, [], ◌∷◌, ◌++◌, ◌⊎◌}
+use mathlib.Core.Option.{some}
+use lib.ListN.{get_elem?}
+use Rattle.event_log.specs.declared.ids.CpuId.{CpuId}
+use Rattle.event_log.specs.declared.ids.LockId.{LockId}
+use Rattle.event_log.specs.declared.events.Event.{Event}
+use Rattle.event_log.specs.History.{AreOthers}
+use Rattle.event_log.specs.WordsLog.{actor}
+use Rattle.layer_traits.specs.declared.edits.Mark.{Mark}
+use Rattle.table_machine.specs.declared.views.View.{View}
+
+-- a view that has taken in all that it was told
+abbrev pub viewed : {E B : Type 0} → List (LockId × B) → List CpuId → List (Event (Mark E)) → View E B
+viewed start cpus seen = record { start = start; cpus = cpus; seen = seen; told = []; lent = [] }
+
+-- the view of the seat of one CPU
+abbrev pub mine : {E B : Type 0} → List (LockId × B) → CpuId → List (Event (Mark E)) → View E B
+mine start cpu seen = viewed start (cpu ∷ []) seen
+
+-- so many CPUs, numbered upwards from this one
+abbrev pub cpus_from : ℕ → ℕ → List CpuId
+cpus_from first zero = []
+cpus_from first (suc count) = record { 0 = first } ∷ cpus_from (first + 1) count
+
+-- the CPU stands in the list
+abbrev pub Has : CpuId → List CpuId → Type 0
+Has cpu [] = ⊥
+Has cpu (c ∷ rest) = (cpu ≡ c) ⊎ Has cpu rest
+
+-- the first CPU of the list
+abbrev pub owner : List CpuId → CpuId
+owner [] = record { 0 = 0 }
+owner (c ∷ rest) = c
+
+-- one CPU alone
+abbrev pub IsCpu : CpuId → CpuId → Type 0
+IsCpu cpu c = c ≡ cpu
+
+-- the log begins with what was seen: newest first, it ends with it
+pub record EndsWith {E : Type 0} (log seen : List E) : Type 0 where
+  pub more : List E
+  pub is : log ≡ more ++ seen
+
+-- the log goes on from what was seen, without an event of this CPU
+pub record IsSince {M : Type 0} (log seen : List (Event M)) (cpu : CpuId) : Type 0 where
+  pub more : List (Event M)
+  pub is : log ≡ more ++ seen
+  pub others : AreOthers actor cpu more
+
+-- the CPU is one of this view's own, or of those that were lent to it
+abbrev pub Owns : {E B : Type 0} → CpuId → View E B → Type 0
+Owns cpu v = Has cpu v.cpus ⊎ Has cpu v.lent
+
+-- the view is a front of the log, and has all events of its CPUs
+pub record Fits {E B : Type 0} (log : List (Event (Mark E))) (v : View E B) : Type 0 where
+  pub front : EndsWith log v.seen
+  pub told : EndsWith log v.told
+  pub cpus : (c : CpuId) → Has c v.cpus → IsSince log v.seen c
+  pub lent : (c : CpuId) → Has c v.lent → IsSince log v.told c
+
+-- all views are fronts of the log; a CPU is of one view at most, and below the number of CPUs
+pub record Sees {E B : Type 0} (cpu_count : ℕ) (views : List (View E B)) (log : List (Event (Mark E))) : Type 0 where
+  pub fits : (i : ℕ) (v : View E B) → get_elem? views i ≡ some v → Fits log v
+  pub seat_of : ℕ → ℕ
+  pub apart : (i : ℕ) (v : View E B) (c : CpuId) → get_elem? views i ≡ some v → Owns c v → i ≡ seat_of c.0
+  pub known : (i : ℕ) (v : View E B) (c : CpuId) → get_elem? views i ≡ some v → Owns c v → c.0 < cpu_count

@@ -1,0 +1,95 @@
+//! How a table is closed.
+
+ghost use Rattle.std.specs.Prelude.{◌≡◌, ℕ, ◌<◌, ◌≤◌, [], ◌∷◌, ◌++◌, Some, IsSome, All, List, length, vec_capacity};
+ghost use Rattle.std.specs.Mem.Slots.{slots_items, slots_len, IsFull};
+ghost use mathlib.Core.Option.{some};
+ghost use lib.ListN.{get_elem?};
+ghost use Rattle.event_log.specs.declared.ids.LockId.{LockId};
+ghost use Rattle.layer_traits.specs.OneLock.{AreDistinct};
+ghost use Rattle.table_machine.specs.declared.views.Home.{Home};
+ghost use Rattle.table_machine.specs.Desks.{Desk, IsOver, Covers, Closes, Gathered};
+
+use crate::keys::Key;
+use crate::plays::{Enters, Meets, Notes};
+use crate::rule::Token;
+use crate::shared::Shared;
+use crate::views::Home;
+use atomic_table::Closed;
+use event_log::LockId;
+use layer_traits::Edit;
+use std::alloc::Global;
+
+impl<E: Edit> Shared<E> {
+    /// Closes the table and gives each block as the sections left it, in the order of `open`. It
+    /// takes the keys of all CPUs, none with a ticket outstanding. There is one legal words log that
+    /// begins with the log of each key and holds of each CPU just the events which its key has
+    /// seen; each block is the fold of its lock's sections in that log. Takes no memory.
+    pub fn close(self, keys: Vec<Key<E>>) -> Vec<(LockId, E::Block)>
+        requires distinct { AreDistinct self.start }
+        requires covers { Covers self.cpus keys.items }
+        requires keys { All (IsOver self) keys.items }
+        ensures { Closes E.rules self keys.items result.items }
+    {
+        let seat = self.gathered(keys);
+        let Shared {
+            table,
+            places: _,
+            locks,
+            blocks,
+        } = self;
+        returned(table.close_with(seat), locks, blocks)
+    }
+
+    // A new seat that has taken in all keys.
+    fn gathered(&self, keys: Vec<Key<E>>) -> Token<E>
+        requires { All (IsOver self.now) keys.items }
+        ensures table { result.table_id ≡ self.now.table }
+        ensures gathered { Gathered self.now.start result.me.0 keys.items }
+    {
+        let (_, mut seat) = self.table.shared.load_new_seat::<Enters<E>>(0);
+        for key in keys {
+            self.absorb(&mut seat, key);
+        }
+        seat
+    }
+
+    // Takes in one key.
+    fn absorb(&self, seat: &mut Token<E>, key: Key<E>)
+        requires table { seat.old.table_id ≡ self.now.table }
+        requires start { seat.old.me.0.start ≡ self.now.start }
+        requires over { IsOver self.now key }
+        ensures table { seat.new.table_id ≡ self.now.table }
+        ensures start { seat.new.me.0.start ≡ self.now.start }
+        ensures gathered { (desks : List _) → Gathered self.now.start seat.old.me.0 desks → Gathered self.now.start seat.new.me.0 (desks ++ key ∷ []) }
+    {
+        let Key { token, cpu: _ } = key;
+        let table = &self.table.shared;
+        table.join_seat::<Notes>(seat, token);
+        table.load::<Meets<E>>(seat, 0);
+    }
+}
+
+// The blocks that lie in the slots, with their locks.
+fn returned<E: Edit>(
+    mut closed: Closed<Home<E, E::Block>, Global>,
+    locks: Vec<LockId>,
+    mut blocks: Vec<(LockId, E::Block)>,
+) -> Vec<(LockId, E::Block)>
+    requires full { IsFull closed.slots }
+    requires count { slots_len closed.slots ≡ length locks.items }
+    requires home { (i : ℕ) → i < length locks.items → (y : Home _ _) × (get_elem? (slots_items closed.slots) i ≡ some y) × IsSome y.block }
+    requires empty { blocks.items ≡ [] }
+    requires room { length locks.items ≤ vec_capacity blocks }
+    ensures count { length result.items ≡ length locks.items }
+    ensures blocks { (i : ℕ) (lock : LockId) (y : Home _ _) (b : _) → get_elem? locks.items i ≡ some lock → get_elem? (slots_items closed.slots) i ≡ some y → y.block ≡ Some b → get_elem? result.items i ≡ some (lock, b) }
+{
+    for i in 0..locks.len() {
+        let home = closed.take(i);
+        let Some(block) = home.block else {
+            unreachable!()
+        };
+        blocks.push_reserved((locks[i], block));
+    }
+    closed.free();
+    blocks
+}

@@ -1,0 +1,141 @@
+//! The key of a CPU: what lies in it is what the CPU has seen.
+
+ghost use Rattle.std.specs.Prelude.{◌≡◌, ℕ, List, [], IsSome, Some, MatchOption, option_map};
+ghost use Rattle.event_log.specs.declared.events.Event.TheVariants.{Draw, Look, Free};
+ghost use Rattle.event_log.specs.History.{Adds, Grows, IsLawful};
+ghost use Rattle.event_log.specs.WordsLog.{actor, standing, Outside, Waiting, Inside};
+ghost use Rattle.event_log.specs.Sections.{block_after};
+ghost use Rattle.layer_traits.specs.Protocol.{mark_of, section, sections, MayCome, StaysAllowed};
+ghost use Rattle.layer_traits.specs.OneLock.{opened};
+ghost use Rattle.table_machine.specs.Desks.{IsOf};
+ghost use Rattle.table_machine.specs.Views.{viewed, EndsWith, IsCpu};
+
+use crate::plays::{Draws, Frees, Looks, Meets, Notes};
+use crate::rule::Token;
+use crate::shared::Shared;
+use crate::views::Home;
+use event_log::{CpuId, LockId};
+use layer_traits::{Edit, Mark};
+use std::marker::Model;
+
+/// The right to act for one CPU at one table, and all that the CPU has seen there. It may go from
+/// thread to thread; there is one for each CPU of the table.
+///
+/// To a contract it is a desk: its CPU, its table, the blocks that the table opened with, and the
+/// words log that was seen, newest first.
+#[derive(Drop)]
+pub struct Key<E: Edit> {
+    pub(crate) token: Token<E>,
+    pub(crate) cpu: CpuId,
+}
+
+impl<E: Edit> Model for Key<E> {
+    ghost use Rattle.table_machine.specs.Desks.{Desk, IsKey};
+
+    ghost Value = { Desk E E.Block };
+
+    ghost view = { λ k. record { cpu = k.cpu; table = k.token.table_id; start = k.token.me.0.start; seen = k.token.me.0.seen } };
+
+    ghost invariant = { λ k. IsKey E.rules k.cpu k.token.me };
+}
+
+impl<E: Edit> Key<E> {
+    // What was seen is legal.
+    pub(crate) fn lawful(&self)
+        ensures { IsLawful (MayCome (E.rules.allowed (opened self.now.start))) self.now.seen }
+    {
+        let _token = &self.token;
+    }
+
+    // Adds 1 to `next` and gives the old value.
+    pub(crate) fn draw(&mut self, shared: &Shared<E>, lock: LockId) -> u64
+        requires of { IsOf shared.now self.old }
+        requires lock { IsSome (opened self.old.start lock) }
+        requires outside { standing self.old.cpu self.old.seen ≡ Outside }
+        ensures same { self.new ≡ record self.old { seen = self.new.seen } }
+        ensures adds { Adds (IsCpu self.old.cpu) actor (Draw self.old.cpu lock result) self.old.seen self.new.seen }
+        ensures legal { IsLawful (MayCome (E.rules.allowed (opened self.old.start))) self.new.seen }
+    {
+        let word = shared.next_word(lock);
+        shared
+            .table
+            .shared
+            .fetch_add::<Draws<E>>(&mut self.token, word, 1)
+    }
+
+    // Reads `serving`, and takes the block where it is the ticket.
+    pub(crate) fn look(&mut self, shared: &Shared<E>, lock: LockId, ticket: u64) -> Option<E::Block>
+        requires of { IsOf shared.now self.old }
+        requires lock { IsSome (opened self.old.start lock) }
+        requires waiting { standing self.old.cpu self.old.seen ≡ Waiting lock ticket }
+        ensures same { self.new ≡ record self.old { seen = self.new.seen } }
+        ensures adds { (read : ℕ) × Adds (IsCpu self.old.cpu) actor (Look self.old.cpu lock ticket read) self.old.seen self.new.seen }
+        ensures hits { MatchOption result
+            (standing self.old.cpu self.new.seen ≡ Waiting lock ticket)
+            (λ block. (standing self.old.cpu self.new.seen ≡ Inside lock ticket)
+            × (block_after E.rules.edited (opened self.old.start) lock (sections self.new.seen) ≡ Some block)) }
+        ensures legal { IsLawful (MayCome (E.rules.allowed (opened self.old.start))) self.new.seen }
+    {
+        let word = shared.serving_word(lock);
+        let place = shared.place(lock);
+        let found = shared.table.shared.load::<Looks<E>>(&mut self.token, word);
+        if found != ticket {
+            return None;
+        }
+        let empty = Home {
+            block: None,
+            edit: None,
+        };
+        let home = shared.table.shared.exchange(&mut self.token, place, empty);
+        home.block
+    }
+
+    // Puts the block into its slot, and adds 1 to `serving`.
+    pub(crate) fn free(&mut self, shared: &Shared<E>, lock: LockId, block: E::Block, edit: E)
+        requires of { IsOf shared.now self.old }
+        requires lock { IsSome (opened self.old.start lock) }
+        requires inside { (ticket : ℕ) × (standing self.old.cpu self.old.seen ≡ Inside lock ticket) }
+        requires edited { option_map (E.rules.edited edit) (block_after E.rules.edited (opened self.old.start) lock (sections self.old.seen)) ≡ Some block }
+        requires allowed { StaysAllowed (E.rules.allowed (opened self.old.start)) (sections self.old.seen) (section self.old.cpu lock edit) }
+        ensures same { self.new ≡ record self.old { seen = self.new.seen } }
+        ensures adds { Adds (IsCpu self.old.cpu) actor (Free self.old.cpu lock (mark_of edit)) self.old.seen self.new.seen }
+        ensures legal { IsLawful (MayCome (E.rules.allowed (opened self.old.start))) self.new.seen }
+    {
+        let word = shared.serving_word(lock);
+        let place = shared.place(lock);
+        let home = Home {
+            block: Some(block),
+            edit: Some(edit),
+        };
+        let _empty = shared.table.shared.exchange(&mut self.token, place, home);
+        shared
+            .table
+            .shared
+            .fetch_add::<Frees<E>>(&mut self.token, word, 1);
+    }
+
+    // What was seen, in a token that acts for no CPU.
+    pub(crate) fn notes(&mut self, shared: &Shared<E>) -> Token<E>
+        requires { IsOf shared.now self.old }
+        ensures same { self.new ≡ self.old }
+        ensures table { result.table_id ≡ self.old.table }
+        ensures notes { result.me ≡ (viewed self.old.start [] self.old.seen, []) }
+    {
+        shared.table.shared.split_seat::<Notes>(&mut self.token)
+    }
+
+    // Takes in what the token has seen.
+    pub(crate) fn take_in(&mut self, shared: &Shared<E>, notes: Token<E>)
+        requires of { IsOf shared.now self.old }
+        requires table { notes.table_id ≡ self.old.table }
+        requires notes { (notes.me.1 ≡ []) × (notes.me.0.cpus ≡ []) }
+        ensures same { self.new ≡ record self.old { seen = self.new.seen } }
+        ensures begins { EndsWith self.new.seen notes.me.0.seen }
+        ensures grows { Grows (IsCpu self.old.cpu) actor self.old.seen self.new.seen }
+        ensures legal { IsLawful (MayCome (E.rules.allowed (opened self.old.start))) self.new.seen }
+    {
+        let table = &shared.table.shared;
+        table.join_seat::<Notes>(&mut self.token, notes);
+        table.load::<Meets<E>>(&mut self.token, 0);
+    }
+}

@@ -1,0 +1,221 @@
+//! How a table is made, and its keys dealt.
+
+ghost use Rattle.std.specs.Prelude.{◌≡◌, ◌+◌, ◌-◌, ◌<◌, ◌≤◌, ◌^◌, [], length, map, replicate, vec_len, vec_capacity, IfOk};
+ghost use Rattle.event_log.specs.declared.ids.LockId.{LockId};
+ghost use Rattle.layer_traits.specs.OneLock.{AreDistinct};
+ghost use Rattle.table_machine.specs.Places.{word_count, TellsPlaces, IsLaidOut};
+ghost use Rattle.table_machine.specs.Rule.{fresh_home};
+ghost use Rattle.table_machine.specs.Views.{viewed, cpus_from};
+ghost use Rattle.table_machine.specs.Desks.{new_desk, new_desks};
+
+use crate::keys::Key;
+use crate::places::{LOCKS, number_of_lock};
+use crate::plays::Deals;
+use crate::rule::{Opening, Token, Whole};
+use crate::shared::Shared;
+use crate::views::Home;
+use event_log::{CPUS, CpuId, LockId, NoMemory};
+use layer_traits::Edit;
+use std::alloc::{AllocError, Global};
+use std::snapshot::Snapshot;
+
+// What is laid out before the table is made.
+struct Layout<E: Edit> {
+    words: Vec<u64>,
+    places: Vec<usize>,
+    locks: Vec<LockId>,
+    homes: Vec<Home<E, E::Block>>,
+    returned: Vec<(LockId, E::Block)>,
+}
+
+impl<E: Edit> Shared<E> {
+    /// A table with these locks and blocks, in which no lock stands twice and which may be none, and
+    /// one key for each CPU, from CPU 0 up. `cpus` is at most `CPUS`. Nothing has happened yet: the
+    /// log of each key is empty.
+    ///
+    /// Errors: `NoMemory` where memory was refused; the blocks are dropped and nothing was made.
+    pub fn open(
+        alloc: Global,
+        blocks: Vec<(LockId, E::Block)>,
+        cpus: u8,
+    ) -> Result<(Shared<E>, Vec<Key<E>>), NoMemory>
+        requires distinct { AreDistinct blocks.items }
+        requires cpus { cpus ≤ CPUS }
+        ensures start { IfOk result (λ r. r.0.start ≡ blocks.items) }
+        ensures cpus { IfOk result (λ r. r.0.cpus ≡ cpus) }
+        ensures keys { IfOk result (λ r. r.1.items ≡ new_desks r.0 cpus) }
+    {
+        match opened_table(alloc, blocks, cpus) {
+            Ok((shared, dealer)) => {
+                let Ok(keys) = shared.deal_all(alloc, dealer, cpus) else {
+                    return Err(NoMemory);
+                };
+                Ok((shared, keys))
+            }
+            Err(AllocError) => Err(NoMemory),
+        }
+    }
+
+    // Deals the keys of all CPUs.
+    fn deal_all(
+        &self,
+        alloc: Global,
+        mut dealer: Token<E>,
+        cpus: u8,
+    ) -> Result<Vec<Key<E>>, AllocError>
+        requires cpus { cpus ≡ self.now.cpus }
+        requires table { dealer.table_id ≡ self.now.table }
+        requires dealer { dealer.me ≡ (viewed self.now.start (cpus_from 0 cpus) [], []) }
+        ensures { IfOk result (λ keys. keys.items ≡ new_desks self.now cpus) }
+    {
+        let mut keys = Vec::with_capacity(alloc, usize::from(cpus))?;
+        for cpu in 0..cpus {
+            keys.push(self.deal(&mut dealer, cpu))?;
+        }
+        Ok(keys)
+    }
+
+    // Deals the key of the dealer's first CPU.
+    fn deal(&self, dealer: &mut Token<E>, cpu: u8) -> Key<E>
+        requires cpu { cpu < self.now.cpus }
+        requires table { dealer.old.table_id ≡ self.now.table }
+        requires dealer { dealer.old.me ≡ (viewed self.now.start (cpus_from cpu (self.now.cpus - cpu)) [], []) }
+        ensures key { result ≡ new_desk self.now cpu }
+        ensures table { dealer.new.table_id ≡ self.now.table }
+        ensures dealer { dealer.new.me ≡ (viewed self.now.start (cpus_from (cpu + 1) (self.now.cpus - (cpu + 1))) [], []) }
+    {
+        let token = self.table.shared.split_seat::<Deals>(dealer);
+        Key {
+            token,
+            cpu: CpuId(cpu),
+        }
+    }
+}
+
+// The table, with the seat that acts for all its CPUs.
+fn opened_table<E: Edit>(
+    alloc: Global,
+    blocks: Vec<(LockId, E::Block)>,
+    cpus: u8,
+) -> Result<(Shared<E>, Token<E>), AllocError>
+    requires cpus { cpus ≤ CPUS }
+    ensures start { IfOk result (λ r. r.0.start ≡ blocks.items) }
+    ensures cpus { IfOk result (λ r. r.0.cpus ≡ cpus) }
+    ensures table { IfOk result (λ r. r.1.table_id ≡ r.0.table) }
+    ensures dealer { IfOk result (λ r. r.1.me ≡ (viewed blocks.items (cpus_from 0 cpus) [], [])) }
+{
+    let about = Opening {
+        cpus,
+        blocks: Snapshot::of(&blocks),
+    };
+    let Layout {
+        words,
+        places,
+        locks,
+        homes,
+        returned,
+    } = laid_out(alloc, blocks)?;
+    match Whole::<E>::new(alloc, words.as_slice(), homes, &about) {
+        Ok(made) => Ok(furnished(made, places, locks, returned)),
+        Err(_) => Err(AllocError),
+    }
+}
+
+// The table with the row of places beside it, and the room for the blocks that `close` gives.
+fn furnished<E: Edit>(
+    made: (Whole<E>, Token<E>),
+    places: Vec<usize>,
+    locks: Vec<LockId>,
+    blocks: Vec<(LockId, E::Block)>,
+) -> (Shared<E>, Token<E>)
+    requires laid { IsLaidOut made.0.shared.key.blocks.value.items made.0.shared.table_id.words made.0.shared.table_id.slots places.items locks.items }
+    requires empty { blocks.items ≡ [] }
+    requires room { length made.0.shared.key.blocks.value.items ≤ vec_capacity blocks }
+    ensures start { result.0.start ≡ made.0.shared.key.blocks.value.items }
+    ensures cpus { result.0.cpus ≡ made.0.shared.key.cpus }
+    ensures table { result.0.table ≡ made.0.shared.table_id }
+    ensures dealer { result.1 ≡ made.1 }
+{
+    let (table, dealer) = made;
+    let shared = Shared {
+        table,
+        places,
+        locks,
+        blocks,
+    };
+    (shared, dealer)
+}
+
+fn laid_out<E: Edit>(
+    alloc: Global,
+    blocks: Vec<(LockId, E::Block)>,
+) -> Result<Layout<E>, AllocError>
+    ensures words { IfOk result (λ r. r.words.items ≡ replicate (word_count (length blocks.items)) 0) }
+    ensures small { IfOk result (λ r. word_count (length blocks.items) < 2 ^ 64) }
+    ensures row { IfOk result (λ r. length r.places.items ≡ 512) }
+    ensures places { IfOk result (λ r. TellsPlaces r.places.items blocks.items) }
+    ensures locks { IfOk result (λ r. r.locks.items ≡ map (λ (o : LockId × _). o.0) blocks.items) }
+    ensures homes { IfOk result (λ r. r.homes.items ≡ map (λ (o : LockId × _). fresh_home o.1) blocks.items) }
+    ensures none { IfOk result (λ r. r.returned.items ≡ []) }
+    ensures room { IfOk result (λ r. length blocks.items ≤ vec_capacity r.returned) }
+{
+    let words = zero_words(alloc, blocks.len())?;
+    let places = places_of(alloc, blocks.as_slice())?;
+    let returned = Vec::with_capacity(alloc, blocks.len())?;
+    let (locks, homes) = parted(alloc, blocks)?;
+    Ok(Layout {
+        words,
+        places,
+        locks,
+        homes,
+        returned,
+    })
+}
+
+// The words of so many locks, all 0.
+fn zero_words(alloc: Global, locks: usize) -> Result<Vec<u64>, AllocError>
+    ensures words { IfOk result (λ v. v.items ≡ replicate (word_count locks) 0) }
+    ensures small { IfOk result (λ v. word_count locks < 2 ^ 64) }
+{
+    let Some(count) = locks.checked_mul(16) else {
+        return Err(AllocError);
+    };
+    let Some(count) = count.checked_add(1) else {
+        return Err(AllocError);
+    };
+    Ok(vec![in alloc; 0; count]?)
+}
+
+// A row that tells the place of each lock.
+fn places_of<B>(alloc: Global, blocks: &[(LockId, B)]) -> Result<Vec<usize>, AllocError>
+    ensures row { IfOk result (λ v. length v.items ≡ 512) }
+    ensures places { IfOk result (λ v. TellsPlaces v.items blocks.now) }
+{
+    let mut places = vec![in alloc; 0; LOCKS]?;
+    let mut place = blocks.len();
+    while place > 0 {
+        place -= 1;
+        places[number_of_lock(blocks[place].0)] = place;
+    }
+    Ok(places)
+}
+
+// The locks, and their slots with the opening blocks.
+fn parted<E: Edit>(
+    alloc: Global,
+    blocks: Vec<(LockId, E::Block)>,
+) -> Result<(Vec<LockId>, Vec<Home<E, E::Block>>), AllocError>
+    ensures locks { IfOk result (λ r. r.0.items ≡ map (λ (o : LockId × _). o.0) blocks.items) }
+    ensures homes { IfOk result (λ r. r.1.items ≡ map (λ (o : LockId × _). fresh_home o.1) blocks.items) }
+{
+    let mut locks = Vec::with_capacity(alloc, blocks.len())?;
+    let mut homes = Vec::with_capacity(alloc, blocks.len())?;
+    for (lock, block) in blocks {
+        locks.push(lock)?;
+        homes.push(Home {
+            block: Some(block),
+            edit: None,
+        })?;
+    }
+    Ok((locks, homes))
+}

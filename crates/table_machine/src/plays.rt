@@ -1,0 +1,85 @@
+//! What each atomic step tells its caller.
+ghost use Rattle.table_machine.specs.Plays.{Drew, Looked, Freed, Met, Entered};
+
+use crate::views::{Home, View};
+use atomic_table::{Join, Play, Split};
+use layer_traits::Edit;
+use std::marker::PhantomData;
+
+/// A fetch-and-add on `next`.
+pub(crate) struct Draws<E> {
+    edit: PhantomData<E>,
+}
+
+impl<E: Edit> Play<Home<E, E::Block>, View<E, E::Block>> for Draws<E> {
+    ghost then = { Drew E.rules };
+}
+
+/// A load of `serving`.
+pub(crate) struct Looks<E> {
+    edit: PhantomData<E>,
+}
+
+impl<E: Edit> Play<Home<E, E::Block>, View<E, E::Block>> for Looks<E> {
+    ghost then = { Looked E.rules };
+}
+
+/// A fetch-and-add on `serving`.
+pub(crate) struct Frees<E> {
+    edit: PhantomData<E>,
+}
+
+impl<E: Edit> Play<Home<E, E::Block>, View<E, E::Block>> for Frees<E> {
+    ghost then = { Freed E.rules };
+}
+
+/// A load that is no event: the seat takes in what it was told.
+pub(crate) struct Meets<E> {
+    edit: PhantomData<E>,
+}
+
+impl<E: Edit> Play<Home<E, E::Block>, View<E, E::Block>> for Meets<E> {
+    ghost then = { Met E.rules };
+}
+
+/// The load of a new seat, which acts for no CPU.
+pub(crate) struct Enters<E> {
+    edit: PhantomData<E>,
+}
+
+impl<E: Edit> Play<Home<E, E::Block>, View<E, E::Block>> for Enters<E> {
+    ghost then = { Entered };
+}
+
+/// The first CPU of a seat goes to a seat of its own.
+pub(crate) struct Deals;
+
+impl<E, B> Split<View<E, B>> for Deals {
+    ghost use Rattle.std.specs.Prelude.{[], ◌∷◌, drop};
+    ghost use Rattle.table_machine.specs.Views.{viewed, mine, owner};
+
+    ghost left = { λ v. viewed v.start (drop 1 v.cpus) v.seen };
+
+    ghost right = { λ v. mine v.start (owner v.cpus) v.seen };
+}
+
+/// What a seat has seen, for another seat. It acts for no CPU.
+pub(crate) struct Notes;
+
+impl<E, B> Split<View<E, B>> for Notes {
+    ghost use Rattle.std.specs.Prelude.{[]};
+    ghost use Rattle.table_machine.specs.Views.{viewed};
+
+    ghost left = { λ v. v };
+
+    ghost right = { λ v. viewed v.start [] v.seen };
+}
+
+impl<E, B> Join<View<E, B>> for Notes {
+    ghost use Rattle.std.specs.Prelude.{[]};
+    ghost use Rattle.table_machine.specs.Views.{viewed};
+
+    ghost both = { λ v w. record { start = v.start; cpus = v.cpus; seen = v.seen; told = w.seen; lent = w.cpus } };
+
+    ghost spent = { viewed [] [] [] };
+}

@@ -1,0 +1,49 @@
+//! The rule that each atomic step keeps.
+use crate::views::{Home, View};
+use atomic_table::{Seat, Shared, Table, TableRule};
+use event_log::LockId;
+use layer_traits::Edit;
+use std::alloc::Global;
+use std::marker::PhantomData;
+use std::snapshot::Snapshot;
+
+/// What the table is told once, when it is made.
+#[derive(Drop)]
+pub(crate) struct Opening<B> {
+    /// The number of CPUs.
+    pub(crate) cpus: u8,
+    /// The blocks that it opens with.
+    pub(crate) blocks: Snapshot<Vec<(LockId, B)>>,
+}
+
+/// There is one legal log: the words and the blocks are its replay, and each view is a front of it.
+pub(crate) struct LogRule<E> {
+    edit: PhantomData<E>,
+}
+
+impl<E: Edit> TableRule<Home<E, E::Block>, View<E, E::Block>, Opening<E::Block>> for LogRule<E> {
+    ghost use Rattle.std.specs.Prelude.{[]};
+    ghost use Rattle.table_machine.specs.Rule.{Kept};
+    ghost use Rattle.table_machine.specs.Views.{viewed, cpus_from};
+
+    ghost holds = { λ k. Kept E.rules k.cpus k.blocks.value.items };
+
+    ghost first = { λ k. viewed k.blocks.value.items (cpus_from 0 k.cpus) [] };
+}
+
+pub(crate) type Token<E> = Seat<Home<E, <E as Edit>::Block>, View<E, <E as Edit>::Block>>;
+
+pub(crate) type Core<E> = Shared<
+    Home<E, <E as Edit>::Block>,
+    View<E, <E as Edit>::Block>,
+    Opening<<E as Edit>::Block>,
+    LogRule<E>,
+>;
+
+pub(crate) type Whole<E> = Table<
+    Home<E, <E as Edit>::Block>,
+    View<E, <E as Edit>::Block>,
+    Opening<<E as Edit>::Block>,
+    LogRule<E>,
+    Global,
+>;

@@ -1,0 +1,111 @@
+//! The seat of a CPU at a shared table.
+
+ghost use Rattle.std.specs.Prelude.{◌≡◌, List, IsSome, Some, MatchOption, option_map};
+ghost use Rattle.event_log.specs.declared.ids.CpuId.{CpuId};
+ghost use Rattle.event_log.specs.History.{Grows, IsLawful};
+ghost use Rattle.event_log.specs.WordsLog.{actor};
+ghost use Rattle.layer_traits.specs.Protocol.{MayCome};
+ghost use Rattle.layer_traits.specs.OneLock.{opened};
+ghost use Rattle.table_machine.specs.Desks.{IsOf};
+ghost use Rattle.table_machine.specs.Views.{EndsWith, IsCpu};
+
+use crate::keys::Key;
+use crate::shared::Shared;
+use event_log::{CpuId, LockId};
+use layer_traits::{Edit, Mark, Words};
+use std::marker::Model;
+
+/// A CPU at a table: it may draw, look and free there. Each call lengthens the log that the seat
+/// has seen by what other CPUs did, and then by the call's own event; its answer is the one that a
+/// single thread would get at that point of the log.
+#[derive(Drop)]
+pub struct Seat<'a, E: Edit> {
+    key: Key<E>,
+    shared: &'a Shared<E>,
+}
+
+impl<'a, E: Edit> Model for Seat<'a, E> {
+    ghost use Rattle.table_machine.specs.Desks.{Desk, IsOf};
+
+    ghost Value = { Desk E E.Block };
+
+    ghost view = { λ s. s.key };
+
+    ghost invariant = { λ s. IsOf s.shared.now s.key };
+}
+
+impl<E: Edit> Shared<E> {
+    /// Takes the seat of the key's CPU. The key is one of this table. Takes no memory.
+    pub fn seat(&self, key: Key<E>) -> Seat<'_, E>
+        requires { IsOf self.now key }
+        ensures seat { result ≡ key }
+        ensures lawful { IsLawful (MayCome (E.rules.allowed (opened key.start))) key.seen }
+    {
+        key.lawful();
+        Seat { key, shared: self }
+    }
+}
+
+impl<E: Edit> Seat<'_, E> {
+    /// Leaves the seat. The key keeps all that the seat has seen. Takes no memory.
+    pub fn back(self) -> Key<E>
+        ensures { result ≡ self.entry }
+    {
+        let Seat { key, shared: _ } = self;
+        key
+    }
+}
+
+impl<'a, E: Edit> Words for Seat<'a, E> {
+    ghost use Rattle.std.specs.Prelude.{◌≡◌, ℕ};
+    ghost use Rattle.event_log.specs.History.{IsLawful};
+    ghost use Rattle.layer_traits.specs.Protocol.{MayCome, edit_of};
+    ghost use Rattle.layer_traits.specs.OneLock.{opened};
+
+    type Edit = E;
+
+    type Mark = Mark<E>;
+
+    ghost edit_in = { edit_of };
+
+    ghost opening = { λ s. opened s.start };
+
+    ghost seen = { λ s. s.seen };
+
+    ghost ActsFor = { λ s c. (c ≡ s.cpu) × IsLawful (MayCome (E.rules.allowed (opened s.start))) s.seen };
+
+    ghost room = { λ s. 1 };
+
+    fn mark(edit: E) -> Mark<E> {
+        Mark { edit }
+    }
+
+    fn draw(&mut self, _cpu: CpuId, lock: LockId) -> u64 {
+        self.key.draw(self.shared, lock)
+    }
+
+    fn look(&mut self, _cpu: CpuId, lock: LockId, ticket: u64) -> Option<E::Block> {
+        self.key.look(self.shared, lock, ticket)
+    }
+
+    fn free(&mut self, _cpu: CpuId, lock: LockId, block: E::Block, mark: Mark<E>) {
+        self.key.free(self.shared, lock, block, mark.edit)
+    }
+
+    ghost legal = { λ s c acts. acts.1 };
+}
+
+/// Brings the second seat's view up to the first's: afterwards the second's log begins with all
+/// that the first has seen, and each still has all that it had seen. It may come at any moment, in
+/// the middle of a section too, and is no event of the log. Takes no memory.
+pub fn meet<E: Edit>(first: &mut Seat<'_, E>, second: &mut Seat<'_, E>)
+    requires { second.old.table ≡ first.old.table }
+    ensures first { first.new ≡ first.old }
+    ensures second { second.new ≡ record second.old { seen = second.new.seen } }
+    ensures begins { EndsWith second.new.seen first.old.seen }
+    ensures grows { Grows (IsCpu second.old.cpu) actor second.old.seen second.new.seen }
+    ensures lawful { IsLawful (MayCome (E.rules.allowed (opened second.old.start))) second.new.seen }
+{
+    let notes = first.key.notes(first.shared);
+    second.key.take_in(second.shared, notes);
+}
