@@ -6,3 +6,11 @@ pub mod CutLemmas
 pub mod PieceLemmas
 pub mod TallyLemmas
 pub mod VerdictLemmas
+pub mod SplitLemmas
+pub mod ReadLemmas
+pub mod KnownLemmas
+pub mod EntryLemmas
+pub mod StepLemmas
+pub mod OpeningLemmas
+pub mod CompleteLemmas
+pub mod SoundLemmas

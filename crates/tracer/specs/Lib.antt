@@ -5,3 +5,4 @@ pub mod Gather
 pub mod Judging
 pub mod Lines
 pub mod Tallies
+pub mod Verdicts

@@ -1,5 +1,5 @@
 -- What the judge's values are seen as.
-use Rattle.std.specs.Prelude.{ℕ, List, [], ◌∷◌, map, Option, Some, None}
+use Rattle.std.specs.Prelude.{ℕ, List, [], Some, None}
 use Rattle.tracer.specs.declared.pieces.Pieces.{Pieces}
 use Rattle.tracer.specs.declared.lines.EntryDigits.{EntryDigits}
 use Rattle.tracer.specs.Judging.{pieces_of, Digits}

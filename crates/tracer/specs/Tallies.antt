@@ -1,5 +1,5 @@
 -- What the judge's tallies are seen as, and what a step leaves.
-use Rattle.std.specs.Prelude.{◌≡◌, Result, Ok, Err, List, map}
+use Rattle.std.specs.Prelude.{◌≡◌, Result, Ok, Err, map}
 use Rattle.tracer.specs.declared.verdicts.Reason.{Reason}
 use Rattle.tracer.specs.declared.tally.Tally.{Tally}
 use Rattle.tracer.specs.declared.judge.Judge.{Judge}

@@ -1,0 +1,17 @@
+//! What the judge's yes says: a law, with nothing to run.
+
+ghost use Rattle.std.specs.Prelude.{◌≡◌, ℕ, List};
+ghost use Rattle.event_log.specs.declared.entries.Entry.{Entry as AnEntry};
+ghost use Rattle.event_log.specs.Runs.{IsRun};
+ghost use Rattle.tracer.specs.declared.verdicts.Verdict.TheVariants.{Yes as SaysYes};
+ghost use Rattle.tracer.specs.Judging.{verdict_of};
+ghost use Rattle.tracer.specs.TraceText.{IsTraceText};
+ghost use Rattle.tracer.specs.Verdicts.{IsTraceOfRun};
+
+/// A law: the judge says yes exactly to the texts that spell a run and where it ends. So the text
+/// that `write_trace` writes of a run, and of what it leaves, gets yes.
+pub fn yes_is_right()
+    ensures sound { (text : List ℕ) → verdict_of text ≡ SaysYes → IsTraceOfRun text }
+    ensures complete { (text caps : List ℕ) (es : List AnEntry) (left : List (List ℕ))
+        → IsTraceText text caps es left → IsRun caps es left → verdict_of text ≡ SaysYes }
+{}
