@@ -1,6 +1,6 @@
 //! The layer of critical sections.
 
-ghost use Rattle.std.specs.Prelude.{◌≡◌, ◌≢◌, ℕ, ◌+◌, ◌<◌, ◌≤◌, List, Option, IsSome, OnSome, is_some, if◌then◌else◌};
+ghost use Rattle.std.specs.Prelude.{◌≡◌, ◌≢◌, ℕ, ◌+◌, ◌<◌, ◌≤◌, List, [], Option, IsSome, OnSome, is_some, if◌then◌else◌};
 
 use crate::edits::Edit;
 use event_log::{CpuId, LockId};
@@ -34,6 +34,10 @@ pub trait LockLayer<E: Edit> {
 
     /// For how many more events there is room.
     ghost room: { Self.Machine → ℕ };
+
+    /// Which machine it is, as numbers; a machine that nobody has to know again needs none. No poll
+    /// changes it.
+    ghost site: { Self.Machine → List ℕ } = { λ _. [] };
 
     /// No section of this CPU is under way.
     ghost IsOutside: { Self.Machine → CpuId → Type 0 };
@@ -80,6 +84,7 @@ pub trait LockLayer<E: Edit> {
         ensures seen { Polled E.rules (opening m.old) (ActsFor m.old)
             (section (cpu_of self.old) lock edit) result (seen m.old) (seen m.new) }
         ensures opening { opening m.new ≡ opening m.old }
+        ensures site { site m.new ≡ site m.old }
         ensures room { room m.old ≤ room m.new + 1 }
         ensures acts { (c : CpuId) → ActsFor m.old c → ActsFor m.new c }
         ensures outside { OnSome result (IsOutside m.new (cpu_of self.old)) }

@@ -1,6 +1,6 @@
 //! The machine beneath the layers: the words and the blocks of ticket locks.
 
-ghost use Rattle.std.specs.Prelude.{◌≡◌, ℕ, ◌+◌, ◌<◌, ◌≤◌, List, Option, IsSome, MatchOption, option_map};
+ghost use Rattle.std.specs.Prelude.{◌≡◌, ℕ, ◌+◌, ◌<◌, ◌≤◌, List, [], Option, IsSome, MatchOption, option_map};
 
 use crate::edits::{Edit, Mark};
 use event_log::{CpuId, Event, LockId};
@@ -42,6 +42,10 @@ pub trait Words {
     /// For how many more events there is room.
     ghost room: { Self → ℕ };
 
+    /// Which machine it is, as numbers; a machine that nobody has to know again needs none. No call
+    /// changes it.
+    ghost site: { Self → List ℕ } = { λ _. [] };
+
     /// The mark of a section with this edit.
     fn mark(edit: Self::Edit) -> Self::Mark
         ensures { edit_in result ≡ edit };
@@ -55,6 +59,7 @@ pub trait Words {
         requires outside { standing cpu (seen self.old) ≡ Outside }
         ensures adds { Adds (ActsFor self.old) actor (Draw cpu lock result) (seen self.old) (seen self.new) }
         ensures opening { opening self.new ≡ opening self.old }
+        ensures site { site self.new ≡ site self.old }
         ensures room { room self.old ≤ room self.new + 1 }
         ensures acts { (c : CpuId) → ActsFor self.old c → ActsFor self.new c };
 
@@ -71,6 +76,7 @@ pub trait Words {
             (λ block. (standing cpu (seen self.new) ≡ Inside lock ticket)
             × (block_after Self.Edit.rules.edited (opening self.new) lock (sections (seen self.new)) ≡ Some block)) }
         ensures opening { opening self.new ≡ opening self.old }
+        ensures site { site self.new ≡ site self.old }
         ensures room { room self.old ≤ room self.new + 1 }
         ensures acts { (c : CpuId) → ActsFor self.old c → ActsFor self.new c };
 
@@ -94,6 +100,7 @@ pub trait Words {
             (section cpu lock (edit_in mark)) }
         ensures adds { Adds (ActsFor self.old) actor (Free cpu lock (mark_of (edit_in mark))) (seen self.old) (seen self.new) }
         ensures opening { opening self.new ≡ opening self.old }
+        ensures site { site self.new ≡ site self.old }
         ensures room { room self.old ≤ room self.new + 1 }
         ensures acts { (c : CpuId) → ActsFor self.old c → ActsFor self.new c };
 

@@ -37,6 +37,8 @@ impl<W: Words> LockLayer<W::Edit> for Ticket<W> {
 
     ghost room = { λ m. W.room m };
 
+    ghost site = { λ m. W.site m };
+
     ghost IsOutside = { λ m c. standing c (W.seen m) ≡ Outside };
 
     ghost cpu_of = { λ p. p.cpu };

@@ -31,6 +31,10 @@ pub record Desk (E B : Type 0) : Type 0 where
   pub start : List (LockId × B)
   pub seen : List (Event (Mark E))
 
+-- which table it is, as numbers
+abbrev pub site_of : TableId → List ℕ
+site_of table = table.words ∷ table.slots ∷ table.views_name ∷ table.atom ∷ table.block ∷ table.offset ∷ table.slot_names
+
 -- the desk is one of this table
 abbrev pub IsOf : {E B : Type 0} → Board B → Desk E B → Type 0
 IsOf board desk = (desk.table ≡ board.table) × (desk.start ≡ board.start)
@@ -59,7 +63,6 @@ pub record IsKey {E B O : Type 0} (rules : Rules E B O) (cpu : CpuId) (me : Me (
 -- a desk of this table whose CPU has no ticket outstanding
 pub record IsOver {E B : Type 0} (board : Board B) (desk : Desk E B) : Type 0 where
   pub table : desk.table ≡ board.table
-  pub start : desk.start ≡ board.start
   pub outside : standing desk.cpu desk.seen ≡ Outside
 
 -- a closing seat has taken in these desks: it acts for their CPUs, which have no ticket outstanding, and goes on from what each has seen

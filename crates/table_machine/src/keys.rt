@@ -40,6 +40,13 @@ impl<E: Edit> Model for Key<E> {
 }
 
 impl<E: Edit> Key<E> {
+    /// The CPU whose key it is.
+    pub fn cpu(&self) -> CpuId
+        ensures { result ≡ self.now.cpu }
+    {
+        self.cpu
+    }
+
     // What was seen is legal.
     pub(crate) fn lawful(&self)
         ensures { IsLawful (MayCome (E.rules.allowed (opened self.now.start))) self.now.seen }

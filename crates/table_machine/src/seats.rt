@@ -61,6 +61,7 @@ impl<'a, E: Edit> Words for Seat<'a, E> {
     ghost use Rattle.event_log.specs.History.{IsLawful};
     ghost use Rattle.layer_traits.specs.Protocol.{MayCome, edit_of};
     ghost use Rattle.layer_traits.specs.OneLock.{opened};
+    ghost use Rattle.table_machine.specs.Desks.{site_of};
 
     type Edit = E;
 
@@ -75,6 +76,8 @@ impl<'a, E: Edit> Words for Seat<'a, E> {
     ghost ActsFor = { λ s c. (c ≡ s.cpu) × IsLawful (MayCome (E.rules.allowed (opened s.start))) s.seen };
 
     ghost room = { λ s. 1 };
+
+    ghost site = { λ s. site_of s.table };
 
     fn mark(edit: E) -> Mark<E> {
         Mark { edit }
