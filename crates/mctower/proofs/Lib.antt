@@ -1,2 +1,3 @@
 mod LineLemmas
 mod ScheduleLemmas
+mod CountLemmas

@@ -1,6 +1,7 @@
 //! The program `mctower`: a command line over the thread tower.
 #![tactic(auto)]
 
+pub mod count;
 mod help;
 pub mod line;
 pub mod schedule;

@@ -1,6 +1,6 @@
 //! A whole section at once, where no CPU has a ticket.
 
-ghost use Rattle.std.specs.Prelude.{◌≡◌, ◌+◌, ◌<◌, ◌≤◌, ◌∷◌, true, IsSome, OnSome, is_some, if◌then◌else◌};
+ghost use Rattle.std.specs.Prelude.{◌≡◌, ◌≢◌, ◌+◌, ◌<◌, ◌≤◌, ◌∷◌, true, IsSome, OnSome, is_some, if◌then◌else◌};
 ghost use Rattle.event_log.specs.declared.ids.CpuId.{CpuId};
 ghost use Rattle.event_log.specs.Actions.{Take, Try, Give, Rests, phase, next_action};
 ghost use Rattle.layer_traits.specs.Plans.{table_of, reply};
@@ -32,6 +32,7 @@ fn alone<E: Edit, L: LockLayer<E>>(
     ensures opening { L.opening m.new ≡ L.opening m.old }
     ensures room { L.room m.old ≤ L.room m.new + 1 }
     ensures outside { OnSome result (L.IsOutside m.new (L.cpu_of part.old)) }
+    ensures others { (p : L) → L.cpu_of p ≢ L.cpu_of part.old → L.Fits p m.old → L.Fits p m.new }
 {
     part.poll(m, lock, edit)
 }
@@ -65,6 +66,7 @@ pub fn whole<E: Edit, L: LockLayer<E>>(
     ensures opening { L.opening m.new ≡ L.opening m.old }
     ensures room { L.room m.old ≤ L.room m.new + 3 }
     ensures outside { L.IsOutside m.new (L.cpu_of part.old) }
+    ensures others { (p : L) → L.cpu_of p ≢ L.cpu_of part.old → L.Fits p m.old → L.Fits p m.new }
 {
     let _drawn = alone(part, m, lock, edit);
     let _looked = alone(part, m, lock, edit);

@@ -1,0 +1,23 @@
+use Rattle.std.proofs.Common.{◌+◌, ◌∷◌, [], ◌∙◌, ap, arith, length, subst, sym}
+use Rattle.std.proofs.lemmas.List.{length-append}
+use Rattle.event_log.specs.declared.ids.CpuId.{CpuId}
+use Rattle.mctower.specs.Count.{AreReady}
+use Rattle.mctower.proofs.CountLemmas.{one_part_more}
+use Rattle.mctower.proofs.count.parts_of.Goals as goal
+
+pub loop-number-preserved : goal.loop-number-preserved
+loop-number-preserved g c =
+    let inv = c.loop-number.invariant in
+    let items = c.in_ok-push.ensures.items in
+    let parts = c.loop-number.parts.items in
+    let cpu : CpuId = record { 0 = c.loop-number.number } in
+    record {
+      long = ap length items ∙ length-append parts (c.part.result ∷ []) ∙ ap (λ n. n + 1) inv.long;
+      ready = λ m acts outside.
+          subst (λ xs. AreReady g.L.LockLayer.cpu_of g.L.LockLayer.under_way g.L.LockLayer.Fits xs m) (sym items)
+          (one_part_more _ _ _ parts c.part.result m (inv.ready m acts outside) (record {
+            cpu = ap (λ (own : CpuId). own.0) c.part.ensures.cpu ∙ sym inv.long;
+            rests = c.part.ensures.call;
+            fits = c.part.ensures.fits m (acts cpu c.loop-number-test.true) (outside cpu c.loop-number-test.true);
+          }));
+    }

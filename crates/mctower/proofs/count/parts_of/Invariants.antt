@@ -1,0 +1,12 @@
+use Rattle.std.proofs.Common.{◌≡◌, ◌<◌, length}
+use Rattle.event_log.specs.declared.ids.CpuId.{CpuId}
+use Rattle.mctower.specs.Count.{AreReady}
+use Rattle.mctower.proofs.count.parts_of.Given as goal
+
+-- there is a part for each CPU before this number
+abbrev pub invariant-loop-number : goal.invariant-loop-number
+invariant-loop-number g l = record {
+  long : length l.parts.items ≡ l.number;
+  ready : (m : _) → ((c : CpuId) → c.0 < l.cpus → g.L.LockLayer.ActsFor m c) → ((c : CpuId) → c.0 < l.cpus → g.L.LockLayer.IsOutside m c)
+      → AreReady g.L.LockLayer.cpu_of g.L.LockLayer.under_way g.L.LockLayer.Fits l.parts.items m;
+}

@@ -1,0 +1,18 @@
+use Rattle.std.proofs.Common.{◌≡◌, ◌+◌, ◌*◌, ◌<◌, ◌≤◌, length}
+use Rattle.event_log.specs.declared.ids.CpuId.{CpuId}
+use Rattle.event_log.specs.declared.ids.TheConstants.{CPUS}
+use Rattle.event_log.specs.Actions.{Rests, phase}
+use Rattle.mctower.specs.Count.{AreReady, sections_at}
+use Rattle.mctower.proofs.count.round.Given as goal
+
+-- the parts before the index have done their sections, and all rest
+abbrev pub invariant-loop-i : goal.invariant-loop-i
+invariant-loop-i g l = record {
+  long : length l.parts ≡ length l.fn.parts;
+  ready : AreReady g.L.LockLayer.cpu_of g.L.LockLayer.under_way g.L.LockLayer.Fits l.parts l.machine;
+  opening : g.L.LockLayer.opening l.machine ≡ g.L.LockLayer.opening l.fn.machine;
+  room : g.L.LockLayer.room l.fn.machine ≤ g.L.LockLayer.room l.machine + 3 * l.i;
+  owned : (c : CpuId) → c.0 < CPUS → g.L.LockLayer.ActsFor l.machine c;
+  rests : (c : CpuId) → phase c (g.L.LockLayer.acts l.machine) ≡ Rests;
+  counted : sections_at l.lock (g.L.LockLayer.seen l.machine) ≡ sections_at l.lock (g.L.LockLayer.seen l.fn.machine) + l.i;
+}
