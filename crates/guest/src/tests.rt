@@ -220,3 +220,17 @@ fn a_refusal_prints_its_name_and_number(rt: HostRuntime) -> Result<(), Fail> {
     );
     Ok(())
 }
+
+#[test]
+fn a_refused_allocation_is_no_memory_or_not_needed(rt: HostRuntime) {
+    match Program::read(rt.alloc(), &["set r0 7", "send 0 r0", "jnz r0 0", "exit"]) {
+        Ok(program) => assert_eq!(rt; program.len(), 4),
+        Err(error) => assert_eq!(rt; error, GuestError::NoMemory),
+    }
+    match Program::read(rt.alloc(), &["set r0 7", "jnz r0 3", "exit"]) {
+        Ok(_) => assert!(rt; false),
+        Err(error) => assert!(rt;
+            error == GuestError::NoMemory || error == GuestError::At(1, GuestFault::BadTarget)
+        ),
+    }
+}

@@ -38,7 +38,8 @@ impl Thread {
     pub fn next(&self, program: &Program) -> Instruction
         ensures { result ≡ next_of program.now self.now }
     {
-        program.instruction(self.line)
+        let line = self.line;
+        program.instruction(line)
     }
 
     /// The number in a register.
@@ -114,7 +115,8 @@ impl Thread {
         requires { self.old.line < 256 }
         ensures { self.new ≡ moved_with self.old register number }
     {
-        self.registers[register.number()] = number;
+        let index = register.number();
+        self.registers[index] = number;
         self.line += 1;
     }
 
