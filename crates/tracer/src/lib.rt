@@ -26,3 +26,5 @@ pub use writing::write_trace;
 mod checking_tests;
 #[cfg(test)]
 mod writing_tests;
+#[cfg(test)]
+mod slow_tests;

@@ -36,7 +36,8 @@ impl<W: Write> Sink<W> {
     pub fn failed(&self) -> bool
         ensures { result ≡ has_failed self.now }
     {
-        self.failed
+        let Sink { failed, .. } = self;
+        *failed
     }
 
     /// Writes all of `piece`, by as many writes as the writer needs.
