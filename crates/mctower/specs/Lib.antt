@@ -1,3 +1,4 @@
 pub mod Line
 pub mod Schedule
 pub mod Count
+pub mod Serve

@@ -22,13 +22,13 @@ pub const MOST_TIMES: u64 = 1000;
 pub const MOST_TURNS: u64 = 1_000_000_000;
 
 /// The commands that a server stands for; each other one is refused.
-pub const SERVES_COUNT: bool = false;
+pub const SERVES_COUNT: bool = true;
 
 pub const SERVES_RUN: bool = false;
 
 pub const SERVES_THREADS: bool = false;
 
-pub const SERVES_CHECK: bool = false;
+pub const SERVES_CHECK: bool = true;
 
 /// What the program is asked to do.
 #[derive(Debug, Drop)]
@@ -233,9 +233,6 @@ mod tests {
 
     #[test]
     fn count_has_its_two_values(rt: HostRuntime) -> Result<(), Fail> {
-        if !SERVES_COUNT {
-            return Ok(());
-        }
         let words = ["count", "--cpus", "2", "--times", "3"];
         assert!(rt; matches!(read_line(rt.alloc(), words.as_slice())?, Order::Count(2, 3)));
         let joined = ["count", "--times=1000", "--cpus=8"];

@@ -1,31 +1,66 @@
 //! The program `mctower`: a command line over the thread tower.
 #![tactic(auto)]
 
+ghost use Rattle.std.specs.Prelude.{◌≡◌, false};
+ghost use Rattle.tracer.specs.Sinks.{has_failed};
+
 pub mod count;
 mod help;
 pub mod line;
+pub mod print;
 pub mod schedule;
+pub mod serve;
 
 use line::LineError;
-use std::env;
+use std::io::{BufWriter, Write};
 use std::process::ExitCode;
+use std::{env, io};
+use tracer::Sink;
 
 fn main(rt: HostRuntime) -> ExitCode {
-    let Ok(args) = env::args(&rt) else {
-        return ExitCode::from(2);
+    let mut err = Sink::new(rt.stderr());
+    let status = match words_after_the_name(&rt) {
+        Ok(words) => serve_words(&rt, &words, &mut err),
+        Err(LineError::NoMemory) => print::refuse(&mut err, &LineError::NoMemory),
+        Err(LineError::Refused) => {
+            let _ = print::print(&mut err, &[help::help_on(&[]).as_bytes()]);
+            2
+        }
     };
-    let Ok(args) = args.skip(1).collect::<Vec<String>>(rt.alloc()) else {
-        return ExitCode::from(1);
-    };
-    let mut words = Vec::new(rt.alloc());
-    for word in args.iter() {
-        if words.push(word.as_str()).is_err() {
-            return ExitCode::from(1);
+    ExitCode::from(status)
+}
+
+/// The words of the command line. One that is no UTF-8 text makes it a bad one.
+fn words_after_the_name(rt: &HostRuntime) -> Result<Vec<String>, LineError> {
+    match env::args(rt) {
+        Ok(args) => Ok(args.skip(1).collect(rt.alloc())?),
+        Err(error) => {
+            if error.kind() == io::ErrorKind::InvalidData {
+                Err(LineError::Refused)
+            } else {
+                Err(LineError::NoMemory)
+            }
         }
     }
-    if let Err(LineError::Refused) = line::read_line(rt.alloc(), words.as_slice()) {
-        let _ = rt.eprint(help::help_on(words.as_slice()));
-        return ExitCode::from(2);
-    }
-    ExitCode::from(1)
+}
+
+/// Serves the words over the standard streams.
+fn serve_words<E: Write>(rt: &HostRuntime, words: &Vec<String>, err: &mut Sink<E>) -> u8
+    requires { has_failed err.old ≡ false }
+{
+    let texts: Result<Vec<&str>, _> = words.iter().map(|word| word.as_str()).collect(rt.alloc());
+    let Ok(texts) = texts else {
+        return print::refuse(err, &LineError::NoMemory);
+    };
+    let Ok(buffered) = BufWriter::new(rt.alloc(), rt.stdout()) else {
+        return print::refuse(err, &LineError::NoMemory);
+    };
+    let mut out = Sink::new(buffered);
+    serve::serve(
+        rt.alloc(),
+        texts.as_slice(),
+        &mut rt.reader(),
+        &mut out,
+        err,
+    )
 }

@@ -1,0 +1,12 @@
+use Rattle.std.proofs.Common.{◌≡◌, take, false}
+use Rattle.std.specs.List.{flat_map}
+use Rattle.std.specs.Io.KnownBytes.{Appends}
+use Rattle.tracer.specs.Sinks.{has_failed, writer_of}
+use Rattle.mctower.proofs.print.put_all.Given as goal
+
+-- the pieces before the index are out
+abbrev pub invariant-loop-piece : goal.invariant-loop-piece
+invariant-loop-piece g l = record {
+  live : has_failed l.sink ≡ false;
+  out : Appends (g.W.Write.contents (writer_of l.fn.sink)) (g.W.Write.contents (writer_of l.sink)) (flat_map (λ p. p.now) (take l.piece-index l.pieces));
+}

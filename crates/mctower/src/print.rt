@@ -1,0 +1,49 @@
+//! What the program prints: lines on standard output, and one line for each refusal.
+
+ghost use Rattle.std.specs.Prelude.{◌≡◌, OnOk, false};
+ghost use Rattle.std.specs.List.{flat_map};
+ghost use Rattle.std.specs.Io.KnownBytes.{Appends};
+ghost use Rattle.tracer.specs.Sinks.{has_failed, writer_of};
+
+use arrayvec::ArrayString;
+use std::fmt;
+use std::fmt::Write as _;
+use std::io::Write;
+use tracer::{Sink, WriteFault};
+
+/// Writes all pieces.
+fn put_all<W: Write>(sink: &mut Sink<W>, pieces: &[&[u8]]) -> Result<(), WriteFault>
+    requires { has_failed sink.old ≡ false }
+    ensures live { OnOk result (has_failed sink.new ≡ false) }
+    ensures out { OnOk result (Appends (W.contents (writer_of sink.old)) (W.contents (writer_of sink.new)) (flat_map (λ p. p.now) pieces.now)) }
+{
+    for piece in pieces {
+        sink.put(*piece)?;
+    }
+    Ok(())
+}
+
+/// Writes all pieces and sees that they are out.
+///
+/// Errors: `WriteFault` where a write failed; then a beginning may be out.
+pub fn print<W: Write>(sink: &mut Sink<W>, pieces: &[&[u8]]) -> Result<(), WriteFault>
+    requires { has_failed sink.old ≡ false }
+    ensures { OnOk result (Appends (W.contents (writer_of sink.old)) (W.contents (writer_of sink.new)) (flat_map (λ p. p.now) pieces.now)) }
+{
+    put_all(sink, pieces)?;
+    sink.flush()
+}
+
+/// The longest line for a refusal.
+const LONGEST: usize = 200;
+
+/// Prints the line `error: ..` for a refusal, if it can, and gives the exit status. Takes no memory.
+pub fn refuse<W: Write, F: fmt::Display>(sink: &mut Sink<W>, fault: &F) -> u8
+    requires { has_failed sink.old ≡ false }
+    ensures { result ≡ 1 }
+{
+    let mut line = ArrayString::<LONGEST>::new();
+    let _ = writeln!(line, "error: {}", fault);
+    let _ = print(sink, &[line.as_str().as_bytes()]);
+    1
+}

@@ -1,0 +1,320 @@
+//! Serving a command line: reads the order, does it, prints, and gives the exit status.
+
+ghost use Rattle.std.specs.Prelude.{◌≡◌, ◌≤◌, ◌*◌, ◌⊎◌, Some, IfOk, IfSome, OnOk, codes, false, map};
+ghost use Rattle.std.specs.Io.KnownBytes.{Appends};
+ghost use Rattle.event_log.specs.declared.ids.TheConstants.{CPUS};
+ghost use Rattle.tracer.specs.Sinks.{has_failed, writer_of};
+ghost use Rattle.tracer.specs.Judging.{verdict_of};
+ghost use Rattle.mctower.specs.Line.{order_of, meant_by, check};
+ghost use Rattle.mctower.specs.Serve.{count_line, PrintsYes, Serves, verdict_status};
+
+use crate::count::count_plain;
+use crate::help::help_on;
+use crate::line::{LineError, MOST_TIMES, Order, read_line};
+use crate::print::{print, refuse};
+use arrayvec::ArrayString;
+use itoa::Buffer;
+use std::alloc::Global;
+use std::fmt::Write as _;
+use std::io;
+use std::io::{Read, Write};
+use thiserror::Error;
+use tracer::{Sink, Verdict, WriteFault, check};
+
+/// Why an order was refused. Each prints as its name and its number.
+#[derive(Clone, Copy, Debug, PartialEq, Eq, Error)]
+pub enum ServeError {
+    /// Memory ran out.
+    #[error("NoMemory(1)")]
+    NoMemory,
+    /// Standard input could not be read.
+    #[error("ReadFault(7)")]
+    ReadFault,
+    /// Standard output could not be written; a beginning may be out.
+    #[error("WriteFault(8)")]
+    WriteFault,
+}
+
+/// Counts, and prints `plain T`.
+fn serve_count<O: Write>(
+    alloc: Global,
+    cpus: u8,
+    times: u64,
+    out: &mut Sink<O>,
+) -> Result<(), ServeError>
+    requires cpus { cpus ≤ CPUS }
+    requires times { times ≤ MOST_TIMES }
+    requires live { has_failed out.old ≡ false }
+    ensures { OnOk result (Appends (O.contents (writer_of out.old)) (O.contents (writer_of out.new)) (count_line (times * cpus))) }
+{
+    let Ok(number) = count_plain(alloc, cpus, times) else {
+        return Err(ServeError::NoMemory);
+    };
+    let mut digits = Buffer::new();
+    let number = digits.format(number).as_bytes();
+    match print(out, &[b"plain ".as_slice(), number, b"\n".as_slice()]) {
+        Ok(()) => Ok(()),
+        Err(WriteFault) => Err(ServeError::WriteFault),
+    }
+}
+
+/// All of the input.
+fn read_all<R: Read>(alloc: Global, input: &mut R) -> Result<Vec<u8>, ServeError>
+    ensures { IfOk result (λ bytes. IfSome (R.remaining input.old) (λ text. bytes.items ≡ text)) }
+{
+    let mut bytes = Vec::new(alloc);
+    match input.read_to_end(&mut bytes) {
+        Ok(_) => Ok(bytes),
+        Err(error) => {
+            if error.kind() == io::ErrorKind::OutOfMemory {
+                Err(ServeError::NoMemory)
+            } else {
+                Err(ServeError::ReadFault)
+            }
+        }
+    }
+}
+
+/// The longest line for a no: a line number has 20 digits at most.
+const LONGEST_NO: usize = 64;
+
+/// Prints a verdict: `yes`, or `no L Name(N)`. Gives the exit status.
+fn print_verdict<O: Write>(verdict: Verdict, out: &mut Sink<O>) -> Result<u8, ServeError>
+    requires { has_failed out.old ≡ false }
+    ensures status { IfOk result (λ status. status ≡ verdict_status verdict) }
+    ensures yes { OnOk result (PrintsYes verdict (O.contents (writer_of out.old)) (O.contents (writer_of out.new))) }
+{
+    match verdict {
+        Verdict::Yes => {
+            if print(out, &[b"yes\n".as_slice()]).is_err() {
+                return Err(ServeError::WriteFault);
+            }
+            Ok(0)
+        }
+        Verdict::No(line, reason) => {
+            let mut text = ArrayString::<LONGEST_NO>::new();
+            let _ = writeln!(text, "no {line} {reason}");
+            if print(out, &[text.as_str().as_bytes()]).is_err() {
+                return Err(ServeError::WriteFault);
+            }
+            Ok(3)
+        }
+        Verdict::NoMemory => Err(ServeError::NoMemory),
+    }
+}
+
+/// Judges the input, and prints the verdict.
+fn serve_check<R: Read, O: Write>(
+    alloc: Global,
+    input: &mut R,
+    out: &mut Sink<O>,
+) -> Result<u8, ServeError>
+    requires { has_failed out.old ≡ false }
+    ensures status { IfOk result (λ status. IfSome (R.remaining input.old) (λ text. status ≡ verdict_status (verdict_of text))) }
+    ensures yes { OnOk result (IfSome (R.remaining input.old) (λ text. PrintsYes (verdict_of text) (O.contents (writer_of out.old)) (O.contents (writer_of out.new)))) }
+{
+    let text = read_all(alloc, input)?;
+    print_verdict(check(text.as_slice()), out)
+}
+
+/// Serves one command line: `words` are those after the program's name.
+///
+/// Gives the exit status: 0 for a good run or a yes of `check`; 1 for a refusal, with the line
+/// `error: Name(N)` on `err`; 2 for a bad command line, with a help text on `err` and nothing on
+/// `out`; 3 for a no of `check`.
+pub fn serve<R: Read, O: Write, E: Write>(
+    alloc: Global,
+    words: &[&str],
+    input: &mut R,
+    out: &mut Sink<O>,
+    err: &mut Sink<E>,
+) -> u8
+    requires out { has_failed out.old ≡ false }
+    requires err { has_failed err.old ≡ false }
+    ensures { Serves (order_of (map (λ w. w.now) words.now)) (R.remaining input.old)
+        (O.contents (writer_of out.old)) (O.contents (writer_of out.new)) result }
+{
+    let served = match read_line(alloc, words) {
+        Err(LineError::Refused) => {
+            let _ = print(err, &[help_on(words).as_bytes()]);
+            return 2;
+        }
+        Err(LineError::NoMemory) => Err(ServeError::NoMemory),
+        Ok(Order::Count(cpus, times)) => serve_count(alloc, cpus, times, out).map(|()| 0),
+        Ok(Order::Check) => serve_check(alloc, input, out),
+        Ok(Order::Run(_) | Order::Threads(_)) => unreachable!(),
+    };
+    match served {
+        Ok(status) => status,
+        Err(error) => refuse(err, &error),
+    }
+}
+
+#[cfg(test)]
+mod tests {
+    use super::*;
+    use std::process::Abort;
+    use std::test::Fail;
+
+    /// What one command line gave.
+    #[derive(Drop)]
+    struct Served {
+        status: u8,
+        out: Vec<u8>,
+        err: Vec<u8>,
+    }
+
+    impl Served {
+        fn is(&self, status: u8, out: &[u8], err: &[u8]) -> bool {
+            self.status == status && self.out.as_slice() == out && self.err.as_slice() == err
+        }
+
+        /// A bad command line: status 2, a message on standard error, nothing on standard output.
+        fn is_bad_line(&self) -> bool {
+            self.status == 2 && self.out.is_empty() && !self.err.is_empty()
+        }
+    }
+
+    fn serving(alloc: Global, words: &[&str], mut input: &[u8]) -> Served {
+        let mut out = Vec::new(alloc);
+        let mut err = Vec::new(alloc);
+        let status = serve(
+            alloc,
+            words,
+            &mut input,
+            &mut Sink::new(&mut out),
+            &mut Sink::new(&mut err),
+        );
+        Served { status, out, err }
+    }
+
+    #[test]
+    fn count_prints_its_number(rt: HostRuntime) {
+        let words = ["count", "--cpus", "2", "--times", "3"];
+        assert!(rt; serving(rt.alloc(), words.as_slice(), b"").is(0, b"plain 6\n", b""));
+        let words = ["count", "--cpus", "1", "--times", "1"];
+        assert!(rt; serving(rt.alloc(), words.as_slice(), b"").is(0, b"plain 1\n", b""));
+        let words = ["count", "--cpus", "8", "--times", "1000"];
+        assert!(rt; serving(rt.alloc(), words.as_slice(), b"").is(0, b"plain 8000\n", b""));
+    }
+
+    #[test]
+    fn bad_lines_have_a_message_and_no_output(rt: HostRuntime) {
+        let alloc = rt.alloc();
+        assert!(rt; serving(alloc, [].as_slice(), b"").is_bad_line());
+        assert!(rt; serving(alloc, ["--help"].as_slice(), b"").is_bad_line());
+        assert!(rt; serving(alloc, ["count", "--help"].as_slice(), b"").is_bad_line());
+        assert!(rt;
+            serving(
+                alloc,
+                ["count", "--cpus", "9", "--times", "1"].as_slice(),
+                b""
+            )
+            .is_bad_line()
+        );
+        assert!(rt;
+            serving(
+                alloc,
+                ["count", "--cpus", "2", "--times", "3", "4"].as_slice(),
+                b""
+            )
+            .is_bad_line()
+        );
+        assert!(rt;
+            serving(alloc, ["count", "--cpus", "2", "--times"].as_slice(), b"").is_bad_line()
+        );
+        assert!(rt;
+            serving(
+                alloc,
+                ["count", "--cpus", "2", "--times", "0"].as_slice(),
+                b""
+            )
+            .is_bad_line()
+        );
+        assert!(rt;
+            serving(
+                alloc,
+                ["count", "--cpus", "2", "--times", "1001"].as_slice(),
+                b""
+            )
+            .is_bad_line()
+        );
+        assert!(rt; serving(alloc, ["threads", "--turns", "5"].as_slice(), b"").is_bad_line());
+        assert!(rt; serving(alloc, ["check", "file"].as_slice(), b"").is_bad_line());
+    }
+
+    const RUN: &[u8] = b"mctower-trace 1\nbuffers 1\ncap 0 1\ne 0 0 send 0 7 0 0\nleft 0 7\nend\n";
+
+    const TOO_FEW: &[u8] =
+        b"mctower-trace 1\nbuffers 1\ncap 0 2\ne 0 0 recv 0 7 0 0\nleft 0\nend\n";
+
+    #[test]
+    fn check_says_yes_or_no(rt: HostRuntime) {
+        assert!(rt; serving(rt.alloc(), ["check"].as_slice(), RUN).is(0, b"yes\n", b""));
+        let taken = serving(rt.alloc(), ["check"].as_slice(), TOO_FEW);
+        assert!(rt; taken.is(3, b"no 4 EmptyTake(35)\n", b""));
+        assert!(rt;
+            serving(rt.alloc(), ["check"].as_slice(), b"").is(3, b"no 1 Spelling(30)\n", b"")
+        );
+    }
+
+    /// A reader that fails after its bytes.
+    #[derive(Drop)]
+    struct Failing<'a>(&'a [u8]);
+
+    impl Read for Failing<'_> {
+        fn read(&mut self, buf: &mut [u8]) -> io::Result<usize> {
+            if self.0.is_empty() {
+                return Err(io::Error::from(io::ErrorKind::BrokenPipe));
+            }
+            self.0.read(buf)
+        }
+    }
+
+    #[test]
+    fn a_read_that_fails_is_told(rt: HostRuntime) {
+        let mut out = Vec::new(rt.alloc());
+        let mut err = Vec::new(rt.alloc());
+        let status = serve(
+            rt.alloc(),
+            ["check"].as_slice(),
+            &mut Failing(RUN),
+            &mut Sink::new(&mut out),
+            &mut Sink::new(&mut err),
+        );
+        assert!(rt; Served { status, out, err }.is(1, b"", b"error: ReadFault(7)\n"));
+    }
+
+    /// A writer that takes so many bytes, one at a time, and then fails.
+    #[derive(Drop)]
+    struct Full<'a>(&'a mut Vec<u8>, usize);
+
+    impl Write for Full<'_> {
+        fn write(&mut self, buf: &[u8]) -> io::Result<usize> {
+            if self.1 == 0 || buf.is_empty() {
+                return Err(io::Error::from(io::ErrorKind::StorageFull));
+            }
+            self.1 -= 1;
+            self.0.push(buf[0])?;
+            Ok(1)
+        }
+
+        fn flush(&mut self) -> io::Result<()> {
+            Ok(())
+        }
+    }
+
+    #[test]
+    fn a_write_that_fails_is_told(rt: HostRuntime) {
+        let mut out = Vec::new(rt.alloc());
+        let mut err = Vec::new(rt.alloc());
+        let status = serve(
+            rt.alloc(),
+            ["count", "--cpus", "2", "--times", "3"].as_slice(),
+            &mut b"".as_slice(),
+            &mut Sink::new(Full(&mut out, 4)),
+            &mut Sink::new(&mut err),
+        );
+        assert!(rt; Served { status, out, err }.is(1, b"plai", b"error: WriteFault(8)\n"));
+    }
+}
