@@ -4,6 +4,8 @@
 
 mod cells;
 mod plain;
+#[cfg(test)]
+mod tests;
 
 pub use cells::LockWords;
 pub use plain::Plain;

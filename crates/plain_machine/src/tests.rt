@@ -1,0 +1,121 @@
+//! The owned machine, run.
+
+ghost use Rattle.std.specs.Prelude.{◌≡◌, ◌+◌, ◌%◌, ◌^◌, ◌<◌, [], ◌∷◌, IsSome, IfOk};
+ghost use Rattle.event_log.specs.WordsLog.{standing, Outside};
+
+use crate::{LockWords, Plain};
+use event_log::{BufId, CPUS, CpuId, LockId, NoMemory};
+use layer_traits::{Edit, Words};
+use std::alloc::Global;
+use std::test::Fail;
+
+/// Adds 1 to a number modulo 2^64, and answers the old number.
+#[derive(Clone, Copy)]
+struct AddOne;
+
+impl Edit for AddOne {
+    type Block = u64;
+
+    type Out = u64;
+
+    ghost rules = { record {
+      edited = λ e n. (n + 1) % 2 ^ 64;
+      answer = λ e n. n;
+      allowed = λ opening past s. Unit {0};
+    } };
+
+    fn apply(self, block: &mut u64) -> u64 {
+        let old = *block;
+        *block = old.wrapping_add(1);
+        old
+    }
+}
+
+/// One lock with its block.
+fn one_block(alloc: Global, lock: LockId, number: u64) -> Result<Vec<(LockId, u64)>, NoMemory>
+    ensures { IfOk result (λ blocks. blocks.items ≡ (lock, number) ∷ []) }
+{
+    let mut blocks = Vec::new(alloc);
+    match blocks.push((lock, number)) {
+        Ok(()) => Ok(blocks),
+        Err(_) => Err(NoMemory),
+    }
+}
+
+/// A machine with one lock, whose block is this number.
+fn machine_with(
+    alloc: Global,
+    lock: LockId,
+    number: u64,
+    room: usize,
+) -> Result<Plain<AddOne>, NoMemory>
+    ensures acts { IfOk result (λ w. (c : _) → c.0 < CPUS → ⟦<Plain<AddOne> as Words>⟧.ActsFor w c) }
+    ensures exists { IfOk result (λ w. IsSome (⟦<Plain<AddOne> as Words>⟧.opening w lock)) }
+    ensures seen { IfOk result (λ w. ⟦<Plain<AddOne> as Words>⟧.seen w ≡ []) }
+    ensures room { IfOk result (λ w. ⟦<Plain<AddOne> as Words>⟧.room w ≡ room) }
+{
+    let blocks = one_block(alloc, lock, number)?;
+    Plain::open(alloc, blocks, room)
+}
+
+/// Draws, looks once, and frees if the look hit: the number that stood there.
+fn add_one<W: Words<Edit = AddOne>>(words: &mut W, cpu: CpuId, lock: LockId) -> Option<u64>
+    requires cpu { W.ActsFor words.old cpu }
+    requires lock { IsSome (W.opening words.old lock) }
+    requires room { 2 < W.room words.old }
+    requires outside { standing cpu (W.seen words.old) ≡ Outside }
+    ensures acts { (c : _) → W.ActsFor words.old c → W.ActsFor words.new c }
+    ensures opening { W.opening words.new ≡ W.opening words.old }
+{
+    let ticket = words.draw(cpu, lock);
+    let mut block = words.look(cpu, lock, ticket)?;
+    let number = AddOne.apply(&mut block);
+    words.free(cpu, lock, block, W::mark(AddOne));
+    Some(number)
+}
+
+#[test]
+fn opens_with_the_block_at_home(rt: HostRuntime) -> Result<(), Fail> {
+    let lock = LockId::Buffer(BufId(3));
+    let machine = machine_with(rt.alloc(), lock, 7, 0)?;
+    let words = machine.words(lock);
+    let home = machine.home(lock);
+    assert_eq!(rt;
+        words,
+        LockWords {
+            next: 0,
+            serving: 0
+        }
+    );
+    assert_eq!(rt; home, Some(&7));
+    Ok(())
+}
+
+#[test]
+fn a_section_adds_one(rt: HostRuntime) -> Result<(), Fail> {
+    let lock = LockId::Pending(CpuId(3));
+    let mut machine = machine_with(rt.alloc(), lock, 40, 3)?;
+    let number = add_one(&mut machine, CpuId(1), lock);
+    let words = machine.words(lock);
+    let home = machine.home(lock);
+    assert_eq!(rt; number, Some(40));
+    assert_eq!(rt;
+        words,
+        LockWords {
+            next: 1,
+            serving: 1
+        }
+    );
+    assert_eq!(rt; home, Some(&41));
+    Ok(())
+}
+
+#[test]
+fn too_much_room_is_refused(rt: HostRuntime) -> Result<(), Fail> {
+    let lock = LockId::Pending(CpuId(0));
+    assert_eq!(rt;
+        machine_with(rt.alloc(), lock, 0, usize::MAX).err(),
+        Some(NoMemory)
+    );
+    Ok(())
+}
