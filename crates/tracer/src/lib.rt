@@ -25,6 +25,6 @@ pub use writing::write_trace;
 #[cfg(test)]
 mod checking_tests;
 #[cfg(test)]
-mod writing_tests;
-#[cfg(test)]
 mod slow_tests;
+#[cfg(test)]
+mod writing_tests;

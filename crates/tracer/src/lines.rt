@@ -35,6 +35,7 @@ fn kind_in(word: &[u8]) -> Result<Kind, Reason>
 
 /// The digits of the entry that the pieces behind its first word spell.
 #[tactic(auto, unfolding(crate::specs::Judging::entry_digits))]
+#[inline]
 pub fn entry_digits(pieces: Pieces<'_>) -> Result<EntryDigits<'_>, Reason>
     ensures { Gives digits_of result (entry_digits (left_of pieces.entry)) }
 {
@@ -60,6 +61,7 @@ pub fn entry_digits(pieces: Pieces<'_>) -> Result<EntryDigits<'_>, Reason>
 
 /// The entry of these digits, where each number is in its range.
 #[tactic(auto, unfolding(crate::specs::Judging::entry_in))]
+#[inline]
 pub fn entry_in(digits: EntryDigits<'_>) -> Result<Entry, Reason>
     ensures exact { result ≡ entry_in (digits_of digits.entry) }
     ensures op { IfOk result (λ e. e.op < 524288) }

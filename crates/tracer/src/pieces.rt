@@ -10,6 +10,7 @@ use crate::verdicts::Reason;
 use event_log::{is_number, number_to};
 
 /// What stands before the first byte `at` of the text, and what stands behind it.
+#[inline(always)]
 pub fn cut(text: &[u8], at: u8) -> Option<(&[u8], &[u8])>
     ensures none { IfNone result (slice_split (λ b. b == at) text.now ≡ text.now ∷ []) }
     ensures some { IfSome result (λ p. slice_split (λ b. b == at) text.now ≡ p.0.now ∷ slice_split (λ b. b == at) p.1.now) }
@@ -30,6 +31,7 @@ pub struct Pieces<'a> {
 }
 
 /// The next piece, and the pieces behind it.
+#[inline(always)]
 pub fn piece(pieces: Pieces<'_>) -> Result<(&[u8], Pieces<'_>), Reason>
     ensures { Gives (λ x. (x.0.now, left_of x.1)) result (piece_at (left_of pieces.entry)) }
 {
@@ -54,6 +56,7 @@ pub fn word<'a>(word: &[u8], pieces: Pieces<'a>) -> Result<Pieces<'a>, Reason>
 }
 
 /// The next piece, which must spell a number, and the pieces behind it.
+#[inline(always)]
 pub fn digits(pieces: Pieces<'_>) -> Result<(&[u8], Pieces<'_>), Reason>
     ensures { Gives (λ x. (x.0.now, left_of x.1)) result (digits_at (left_of pieces.entry)) }
 {
@@ -75,6 +78,7 @@ pub fn ended(pieces: Pieces<'_>) -> Result<(), Reason>
 }
 
 /// The number that a piece spells, where it is at most `most`.
+#[inline(always)]
 pub fn in_range(most: u64, digits: &[u8]) -> Result<u64, Reason>
     ensures exact { result ≡ in_range most digits.now }
     ensures within { IfOk result (λ n. n ≤ most) }
