@@ -70,8 +70,8 @@ impl<W: Write> Sink<W> {
         ensures failed { is_err result ≡ has_failed self.new }
         ensures out { Keeps (W.contents (writer_of self.old)) (W.contents (writer_of self.new)) }
     {
-        if self.writer.flush().is_err() {
-            self.failed = true;
+        self.failed = self.writer.flush().is_err();
+        if self.failed {
             return Err(WriteFault);
         }
         Ok(())
