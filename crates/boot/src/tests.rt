@@ -184,3 +184,20 @@ fn a_text_that_is_no_document_is_refused(rt: HostRuntime) -> Result<(), Fail> {
     );
     Ok(())
 }
+
+#[test]
+fn a_refused_allocation_is_no_memory_or_not_needed(rt: HostRuntime) {
+    match Boot::read(rt.alloc(), ONE_SEND) {
+        Ok(boot) => assert_eq!(rt; boot.threads(), 1),
+        Err(error) => assert_eq!(rt; error, BootError::NoMemory),
+    }
+    match Boot::read(
+        rt.alloc(),
+        "cpus = 1\ntrace = 4\nbuffers = [1]\n[[thread]]\ncpu = 0\nprogram = [\"exit\", \"recv 1 r0\"]\n",
+    ) {
+        Ok(_) => assert!(rt; false),
+        Err(error) => assert!(rt;
+            error == BootError::NoMemory || error == BootError::OutOfRange(PlanKey::Program(Tid(0)))
+        ),
+    }
+}
