@@ -13,6 +13,9 @@ use event_log::BUFFERS;
 use std::alloc::Global;
 use toml::Table;
 
+/// How many messages a buffer may hold at most.
+const CAPACITY: u64 = 32;
+
 /// The integer, if it is from `least` to `most`.
 fn number_within(integer: i64, least: u64, most: u64) -> Option<u64>
     ensures number { result ≡ number_within least most integer }
@@ -63,7 +66,7 @@ fn caps_of(integers: &[i64]) -> Option<ArrayVec<u8, 16>>
 {
     let mut caps = ArrayVec::new();
     for integer in integers {
-        let Some(capacity) = number_within(*integer, 1, 32) else {
+        let Some(capacity) = number_within(*integer, 1, CAPACITY) else {
             return None;
         };
         caps.push(capacity as u8);
