@@ -2,3 +2,16 @@ pub mod Line
 pub mod Schedule
 pub mod Count
 pub mod Serve
+pub mod Buffer
+pub mod Effects
+pub mod EditRules
+pub mod Guards
+pub mod State
+pub mod GuestView
+pub mod Steps
+pub mod Turns
+pub mod Claims
+pub mod Sound
+pub mod Fresh
+pub mod Opening
+pub mod Boots

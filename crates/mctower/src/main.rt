@@ -6,6 +6,7 @@ ghost use Rattle.tracer.specs.Sinks.{has_failed};
 
 pub mod count;
 mod help;
+pub mod kernel;
 pub mod line;
 pub mod print;
 pub mod schedule;

@@ -1,0 +1,153 @@
+//! The block that a buffer's lock guards, and the one edit of it: a message call, tried.
+
+ghost use Rattle.std.specs.Prelude.{◌≡◌, ◌≤◌, ◌<◌};
+
+use arrayvec::ArrayVec;
+use event_log::Tid;
+use layer_traits::Edit;
+use std::marker::Model;
+
+/// How many messages the largest buffer holds.
+pub const MOST_ITEMS: usize = 32;
+
+/// A message call, as the section that tries it names it.
+#[derive(Clone, Copy, Debug, PartialEq, Eq)]
+pub enum Call {
+    /// Sends this message.
+    Send(u64),
+    /// Receives a message.
+    Recv,
+}
+
+/// The edit of a section: this thread tries this call on the section's buffer.
+#[derive(Clone, Copy, Debug, PartialEq, Eq)]
+pub struct BufferEdit {
+    /// The thread that calls.
+    pub thread: Tid,
+    /// What it calls.
+    pub call: Call,
+}
+
+/// What a call that took effect did: the message, and the numbers that its buffer gave it.
+#[derive(Clone, Copy, Debug, PartialEq, Eq)]
+pub struct Effect {
+    /// The message that was put or taken.
+    pub value: u64,
+    /// How many effects the buffer had before, modulo 2^64.
+    pub op: u64,
+    /// How many effects of the call's kind the buffer had before, modulo 2^64.
+    pub pos: u64,
+}
+
+/// The block of a buffer: its messages, and how many calls took effect on it.
+#[derive(Drop)]
+pub struct BufferBlock {
+    items: ArrayVec<u64, 32>,
+    capacity: usize,
+    effects: u64,
+    sends: u64,
+    receives: u64,
+}
+
+impl Model for BufferBlock {
+    ghost use Rattle.std.specs.Prelude.{◌≤◌};
+    ghost use Rattle.mctower.specs.Buffer.{Buffer};
+
+    ghost Value = { Buffer };
+
+    ghost view = { λ b. record { capacity = b.capacity; items = b.items.items; effects = b.effects; sends = b.sends; receives = b.receives } };
+
+    ghost invariant = { λ b. b.capacity ≤ 32 };
+}
+
+impl BufferBlock {
+    ghost use Rattle.mctower.specs.Buffer.{new_buffer};
+    ghost use Rattle.mctower.specs.Effects.{effect_on, edited_by};
+    ghost use Rattle.mctower.specs.declared.kernel.edit.Call.TheVariants.{Send, Recv};
+
+    /// An empty buffer with room for `capacity` messages, at most 32.
+    pub fn new(capacity: usize) -> BufferBlock
+        requires { capacity ≤ 32 }
+        ensures { result ≡ new_buffer capacity }
+    {
+        BufferBlock {
+            items: ArrayVec::new(),
+            capacity,
+            effects: 0,
+            sends: 0,
+            receives: 0,
+        }
+    }
+
+    /// Its messages, front first.
+    pub fn items(&self) -> ArrayVec<u64, 32>
+        ensures { result.items ≡ self.now.items }
+    {
+        let mut items = ArrayVec::new();
+        items.try_extend_from_slice(self.items.as_slice()).unwrap();
+        items
+    }
+
+    /// Tries `call`. A send takes effect where there is room: its message joins the end. A receive
+    /// takes effect where a message is there: the first one leaves. Else nothing changes, and the
+    /// answer is `None`.
+    pub fn attempt(&mut self, call: Call) -> Option<Effect>
+        ensures block { self.new ≡ edited_by call self.old }
+        ensures answer { result ≡ effect_on call self.old }
+    {
+        match call {
+            Call::Send(message) => self.put(message),
+            Call::Recv => self.take(),
+        }
+    }
+
+    fn put(&mut self, message: u64) -> Option<Effect>
+        ensures block { self.new ≡ edited_by (Send message) self.old }
+        ensures answer { result ≡ effect_on (Send message) self.old }
+    {
+        if self.items.len() >= self.capacity {
+            return None;
+        }
+        let effect = Effect {
+            value: message,
+            op: self.effects,
+            pos: self.sends,
+        };
+        self.items.push(message);
+        self.effects = self.effects.wrapping_add(1);
+        self.sends = self.sends.wrapping_add(1);
+        Some(effect)
+    }
+
+    fn take(&mut self) -> Option<Effect>
+        ensures block { self.new ≡ edited_by Recv self.old }
+        ensures answer { result ≡ effect_on Recv self.old }
+    {
+        if self.items.is_empty() {
+            return None;
+        }
+        let effect = Effect {
+            value: self.items.remove(0),
+            op: self.effects,
+            pos: self.receives,
+        };
+        self.effects = self.effects.wrapping_add(1);
+        self.receives = self.receives.wrapping_add(1);
+        Some(effect)
+    }
+}
+
+impl Edit for BufferEdit {
+    ghost use Rattle.mctower.specs.EditRules.{buffer_rules};
+
+    type Block = BufferBlock;
+
+    type Out = Option<Effect>;
+
+    ghost rules = { buffer_rules };
+
+    /// Tries the call on the buffer's block.
+    fn apply(self, block: &mut BufferBlock) -> Option<Effect> {
+        block.attempt(self.call)
+    }
+}
