@@ -40,12 +40,14 @@ admits_more tasks start count t home p new cpus a within is at made =
       same = sym (with_more tasks t home p cpus within is at) ∙ a.same;
       count_is = length-set cpus home (admitted p (record { 0 = t })) ∙ a.count_is;
       few = λ c q e. elim (get_set cpus home c (admitted p (record { 0 = t })) q e) [
-          inl here ↦
+        | inl here ↦
             let t' : Tid = record { 0 = t } in
             let more : length (standing_at q) ≡ length (standing_at p) + 1
-                = ap (λ (x : CpuState). length (standing_at x)) (sym here.1) ∙ (length-append (option_to_list p.current) (p.ready ++ t' ∷ []) ∙ omega (arith, length_push p.ready t', length-append (option_to_list p.current) p.ready)) in
+            = ap (λ (x : CpuState). length (standing_at x)) (sym here.1) ∙ (length-append (option_to_list p.current) (p.ready ++ t' ∷ []) ∙ omega (arith, length_push p.ready t', length-append (option_to_list p.current) p.ready)) in
             omega (arith, more, a.few home p at)
-        | inr there ↦ omega (arith, a.few c q there.1) ] })
+        | inr there ↦ omega (arith, a.few c q there.1)
+      ];
+    })
 
 -- one guest more
 pub guests_more : (tasks : List Task) (t : ℕ) (home : CpuId) (guests after : List Guest) (new : Guest) → t < length tasks → home.0 ≡ get_or (map (λ (x : Task). x.home) tasks) t 0 → guests ≡ map (λ (x : Task). new_guest (record { 0 = x.home })) (take t tasks) → new ≡ new_guest home → after ≡ guests ++ new ∷ []

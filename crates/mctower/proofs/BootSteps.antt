@@ -55,42 +55,45 @@ none_begun n c (g ∷ guests) fresh =
 
 ordered_fresh : (s : Shown) → IsFresh s → IsOrdered s
 ordered_fresh s fresh = record {
-    order = [];
-    keeps = no_traces s.cpus fresh.cpus;
-    run = no_items s.guarded.buffers fresh.buffers;
-    counts = λ k x at. record {
-      effects = ap (λ (y : Buffer). y.effects) (fresh.buffers k x at);
-      sends = ap (λ (y : Buffer). y.sends) (fresh.buffers k x at);
-      receives = ap (λ (y : Buffer). y.receives) (fresh.buffers k x at) };
-    few = omega arith;
-  }
+  order = [];
+  keeps = no_traces s.cpus fresh.cpus;
+  run = no_items s.guarded.buffers fresh.buffers;
+  counts = λ k x at. record {
+    effects = ap (λ (y : Buffer). y.effects) (fresh.buffers k x at);
+    sends = ap (λ (y : Buffer). y.sends) (fresh.buffers k x at);
+    receives = ap (λ (y : Buffer). y.receives) (fresh.buffers k x at);
+  };
+  few = omega arith;
+}
 
 -- a system that has taken no step meets the invariant
 pub fresh_sound : (s : Shown) → IsFresh s → IsSound s
 fresh_sound s fresh = record {
-    ordered = ordered_fresh s fresh;
-    follow = λ t program g at_program at_guest.
+  ordered = ordered_fresh s fresh;
+  follow = λ t program g at_program at_guest.
       let none : slice_index_or (traces_of s) g.home.0 [] ≡ [] = no_traces s.cpus fresh.cpus g.home.0 in
       let its : IsFreshGuest (length s.cpus) g = fresh.guests t g at_guest in
       record {
         calls = subst (λ (l : List Entry). IsProgramsCalls program (reverse (of_thread t l)) g.thread) (sym none) (subst (λ d. IsProgramsCalls program [] d) (sym its.thread) starts);
-        ends = λ over. absurd (false≢true (sym (ap is_ended its.stage) ∙ over)) };
-    once = fresh.once;
-    counted = λ c p at.
+        ends = λ over. absurd (false≢true (sym (ap is_ended its.stage) ∙ over));
+      };
+  once = fresh.once;
+  counted = λ c p at.
       let its : IsFreshCpu p = fresh.cpus c p at in
       record {
         begun = its.begun ∙ sym (none_begun (length s.cpus) c s.guests fresh.guests);
-        fits = let none : length p.trace ≡ 0 = ap length its.trace in omega (arith, none, its.begun) };
-    calling = λ t program g at_program at_guest stage. absurd (let bad : Between ≡ Begun = sym (fresh.guests t g at_guest).stage ∙ stage in (cc));
-    under_way = λ c p u at at_under. absurd (let bad : Some u ≡ None = fresh.under c.0 (Some u) at_under in (cc));
-    homes = λ t g at. (fresh.guests t g at).home;
-    known = fresh.known;
-    threads = fresh.threads;
-    sections = fresh.sections;
-    small = fresh.small;
-    within = omega (arith, fresh.taken);
-    reserve = omega (arith, fresh.reserve);
-  }
+        fits = let none : length p.trace ≡ 0 = ap length its.trace in omega (arith, none, its.begun);
+      };
+  calling = λ t program g at_program at_guest stage. absurd (let bad : Between ≡ Begun = sym (fresh.guests t g at_guest).stage ∙ stage in (cc));
+  under_way = λ c p u at at_under. absurd (let bad : Some u ≡ None = fresh.under c.0 (Some u) at_under in (cc));
+  homes = λ t g at. (fresh.guests t g at).home;
+  known = fresh.known;
+  threads = fresh.threads;
+  sections = fresh.sections;
+  small = fresh.small;
+  within = omega (arith, fresh.taken);
+  reserve = omega (arith, fresh.reserve);
+}
 
 -- before any thread is admitted nobody stands anywhere
 pub once_none : (cpus : List CpuState) → ((c : ℕ) (p : CpuState) → slice_get cpus c ≡ Some p → standing_at p ≡ []) → (c : ℕ) (p : CpuState) (t : ℕ) → slice_get cpus c ≡ Some p → times t (standing_at p) ≡ due_at c (slice_get {X = Guest} [] t)
@@ -119,23 +122,26 @@ pub once_admit : (cpus : List CpuState) (guests : List Guest) (h : CpuId) (p : C
     → (c : ℕ) (q : CpuState) (u : ℕ) → slice_get (set cpus h.0 (admitted p t)) c ≡ Some q → times u (standing_at q) ≡ due_at c (slice_get (guests ++ new_guest h ∷ []) u)
 once_admit cpus guests h p t last at_home once c q u at =
     elim (get_set cpus h.0 c (admitted p t) q at) [
-      inl here ↦
-        let was = once h.0 p u at_home in
-        let stands : times u (standing_at q) ≡ times u (standing_at p) + cond (t.0 == u) 1 0 = ap (λ x. times u (standing_at x)) (sym here.1) ∙ times_admitted p t u in
-        elim (cases_eq u (length guests)) [
-          inl new ↦
-            let its = guest_at guests (new_guest h) u new in
-            let before : times u (standing_at p) ≡ 0 = was ∙ ap (due_at h.0) its.0 in
-            let one : ◌≡◌ {A = ℕ} (cond (t.0 == u) 1 0) 1 = ap (λ b. cond b 1 0) (eq-eqb t.0 u (last ∙ sym new)) in
-            let due : due_at c (slice_get (guests ++ new_guest h ∷ []) u) ≡ 1 = ap (due_at c) its.1 ∙ ap (λ b. cond b 1 0) (eq-eqb h.0 c (sym here.0)) in
-            omega (arith, stands, before, one, due)
-        | inr old ↦
-            let none : ◌≡◌ {A = ℕ} (cond (t.0 == u) 1 0) 0 = ap (λ b. cond b 1 0) (ne_eqb t.0 u (λ s. old (sym s ∙ last))) in
-            let due : due_at c (slice_get (guests ++ new_guest h ∷ []) u) ≡ due_at h.0 (slice_get guests u) = ap (due_at c) (guest_other guests (new_guest h) u old) ∙ ap (λ n. due_at n (slice_get guests u)) here.0 in
-            omega (arith, stands, was, none, due) ]
-    | inr there ↦
-        once c q u there.1 ∙ elim (cases_eq u (length guests)) [
-          inl new ↦
-            let its = guest_at guests (new_guest h) u new in
-            ap (due_at c) its.0 ∙ sym (ap (due_at c) its.1 ∙ ap (λ b. cond b 1 0) (ne_eqb h.0 c (λ s. there.0 (sym s))))
-        | inr old ↦ ap (due_at c) (sym (guest_other guests (new_guest h) u old)) ] ]
+      | inl here ↦
+          let was = once h.0 p u at_home in
+          let stands : times u (standing_at q) ≡ times u (standing_at p) + cond (t.0 == u) 1 0 = ap (λ x. times u (standing_at x)) (sym here.1) ∙ times_admitted p t u in
+          elim (cases_eq u (length guests)) [
+            | inl new ↦
+                let its = guest_at guests (new_guest h) u new in
+                let before : times u (standing_at p) ≡ 0 = was ∙ ap (due_at h.0) its.0 in
+                let one : ◌≡◌ {A = ℕ} (cond (t.0 == u) 1 0) 1 = ap (λ b. cond b 1 0) (eq-eqb t.0 u (last ∙ sym new)) in
+                let due : due_at c (slice_get (guests ++ new_guest h ∷ []) u) ≡ 1 = ap (due_at c) its.1 ∙ ap (λ b. cond b 1 0) (eq-eqb h.0 c (sym here.0)) in
+                omega (arith, stands, before, one, due)
+            | inr old ↦
+                let none : ◌≡◌ {A = ℕ} (cond (t.0 == u) 1 0) 0 = ap (λ b. cond b 1 0) (ne_eqb t.0 u (λ s. old (sym s ∙ last))) in
+                let due : due_at c (slice_get (guests ++ new_guest h ∷ []) u) ≡ due_at h.0 (slice_get guests u) = ap (due_at c) (guest_other guests (new_guest h) u old) ∙ ap (λ n. due_at n (slice_get guests u)) here.0 in
+                omega (arith, stands, was, none, due)
+          ]
+      | inr there ↦
+          once c q u there.1 ∙ elim (cases_eq u (length guests)) [
+            | inl new ↦
+                let its = guest_at guests (new_guest h) u new in
+                ap (due_at c) its.0 ∙ sym (ap (due_at c) its.1 ∙ ap (λ b. cond b 1 0) (ne_eqb h.0 c (λ s. there.0 (sym s))))
+            | inr old ↦ ap (due_at c) (sym (guest_other guests (new_guest h) u old))
+          ]
+    ]

@@ -49,11 +49,12 @@ AllFresh cpus = (c : ℕ) (p : CpuState) → slice_get cpus c ≡ Some p → IsF
 fresh_admitted : (cpus : List CpuState) (home : ℕ) (o : Option CpuState) (t : Tid) → slice_get cpus home ≡ o → AllFresh cpus → AllFresh (admitted_at cpus home o t)
 fresh_admitted cpus home None t is fresh = fresh
 fresh_admitted cpus home (Some p) t is fresh = λ c q at. elim (get_set cpus home c (admitted p t) q at) [
-      inl here ↦
-        let old : IsFreshCpu p = fresh home p is in
-        let new : IsFreshCpu (admitted p t) = record { current = old.current; trace = old.trace; begun = old.begun } in
-        subst IsFreshCpu here.1 new
-    | inr there ↦ fresh c q there.1 ]
+  | inl here ↦
+      let old : IsFreshCpu p = fresh home p is in
+      let new : IsFreshCpu (admitted p t) = record { current = old.current; trace = old.trace; begun = old.begun } in
+      subst IsFreshCpu here.1 new
+  | inr there ↦ fresh c q there.1
+]
 
 fresh_with : (t : ℕ) (tasks : List Task) (cpus : List CpuState) → AllFresh cpus → AllFresh (with_threads t tasks cpus)
 fresh_with t [] cpus fresh = fresh
@@ -85,12 +86,12 @@ once_with (task ∷ tasks) cpus guests homes once =
     let next : List CpuState = set cpus task.home (admitted at.0 t) in
     let now : Once next (guests ++ guest_of task ∷ []) = once_admit cpus guests (record { 0 = task.home }) at.0 t refl at.1 once in
     let rest : Once (with_threads (length (guests ++ guest_of task ∷ [])) tasks next) ((guests ++ guest_of task ∷ []) ++ map guest_of tasks)
-        = once_with tasks next (guests ++ guest_of task ∷ []) (λ k other e. subst (λ n. other.home < n) (sym (length-set cpus task.home (admitted at.0 t))) (homes (suc k) other e)) now in
+    = once_with tasks next (guests ++ guest_of task ∷ []) (λ k other e. subst (λ n. other.home < n) (sym (length-set cpus task.home (admitted at.0 t))) (homes (suc k) other e)) now in
     let count : length (guests ++ guest_of task ∷ []) ≡ length guests + 1 = length_push guests (guest_of task) in
     let admits : admitted_at cpus task.home (slice_get cpus task.home) t ≡ next = ap (λ o. admitted_at cpus task.home o t) at.1 in
     subst (λ cs. Once (with_threads (length guests + 1) tasks cs) (guests ++ map guest_of (task ∷ tasks))) (sym admits)
-        (subst (λ n. Once (with_threads n tasks next) (guests ++ map guest_of (task ∷ tasks))) count
-        (subst (Once (with_threads (length (guests ++ guest_of task ∷ [])) tasks next)) (append_assoc guests (guest_of task ∷ []) (map guest_of tasks)) rest))
+    (subst (λ n. Once (with_threads n tasks next) (guests ++ map guest_of (task ∷ tasks))) count
+    (subst (Once (with_threads (length (guests ++ guest_of task ∷ [])) tasks next)) (append_assoc guests (guest_of task ∷ []) (map guest_of tasks)) rest))
 
 -- a call of an instruction that names only buffers that are there
 known_at : (buffers : ℕ) (d : State) (i : Instruction) (b : BufId) (call : Call) → IsTrue (names_below buffers i) → todo_at d i ≡ Tries b call → b.0 < buffers
@@ -114,23 +115,27 @@ booted_fresh plan room is small =
     let many : length cpus ≡ plan.cpus = length-replicate plan.cpus (idle_cpu plan.trace) in
     let kept : length (with_threads 0 plan.tasks cpus) ≡ plan.cpus = length_with 0 plan.tasks cpus ∙ many in
     let task_at : (k : ℕ) (task : Task) → slice_get plan.tasks k ≡ Some task → IsTask plan.cpus (length plan.caps) task
-        = λ k task at. at_of_all (IsTask plan.cpus (length plan.caps)) plan.tasks k task is.tasks.each at in
+    = λ k task at. at_of_all (IsTask plan.cpus (length plan.caps)) plan.tasks k task is.tasks.each at in
     record {
       cpus = fresh_with 0 plan.tasks cpus (λ c p at. let e = get_replicate plan.cpus (idle_cpu plan.trace) c p at in record {
-        current = ap (λ (x : CpuState). x.current) e; trace = ap (λ (x : CpuState). x.trace) e; begun = ap (λ (x : CpuState). x.begun) e });
+        current = ap (λ (x : CpuState). x.current) e;
+        trace = ap (λ (x : CpuState). x.trace) e;
+        begun = ap (λ (x : CpuState). x.begun) e;
+      });
       guests = λ t g at. let m = get_map guest_of plan.tasks t g at in record {
         thread = ap (λ (x : Guest). x.thread) (sym m.2);
         stage = ap (λ (x : Guest). x.stage) (sym m.2);
-        home = subst (λ (x : Guest). x.home.0 < length (with_threads 0 plan.tasks cpus)) m.2 (omega (arith, kept, (task_at t m.0 m.1).home)) };
+        home = subst (λ (x : Guest). x.home.0 < length (with_threads 0 plan.tasks cpus)) m.2 (omega (arith, kept, (task_at t m.0 m.1).home));
+      };
       buffers = λ k x at. let m = get_map new_buffer plan.caps k x at in sym m.2 ∙ ap (λ (y : Buffer). new_buffer y.capacity) m.2;
       under = λ c u at. get_replicate plan.cpus None c u at;
       once = once_with plan.tasks cpus [] (λ k task at. omega (arith, many, (task_at k task at).home))
-        (once_none cpus (λ c p at. ap (λ (x : CpuState). standing_at x) (get_replicate plan.cpus (idle_cpu plan.trace) c p at)));
+          (once_none cpus (λ c p at. ap (λ (x : CpuState). standing_at x) (get_replicate plan.cpus (idle_cpu plan.trace) c p at)));
       known = λ t program at d b call e.
-        let m = get_map (λ (task : Task). task.program) plan.tasks t program at in
-        subst (λ n. b.0 < n) (sym (length-map plan.caps new_buffer))
+          let m = get_map (λ (task : Task). task.program) plan.tasks t program at in
+          subst (λ n. b.0 < n) (sym (length-map plan.caps new_buffer))
           (known_in (length plan.caps) program d (slice_get program d.line) b call refl
-            (subst (All (λ i. IsTrue (names_below (length plan.caps) i))) m.2 (task_at t m.0 m.1).known) e);
+          (subst (All (λ i. IsTrue (names_below (length plan.caps) i))) m.2 (task_at t m.0 m.1).known) e);
       threads = length-map plan.tasks (λ (task : Task). task.program) ∙ sym (length-map plan.tasks guest_of);
       sections = length-replicate plan.cpus None ∙ sym kept;
       small = small;

@@ -89,9 +89,9 @@ recv_at s (ins.Jnz r k) b e = absurd (cc)
 pub sent_value : (m : ℕ) (x : Buffer) (f : Effect) → effect_on (Send m) x ≡ Some f → f.value ≡ m
 sent_value m x f e = sent_in m x f (nat_lt (length x.items) x.capacity) e
   where
-  sent_in : (m : ℕ) (x : Buffer) (f : Effect) (room : Bool) → (if room then Some (record { value = m; op = x.effects; pos = x.sends }) else None) ≡ Some f → f.value ≡ m
-  sent_in m x f true e = ap (λ (y : Effect). y.value) (sym (same_Some _ f e))
-  sent_in m x f false e = absurd (cc)
+    sent_in : (m : ℕ) (x : Buffer) (f : Effect) (room : Bool) → (if room then Some (record { value = m; op = x.effects; pos = x.sends }) else None) ≡ Some f → f.value ≡ m
+    sent_in m x f true e = ap (λ (y : Effect). y.value) (sym (same_Some _ f e))
+    sent_in m x f false e = absurd (cc)
 
 -- a call's effect is its buffer's
 answer_effect : (ph : Phase) (call : Call) (o : Option Buffer) (f : Effect) → at_give ph (option_map (effect_on call) o) ≡ Some (Some f) → (x : Buffer) × (effect_on call x ≡ Some f)
@@ -110,7 +110,6 @@ calls_more program es s c t b Recv x f calls asks did =
     let at = recv_at s (next_of program s) b asks in
     calls-recv program es s b at.register (entry_of c t b Recv f) calls at.is refl refl
 
-
 -- one entry more, of another thread
 pub of_other : (u : ℕ) (trace : List Entry) (e : Entry) → e.thread.0 ≢ u → of_thread u (trace ++ e ∷ []) ≡ of_thread u trace
 of_other u trace e differ =
@@ -124,12 +123,11 @@ of_own u trace e same =
 pub begun_here : (c : ℕ) (g : Guest) → g.home.0 ≡ c → has_begun_on c g ≡ is_begun g.stage
 begun_here c g home = ap (λ b. b && is_begun g.stage) (eq-eqb g.home.0 c home)
 
-
 -- a begun call is counted
 pub begun_is_counted : (guests : List Guest) (c t : ℕ) (g : Guest) → slice_get guests t ≡ Some g → g.home.0 ≡ c → g.stage ≡ Begun → 0 < count_by (has_begun_on c) guests
 begun_is_counted guests c t g at home stage =
     let one : ◌≡◌ {A = ℕ} (cond (has_begun_on c (get_or guests t g)) 1 0) 1
-        = ap (λ x. cond (has_begun_on c x) 1 0) (get_or_from_slice_get guests t g g at) ∙ ap (λ b. cond b 1 0) (begun_here c g home ∙ ap is_begun stage) in
+    = ap (λ x. cond (has_begun_on c x) 1 0) (get_or_from_slice_get guests t g g at) ∙ ap (λ b. cond b 1 0) (begun_here c g home ∙ ap is_begun stage) in
     omega (arith, one, get_or-le-sum_by (λ x. cond (has_begun_on c x) 1 0) guests t g (within_get guests t g at))
 
 pub has_count_in : (guests : List Guest) (c t : ℕ) (p : CpuState) (g : Guest) (b : BufId) (call : Call) (stage : Stage) → g.stage ≡ stage → IsCounted guests c p → slice_get guests t ≡ Some g → g.home.0 ≡ c → is_ended stage ≡ false → is_full_for p stage (Tries b call) ≡ false → HasCount p stage
@@ -143,4 +141,3 @@ pub begins : (p : CpuState) (stage : Stage) → HasCount p stage → length p.tr
 begins p Between count fits = (omega arith, omega (arith, count), omega arith)
 begins p Begun count fits = (refl, fits, count)
 begins p Ended count fits = absurd count
-

@@ -52,7 +52,8 @@ took_send m x f true room e =
       capacity = rw (← room) refl;
       effects = rw (← room) refl;
       sends = rw (← room) refl;
-      receives = rw (← room) refl }
+      receives = rw (← room) refl;
+    }
 took_send m x f false room e = absurd (cc)
 
 took_recv : (x : Buffer) (f : Effect) (items : List ℕ) → x.items ≡ items → taken_from x items ≡ Some f → Took Recv x f
@@ -67,7 +68,8 @@ took_recv x f (m ∷ rest) at e =
       capacity = rw at refl;
       effects = rw at refl;
       sends = rw at refl;
-      receives = rw at refl }
+      receives = rw at refl;
+    }
 
 -- a call that took effect
 pub took : (call : Call) (x : Buffer) (f : Effect) → effect_on call x ≡ Some f → Took call x f
@@ -104,11 +106,12 @@ next_entry buffers order c t b call x f at effect counts =
       known = let within = within_get buffers b.0 x at in rw (length-map buffers (λ (b : Buffer). b.capacity)) within;
       allowed = rw (capacity, items) done.allowed;
       op = done.op ∙ counts.effects;
-      pos = done.pos ∙ had_is call x order b.0 counts }
+      pos = done.pos ∙ had_is call x order b.0 counts;
+    }
   where
-  had_is : (call : Call) (x : Buffer) (order : List Entry) (k : ℕ) → Counts order k x → had_of (kind_of call) x ≡ count_of_kind order k (kind_of call)
-  had_is (Send m) x order k counts = counts.sends
-  had_is Recv x order k counts = counts.receives
+    had_is : (call : Call) (x : Buffer) (order : List Entry) (k : ℕ) → Counts order k x → had_of (kind_of call) x ≡ count_of_kind order k (kind_of call)
+    had_is (Send m) x order k counts = counts.sends
+    had_is Recv x order k counts = counts.receives
 
 -- a counter below the limit goes on by one
 counted_is : (n : ℕ) → n + 1 < 2 ^ 64 → counted n ≡ n + 1
@@ -126,32 +129,35 @@ counts_kind order e which old new false same is small told =
 
 -- the counters of the buffer on which a call took effect
 counts_own : (order : List Entry) (c : CpuId) (t : Tid) (b : BufId) (call : Call) (x : Buffer) (f : Effect) → effect_on call x ≡ Some f → length order + 1 < 2 ^ 64 → Counts order b.0 x → Counts (order ++ entry_of c t b call f ∷ []) b.0 (edited_by call x)
-counts_own order c t b call x f effect small counts = 
+counts_own order c t b call x f effect small counts =
     let done = took call x f effect in
     let e = entry_of c t b call f in
     record {
       effects =
-        let few : count_of order b.0 ≤ length order = count_by-le-length (λ (e : Entry). e.buffer.0 == b.0) order in
-        done.effects ∙ rw counts.effects (counted_is (count_of order b.0) (omega arith) ∙ sym (count_own order e));
+          let few : count_of order b.0 ≤ length order = count_by-le-length (λ (e : Entry). e.buffer.0 == b.0) order in
+          done.effects ∙ rw counts.effects (counted_is (count_of order b.0) (omega arith) ∙ sym (count_own order e));
       sends = counts_kind order e kind.Send x.sends _ (kind_eq (kind_of call) kind.Send) refl counts.sends small done.sends;
-      receives = counts_kind order e kind.Recv x.receives _ (kind_eq (kind_of call) kind.Recv) refl counts.receives small done.receives }
+      receives = counts_kind order e kind.Recv x.receives _ (kind_eq (kind_of call) kind.Recv) refl counts.receives small done.receives;
+    }
 
 -- the counters of another buffer
 counts_other : (order : List Entry) (e : Entry) (k : ℕ) (x : Buffer) → k ≢ e.buffer.0 → Counts order k x → Counts (order ++ e ∷ []) k x
 counts_other order e k x ne counts = record {
-    effects = counts.effects ∙ sym (count_other order e k ne);
-    sends = counts.sends ∙ sym (count_kind_other order e k kind.Send ne);
-    receives = counts.receives ∙ sym (count_kind_other order e k kind.Recv ne) }
+  effects = counts.effects ∙ sym (count_other order e k ne);
+  sends = counts.sends ∙ sym (count_kind_other order e k kind.Send ne);
+  receives = counts.receives ∙ sym (count_kind_other order e k kind.Recv ne);
+}
 
 -- all counters after a call that took effect
 pub counts_after : (buffers : List Buffer) (order : List Entry) (c : CpuId) (t : Tid) (b : BufId) (call : Call) (x : Buffer) (f : Effect) → slice_get buffers b.0 ≡ Some x → effect_on call x ≡ Some f → length order + 1 < 2 ^ 64 → ((k : ℕ) (y : Buffer) → slice_get buffers k ≡ Some y → Counts order k y) → (k : ℕ) (y : Buffer) → slice_get (set buffers b.0 (edited_by call x)) k ≡ Some y → Counts (order ++ entry_of c t b call f ∷ []) k y
 counts_after buffers order c t b call x f at effect small counts k y e =
     let own = counts_own order c t b call x f effect small (counts b.0 x at) in
     elim (get_set buffers b.0 k (edited_by call x) y e) [
-      inl same ↦
-        let here = subst (λ z. Counts (order ++ entry_of c t b call f ∷ []) b.0 z) same.1 own in
-        subst (λ j. Counts (order ++ entry_of c t b call f ∷ []) j y) (sym same.0) here
-    | inr other ↦ counts_other order (entry_of c t b call f) k y other.0 (counts k y other.1) ]
+      | inl same ↦
+          let here = subst (λ z. Counts (order ++ entry_of c t b call f ∷ []) b.0 z) same.1 own in
+          subst (λ j. Counts (order ++ entry_of c t b call f ∷ []) j y) (sym same.0) here
+      | inr other ↦ counts_other order (entry_of c t b call f) k y other.0 (counts k y other.1)
+    ]
 
 -- the run after a call that took effect
 pub run_after : (buffers : List Buffer) (order : List Entry) (c : CpuId) (t : Tid) (b : BufId) (call : Call) (x : Buffer) (f : Effect) → slice_get buffers b.0 ≡ Some x → effect_on call x ≡ Some f → Counts order b.0 x → IsRun (caps_in buffers) order (contents_in buffers) → IsRun (caps_in (set buffers b.0 (edited_by call x))) (order ++ entry_of c t b call f ∷ []) (contents_in (set buffers b.0 (edited_by call x)))
@@ -162,5 +168,5 @@ run_after buffers order c t b call x f at effect counts run =
     let items : items_of (contents_in buffers) b.0 ≡ x.items = get_or_from_slice_get (contents_in buffers) b.0 x.items [] (slice_get-map (λ (b : Buffer). b.items) buffers b.0 ∙ rw at refl) in
     let caps : caps_in (set buffers b.0 (edited_by call x)) ≡ caps_in buffers = map_set_same (λ (b : Buffer). b.capacity) buffers b.0 (edited_by call x) x at done.capacity in
     let contents : contents_in (set buffers b.0 (edited_by call x)) ≡ after_entry (contents_in buffers) (entry_of c t b call f) =
-      map-set (λ (b : Buffer). b.items) buffers b.0 (edited_by call x) ∙ rw (items, ← done.items) refl in
+    map-set (λ (b : Buffer). b.items) buffers b.0 (edited_by call x) ∙ rw (items, ← done.items) refl in
     rw (caps, contents) more

@@ -50,7 +50,8 @@ quiet_order s c t p turn sound at same buffers =
       keeps = rw traces old.keeps;
       run = rw buffers old.run;
       counts = λ k x e. old.counts k x (rw buffers at e);
-      few = let few = old.few in omega arith }
+      few = let few = old.few in omega arith;
+    }
 
 -- an answer tells its call's effect
 answer_told : (ph : Phase) (call : Call) (x : Buffer) (r : Option Effect) → at_give ph (Some (effect_on call x)) ≡ Some r → effect_on call x ≡ r
@@ -129,8 +130,8 @@ module _ (s : Shown) (c : CpuId) (p : CpuState) (t : Tid) (program : List Instru
         home = refl;
         stand = λ u ne. sym (others_ready u ne);
         stands =
-          let here : (g.home.0 == c.0) ≡ true = eq-eqb g.home.0 c.0 lives.0 in
-          not_ready ∙ rw here refl;
+            let here : (g.home.0 == c.0) ≡ true = eq-eqb g.home.0 c.0 lives.0 in
+            not_ready ∙ rw here refl;
         count = rw (not_calling never) refl;
         fits = (sound.counted c.0 p at_cpu).fits;
         calling = λ e. absurd (cc);
@@ -138,7 +139,8 @@ module _ (s : Shown) (c : CpuId) (p : CpuState) (t : Tid) (program : List Instru
         under_others = λ d ne. refl;
         unders = refl;
         buffers = refl;
-        spent = omega arith }
+        spent = omega arith;
+      }
 
   -- the thread passes its turn on
   pub good_pass : todo_of program g ≡ PassOn → IsGoodTurn s c p t program g (record { cpu = put_behind p t; guest = passed program g; guarded = s.guarded })
@@ -158,7 +160,8 @@ module _ (s : Shown) (c : CpuId) (p : CpuState) (t : Tid) (program : List Instru
         under_others = λ d ne. refl;
         unders = refl;
         buffers = refl;
-        spent = omega arith }
+        spent = omega arith;
+      }
 
   -- the thread does an instruction of its own
   pub good_compute : todo_of program g ≡ Compute → IsGoodTurn s c p t program g (record { cpu = p; guest = computed program g; guarded = s.guarded })
@@ -178,7 +181,8 @@ module _ (s : Shown) (c : CpuId) (p : CpuState) (t : Tid) (program : List Instru
         under_others = λ d ne. refl;
         unders = refl;
         buffers = refl;
-        spent = omega arith }
+        spent = omega arith;
+      }
 
   -- the buffer of the thread's call
   buffer_at : (b : BufId) (call : Call) → todo_of program g ≡ Tries b call → (x : Buffer) × (slice_get s.guarded.buffers b.0 ≡ Some x)
@@ -216,20 +220,30 @@ module _ (s : Shown) (c : CpuId) (p : CpuState) (t : Tid) (program : List Instru
         fits = goes.1;
         calling = λ e. subst IsCall (sym todo) tt;
         under_way = λ u at.
-          let is : section_of c b t call ≡ u = same_Some _ u (same_Some _ (Some u) (sym (unders_at b call None) ∙ ap (λ l. slice_get l c.0) (sym unders) ∙ at)) in
-          record {
-            thread = t; program = program; guest = begun g; buffer = b; call = call;
-            runs = begun_runs g.stage; at_program = at_program; at_guest = get_set_same s.guests t.0 (begun g) g at_guest;
-            stage = refl; tries = todo; is = sym is };
+            let is : section_of c b t call ≡ u = same_Some _ u (same_Some _ (Some u) (sym (unders_at b call None) ∙ ap (λ l. slice_get l c.0) (sym unders) ∙ at)) in
+            record {
+              thread = t;
+              program = program;
+              guest = begun g;
+              buffer = b;
+              call = call;
+              runs = begun_runs g.stage;
+              at_program = at_program;
+              at_guest = get_set_same s.guests t.0 (begun g) g at_guest;
+              stage = refl;
+              tries = todo;
+              is = sym is;
+            };
         under_others = λ d ne. rw unders (get_set_other s.guarded.under c.0 d _ ne);
         unders = rw unders (length-set s.guarded.under c.0 _);
         buffers = ap length buffers;
-        spent = omega arith }
+        spent = omega arith;
+      }
     where
-    begun_runs : (stage : Stage) → (begun_at p stage).current ≡ Some t
-    begun_runs Between = runs
-    begun_runs Begun = runs
-    begun_runs Ended = runs
+      begun_runs : (stage : Stage) → (begun_at p stage).current ≡ Some t
+      begun_runs Between = runs
+      begun_runs Begun = runs
+      begun_runs Ended = runs
 
   -- the section ended, and its call had no effect
   good_waiting : (b : BufId) (call : Call) (guarded : Guarded) → todo_of program g ≡ Tries b call → HasCount p g.stage → guarded.buffers ≡ s.guarded.buffers → guarded.under ≡ set s.guarded.under c.0 None → guarded.left ≡ s.guarded.left - 1 → IsGoodTurn s c p t program g (record { cpu = put_behind (begun_at p g.stage) t; guest = begun g; guarded = guarded })
@@ -247,12 +261,13 @@ module _ (s : Shown) (c : CpuId) (p : CpuState) (t : Tid) (program : List Instru
         fits = goes.1;
         calling = λ e. subst IsCall (sym todo) tt;
         under_way = λ u at.
-          let is : ◌≡◌ {A = Option (Section BufferEdit)} None (Some u) = same_Some _ (Some u) (sym (unders_at b call (Some None)) ∙ ap (λ l. slice_get l c.0) (sym unders) ∙ at) in
-          absurd (cc);
+            let is : ◌≡◌ {A = Option (Section BufferEdit)} None (Some u) = same_Some _ (Some u) (sym (unders_at b call (Some None)) ∙ ap (λ l. slice_get l c.0) (sym unders) ∙ at) in
+            absurd (cc);
         under_others = λ d ne. rw unders (get_set_other s.guarded.under c.0 d _ ne);
         unders = rw unders (length-set s.guarded.under c.0 _);
         buffers = ap length buffers;
-        spent = omega arith }
+        spent = omega arith;
+      }
 
   -- the section ended, and its call took effect and returned
   good_returning : (b : BufId) (call : Call) (x : Buffer) (f : Effect) (guarded : Guarded) → todo_of program g ≡ Tries b call → HasCount p g.stage → s.taken < s.room → slice_get s.guarded.buffers b.0 ≡ Some x → effect_on call x ≡ Some f → guarded.buffers ≡ set s.guarded.buffers b.0 (edited_by call x) → guarded.under ≡ set s.guarded.under c.0 None → guarded.left ≡ s.guarded.left - 1 → IsGoodTurn s c p t program g (record { cpu = noted (begun_at p g.stage) (entry_of c t b call f); guest = returned program (begun g) call f.value; guarded = guarded })
@@ -263,7 +278,7 @@ module _ (s : Shown) (c : CpuId) (p : CpuState) (t : Tid) (program : List Instru
       let old = sound.ordered in
       let short : length old.order + 1 < 2 ^ 64 = (let few = old.few in let small = sound.small in omega arith) in
       let traces : map (λ (q : CpuState). q.trace) (set s.cpus c.0 (noted (begun_at p g.stage) e)) ≡ set (map (λ (q : CpuState). q.trace) s.cpus) c.0 (p.trace ++ e ∷ []) =
-        map-set (λ (q : CpuState). q.trace) s.cpus c.0 (noted (begun_at p g.stage) e) ∙ ap (λ l. set (map (λ (q : CpuState). q.trace) s.cpus) c.0 (l ++ e ∷ [])) same.1 in
+      map-set (λ (q : CpuState). q.trace) s.cpus c.0 (noted (begun_at p g.stage) e) ∙ ap (λ l. set (map (λ (q : CpuState). q.trace) s.cpus) c.0 (l ++ e ∷ [])) same.1 in
       let trace_at : slice_get (map (λ (q : CpuState). q.trace) s.cpus) c.0 ≡ Some p.trace = slice_get-map (λ (q : CpuState). q.trace) s.cpus c.0 ∙ ap (λ (o : Option CpuState). option_map (λ (q : CpuState). q.trace) o) at_cpu in
       record {
         ordered = record {
@@ -271,11 +286,13 @@ module _ (s : Shown) (c : CpuId) (p : CpuState) (t : Tid) (program : List Instru
           keeps = rw traces (interleaving_more (traces_of s) old.order c.0 p.trace e trace_at old.keeps);
           run = rw buffers (run_after s.guarded.buffers old.order c t b call x f at effect (old.counts b.0 x at) old.run);
           counts = λ k y at_y. counts_after s.guarded.buffers old.order c t b call x f at effect short old.counts k y (rw buffers at at_y);
-          few = let few = old.few in rw length_push (omega arith) };
+          few = let few = old.few in rw length_push (omega arith);
+        };
         others = λ u ne. rw same.1 (of_other u p.trace e (λ v. ne (sym v)));
         own = λ was. record {
           calls = rw same.1 (rw (of_own t.0 p.trace e refl) (calls_more program _ g.thread c t b call x f was.calls todo effect));
-          ends = λ v. absurd (cc) };
+          ends = λ v. absurd (cc);
+        };
         home = refl;
         stand = λ u ne. ap (times u) same.0;
         stands = ap (times t.0) same.0 ∙ due_here ∙ due_once g refl lives.1 ∙ sym (due_once (returned program (begun g) call f.value) refl refl);
@@ -283,12 +300,13 @@ module _ (s : Shown) (c : CpuId) (p : CpuState) (t : Tid) (program : List Instru
         fits = let h = goes.1 in let k = goes.2 in rw length_push (omega arith);
         calling = λ v. absurd (cc);
         under_way = λ u at_u.
-          let is : ◌≡◌ {A = Option (Section BufferEdit)} None (Some u) = same_Some _ (Some u) (sym (unders_at b call (Some None)) ∙ ap (λ l. slice_get l c.0) (sym unders) ∙ at_u) in
-          absurd (cc);
+            let is : ◌≡◌ {A = Option (Section BufferEdit)} None (Some u) = same_Some _ (Some u) (sym (unders_at b call (Some None)) ∙ ap (λ l. slice_get l c.0) (sym unders) ∙ at_u) in
+            absurd (cc);
         under_others = λ d ne. rw unders (get_set_other s.guarded.under c.0 d _ ne);
         unders = rw unders (length-set s.guarded.under c.0 _);
         buffers = rw buffers (length-set s.guarded.buffers b.0 _);
-        spent = omega arith }
+        spent = omega arith;
+      }
 
   -- the next action of the section that tries the thread's call
   good_answered : (b : BufId) (call : Call) (r : Option (Option Effect)) → answer_of c b call s.guarded ≡ r → todo_of program g ≡ Tries b call → HasCount p g.stage → s.taken < s.room → IsGoodTurn s c p t program g (answered c (begun_at p g.stage) t program (begun g) b call (acted c b t call s.guarded) r)

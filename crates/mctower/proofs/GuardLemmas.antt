@@ -49,14 +49,16 @@ module _ {P M : Type 0} (Fits : P → M → Type 0) (cpu_of : P → CpuId) (open
   fit_after : (m m' : M) (parts : List P) (k : ℕ) (p p' : P) → ((j : ℕ) (q : P) → slice_get parts j ≡ Some q → Fits q m) → ((j : ℕ) (q : P) → slice_get parts j ≡ Some q → cpu_of q ≡ record { 0 = j }) → slice_get parts k ≡ Some p → Fits p' m' → ((q : P) → cpu_of q ≢ cpu_of p → Fits q m → Fits q m') → (j : ℕ) (q : P) → slice_get (set parts k p') j ≡ Some q → Fits q m'
   fit_after m m' parts k p p' fit numbers at mine others j q e =
       elim (get_set parts k j p' q e) [
-        inl same ↦ subst (λ r. Fits r m') same.1 mine
-      | inr other ↦ others q (λ s. other.0 (ap (λ (c : CpuId). c.0) (sym (numbers j q other.1) ∙ s ∙ numbers k p at))) (fit j q other.1) ]
+        | inl same ↦ subst (λ r. Fits r m') same.1 mine
+        | inr other ↦ others q (λ s. other.0 (ap (λ (c : CpuId). c.0) (sym (numbers j q other.1) ∙ s ∙ numbers k p at))) (fit j q other.1)
+      ]
 
   numbers_after : (parts : List P) (k : ℕ) (p p' : P) → ((j : ℕ) (q : P) → slice_get parts j ≡ Some q → cpu_of q ≡ record { 0 = j }) → slice_get parts k ≡ Some p → cpu_of p' ≡ cpu_of p → (j : ℕ) (q : P) → slice_get (set parts k p') j ≡ Some q → cpu_of q ≡ record { 0 = j }
   numbers_after parts k p p' numbers at same j q e =
       elim (get_set parts k j p' q e) [
-        inl h ↦ ap cpu_of (sym h.1) ∙ same ∙ numbers k p at ∙ ap (λ (n : ℕ). let c : CpuId = record { 0 = n } in c) (sym h.0)
-      | inr other ↦ numbers j q other.1 ]
+        | inl h ↦ ap cpu_of (sym h.1) ∙ same ∙ numbers k p at ∙ ap (λ (n : ℕ). let c : CpuId = record { 0 = n } in c) (sym h.0)
+        | inr other ↦ numbers j q other.1
+      ]
 
 -- a buffer's block after a section at that buffer or at another
 block_then : (opening : LockId → Option Buffer) (cpu : CpuId) (b : BufId) (edit : BufferEdit) (x : Buffer) (old : List (Section BufferEdit)) → block_after buffer_rules.edited opening (lock.Buffer b) old ≡ Some x → block_after buffer_rules.edited opening (lock.Buffer b) (section cpu (lock.Buffer b) edit ∷ old) ≡ Some (edited_by edit.call x)
@@ -73,12 +75,13 @@ block_other opening cpu b d edit y old ne e =
 pub blocks_then : (opening : LockId → Option Buffer) (cpu : CpuId) (b : BufId) (edit : BufferEdit) (x : Buffer) (old new : List (Section BufferEdit)) (buffers : List Buffer) → new ≡ section cpu (lock.Buffer b) edit ∷ old → slice_get buffers b.0 ≡ Some x → ((j : ℕ) (y : Buffer) → slice_get buffers j ≡ Some y → block_after buffer_rules.edited opening (lock.Buffer (record { 0 = j })) old ≡ Some y) → (j : ℕ) (y : Buffer) → slice_get (set buffers b.0 (edited_by edit.call x)) j ≡ Some y → block_after buffer_rules.edited opening (lock.Buffer (record { 0 = j })) new ≡ Some y
 blocks_then opening cpu b edit x old new buffers grown at blocks j y e =
     elim (get_set buffers b.0 j (edited_by edit.call x) y e) [
-      inl same ↦
-        let here : block_after buffer_rules.edited opening (lock.Buffer b) new ≡ Some (edited_by edit.call x) =
+      | inl same ↦
+          let here : block_after buffer_rules.edited opening (lock.Buffer b) new ≡ Some (edited_by edit.call x) =
           rw grown (block_then opening cpu b edit x old (blocks b.0 x at)) in
-        let F : ℕ → Type 0 = λ n. block_after buffer_rules.edited opening (lock.Buffer (record { 0 = n })) new ≡ Some y in
-        subst F (sym same.0) (here ∙ ap (λ (z : Buffer). let o : Option Buffer = Some z in o) same.1)
-    | inr other ↦ rw grown (block_other opening cpu b (record { 0 = j }) edit y old other.0 (blocks j y other.1)) ]
+          let F : ℕ → Type 0 = λ n. block_after buffer_rules.edited opening (lock.Buffer (record { 0 = n })) new ≡ Some y in
+          subst F (sym same.0) (here ∙ ap (λ (z : Buffer). let o : Option Buffer = Some z in o) same.1)
+      | inr other ↦ rw grown (block_other opening cpu b (record { 0 = j }) edit y old other.0 (blocks j y other.1))
+    ]
 
 -- what an action leaves, put together
 pub acted_is : (c : CpuId) (b : BufId) (t : Tid) (call : Call) (s : Guarded) (result : Option (Option Effect)) (buffers : List Buffer) (actions : List (Action BufferEdit)) (under : List (Option (Section BufferEdit))) (left : ℕ) → result ≡ answer_of c b call s → buffers ≡ buffers_after s.buffers b call (slice_get s.buffers b.0) result → actions ≡ next_action c (lock.Buffer b) (record { thread = t; call = call }) s.actions ∷ s.actions → under ≡ slice_set s.under c.0 (under_after (section_of c b t call) result) → left ≡ s.left - 1 → ◌≡◌ {A = Guarded} (record { buffers = buffers; actions = actions; under = under; left = left }) (acted c b t call s)
@@ -110,20 +113,22 @@ locks_stay : (opening : LockId → Option Buffer) (b : BufId) (call : Call) (x :
 locks_stay opening b call x buffers None at locked j y e = locked j y e
 locks_stay opening b call x buffers (Some f) at locked j y e =
     elim (get_set buffers b.0 j (edited_by call x) y e) [
-      inl same ↦ let F : ℕ → Type 0 = λ n. IsSome (opening (lock.Buffer (record { 0 = n }))) in subst F (sym same.0) (locked b.0 x at)
-    | inr other ↦ locked j y other.1 ]
+      | inl same ↦ let F : ℕ → Type 0 = λ n. IsSome (opening (lock.Buffer (record { 0 = n }))) in subst F (sym same.0) (locked b.0 x at)
+      | inr other ↦ locked j y other.1
+    ]
 
 module _ {P M : Type 0} (Fits : P → M → Type 0) (cpu_of : P → CpuId) (ActsFor : M → CpuId → Type 0) (opening : M → LockId → Option Buffer) (acts : M → List (Action BufferEdit)) (room : M → ℕ) (IsStepwise : Type 0) where
   -- the buffers fit the machine after a poll
   pub guards_after : (m m' : M) (parts : List P) (buffers : List Buffer) (left k : ℕ) (p p' : P) (cpu : CpuId) (b : BufId) (edit : BufferEdit) (x : Buffer) (result : Option (Option Effect)) (new_buffers : List Buffer) → Guards Fits cpu_of ActsFor opening acts room IsStepwise m parts buffers left → slice_get parts k ≡ Some p → slice_get buffers b.0 ≡ Some x → new_buffers ≡ buffers_after buffers b edit.call (Some x) result → Fits p' m' → cpu_of p' ≡ cpu_of p → ((q : P) → cpu_of q ≢ cpu_of p → Fits q m → Fits q m') → opening m' ≡ opening m → room m ≤ room m' + 1 → ((c : CpuId) → ActsFor m c → ActsFor m' c) → sections_in (acts m') ≡ (if is_some result then section cpu (lock.Buffer b) edit ∷ sections_in (acts m) else sections_in (acts m)) → Guards Fits cpu_of ActsFor opening acts room IsStepwise m' (set parts k p') new_buffers (left - 1)
   guards_after m m' parts buffers left k p p' cpu b edit x result new_buffers inv at_part at_buffer edited mine own others same_opening spent owned grown = record {
-      stepwise = inv.stepwise;
-      owned = λ c lt. owned c (inv.owned c lt);
-      fit = fit_after Fits cpu_of (opening m) m m' parts k p p' inv.fit inv.numbers at_part mine others;
-      numbers = numbers_after Fits cpu_of (opening m) parts k p p' inv.numbers at_part own;
-      locked = λ j y e. rw same_opening (locks_stay (opening m) b edit.call x buffers result at_buffer inv.locked j y (rw edited at e));
-      blocks = λ j y e. rw same_opening (buffers_fit (opening m) cpu b edit x (sections_in (acts m)) (sections_in (acts m')) buffers result grown at_buffer inv.blocks j y (rw edited at e));
-      reserve = let h : left ≤ room m = inv.reserve in omega arith }
+    stepwise = inv.stepwise;
+    owned = λ c lt. owned c (inv.owned c lt);
+    fit = fit_after Fits cpu_of (opening m) m m' parts k p p' inv.fit inv.numbers at_part mine others;
+    numbers = numbers_after Fits cpu_of (opening m) parts k p p' inv.numbers at_part own;
+    locked = λ j y e. rw same_opening (locks_stay (opening m) b edit.call x buffers result at_buffer inv.locked j y (rw edited at e));
+    blocks = λ j y e. rw same_opening (buffers_fit (opening m) cpu b edit x (sections_in (acts m)) (sections_in (acts m')) buffers result grown at_buffer inv.blocks j y (rw edited at e));
+    reserve = let h : left ≤ room m = inv.reserve in omega arith;
+  }
 
 -- the answer of a poll is that of the buffer's block
 pub answer_is : (opening : LockId → Option Buffer) (cpu : CpuId) (b : BufId) (edit : BufferEdit) (past : List (Action BufferEdit)) (buffers : List Buffer) (x : Buffer) (result : Option (Option Effect)) → slice_get buffers b.0 ≡ Some x → block_after buffer_rules.edited opening (lock.Buffer b) (sections_in past) ≡ Some x → result ≡ reply (table_of buffer_rules) opening cpu (lock.Buffer b) edit past → result ≡ at_give (phase cpu past) (option_map (effect_on edit.call) (slice_get buffers b.0))

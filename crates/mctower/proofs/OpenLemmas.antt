@@ -62,7 +62,7 @@ pub guards_start : {P M : Type 0} (Fits : P → M → Type 0) (cpu_of : P → Cp
     → Guards Fits cpu_of ActsFor opening acts room IsStepwise machine parts buffers left
 guards_start Fits cpu_of under_way ActsFor IsOutside opening acts room IsStepwise machine parts buffers caps cpus left stepwise owned outside opens none reserve are few count fresh =
     let open_at : (k : ℕ) (x : Buffer) → slice_get buffers k ≡ Some x → opening machine (lock.Buffer (record { 0 = k })) ≡ Some x
-        = λ k x at. ap (λ (f : LockId → Option Buffer). f (lock.Buffer (record { 0 = k }))) opens ∙ opened_at 0 k k caps x (omega arith) (ap (λ bs. slice_get bs k) (sym are) ∙ at) in
+    = λ k x at. ap (λ (f : LockId → Option Buffer). f (lock.Buffer (record { 0 = k }))) opens ∙ opened_at 0 k k caps x (omega arith) (ap (λ bs. slice_get bs k) (sym are) ∙ at) in
     record {
       stepwise = stepwise;
       owned = owned;
@@ -83,16 +83,16 @@ fresh_more Fits cpu_of under_way ActsFor IsOutside [] base n new e fresh it (suc
 fresh_more Fits cpu_of under_way ActsFor IsOutside (q ∷ parts) base n new e fresh it zero p at = fresh 0 p at
 fresh_more Fits cpu_of under_way ActsFor IsOutside (q ∷ parts) base n new e fresh it (suc k) p at =
     let moved : (j : ℕ) (r : _) → slice_get parts j ≡ Some r → IsFreshPart Fits cpu_of under_way ActsFor IsOutside ((base + 1) + j) r
-        = λ j r at_j. subst (λ m. IsFreshPart Fits cpu_of under_way ActsFor IsOutside m r) (omega arith) (fresh (suc j) r at_j) in
+    = λ j r at_j. subst (λ m. IsFreshPart Fits cpu_of under_way ActsFor IsOutside m r) (omega arith) (fresh (suc j) r at_j) in
     subst (λ m. IsFreshPart Fits cpu_of under_way ActsFor IsOutside m p) (omega arith)
-        (fresh_more Fits cpu_of under_way ActsFor IsOutside parts (base + 1) n new (omega (arith, e)) moved it k p at)
+    (fresh_more Fits cpu_of under_way ActsFor IsOutside parts (base + 1) n new (omega (arith, e)) moved it k p at)
 
 pub fresh_push : {P M : Type 0} (Fits : P → M → Type 0) (cpu_of : P → CpuId) (under_way : P → Option (Section BufferEdit)) (ActsFor IsOutside : M → CpuId → Type 0) (parts after : List P) (n : ℕ) (new : P) → n ≡ length parts → after ≡ parts ++ new ∷ []
     → ((k : ℕ) (p : P) → slice_get parts k ≡ Some p → IsFreshPart Fits cpu_of under_way ActsFor IsOutside k p) → IsFreshPart Fits cpu_of under_way ActsFor IsOutside n new
     → (k : ℕ) (p : P) → slice_get after k ≡ Some p → IsFreshPart Fits cpu_of under_way ActsFor IsOutside k p
 fresh_push Fits cpu_of under_way ActsFor IsOutside parts after n new e grown fresh it k p at =
     subst (λ m. IsFreshPart Fits cpu_of under_way ActsFor IsOutside m p) (omega arith)
-        (fresh_more Fits cpu_of under_way ActsFor IsOutside parts 0 n new (omega (arith, e)) (λ j r at_j. subst (λ m. IsFreshPart Fits cpu_of under_way ActsFor IsOutside m r) (omega arith) (fresh j r at_j)) it k p (ap (λ l. slice_get l k) (sym grown) ∙ at))
+    (fresh_more Fits cpu_of under_way ActsFor IsOutside parts 0 n new (omega (arith, e)) (λ j r at_j. subst (λ m. IsFreshPart Fits cpu_of under_way ActsFor IsOutside m r) (omega arith) (fresh j r at_j)) it k p (ap (λ l. slice_get l k) (sym grown) ∙ at))
 
 -- what stands behind fresh locks, put together
 pub fresh_is : (caps : List ℕ) (cpus room : ℕ) (buffers : List Buffer) (actions : List (Action BufferEdit)) (under : List (Option (Section BufferEdit))) → buffers ≡ map new_buffer caps → actions ≡ [] → under ≡ replicate cpus None → ◌≡◌ {A = Guarded} (record { buffers = buffers; actions = actions; under = under; left = room }) (fresh_guarded caps cpus room)

@@ -33,26 +33,29 @@ more_at traces order x j k rest trace e step at first keeps (inl same) =
     let here : trace ≡ x ∷ rest = same_Some trace (x ∷ rest) (sym at ∙ ap (slice_get traces) (sym same) ∙ first) in
     let grown : trace ++ e ∷ [] ≡ x ∷ (rest ++ e ∷ []) = ap (λ l. l ++ e ∷ []) here in
     let keeps_here : IsInterleaving (set traces k rest) order = rw same at keeps in
-    let next = step (set traces k rest) rest (get_set_same traces k rest trace at) keeps_here in
-    ( k
-    , rest ++ e ∷ []
-    , get_set_same traces k (trace ++ e ∷ []) trace at ∙ ap (λ (l : List Entry). let o : Option (List Entry) = Some l in o) grown
-    , subst (λ ts. IsInterleaving ts (order ++ e ∷ [])) (set-set traces k rest (rest ++ e ∷ []) ∙ sym (set-set traces k (trace ++ e ∷ []) (rest ++ e ∷ []))) next )
+    let next = step (set traces k rest) rest (get_set_same traces k rest trace at) keeps_here in (
+      k,
+      rest ++ e ∷ [],
+      get_set_same traces k (trace ++ e ∷ []) trace at ∙ ap (λ (l : List Entry). let o : Option (List Entry) = Some l in o) grown,
+      subst (λ ts. IsInterleaving ts (order ++ e ∷ [])) (set-set traces k rest (rest ++ e ∷ []) ∙ sym (set-set traces k (trace ++ e ∷ []) (rest ++ e ∷ []))) next,
+    )
 more_at traces order x j k rest trace e step at first keeps (inr differ) =
-    let next = step (set traces j rest) trace (get_set_other traces j k rest (λ s. differ (sym s)) ∙ at) keeps in
-    ( j
-    , rest
-    , get_set_other traces k j (trace ++ e ∷ []) differ ∙ first
-    , subst (λ ts. IsInterleaving ts (order ++ e ∷ [])) (set_comm traces j k rest (trace ++ e ∷ []) differ) next )
+    let next = step (set traces j rest) trace (get_set_other traces j k rest (λ s. differ (sym s)) ∙ at) keeps in (
+      j,
+      rest,
+      get_set_other traces k j (trace ++ e ∷ []) differ ∙ first,
+      subst (λ ts. IsInterleaving ts (order ++ e ∷ [])) (set_comm traces j k rest (trace ++ e ∷ []) differ) next,
+    )
 
 -- an order goes on by an entry that comes to the end of a trace
 pub interleaving_more : (traces : List (List Entry)) (order : List Entry) (k : ℕ) (trace : List Entry) (e : Entry) → slice_get traces k ≡ Some trace → IsInterleaving traces order → IsInterleaving (set traces k (trace ++ e ∷ [])) (order ++ e ∷ [])
 interleaving_more traces [] k trace e at none =
-    let empty : trace ≡ [] = sym (get_or_from_slice_get traces k trace [] at) ∙ none k in
-    ( k
-    , []
-    , get_set_same traces k (trace ++ e ∷ []) trace at ∙ ap (λ (l : List Entry). let o : Option (List Entry) = Some (l ++ e ∷ []) in o) empty
-    , λ i. rw (set-set traces k (trace ++ e ∷ []) []) (grown_none traces k i [] none) )
+    let empty : trace ≡ [] = sym (get_or_from_slice_get traces k trace [] at) ∙ none k in (
+      k,
+      [],
+      get_set_same traces k (trace ++ e ∷ []) trace at ∙ ap (λ (l : List Entry). let o : Option (List Entry) = Some (l ++ e ∷ []) in o) empty,
+      λ i. rw (set-set traces k (trace ++ e ∷ []) []) (grown_none traces k i [] none),
+    )
 interleaving_more traces (x ∷ order) k trace e at keeps =
     more_at traces order x keeps.0 k keeps.1 trace e (λ ts t a i. interleaving_more ts order k t e a i) at keeps.2 keeps.3 (eq_or_not keeps.0 k)
 

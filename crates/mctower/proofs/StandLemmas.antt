@@ -28,8 +28,11 @@ only_at t (p ∷ cpus) zero n within here there =
     ∙ omega (arith, here 0 p refl refl, nowhere t cpus (λ c q at. there (suc c) q at (λ (e : suc c ≡ 0). absurd (cc))))
 only_at t (p ∷ cpus) (suc h) n within here there =
     sum_by-append (λ (u : Tid). cond (u.0 == t) 1 0) (standing_at p) (flat_map standing_at cpus)
-    ∙ omega (arith, there 0 p refl (λ (e : 0 ≡ suc h). absurd (cc)),
-        only_at t cpus h n (omega (arith, within)) (λ c q at e. here (suc c) q at (ap suc e)) (λ c q at ne. there (suc c) q at (λ e. ne (omega (arith, e)))))
+    ∙ omega (
+      arith,
+      there 0 p refl (λ (e : 0 ≡ suc h). absurd (cc)),
+      only_at t cpus h n (omega (arith, within)) (λ c q at e. here (suc c) q at (ap suc e)) (λ c q at ne. there (suc c) q at (λ e. ne (omega (arith, e)))),
+    )
 
 both_true : (a b : Bool) → (a && b) ≡ true → (a ≡ true) × (b ≡ true)
 both_true true b e = (refl, e)
@@ -46,8 +49,8 @@ due_away c g away = ap (λ b. cond b (cond (is_ended g.stage) 0 1) 0) (ne_eqb g.
 pub once_count : (s : Shown) → StandOnce s → (t : ℕ) (g : Guest) → slice_get s.guests t ≡ Some g → g.home.0 < length s.cpus → times t (flat_map standing_at s.cpus) ≡ (if is_ended g.stage then 0 else 1)
 once_count s once t g at home =
     only_at t s.cpus g.home.0 (cond (is_ended g.stage) 0 1) home
-        (λ c p at_cpu e. once c p t at_cpu ∙ (ap (due_at c) at ∙ due_here c g (sym e)))
-        (λ c p at_cpu ne. once c p t at_cpu ∙ (ap (due_at c) at ∙ due_away c g (λ e. ne (sym e))))
+    (λ c p at_cpu e. once c p t at_cpu ∙ (ap (due_at c) at ∙ due_here c g (sym e)))
+    (λ c p at_cpu ne. once c p t at_cpu ∙ (ap (due_at c) at ∙ due_away c g (λ e. ne (sym e))))
 
 -- a test that each guest passes, by its number
 all_pass : (q : Guest → Bool) (guests : List Guest) → ((t : ℕ) (g : Guest) → slice_get guests t ≡ Some g → q g ≡ true) → list_all q guests ≡ true
@@ -66,18 +69,18 @@ is_over c g = not (same_cpu g.home c) || is_ended g.stage
 over_at : (c : CpuId) (g : Guest) → due_at c.0 (Some g) ≡ 0 → is_over c g ≡ true
 over_at c g none = over_in (same_cpu g.home c) (is_ended g.stage) none
   where
-  over_in : (home over : Bool) → cond home (cond over 0 1) 0 ≡ zero → (not home || over) ≡ true
-  over_in true true none = refl
-  over_in true false none = absurd (omega (arith, none))
-  over_in false over none = refl
+    over_in : (home over : Bool) → cond home (cond over 0 1) 0 ≡ zero → (not home || over) ≡ true
+    over_in true true none = refl
+    over_in true false none = absurd (omega (arith, none))
+    over_in false over none = refl
 
 none_due : (c : CpuId) (g : Guest) → is_over c g ≡ true → due_at c.0 (Some g) ≡ 0
 none_due c g over = due_in (same_cpu g.home c) (is_ended g.stage) over
   where
-  due_in : (home over : Bool) → (not home || over) ≡ true → cond home (cond over 0 1) 0 ≡ zero
-  due_in true true e = refl
-  due_in true false e = absurd (cc)
-  due_in false over e = refl
+    due_in : (home over : Bool) → (not home || over) ≡ true → cond home (cond over 0 1) 0 ≡ zero
+    due_in true true e = refl
+    due_in true false e = absurd (cc)
+    due_in false over e = refl
 
 -- where nobody stands at a CPU, each home thread of it has ended
 pub idle_ended : (s : Shown) (c : CpuId) (p : CpuState) → StandOnce s → slice_get s.cpus c.0 ≡ Some p → standing_at p ≡ [] → have_ended c s.guests ≡ true
@@ -93,9 +96,9 @@ idle_in s c p (t ∷ rest) once at over is =
     let stands : due_at c.0 (slice_get s.guests t.0) ≡ 1 + times t.0 rest = sym (once c.0 p t.0 at) ∙ (ap (times t.0) is ∙ stands_first t rest) in
     absurd (due_some (slice_get s.guests t.0) refl stands)
   where
-  due_some : (o : Option Guest) → slice_get s.guests t.0 ≡ o → due_at c.0 (slice_get s.guests t.0) ≡ 1 + times t.0 rest → ⊥
-  due_some None e stands = let none : due_at c.0 (slice_get s.guests t.0) ≡ 0 = ap (due_at c.0) e in omega (arith, stands, none)
-  due_some (Some g) e stands = let none : due_at c.0 (slice_get s.guests t.0) ≡ 0 = ap (due_at c.0) e ∙ none_due c g (passes_at (is_over c) s.guests t.0 g over e) in omega (arith, stands, none)
+    due_some : (o : Option Guest) → slice_get s.guests t.0 ≡ o → due_at c.0 (slice_get s.guests t.0) ≡ 1 + times t.0 rest → ⊥
+    due_some None e stands = let none : due_at c.0 (slice_get s.guests t.0) ≡ 0 = ap (due_at c.0) e in omega (arith, stands, none)
+    due_some (Some g) e stands = let none : due_at c.0 (slice_get s.guests t.0) ≡ 0 = ap (due_at c.0) e ∙ none_due c g (passes_at (is_over c) s.guests t.0 g over e) in omega (arith, stands, none)
 
 -- where each home thread of a CPU has ended, nobody stands at it
 pub ended_idle : (s : Shown) (c : CpuId) (p : CpuState) → StandOnce s → slice_get s.cpus c.0 ≡ Some p → have_ended c s.guests ≡ true → standing_at p ≡ []

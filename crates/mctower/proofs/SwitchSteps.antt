@@ -48,8 +48,9 @@ standing_switched p (t ∷ rest) free same = sym (ap (λ o. option_to_list o ++ 
 once_switch : (s : Shown) (c : CpuId) (p : CpuState) → slice_get s.cpus c.0 ≡ Some p → p.current ≡ None → StandOnce s → StandOnce (after_switch s c p)
 once_switch s c p at_cpu free once d q u at =
     elim (get_set s.cpus c.0 d (switched_to p p.ready) q at) [
-      inl here ↦ ap (λ x. times u (standing_at x)) (sym here.1) ∙ (ap (times u) (standing_switched p p.ready free refl) ∙ (once c.0 p u at_cpu ∙ ap (λ n. due_at n (slice_get s.guests u)) (sym here.0)))
-    | inr there ↦ once d q u there.1 ]
+      | inl here ↦ ap (λ x. times u (standing_at x)) (sym here.1) ∙ (ap (times u) (standing_switched p p.ready free refl) ∙ (once c.0 p u at_cpu ∙ ap (λ n. due_at n (slice_get s.guests u)) (sym here.0)))
+      | inr there ↦ once d q u there.1
+    ]
 
 -- a switch writes no entry, begins no call and changes no limit
 switched_trace : (p : CpuState) (ready : List Tid) → (switched_to p ready).trace ≡ p.trace
@@ -74,13 +75,15 @@ follow_switch s c p at_cpu follow u program h at_program at =
 counted_switch : (s : Shown) (c : CpuId) (p : CpuState) → slice_get s.cpus c.0 ≡ Some p → IsSound s → (d : ℕ) (q : CpuState) → slice_get (after_switch s c p).cpus d ≡ Some q → IsCounted s.guests d q
 counted_switch s c p at_cpu sound d q at =
     elim (get_set s.cpus c.0 d (switched_to p p.ready) q at) [
-      inl here ↦
-        let old : IsCounted s.guests c.0 p = sound.counted c.0 p at_cpu in
-        let now : IsCounted s.guests c.0 (switched_to p p.ready) = record {
-          begun = switched_begun p p.ready ∙ old.begun;
-          fits = omega (arith, old.fits, switched_begun p p.ready, ap length (switched_trace p p.ready), switched_limit p p.ready) } in
-        subst (λ n. IsCounted s.guests n q) (sym here.0) (subst (IsCounted s.guests c.0) here.1 now)
-    | inr there ↦ sound.counted d q there.1 ]
+      | inl here ↦
+          let old : IsCounted s.guests c.0 p = sound.counted c.0 p at_cpu in
+          let now : IsCounted s.guests c.0 (switched_to p p.ready) = record {
+            begun = switched_begun p p.ready ∙ old.begun;
+            fits = omega (arith, old.fits, switched_begun p p.ready, ap length (switched_trace p p.ready), switched_limit p p.ready);
+          } in
+          subst (λ n. IsCounted s.guests n q) (sym here.0) (subst (IsCounted s.guests c.0) here.1 now)
+      | inr there ↦ sound.counted d q there.1
+    ]
 
 -- a begun call is counted at its home
 begun_here : (c : ℕ) (g : Guest) → g.home.0 ≡ c → has_begun_on c g ≡ is_begun g.stage
@@ -90,7 +93,7 @@ begun_here c g home = ap (λ b. b && is_begun g.stage) (eq-eqb g.home.0 c home)
 begun_is_counted : (guests : List Guest) (c t : ℕ) (g : Guest) → slice_get guests t ≡ Some g → g.home.0 ≡ c → g.stage ≡ Begun → 0 < count_by (has_begun_on c) guests
 begun_is_counted guests c t g at home stage =
     let one : ◌≡◌ {A = ℕ} (cond (has_begun_on c (get_or guests t g)) 1 0) 1
-        = ap (λ x. cond (has_begun_on c x) 1 0) (get_or_from_slice_get guests t g g at) ∙ ap (λ b. cond b 1 0) (begun_here c g home ∙ ap is_begun stage) in
+    = ap (λ x. cond (has_begun_on c x) 1 0) (get_or_from_slice_get guests t g g at) ∙ ap (λ b. cond b 1 0) (begun_here c g home ∙ ap is_begun stage) in
     omega (arith, one, get_or-le-sum_by (λ x. cond (has_begun_on c x) 1 0) guests t g (within_get guests t g at))
 
 -- the running thread's call has room, or is counted
@@ -120,26 +123,38 @@ ordered_switch s c p at_cpu o =
 -- a switch keeps the invariant
 pub switch_sound : (s : Shown) (c : CpuId) (p : CpuState) → IsSound s → slice_get s.cpus c.0 ≡ Some p → p.current ≡ None → s.taken < s.room → IsSound (after_switch s c p)
 switch_sound s c p sound at_cpu free left = record {
-    ordered = ordered_switch s c p at_cpu sound.ordered;
-    follow = follow_switch s c p at_cpu sound.follow;
-    once = once_switch s c p at_cpu free sound.once;
-    counted = counted_switch s c p at_cpu sound;
-    calling = sound.calling;
-    under_way = λ d q u at under. elim (get_set s.cpus c.0 d.0 (switched_to p p.ready) q at) [
-        inl here ↦
-          absurd (nothing_under_way s d p u (sound.under_way d p u (ap (slice_get s.cpus) here.0 ∙ at_cpu) under) free)
-      | inr there ↦
-          let was : IsUnderWay s d q u = sound.under_way d q u there.1 under in
-          record { thread = was.thread; program = was.program; guest = was.guest; buffer = was.buffer; call = was.call;
-            runs = was.runs; at_program = was.at_program; at_guest = was.at_guest; stage = was.stage; tries = was.tries; is = was.is } ];
-    homes = λ t g at. omega (arith, sound.homes t g at, length-set s.cpus c.0 (switched_to p p.ready));
-    known = sound.known;
-    threads = sound.threads;
-    sections = sound.sections ∙ sym (length-set s.cpus c.0 (switched_to p p.ready));
-    small = sound.small;
-    within = omega (arith, left);
-    reserve = omega (arith, sound.reserve);
-  }
+  ordered = ordered_switch s c p at_cpu sound.ordered;
+  follow = follow_switch s c p at_cpu sound.follow;
+  once = once_switch s c p at_cpu free sound.once;
+  counted = counted_switch s c p at_cpu sound;
+  calling = sound.calling;
+  under_way = λ d q u at under. elim (get_set s.cpus c.0 d.0 (switched_to p p.ready) q at) [
+    | inl here ↦
+        absurd (nothing_under_way s d p u (sound.under_way d p u (ap (slice_get s.cpus) here.0 ∙ at_cpu) under) free)
+    | inr there ↦
+        let was : IsUnderWay s d q u = sound.under_way d q u there.1 under in
+        record {
+          thread = was.thread;
+          program = was.program;
+          guest = was.guest;
+          buffer = was.buffer;
+          call = was.call;
+          runs = was.runs;
+          at_program = was.at_program;
+          at_guest = was.at_guest;
+          stage = was.stage;
+          tries = was.tries;
+          is = was.is;
+        }
+  ];
+  homes = λ t g at. omega (arith, sound.homes t g at, length-set s.cpus c.0 (switched_to p p.ready));
+  known = sound.known;
+  threads = sound.threads;
+  sections = sound.sections ∙ sym (length-set s.cpus c.0 (switched_to p p.ready));
+  small = sound.small;
+  within = omega (arith, left);
+  reserve = omega (arith, sound.reserve);
+}
 
 -- a CPU that is not halted: some home thread lives, its trace is not full, and steps are left
 reason_none_in : (s : Shown) (all full used : Bool) → option_or (if all then Some AllEnded else (if full then Some TraceFull else None)) (if used then Some StepsUsed else None) ≡ None → (all ≡ false) × (full ≡ false) × (used ≡ false)

@@ -53,8 +53,8 @@ running_sound s c p t r sound free =
     let none = reason_none s c free in
     let left = steps_left s sound none.2 in
     sound_turn s c p t r.program r.guest (turn_of c p t r.program r.guest s.guarded) sound r.at_cpu r.at_program r.at_guest r.runs
-      (good_turn s c p t r.program r.guest sound r.at_cpu r.at_program r.at_guest r.runs (room_for s c p t r.program r.guest r.at_cpu r.runs r.at_program r.at_guest none.1) left)
-      left
+    (good_turn s c p t r.program r.guest sound r.at_cpu r.at_program r.at_guest r.runs (room_for s c p t r.program r.guest r.at_cpu r.runs r.at_program r.at_guest none.1) left)
+    left
 
 -- it may have its turn
 pub running_may : (s : Shown) (c : CpuId) (p : CpuState) (t : Tid) (r : IsRunning s c p t) → IsSound s → reason_of c s ≡ None → MayTurn c p t r.guest s.guarded (todo_of r.program r.guest)
@@ -116,8 +116,8 @@ reason_idle s c p sound at idle =
 pub reason_ready : (s : Shown) (c : CpuId) (p : CpuState) → IsSound s → slice_get s.cpus c.0 ≡ Some p → p.current ≡ None → false ≡ (length (standing_at p) == 0) → ◌≡◌ {A = Option Reason} None (own_reason c s)
 reason_ready s c p sound at none busy =
     let live : have_ended c s.guests ≡ false = false_from_ne_true (have_ended c s.guests) (λ all.
-      let idle : (length (standing_at p) == 0) ≡ true = ap (λ l. length l == 0) (ended_idle s c p sound.once at all) in
-      let bad : false ≡ true = busy ∙ idle in cc) in
+    let idle : (length (standing_at p) == 0) ≡ true = ap (λ l. length l == 0) (ended_idle s c p sound.once at all) in
+    let bad : false ≡ true = busy ∙ idle in cc) in
     let empty : is_full c s ≡ false = rw (at, none) refl in
     rw (live, empty) refl
 
@@ -125,17 +125,18 @@ reason_ready s c p sound at none busy =
 pub ready_once : (s : Shown) (t : Tid) (g : Guest) (p : CpuState) → IsSound s → slice_get s.guests t.0 ≡ Some g → slice_get s.cpus g.home.0 ≡ Some p → is_ended g.stage ≡ false → (p.current ≡ Some t → ⊥) → times t.0 p.ready ≡ 1
 ready_once s t g p sound at_guest at_cpu lives rests = ready_at p.current refl
   where
-  due : times t.0 (standing_at p) ≡ 1
-  due =
-      let home : (g.home.0 == g.home.0) ≡ true = eq-eqb g.home.0 g.home.0 refl in
-      sound.once g.home.0 p t.0 at_cpu ∙ ap (due_at g.home.0) at_guest ∙ rw (home, lives) refl
-  ready_at : (o : Option Tid) → o ≡ p.current → times t.0 p.ready ≡ 1
-  ready_at None is = ap (λ (o : Option Tid). times t.0 (option_to_list o ++ p.ready)) is ∙ due
-  ready_at (Some u) is =
-      let differs : (u.0 == t.0) ≡ false = ne_eqb u.0 t.0 (λ same. rests (sym is ∙ ap (λ (n : ℕ). let v : Tid = record { 0 = n } in let o : Option Tid = Some v in o) same)) in
-      let stands : times t.0 (standing_at p) ≡ 0 + times t.0 p.ready = standing_running p u t.0 (sym is) ∙ ap (λ b. (if b then 1 else 0) + times t.0 p.ready) differs in
-      let one = due in
-      omega arith
+    due : times t.0 (standing_at p) ≡ 1
+    due =
+        let home : (g.home.0 == g.home.0) ≡ true = eq-eqb g.home.0 g.home.0 refl in
+        sound.once g.home.0 p t.0 at_cpu ∙ ap (due_at g.home.0) at_guest ∙ rw (home, lives) refl
+
+    ready_at : (o : Option Tid) → o ≡ p.current → times t.0 p.ready ≡ 1
+    ready_at None is = ap (λ (o : Option Tid). times t.0 (option_to_list o ++ p.ready)) is ∙ due
+    ready_at (Some u) is =
+        let differs : (u.0 == t.0) ≡ false = ne_eqb u.0 t.0 (λ same. rests (sym is ∙ ap (λ (n : ℕ). let v : Tid = record { 0 = n } in let o : Option Tid = Some v in o) same)) in
+        let stands : times t.0 (standing_at p) ≡ 0 + times t.0 p.ready = standing_running p u t.0 (sym is) ∙ ap (λ b. (if b then 1 else 0) + times t.0 p.ready) differs in
+        let one = due in
+        omega arith
 
 -- the test of room for the same program and guest
 pub full_same : (p : CpuState) (x y : List Instruction) (g h : Guest) → x ≡ y → g ≡ h → is_full_for p g.stage (todo_of x g) ≡ is_full_for p h.stage (todo_of y h)

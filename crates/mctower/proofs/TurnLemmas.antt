@@ -30,10 +30,10 @@ use Rattle.mctower.proofs.OrderSteps.{eq_or_not}
 pub due_home : (c : ℕ) (g : Guest) → 1 ≤ due_at c (Some g) → (g.home.0 ≡ c) × (is_ended g.stage ≡ false)
 due_home c g due = due_cases (g.home.0 == c) (is_ended g.stage) refl refl due
   where
-  due_cases : (b e : Bool) → b ≡ (g.home.0 == c) → e ≡ is_ended g.stage → 1 ≤ due_at c (Some g) → (g.home.0 ≡ c) × (is_ended g.stage ≡ false)
-  due_cases true false home stage due = (eqb-true g.home.0 c (sym home), sym stage)
-  due_cases true true home stage due = absurd ((omega (arith, rw (← home, ← stage) at due)))
-  due_cases false e home stage due = absurd ((omega (arith, rw (← home) at due)))
+    due_cases : (b e : Bool) → b ≡ (g.home.0 == c) → e ≡ is_ended g.stage → 1 ≤ due_at c (Some g) → (g.home.0 ≡ c) × (is_ended g.stage ≡ false)
+    due_cases true false home stage due = (eqb-true g.home.0 c (sym home), sym stage)
+    due_cases true true home stage due = absurd ((omega (arith, rw (← home, ← stage) at due)))
+    due_cases false e home stage due = absurd ((omega (arith, rw (← home) at due)))
 
 -- and a thread of another CPU is not due
 due_other : (d : ℕ) (g : Guest) → g.home.0 ≢ d → due_at d (Some g) ≡ 0
@@ -89,22 +89,25 @@ module _ (s : Shown) (c : CpuId) (p : CpuState) (t : Tid) (program : List Instru
 
   once_here : (u : ℕ) → times u (standing_at turn.cpu) ≡ due_at c.0 (slice_get (set s.guests t.0 turn.guest) u)
   once_here u = elim (eq_or_not u t.0) [
-      inl same ↦ rw same (rw (get_set_same s.guests t.0 turn.guest g at_guest) good.stands)
-    | inr other ↦ good.stand u other ∙ sound.once c.0 p u at_cpu ∙ sym (due_others c.0 u other) ]
+    | inl same ↦ rw same (rw (get_set_same s.guests t.0 turn.guest g at_guest) good.stands)
+    | inr other ↦ good.stand u other ∙ sound.once c.0 p u at_cpu ∙ sym (due_others c.0 u other)
+  ]
 
   once_there : (d : ℕ) (q : CpuState) (u : ℕ) → d ≢ c.0 → slice_get s.cpus d ≡ Some q → times u (standing_at q) ≡ due_at d (slice_get (set s.guests t.0 turn.guest) u)
   once_there d q u ne at = elim (eq_or_not u t.0) [
-      inl same ↦
+    | inl same ↦
         let old = sound.once d q u at in
         let none : due_at d (Some g) ≡ 0 = due_other d g (λ e. ne (sym e ∙ at_home.0)) in
         let still : due_at d (Some turn.guest) ≡ 0 = due_other d turn.guest (λ e. ne (sym e ∙ still_home)) in
         old ∙ rw same (rw (at_guest, get_set_same s.guests t.0 turn.guest g at_guest) (none ∙ sym still))
-    | inr other ↦ sound.once d q u at ∙ sym (due_others d u other) ]
+    | inr other ↦ sound.once d q u at ∙ sym (due_others d u other)
+  ]
 
   once_after : StandOnce (after_turn s c t turn)
   once_after d q u at = elim (get_set s.cpus c.0 d turn.cpu q at) [
-      inl same ↦ subst (λ r. times u (standing_at r) ≡ due_at d (slice_get (set s.guests t.0 turn.guest) u)) same.1 (rw same.0 (once_here u))
-    | inr other ↦ once_there d q u other.0 other.1 ]
+    | inl same ↦ subst (λ r. times u (standing_at r) ≡ due_at d (slice_get (set s.guests t.0 turn.guest) u)) same.1 (rw same.0 (once_here u))
+    | inr other ↦ once_there d q u other.0 other.1
+  ]
 
   trace_old : slice_index_or (traces_of s) c.0 [] ≡ p.trace
   trace_old = get_or_from_slice_get (traces_of s) c.0 p.trace [] (slice_get-map (λ (q : CpuState). q.trace) s.cpus c.0 ∙ ap (λ (o : Option CpuState). option_map (λ (q : CpuState). q.trace) o) at_cpu)
@@ -124,22 +127,24 @@ module _ (s : Shown) (c : CpuId) (p : CpuState) (t : Tid) (program : List Instru
 
   entries_same : (u : ℕ) (k : Guest) → u ≢ t.0 → entries_of s u k ≡ entries_of (after_turn s c t turn) u k
   entries_same u k ne = elim (eq_or_not k.home.0 c.0) [
-      inl same ↦
+    | inl same ↦
         ap (λ h. of_thread u (slice_index_or (traces_of s) h [])) same
         ∙ ap (of_thread u) trace_old
         ∙ sym (good.others u ne)
         ∙ ap (of_thread u) (sym trace_new)
         ∙ ap (λ h. of_thread u (slice_index_or (traces_of (after_turn s c t turn)) h [])) (sym same)
-    | inr other ↦ ap (of_thread u) (sym (trace_other k.home.0 other)) ]
+    | inr other ↦ ap (of_thread u) (sym (trace_other k.home.0 other))
+  ]
 
   follow_after : FollowPrograms (after_turn s c t turn)
   follow_after u prog k at_prog at_k = elim (get_set s.guests t.0 u turn.guest k at_k) [
-      inl same ↦
+    | inl same ↦
         let programs_same : program ≡ prog = same_Some program prog (sym at_program ∙ ap (slice_get s.programs) (sym same.0) ∙ at_prog) in
         subst (λ pr. Follows pr k (entries_of (after_turn s c t turn) u k)) programs_same
         (subst (λ v. Follows program k (entries_of (after_turn s c t turn) v k)) (sym same.0)
         (subst (λ (v : Guest). Follows program v (entries_of (after_turn s c t turn) t.0 v)) same.1 follow_here))
-    | inr other ↦ subst (λ es. Follows prog k es) (entries_same u k other.0) (sound.follow u prog k at_prog other.1) ]
+    | inr other ↦ subst (λ es. Follows prog k es) (entries_same u k other.0) (sound.follow u prog k at_prog other.1)
+  ]
 
   count_step : (d : ℕ) → count_by (has_begun_on d) (set s.guests t.0 turn.guest) + (if has_begun_on d g then 1 else 0) ≡ count_by (has_begun_on d) s.guests + (if has_begun_on d turn.guest then 1 else 0)
   count_step d =
@@ -170,56 +175,69 @@ module _ (s : Shown) (c : CpuId) (p : CpuState) (t : Tid) (program : List Instru
 
   counted_after : (d : ℕ) (q : CpuState) → slice_get (set s.cpus c.0 turn.cpu) d ≡ Some q → IsCounted (set s.guests t.0 turn.guest) d q
   counted_after d q at = elim (get_set s.cpus c.0 d turn.cpu q at) [
-      inl same ↦ subst (λ r. IsCounted (set s.guests t.0 turn.guest) d r) same.1 (rw same.0 counted_here)
-    | inr other ↦ counted_there d q other.0 other.1 ]
+    | inl same ↦ subst (λ r. IsCounted (set s.guests t.0 turn.guest) d r) same.1 (rw same.0 counted_here)
+    | inr other ↦ counted_there d q other.0 other.1
+  ]
 
   home_after : (u : ℕ) (k : Guest) → slice_get (set s.guests t.0 turn.guest) u ≡ Some k → k.home.0 < length (set s.cpus c.0 turn.cpu)
   home_after u k at = rw length-set (elim (get_set s.guests t.0 u turn.guest k at) [
-      inl same ↦ subst (λ (v : Guest). v.home.0 < length s.cpus) same.1 (rw still_home (within_get s.cpus c.0 p at_cpu))
-    | inr other ↦ sound.homes u k other.1 ])
+    | inl same ↦ subst (λ (v : Guest). v.home.0 < length s.cpus) same.1 (rw still_home (within_get s.cpus c.0 p at_cpu))
+    | inr other ↦ sound.homes u k other.1
+  ])
 
   calling_after : (u : ℕ) (prog : List Instruction) (k : Guest) → slice_get s.programs u ≡ Some prog → slice_get (set s.guests t.0 turn.guest) u ≡ Some k → k.stage ≡ Begun → IsCall (todo_of prog k)
   calling_after u prog k at_prog at begun = elim (get_set s.guests t.0 u turn.guest k at) [
-      inl same ↦
+    | inl same ↦
         let programs_same : program ≡ prog = same_Some program prog (sym at_program ∙ ap (slice_get s.programs) (sym same.0) ∙ at_prog) in
         subst (λ pr. IsCall (todo_of pr k)) programs_same
         (subst (λ (v : Guest). IsCall (todo_of program v)) same.1 (good.calling (ap (λ (v : Guest). v.stage) same.1 ∙ begun)))
-    | inr other ↦ sound.calling u prog k at_prog other.1 begun ]
+    | inr other ↦ sound.calling u prog k at_prog other.1 begun
+  ]
 
   -- a section under way on another CPU is not of this thread
   under_there : (d : CpuId) (q : CpuState) (u : Section BufferEdit) → d.0 ≢ c.0 → slice_get s.cpus d.0 ≡ Some q → IsUnderWay s d q u → IsUnderWay (after_turn s c t turn) d q u
   under_there d q u ne at under =
       let there = due_home d.0 under.guest (subst (λ (o : Option Guest). 1 ≤ due_at d.0 o) under.at_guest (subst (λ n. 1 ≤ n) (sound.once d.0 q under.thread.0 at) (stands_running q under.thread under.runs))) in
       let apart : under.thread.0 ≢ t.0 = λ same.
-        let guests_same : under.guest ≡ g = same_Some under.guest g (sym under.at_guest ∙ ap (slice_get s.guests) same ∙ at_guest) in
-        ne (sym there.0 ∙ ap (λ (v : Guest). v.home.0) guests_same ∙ at_home.0) in
+      let guests_same : under.guest ≡ g = same_Some under.guest g (sym under.at_guest ∙ ap (slice_get s.guests) same ∙ at_guest) in
+      ne (sym there.0 ∙ ap (λ (v : Guest). v.home.0) guests_same ∙ at_home.0) in
       record {
-        thread = under.thread; program = under.program; guest = under.guest; buffer = under.buffer; call = under.call;
-        runs = under.runs; at_program = under.at_program;
+        thread = under.thread;
+        program = under.program;
+        guest = under.guest;
+        buffer = under.buffer;
+        call = under.call;
+        runs = under.runs;
+        at_program = under.at_program;
         at_guest = get_set_other s.guests t.0 under.thread.0 turn.guest apart ∙ under.at_guest;
-        stage = under.stage; tries = under.tries; is = under.is }
+        stage = under.stage;
+        tries = under.tries;
+        is = under.is;
+      }
 
   under_after_turn : (d : CpuId) (q : CpuState) (u : Section BufferEdit) → slice_get (set s.cpus c.0 turn.cpu) d.0 ≡ Some q → slice_get turn.guarded.under d.0 ≡ Some (Some u) → IsUnderWay (after_turn s c t turn) d q u
   under_after_turn d q u at at_u = elim (get_set s.cpus c.0 d.0 turn.cpu q at) [
-      inl same ↦
+    | inl same ↦
         let cpus_same : c ≡ d = ap (λ (n : ℕ). let x : CpuId = record { 0 = n } in x) (sym same.0) in
         subst (λ x. IsUnderWay (after_turn s c t turn) x q u) cpus_same
         (subst (λ (r : CpuState). IsUnderWay (after_turn s c t turn) c r u) same.1 (good.under_way u (ap (slice_get turn.guarded.under) (sym same.0) ∙ at_u)))
-    | inr other ↦ under_there d q u other.0 other.1 (sound.under_way d q u other.1 (sym (good.under_others d.0 other.0) ∙ at_u)) ]
+    | inr other ↦ under_there d q u other.0 other.1 (sound.under_way d q u other.1 (sym (good.under_others d.0 other.0) ∙ at_u))
+  ]
 
   -- the invariant after the turn
   pub sound_turn : s.taken < s.room → IsSound (after_turn s c t turn)
   sound_turn room = record {
-      ordered = good.ordered;
-      follow = follow_after;
-      once = once_after;
-      counted = counted_after;
-      calling = calling_after;
-      under_way = under_after_turn;
-      homes = home_after;
-      known = λ u prog at. subst (λ n. CallsKnown n prog) (sym good.buffers) (sound.known u prog at);
-      threads = rw length-set sound.threads;
-      sections = good.unders ∙ sound.sections ∙ sym (length-set s.cpus c.0 turn.cpu);
-      small = sound.small;
-      within = omega arith;
-      reserve = let h = sound.reserve in let k = good.spent in omega arith }
+    ordered = good.ordered;
+    follow = follow_after;
+    once = once_after;
+    counted = counted_after;
+    calling = calling_after;
+    under_way = under_after_turn;
+    homes = home_after;
+    known = λ u prog at. subst (λ n. CallsKnown n prog) (sym good.buffers) (sound.known u prog at);
+    threads = rw length-set sound.threads;
+    sections = good.unders ∙ sound.sections ∙ sym (length-set s.cpus c.0 turn.cpu);
+    small = sound.small;
+    within = omega arith;
+    reserve = let h = sound.reserve in let k = good.spent in omega arith;
+  }

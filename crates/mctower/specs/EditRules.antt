@@ -9,6 +9,7 @@ use Rattle.mctower.specs.declared.kernel.edit.Effect.{Effect}
 -- an edit tries its call, and any CPU may do it at any time
 abbrev pub buffer_rules : Rules BufferEdit Buffer (Option Effect)
 buffer_rules = record {
-    edited = λ e. edited_by e.call;
-    answer = λ e. effect_on e.call;
-    allowed = λ _ _ _. Unit {0} }
+  edited = λ e. edited_by e.call;
+  answer = λ e. effect_on e.call;
+  allowed = λ _ _ _. Unit {0};
+}

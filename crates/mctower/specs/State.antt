@@ -39,4 +39,10 @@ pub record Shown : Type 0 where
 -- the system whose parts these are
 abbrev pub shown : Plan → List Guest → List CpuState → Guarded → ℕ → ℕ → Shown
 shown plan guests cpus guarded room taken = record {
-    programs = map (λ task. task.program) plan.tasks; guests = guests; cpus = cpus; guarded = guarded; room = room; taken = taken }
+  programs = map (λ task. task.program) plan.tasks;
+  guests = guests;
+  cpus = cpus;
+  guarded = guarded;
+  room = room;
+  taken = taken;
+}

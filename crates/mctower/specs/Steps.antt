@@ -92,10 +92,11 @@ under_after section (Some f) = None
 -- tried, or the lock is given on
 abbrev pub acted : CpuId → BufId → Tid → Call → Guarded → Guarded
 acted c b t call s = record {
-    buffers = buffers_after s.buffers b call (slice_get s.buffers b.0) (answer_of c b call s);
-    actions = next_action c (lock.Buffer b) (record { thread = t; call = call }) s.actions ∷ s.actions;
-    under = slice_set s.under c.0 (under_after (section_of c b t call) (answer_of c b call s));
-    left = s.left - 1 }
+  buffers = buffers_after s.buffers b call (slice_get s.buffers b.0) (answer_of c b call s);
+  actions = next_action c (lock.Buffer b) (record { thread = t; call = call }) s.actions ∷ s.actions;
+  under = slice_set s.under c.0 (under_after (section_of c b t call) (answer_of c b call s));
+  left = s.left - 1;
+}
 
 -- what a turn of the running thread changes: its CPU, itself, and what lies behind the locks
 pub record Turn : Type 0 where
@@ -134,18 +135,18 @@ abbrev pub is_stuck : Shown → CpuState → Option Tid → Bool
 is_stuck s p None = false
 is_stuck s p (Some t) = is_stuck_with p (slice_get s.programs t.0) (slice_get s.guests t.0)
   where
-  is_stuck_with : CpuState → Option (List Instruction) → Option Guest → Bool
-  is_stuck_with p (Some program) (Some g) = is_full_for p g.stage (todo_of program g)
-  is_stuck_with p None g = false
-  is_stuck_with p (Some program) None = false
+    is_stuck_with : CpuState → Option (List Instruction) → Option Guest → Bool
+    is_stuck_with p (Some program) (Some g) = is_full_for p g.stage (todo_of program g)
+    is_stuck_with p None g = false
+    is_stuck_with p (Some program) None = false
 
 -- whether the trace of CPU c is full
 abbrev pub is_full : CpuId → Shown → Bool
 is_full c s = is_full_at s (slice_get s.cpus c.0)
   where
-  is_full_at : Shown → Option CpuState → Bool
-  is_full_at s None = false
-  is_full_at s (Some p) = is_stuck s p p.current
+    is_full_at : Shown → Option CpuState → Bool
+    is_full_at s None = false
+    is_full_at s (Some p) = is_stuck s p p.current
 
 -- the first of two answers, or the second where there is no first
 abbrev pub option_or : Option Reason → Option Reason → Option Reason

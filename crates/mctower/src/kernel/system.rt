@@ -70,7 +70,11 @@ impl System {
     {
         let at = &self.cpus[usize::from(cpu.0)];
         let Some(thread) = at.current() else {
-            return if at.is_idle() { Some(Reason::AllEnded) } else { None };
+            return if at.is_idle() {
+                Some(Reason::AllEnded)
+            } else {
+                None
+            };
         };
         let guest = &self.guests[usize::from(thread.0)];
         if lacks_room(at, guest, self.boot.program(thread)) {

@@ -21,7 +21,9 @@ fn fresh_buffers(alloc: Global, caps: &[u8]) -> Result<Vec<BufferBlock>, NoMemor
         return Err(NoMemory);
     };
     for capacity in caps {
-        buffers.push(BufferBlock::new(usize::from(*capacity))).unwrap();
+        buffers
+            .push(BufferBlock::new(usize::from(*capacity)))
+            .unwrap();
     }
     Ok(buffers)
 }
@@ -37,7 +39,9 @@ fn fresh_locks(alloc: Global, caps: &[u8]) -> Result<Vec<(LockId, BufferBlock)>,
     };
     for (i, capacity) in caps.iter().enumerate() {
         let lock = LockId::Buffer(BufId(i as u8));
-        locks.push((lock, BufferBlock::new(usize::from(*capacity)))).unwrap();
+        locks
+            .push((lock, BufferBlock::new(usize::from(*capacity))))
+            .unwrap();
     }
     Ok(locks)
 }

@@ -23,7 +23,7 @@ mine : (g : _) (c : After-index_mut-part g) → (slice_get c.self.inside.parts.i
 mine g c =
     let may = subst (λ (v : Guarded). MayGoOn (slice_get v.under c.args.cpu.0) (section_of c.args.cpu c.args.buffer c.args.edit.thread c.args.edit.call)) (sym c.self.view_is) c.requires.goes_on in
     part_at (λ p. g.L.LockLayer.under_way p) c.self.inside.parts.items c.args.cpu.0 c.index_mut-part.result.now _ may
-      (rw c.from.ensures at c.index_mut-part.ensures.value)
+    (rw c.from.ensures at c.index_mut-part.ensures.value)
 
 -- the buffer's block
 block : (g : _) (c : After-index_mut-part g) → (x : Buffer) × (slice_get c.self.inside.buffers.items c.args.buffer.0 ≡ Some x)
@@ -93,7 +93,7 @@ left_as g c new_buffers edited =
     let unders = map-set (λ p. g.L.LockLayer.under_way p) c.self.inside.parts.items c.from.result c.poll-answer.new.self in
     let answered = subst (λ (v : Guarded). c.poll-answer.result ≡ answer_of c.args.cpu c.args.buffer c.args.edit.call v) (sym c.self.view_is) (answer g c) in
     subst (λ (v : Guarded). ◌≡◌ {A = Guarded} (record { buffers = new_buffers; actions = g.L.LockLayer.acts c.poll-answer.new.m; under = map (λ p. g.L.LockLayer.under_way p) (set c.self.inside.parts.items c.from.result c.poll-answer.new.self); left = c.self.inside.left - 1 }) (acted c.args.cpu c.args.buffer c.args.edit.thread c.args.edit.call v)) c.self.view_is
-      (acted_is c.args.cpu c.args.buffer c.args.edit.thread c.args.edit.call _ c.poll-answer.result new_buffers _ _ _ answered (rw at.1 edited) (did g c).0 (rw (unders, under, c.from.ensures) refl) refl)
+    (acted_is c.args.cpu c.args.buffer c.args.edit.thread c.args.edit.call _ c.poll-answer.result new_buffers _ _ _ answered (rw at.1 edited) (did g c).0 (rw (unders, under, c.from.ensures) refl) refl)
 
 pub invariant_of-self : goal.invariant_of-self
 invariant_of-self g c =

@@ -38,7 +38,7 @@ invariant_of-self c =
     let d = (goal.at.invariant_of-self c).After-index_mut-at in
     let none = sym c.current.ensures ∙ c.in-None.is in
     rw (switch_shown c.self.inside.boot c.self.inside.guests.items c.self.inside.cpus.items c.self.inside.guarded c.self.inside.room c.self.inside.taken c.args.cpu c.from.result c.index_mut-at.result.now c.switch.new.self c.from.ensures c.switch.ensures)
-      (switch_keeps _ c.args.cpu c.index_mut-at.result.now c.self.invariant (at_cpu d) none (free d))
+    (switch_keeps _ c.args.cpu c.index_mut-at.result.now c.self.invariant (at_cpu d) none (free d))
 
 pub program-program-requires : goal.program-program-requires
 unfolding now
@@ -84,7 +84,7 @@ invariant_of-self-in-Some c =
     let program = program_is d c.program-program.result.now c.program-program.ensures.program in
     let its = guest_is d c.from-in-Some.result c.index_mut-guest.result.now c.from-in-Some.ensures c.index_mut-guest.ensures.value in
     rw (turned_as (goal.at.invariant_of-self-in-Some c).After-take_turn, program, its)
-      (running_sound _ c.args.cpu c.index_mut-at.result.now c.in-Some.thread r c.self.invariant (free d.before.before))
+    (running_sound _ c.args.cpu c.index_mut-at.result.now c.in-Some.thread r c.self.invariant (free d.before.before))
 
 pub returns-in-None : goal.returns-in-None
 unfolding now
@@ -92,8 +92,8 @@ returns-in-None c =
     let d = (goal.at.returns-in-None c).After-index_mut-at in
     let none = sym c.current.ensures ∙ c.in-None.is in
     moved_same _ _ c.args.cpu _ c.self.view_is
-      (switch_shown c.self.inside.boot c.self.inside.guests.items c.self.inside.cpus.items c.self.inside.guarded c.self.inside.room c.self.inside.taken c.args.cpu c.from.result c.index_mut-at.result.now c.switch.new.self c.from.ensures c.switch.ensures
-      ∙ switch_moved _ c.args.cpu c.index_mut-at.result.now (at_cpu d) none)
+    (switch_shown c.self.inside.boot c.self.inside.guests.items c.self.inside.cpus.items c.self.inside.guarded c.self.inside.room c.self.inside.taken c.args.cpu c.from.result c.index_mut-at.result.now c.switch.new.self c.from.ensures c.switch.ensures
+    ∙ switch_moved _ c.args.cpu c.index_mut-at.result.now (at_cpu d) none)
 
 pub returns-in-Some : goal.returns-in-Some
 unfolding now

@@ -32,13 +32,13 @@ pub returns-then-is_idle : goal.returns-then-is_idle
 returns-then-is_idle c =
     let d = (goal.at.returns-then-is_idle c).After-index-at in
     subst (λ (s : Shown). ◌≡◌ {A = Option Reason} (Some AllEnded) (own_reason c.args.cpu s)) c.self.view_is
-      (reason_idle _ c.args.cpu c.index-at.result.now c.self.invariant (at_cpu d) c.if-is_idle.ensures)
+    (reason_idle _ c.args.cpu c.index-at.result.now c.self.invariant (at_cpu d) c.if-is_idle.ensures)
 
 pub returns-else-is_idle : goal.returns-else-is_idle
 returns-else-is_idle c =
     let d = (goal.at.returns-else-is_idle c).After-index-at in
     subst (λ (s : Shown). ◌≡◌ {A = Option Reason} None (own_reason c.args.cpu s)) c.self.view_is
-      (reason_ready _ c.args.cpu c.index-at.result.now c.self.invariant (at_cpu d) (sym c.current.ensures ∙ c.in_default.is) c.if-is_idle.ensures)
+    (reason_ready _ c.args.cpu c.index-at.result.now c.self.invariant (at_cpu d) (sym c.current.ensures ∙ c.in_default.is) c.if-is_idle.ensures)
 
 pub index-guest-requires : goal.index-guest-requires
 unfolding now
@@ -69,7 +69,7 @@ returns-then-lacks_room c =
     let program = program_is d c.program.result.now c.program.ensures.program in
     let its = guest_is d c.from-2.result c.index-guest.result.now c.from-2.ensures c.index-guest.ensures in
     subst (λ (s : Shown). ◌≡◌ {A = Option Reason} (Some TraceFull) (own_reason c.args.cpu s)) c.self.view_is
-      (reason_running _ c.args.cpu c.index-at.result.now c.in-Some.thread (running d) true c.self.invariant (c.if-lacks_room.ensures ∙ full_same c.index-at.result.now _ _ _ _ program its))
+    (reason_running _ c.args.cpu c.index-at.result.now c.in-Some.thread (running d) true c.self.invariant (c.if-lacks_room.ensures ∙ full_same c.index-at.result.now _ _ _ _ program its))
 
 pub returns : goal.returns
 unfolding now
@@ -78,4 +78,4 @@ returns c =
     let program = program_is d c.program.result.now c.program.ensures.program in
     let its = guest_is d c.from-2.result c.index-guest.result.now c.from-2.ensures c.index-guest.ensures in
     subst (λ (s : Shown). ◌≡◌ {A = Option Reason} None (own_reason c.args.cpu s)) c.self.view_is
-      (reason_running _ c.args.cpu c.index-at.result.now c.in-Some.thread (running d) false c.self.invariant (c.if-lacks_room.ensures ∙ full_same c.index-at.result.now _ _ _ _ program its))
+    (reason_running _ c.args.cpu c.index-at.result.now c.in-Some.thread (running d) false c.self.invariant (c.if-lacks_room.ensures ∙ full_same c.index-at.result.now _ _ _ _ program its))
