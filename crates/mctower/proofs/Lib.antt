@@ -16,3 +16,4 @@ mod RunSteps
 mod BootSteps
 mod AdmitLemmas
 mod BootedLemmas
+mod WorkersLemmas

@@ -15,3 +15,4 @@ pub mod Sound
 pub mod Fresh
 pub mod Opening
 pub mod Boots
+pub mod Workers

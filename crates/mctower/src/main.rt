@@ -11,6 +11,7 @@ pub mod line;
 pub mod print;
 pub mod schedule;
 pub mod serve;
+pub mod workers;
 
 use line::LineError;
 use std::io::{BufWriter, Write};

@@ -1,0 +1,262 @@
+-- Facts on what workers did.
+use Rattle.std.proofs.Common.{◌≡◌, ◌≢◌, ◌==◌, ℕ, zero, suc, ◌+◌, ◌*◌, ◌<◌, ◌≤◌, Bool, true, false, if◌then◌else◌, List, [], ◌∷◌, ◌++◌, length, Option, None, Some, is_some, refl, ap, sym, ◌∙◌, subst, get_or, All, ◌%◌, ◌^◌, length-append, ne_eqb, zero-add, mul-le-mul, mod-eq_of_lt, lt_of_not-le, arith}
+use mathlib.Core.Logic.{dite}
+use native.Mathlib.Decide.{ℕ_discrete, dec_le}
+use mathlib.Core.Option.{some, some-injective, some-ne-none}
+use lib.ListN.{get_elem?, get_or-append}
+use Rattle.table_machine.proofs.Seeing.{at_longer}
+use Rattle.event_log.specs.declared.ids.CpuId.{CpuId}
+use Rattle.event_log.specs.declared.ids.LockId.{LockId}
+use Rattle.event_log.specs.History.{own, same_cpu, same_lock, AreOthers}
+use Rattle.event_log.specs.declared.events.Event.{Event}
+use Rattle.event_log.specs.declared.events.Event.TheVariants.{Draw, Look, Free}
+use Rattle.event_log.specs.WordsLog.{actor}
+use Rattle.event_log.specs.Sections.{Section, section_actor}
+use Rattle.event_log.proofs.Same.{same_cpu_self, same_lock_self}
+use Rattle.layer_traits.specs.declared.edits.Mark.{Mark}
+use Rattle.layer_traits.specs.OneLock.{opened}
+use Rattle.layer_traits.specs.Protocol.{Rules, section, sections}
+use Rattle.layer_traits.specs.Turns.{Polled}
+use Rattle.table_machine.specs.Desks.{Board, Desk, new_desk, new_desks, Covers, IsOver, Closes}
+use Rattle.mctower.specs.declared.count.AddOne.{AddOne}
+use Rattle.mctower.specs.declared.count.TheConstants.{NUMBER}
+use Rattle.mctower.specs.Count.{counting, sections_at}
+use Rattle.mctower.specs.Workers.{made, MayGoOn, Both, HasMade, IsAtRest}
+use Rattle.mctower.proofs.CountLemmas.{number_is}
+
+one_more : (b : Bool) (k : ℕ) → (if b then k + 1 else k) ≡ k + (if b then 1 else 0)
+one_more true k = refl
+one_more false k = omega arith
+
+own_others : {E : Type 0} (by : E → CpuId) (c : CpuId) (others old : List E) → AreOthers by c others → own by c (others ++ old) ≡ own by c old
+own_others by c [] old h = refl
+own_others by c (e ∷ others) old h = ap (λ b. if b then e ∷ own by c (others ++ old) else own by c (others ++ old)) h.0 ∙ own_others by c others old h.1
+
+module _ {E B O : Type 0} (rules : Rules E B O) (opening : LockId → Option B) (ActsFor : CpuId → Type 0) (cpu : CpuId) (lock : LockId) (edit : E) (result : Option O) (old new : List (Section E)) (polled : Polled rules opening ActsFor (section cpu lock edit) result old new) (acts : ActsFor cpu) where
+  -- a poll that does not answer adds no section of its CPU
+  pub poll_waits : is_some result ≡ false → made cpu lock new ≡ made cpu lock old
+  poll_waits waits =
+      let new_is : new ≡ polled.others ++ old = polled.is ∙ ap (λ b. if b then section cpu lock edit ∷ (polled.others ++ old) else polled.others ++ old) waits in
+      ap (λ l. sections_at lock (own section_actor cpu l)) new_is ∙ ap (sections_at lock) (own_others section_actor cpu polled.others old (polled.foreign cpu acts))
+
+  -- a poll that answers adds its section
+  pub poll_answers : is_some result ≡ true → made cpu lock new ≡ made cpu lock old + 1
+  poll_answers answers =
+      let new_is : new ≡ section cpu lock edit ∷ (polled.others ++ old) = polled.is ∙ ap (λ b. if b then section cpu lock edit ∷ (polled.others ++ old) else polled.others ++ old) answers in
+      let mine : own section_actor cpu (section cpu lock edit ∷ (polled.others ++ old)) ≡ section cpu lock edit ∷ own section_actor cpu (polled.others ++ old) =
+      ap (λ b. if b then section cpu lock edit ∷ own section_actor cpu (polled.others ++ old) else own section_actor cpu (polled.others ++ old)) (same_cpu_self cpu) in
+      ap (λ l. sections_at lock (own section_actor cpu l)) new_is ∙ (ap (sections_at lock) mine
+      ∙ (ap (λ b. if b then sections_at lock (own section_actor cpu (polled.others ++ old)) + 1 else sections_at lock (own section_actor cpu (polled.others ++ old))) (same_lock_self lock)
+      ∙ ap (λ l. sections_at lock l + 1) (own_others section_actor cpu polled.others old (polled.foreign cpu acts))))
+
+-- after a poll that does not answer, the section that was polled is under way
+pub goes_on : {S : Type 0} (under_way : Option S) (answered : Bool) (s t : S) → under_way ≡ (if answered then None else Some s) → answered ≡ false → s ≡ t → MayGoOn under_way t
+goes_on under_way answered s t is waits same =
+    let now : under_way ≡ Some s = is ∙ ap (λ b. if b then None else Some s) waits in
+    subst (λ (u : Option _). MayGoOn u t) (sym now) same
+
+module _ {A B : Type 0} (Fits : A → B → Type 0) where
+  pub both_more : (xs : List A) (ys : List B) (x : A) (y : B) → Both Fits xs ys → Fits x y → Both Fits (xs ++ x ∷ []) (ys ++ y ∷ [])
+  both_more [] [] x y all one = (one, tt)
+  both_more [] (z ∷ ys) x y all one = absurd all
+  both_more (w ∷ xs) [] x y all one = absurd all
+  both_more (w ∷ xs) (z ∷ ys) x y all one = (all.0, both_more xs ys x y all.1 one)
+
+  pub both_length : (xs : List A) (ys : List B) → Both Fits xs ys → length ys ≡ length xs
+  both_length [] [] all = refl
+  both_length [] (z ∷ ys) all = absurd all
+  both_length (w ∷ xs) [] all = absurd all
+  both_length (w ∷ xs) (z ∷ ys) all = ap suc (both_length xs ys all.1)
+
+pub both_then : {A B C : Type 0} (P : A → B → Type 0) (Q : B → C → Type 0) (S : A → C → Type 0) → ((a : A) (b : B) (c : C) → P a b → Q b c → S a c)
+    → (xs : List A) (ys : List B) (zs : List C) → Both P xs ys → Both Q ys zs → Both S xs zs
+both_then P Q S step [] [] [] p q = tt
+both_then P Q S step [] [] (z ∷ zs) p q = absurd q
+both_then P Q S step [] (y ∷ ys) zs p q = absurd p
+both_then P Q S step (x ∷ xs) [] zs p q = absurd p
+both_then P Q S step (x ∷ xs) (y ∷ ys) [] p q = absurd q
+both_then P Q S step (x ∷ xs) (y ∷ ys) (z ∷ zs) p q = (step x y z p.0 q.0, both_then P Q S step xs ys zs p.1 q.1)
+
+-- there is room for one more, while the list that it follows has one more
+pub room_for : {A B : Type 0} (ys xs rest all : List A) (zs : List B) (x : A) (n cap : ℕ) → ys ++ xs ≡ all → xs ≡ x ∷ rest → length all ≤ cap → length zs ≡ length ys → n ≡ length zs → n < cap
+room_for ys xs rest all zs x n cap whole is room same count =
+    let long : length ys + length xs ≡ length all = sym (length-append ys xs) ∙ ap length whole in
+    let more : length xs ≡ suc (length rest) = ap length is in
+    omega arith
+
+-- what the promise of a worker says of its key
+pub kept_for : {E B : Type 0} (lock : LockId) (d e r : Desk E B) (times turns : ℕ) → e ≡ d → turns ≡ times → HasMade lock e r turns → HasMade lock d r times
+kept_for lock d e r times turns d_is times_is made = subst (λ (x : Desk _ _). HasMade lock x r times) d_is (subst (λ (n : ℕ). HasMade lock e r n) times_is made)
+
+pub within_room : {A B : Type 0} (keys : List A) (children : List B) (n cap : ℕ) → length children ≡ length keys → n ≡ length keys → n ≤ cap → length children ≤ cap
+within_room keys children n cap same count room = omega arith
+
+-- the numbers of the CPUs below n, added up
+unfoldable pub total : (CpuId → ℕ) → ℕ → ℕ
+total f zero = 0
+total f (suc n) = total f n + f (record { 0 = n })
+
+total_none : (n : ℕ) → total (λ c. 0) n ≡ 0
+unfolding total
+total_none zero = refl
+total_none (suc n) = omega (arith, total_none n)
+
+total_same : (f g : CpuId → ℕ) (n : ℕ) → ((c : CpuId) → c.0 < n → f c ≡ g c) → total f n ≡ total g n
+unfolding total
+total_same f g zero same = refl
+total_same f g (suc n) same =
+    let below : total f n ≡ total g n = total_same f g n (λ c under. same c (omega arith)) in
+    let here : f (record { 0 = n }) ≡ g (record { 0 = n }) = same (record { 0 = n }) (omega arith) in
+    omega arith
+
+pub total_each : (f : CpuId → ℕ) (n k : ℕ) → ((c : CpuId) → c.0 < n → f c ≡ k) → total f n ≡ k * n
+unfolding total
+total_each f zero k same = omega arith
+total_each f (suc n) k same =
+    let below : total f n ≡ k * n = total_each f n k (λ c under. same c (omega arith)) in
+    let here : f (record { 0 = n }) ≡ k = same (record { 0 = n }) (omega arith) in
+    omega arith
+
+-- where one CPU's number goes up, so does the sum
+total_more : (f g : CpuId → ℕ) (n : ℕ) (d : CpuId) (b : ℕ) → d.0 < n → g d ≡ f d + b → ((c : CpuId) → c.0 ≢ d.0 → g c ≡ f c) → total g n ≡ total f n + b
+unfolding total
+total_more f g zero d b within here other = absurd (omega arith)
+total_more f g (suc n) d b within here other = dite (ℕ_discrete n d.0)
+    (λ (e : n ≡ d.0).
+    let at : g (record { 0 = n }) ≡ f (record { 0 = n }) + b = subst (λ (m : ℕ). g (record { 0 = m }) ≡ f (record { 0 = m }) + b) (sym e) here in
+    let below : total g n ≡ total f n = total_same g f n (λ c under. other c (λ same. omega arith)) in
+    omega arith)
+    (λ (ne : n ≢ d.0).
+    let at : g (record { 0 = n }) ≡ f (record { 0 = n }) = other (record { 0 = n }) ne in
+    let below : total g n ≡ total f n + b = total_more f g n d b (omega arith) here other in
+    omega arith)
+
+module _ {E : Type 0} (lock : LockId) (n : ℕ) where
+  -- where all sections are of CPUs below n, their number is the sum of the CPUs' numbers
+  pub sections_add_up : (past : List (Section E)) → ((c : CpuId) → n ≤ c.0 → own section_actor c past ≡ []) → sections_at lock past ≡ total (λ c. made c lock past) n
+  sections_add_up [] known = sym (total_none n)
+  sections_add_up (s ∷ past) known =
+      let d : CpuId = s.cpu in
+      let self : own section_actor d (s ∷ past) ≡ s ∷ own section_actor d past = ap (λ b. if b then s ∷ own section_actor d past else own section_actor d past) (same_cpu_self d) in
+      let within : d.0 < n = elim (dec_le n d.0) [
+        | yes large ↦ absurd (let gone : s ∷ own section_actor d past ≡ [] = sym self ∙ known d large in cc)
+        | no small ↦ lt_of_not-le small
+      ] in
+      let others : (c : CpuId) → c.0 ≢ d.0 → own section_actor c (s ∷ past) ≡ own section_actor c past = λ c away.
+      ap (λ b. if b then s ∷ own section_actor c past else own section_actor c past) (ne_eqb d.0 c.0 (λ e. away (sym e))) in
+      let b : ℕ = if same_lock lock s.lock then 1 else 0 in
+      let so_far : sections_at lock past ≡ total (λ c. made c lock past) n = sections_add_up past (λ c large. sym (others c (λ same. omega arith)) ∙ known c large) in
+      let mine : made d lock (s ∷ past) ≡ made d lock past + b = ap (sections_at lock) self ∙ one_more (same_lock lock s.lock) (made d lock past) in
+      let sum : total (λ c. made c lock (s ∷ past)) n ≡ total (λ c. made c lock past) n + b =
+      total_more (λ c. made c lock past) (λ c. made c lock (s ∷ past)) n d b within mine (λ c away. ap (sections_at lock) (others c away)) in
+      one_more (same_lock lock s.lock) (sections_at lock past) ∙ (ap (λ k. k + b) so_far ∙ sym sum)
+
+-- a CPU's sections are those of its own events
+own_sections : {E : Type 0} (c : CpuId) (log : List (Event (Mark E))) → own section_actor c (sections log) ≡ sections (own actor c log)
+own_sections c [] = refl
+own_sections c (Draw d lock ticket ∷ log) = own_sections c log ∙ go (same_cpu d c)
+  where
+    go : (b : Bool) → sections (own actor c log) ≡ sections (if b then Draw d lock ticket ∷ own actor c log else own actor c log)
+    go true = refl
+    go false = refl
+own_sections c (Look d lock ticket read ∷ log) = own_sections c log ∙ go (same_cpu d c)
+  where
+    go : (b : Bool) → sections (own actor c log) ≡ sections (if b then Look d lock ticket read ∷ own actor c log else own actor c log)
+    go true = refl
+    go false = refl
+own_sections c (Free d lock mark ∷ log) = go (same_cpu d c) (own_sections c log)
+  where
+    go : (b : Bool) → own section_actor c (sections log) ≡ sections (own actor c log)
+        → (if b then section d lock mark.edit ∷ own section_actor c (sections log) else own section_actor c (sections log)) ≡ sections (if b then Free d lock mark ∷ own actor c log else own actor c log)
+    go true same = ap (λ l. section d lock mark.edit ∷ l) same
+    go false same = same
+
+-- a list with one more, element by element
+both_last : {A B : Type 0} (Fits : A → B → Type 0) (xs : List A) (x : A) (ys : List B) → Both Fits (xs ++ x ∷ []) ys → (front : List B) × (y : B) × (ys ≡ front ++ y ∷ []) × Both Fits xs front × Fits x y
+both_last Fits [] x [] all = absurd all
+both_last Fits [] x (y ∷ []) all = ([], y, refl, tt, all.0)
+both_last Fits [] x (y ∷ z ∷ ys) all = absurd all.1
+both_last Fits (w ∷ xs) x [] all = absurd all
+both_last Fits (w ∷ xs) x (y ∷ ys) all = let more = both_last Fits xs x ys all.1 in (y ∷ more.0, more.1, ap (λ l. y ∷ l) more.2, (all.0, more.3), more.4)
+
+length_new : (E : Type 0) {B : Type 0} (board : Board B) (n : ℕ) → length (new_desks {E = E} board n) ≡ n
+length_new E board zero = refl
+length_new E board (suc n) = length-append (new_desks {E = E} board n) (new_desk board n ∷ []) ∙ omega (arith, length_new E board n)
+
+at_last : {A : Type 0} (l : List A) (a : A) (n : ℕ) → length l ≡ n → get_elem? (l ++ a ∷ []) n ≡ some a
+at_last [] a zero e = refl
+at_last [] a (suc n) e = absurd (omega arith)
+at_last (x ∷ xs) a zero e = absurd (omega arith)
+at_last (x ∷ xs) a (suc n) e = at_last xs a n (omega arith)
+
+-- what came back for each key of a new table
+came_at : {E B : Type 0} (board : Board B) (Fits : Desk E B → Desk E B → Type 0) (n : ℕ) (came : List (Desk E B)) → Both Fits (new_desks board n) came
+    → (k : ℕ) → k < n → (e : Desk E B) × (get_elem? came k ≡ some e) × Fits (new_desk board k) e
+came_at board Fits zero came all k below = absurd (omega arith)
+came_at {E = E} board Fits (suc n) came all k below =
+    let split = both_last Fits (new_desks board n) (new_desk board n) came all in
+    let long : length split.0 ≡ n = both_length Fits (new_desks board n) split.0 split.3 ∙ length_new E board n in
+    dite (ℕ_discrete k n)
+    (λ (e : k ≡ n). subst (λ (m : ℕ). (e : Desk _ _) × (get_elem? came m ≡ some e) × Fits (new_desk board m) e) (sym e)
+    (split.1, ap (λ l. get_elem? l n) split.2 ∙ at_last split.0 split.1 n long, split.4))
+    (λ (ne : k ≢ n). (
+    let old = came_at board Fits n split.0 split.3 k (omega arith) in
+    (old.0, ap (λ l. get_elem? l k) split.2 ∙ at_longer split.0 (split.1 ∷ []) k old.0 old.1, old.2)))
+
+read_at : {A : Type 0} (l : List A) (k : ℕ) (d a : A) → get_elem? l k ≡ some a → get_or l k d ≡ a
+read_at [] k d a at = absurd (some-ne-none a (sym at))
+read_at (x ∷ xs) zero d a at = some-injective x a at
+read_at (x ∷ xs) (suc k) d a at = read_at xs k d a at
+
+-- the keys of a new table are at rest
+pub new_at_rest : {E B : Type 0} (board : Board B) (n : ℕ) → All (IsAtRest {E = E} board) (new_desks board n)
+new_at_rest board zero k d below = absurd (omega arith)
+new_at_rest {E = E} board (suc n) k d below = dite (ℕ_discrete k n)
+    (λ (e : k ≡ n). subst (λ (x : Desk _ _). IsAtRest board x) (sym (read_at (new_desks board n ++ new_desk board n ∷ []) k d (new_desk board n) (ap (λ m. get_elem? (new_desks {E = E} board n ++ new_desk board n ∷ []) m) e ∙ at_last (new_desks board n) (new_desk board n) n (length_new E board n))))
+    (record { of = (refl, refl); outside = refl }))
+    (λ (ne : k ≢ n).
+    let long : length (new_desks {E = E} board n ++ new_desk board n ∷ []) ≡ n + 1 = length-append (new_desks {E = E} board n) (new_desk board n ∷ []) ∙ ap (λ m. m + 1) (length_new E board n) in
+    let under : k < n = omega arith in
+    let there : k < length (new_desks {E = E} board n) = subst (λ m. k < m) (sym (length_new E board n)) under in
+    subst (λ (x : Desk _ _). IsAtRest board x) (sym (get_or-append (new_desks board n) (new_desk board n ∷ []) d k there)) (new_at_rest board n k d there))
+
+module _ {B : Type 0} {E : Type 0} (lock : LockId) (times : ℕ) (board : Board B) (came : List (Desk E B)) (all : Both (λ d e. HasMade lock d e times) (new_desks board board.cpus) came) where
+  -- each CPU has its key among those that came back
+  pub came_cover : Covers board.cpus came
+  came_cover c below = let here = came_at board (λ d e. HasMade lock d e times) board.cpus came all c.0 below in (c.0, here.0, here.1, here.2.cpu)
+
+  -- each key that came back is over
+  pub came_over : All (IsOver board) came
+  came_over k d below =
+      let long : length came ≡ board.cpus = both_length (λ d e. HasMade lock d e times) (new_desks board board.cpus) came all ∙ length_new E board board.cpus in
+      let here = came_at board (λ d e. HasMade lock d e times) board.cpus came all k (subst (λ m. k < m) long below) in
+      subst (λ (x : Desk E B). IsOver board x) (sym (read_at came k d here.0 here.1)) (record { table = here.2.table; outside = here.2.outside })
+
+-- the number that the workers left
+pub number_is_left : (times : ℕ) (board : Board ℕ) (came : List (Desk AddOne ℕ)) (blocks : List (LockId × ℕ)) → Both (λ d e. HasMade NUMBER d e times) (new_desks board board.cpus) came
+    → board.start ≡ (NUMBER, 0) ∷ [] → board.cpus ≤ 8 → times ≤ 1000 → Closes counting board came blocks
+    → (get_elem? blocks 0 ≡ some (NUMBER, times * board.cpus)) × (0 < length blocks)
+number_is_left times board came blocks all start few most closes =
+    let secs = sections closes.log in
+    let first : get_elem? board.start 0 ≡ some (NUMBER, 0) = ap (λ l. get_elem? l 0) start in
+    let there = closes.blocks_are 0 (NUMBER, 0) first in
+    let zeroth : opened board.start NUMBER ≡ Some 0 = ap (λ l. opened l NUMBER) start in
+    let folded : Some (sections_at NUMBER secs % 2 ^ 64) ≡ Some there.0 = sym (number_is (opened board.start) NUMBER secs zeroth) ∙ there.2 in
+    let number : sections_at NUMBER secs % 2 ^ 64 ≡ there.0 = cc in
+    let own_made : (c : CpuId) → c.0 < board.cpus → made c NUMBER secs ≡ times = λ c below. (
+    let here = came_at board (λ d e. HasMade NUMBER d e times) board.cpus came all c.0 below in
+    let cpu_is : here.0.cpu ≡ c = here.2.cpu in
+    let whole : own actor c closes.log ≡ own actor c here.0.seen = subst (λ x. own actor x closes.log ≡ own actor x here.0.seen) cpu_is (closes.keys c.0 here.0 here.1).whole in
+    ap (sections_at NUMBER) (own_sections c closes.log ∙ (ap sections whole ∙ sym (own_sections c here.0.seen))) ∙ (here.2.more ∙ zero-add times)) in
+    let known : (c : CpuId) → board.cpus ≤ c.0 → own section_actor c secs ≡ [] = λ c large. own_sections c closes.log ∙ ap sections (closes.rest c large) in
+    let sum : sections_at NUMBER secs ≡ times * board.cpus = sections_add_up NUMBER board.cpus secs known ∙ total_each (λ c. made c NUMBER secs) board.cpus times own_made in
+    let small : times * board.cpus < 2 ^ 64 = small_product times board.cpus most few in
+    let number_is_that : there.0 ≡ times * board.cpus = sym number ∙ (ap (λ n. n % 2 ^ 64) sum ∙ mod-eq_of_lt small) in
+    let count : length blocks ≡ 1 = closes.count ∙ ap length start in
+    (there.1 ∙ ap (λ (b : ℕ). some (NUMBER, b)) number_is_that, omega arith)
+  where
+    small_product : (a b : ℕ) → a ≤ 1000 → b ≤ 8 → a * b < 2 ^ 64
+    small_product a b p q = let bound : a * b ≤ 1000 * 8 = mul-le-mul p q in omega arith
+
+pub number_read : (blocks : List (LockId × ℕ)) (n : ℕ) (o : LockId × ℕ) → get_elem? blocks 0 ≡ some (NUMBER, n) → o ≡ get_or blocks 0 o → o.1 ≡ n
+number_read blocks n o at is = ap (λ (p : LockId × ℕ). p.1) (is ∙ read_at blocks 0 o (NUMBER, n) at)

@@ -1,0 +1,48 @@
+-- What a worker leaves: its CPU has done so many sections more.
+use Rattle.std.specs.Prelude.{◌≡◌, ℕ, ◌+◌, List, [], ◌∷◌, Option, None, Some, MatchOption}
+use Rattle.event_log.specs.declared.ids.CpuId.{CpuId}
+use Rattle.event_log.specs.declared.ids.LockId.{LockId}
+use Rattle.event_log.specs.declared.events.Event.{Event}
+use Rattle.event_log.specs.History.{own}
+use Rattle.event_log.specs.WordsLog.{standing, Outside}
+use Rattle.event_log.specs.Sections.{Section, section_actor}
+use Rattle.layer_traits.specs.declared.edits.Mark.{Mark}
+use Rattle.layer_traits.specs.Protocol.{sections}
+use Rattle.table_machine.specs.Desks.{Board, Desk, IsOf}
+use Rattle.mctower.specs.Count.{sections_at}
+
+-- how many sections at this lock are this CPU's
+abbrev pub made : {E : Type 0} → CpuId → LockId → List (Section E) → ℕ
+made cpu lock past = sections_at lock (own section_actor cpu past)
+
+-- no section is under way, or it is this one
+abbrev pub MayGoOn : {S : Type 0} → Option S → S → Type 0
+MayGoOn None s = Unit {0}
+MayGoOn (Some under_way) s = under_way ≡ s
+
+-- a key of this table that can open a section
+pub record IsAtRest {E B : Type 0} (board : Board B) (desk : Desk E B) : Type 0 where
+  pub of : IsOf board desk
+  pub outside : standing desk.cpu desk.seen ≡ Outside
+
+-- the key has come back after so many sections of its CPU
+pub record HasMade {E B : Type 0} (lock : LockId) (old new : Desk E B) (times : ℕ) : Type 0 where
+  pub cpu : new.cpu ≡ old.cpu
+  pub table : new.table ≡ old.table
+  pub outside : standing new.cpu new.seen ≡ Outside
+  pub more : made old.cpu lock (sections new.seen) ≡ made old.cpu lock (sections old.seen) + times
+
+-- a worker that did not start leaves nothing
+abbrev pub MayHaveMade : {E B : Type 0} → LockId → Desk E B → Option (Desk E B) → ℕ → Type 0
+MayHaveMade lock old came times = MatchOption came (Unit {0}) (λ new. HasMade lock old new times)
+
+-- each element of the one list has its own in the other, in order
+abbrev pub Both : {A B : Type 0} → (A → B → Type 0) → List A → List B → Type 0
+Both Fits [] [] = Unit {0}
+Both Fits [] (y ∷ ys) = ⊥
+Both Fits (x ∷ xs) [] = ⊥
+Both Fits (x ∷ xs) (y ∷ ys) = Fits x y × Both Fits xs ys
+
+-- each key has come back after so many sections of its CPU
+abbrev pub AllHaveMade : {E B : Type 0} → LockId → List (Desk E B) → List (Desk E B) → ℕ → Type 0
+AllHaveMade lock old new times = Both (λ d e. HasMade lock d e times) old new
