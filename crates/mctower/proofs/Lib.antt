@@ -17,3 +17,7 @@ mod BootSteps
 mod AdmitLemmas
 mod BootedLemmas
 mod WorkersLemmas
+mod PlanSteps
+mod OrderNumbers
+mod SpellingLemmas
+mod RunningLemmas

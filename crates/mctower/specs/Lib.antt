@@ -16,3 +16,5 @@ pub mod Fresh
 pub mod Opening
 pub mod Boots
 pub mod Workers
+pub mod Plans
+pub mod Running

@@ -9,6 +9,9 @@ mod help;
 pub mod kernel;
 pub mod line;
 pub mod print;
+pub mod run;
+#[cfg(test)]
+mod run_tests;
 pub mod schedule;
 pub mod serve;
 pub mod workers;

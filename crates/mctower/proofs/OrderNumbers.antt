@@ -1,0 +1,83 @@
+-- The order of a system's traces has a spelling: there are few entries, and their numbers are in range.
+use Rattle.std.proofs.Common.{◌≡◌, ℕ, zero, suc, ◌+◌, ◌*◌, ◌^◌, ◌<◌, ◌≤◌, List, [], ◌∷◌, ◌++◌, length, set, get_or, map, Some, refl, sym, ap, ◌∙◌, subst, arith, inl, inr}
+use Rattle.std.specs.Prelude.{slice_get, slice_index_or, All, ◌==◌, ◌&&◌}
+use Rattle.std.specs.List.{AllByRecursion, sum_by}
+use Rattle.std.proofs.lemmas.List.{length_push}
+use Rattle.std.proofs.lemmas.List.Sums.{sum_by-cons, sum_by-set, sum_by-le, count_by-le-length}
+use Rattle.std.proofs.lemmas.Option.{slice_get_within, get_or_from_slice_get}
+use Rattle.event_log.specs.declared.entries.Entry.{Entry}
+use Rattle.event_log.specs.Runs.{kind_eq, IsNext, IsRunFrom, after_entry}
+use Rattle.event_log.specs.Traces.{IsInterleaving}
+use Rattle.event_log.specs.Buffers.{items_of, empty_buffers, after_effect}
+use Rattle.event_log.specs.declared.entries.Kind.{Kind}
+use Rattle.event_log.specs.declared.entries.Kind.TheVariants.{Send, Recv}
+use Rattle.mctower.proofs.ListLemmas.{get_set}
+
+-- where all traces are used up, they hold nothing together
+all_used : (traces : List (List Entry)) → ((k : ℕ) → get_or traces k [] ≡ []) → sum_by length traces ≡ 0
+all_used [] used = refl
+all_used (trace ∷ traces) used = sum_by-cons length trace traces ∙ (ap (λ t. length t + sum_by length traces) (used 0) ∙ omega (arith, all_used traces (λ k. used (suc k))))
+
+-- an order has as many entries as the traces together
+pub order_length : (traces : List (List Entry)) (order : List Entry) → IsInterleaving traces order → length order ≡ sum_by length traces
+order_length traces [] keeps = sym (all_used traces keeps)
+order_length traces (e ∷ order) keeps =
+    let within : keeps.0 < length traces = slice_get_within traces keeps.0 (e ∷ keeps.1) keeps.2 in
+    let here : length (get_or traces keeps.0 []) ≡ suc (length keeps.1) = ap length (get_or_from_slice_get traces keeps.0 (e ∷ keeps.1) [] keeps.2) in
+    let one_less : sum_by length (set traces keeps.0 keeps.1) + length (get_or traces keeps.0 []) ≡ sum_by length traces + length keeps.1 = sum_by-set length traces keeps.0 keeps.1 [] within in
+    let others : length order ≡ sum_by length (set traces keeps.0 keeps.1) = order_length (set traces keeps.0 keeps.1) order keeps.3 in
+    omega arith
+
+-- what holds of the entries of all traces holds of the entries of an order
+pub order_all : (P : Entry → Type 0) (traces : List (List Entry)) (order : List Entry) → ((k : ℕ) (trace : List Entry) → slice_get traces k ≡ Some trace → AllByRecursion P trace) → IsInterleaving traces order → AllByRecursion P order
+order_all P traces [] each keeps = tt
+order_all P traces (e ∷ order) each keeps =
+    let here : AllByRecursion P (e ∷ keeps.1) = each keeps.0 (e ∷ keeps.1) keeps.2 in
+    (here.0, order_all P (set traces keeps.0 keeps.1) order
+      (λ k trace at. elim (get_set traces keeps.0 k keeps.1 trace at) [
+        inl same ↦ subst (λ (l : List Entry). AllByRecursion P l) same.1 here.1
+      | inr other ↦ each k trace other.1 ])
+      keeps.3)
+
+-- the numbers of a run's entries are below any number that is not below its length
+pub run_numbers : (n : ℕ) (caps : List ℕ) (earlier : List Entry) (contents : List (List ℕ)) (es : List Entry) (left : List (List ℕ)) → length earlier + length es ≤ n → IsRunFrom caps earlier contents es left
+    → AllByRecursion (λ e. (e.buffer.0 < length caps) × (e.op < n) × (e.pos < n)) es
+run_numbers n caps earlier contents [] left few run = tt
+run_numbers n caps earlier contents (e ∷ es) left few run =
+    let is : IsNext caps earlier contents e = run.0 in
+    let op : e.op ≤ length earlier = omega (arith, is.op, count_by-le-length (λ (x : Entry). x.buffer.0 == e.buffer.0) earlier) in
+    let pos : e.pos ≤ length earlier = omega (arith, is.pos, count_by-le-length (λ (x : Entry). (x.buffer.0 == e.buffer.0) && kind_eq x.kind e.kind) earlier) in
+    let fits : length (earlier ++ e ∷ []) + length es ≤ n = rw length_push (omega arith) in
+    ((is.known, omega arith, omega arith), run_numbers n caps (earlier ++ e ∷ []) (after_entry contents e) es left fits run.1)
+
+-- what holds of the values of a run's entries holds of what the buffers hold
+push_all : (P : ℕ → Type 0) (xs : List ℕ) (x : ℕ) → AllByRecursion P xs → P x → AllByRecursion P (xs ++ x ∷ [])
+push_all P [] x all here = (here, tt)
+push_all P (y ∷ xs) x all here = (all.0, push_all P xs x all.1 here)
+
+effect_all : (P : ℕ → Type 0) (kind : Kind) (items : List ℕ) (value : ℕ) → AllByRecursion P items → P value → AllByRecursion P (after_effect kind items value)
+effect_all P Send items value all here = push_all P items value all here
+effect_all P Recv [] value all here = tt
+effect_all P Recv (x ∷ items) value all here = all.1
+
+items_all : (P : ℕ → Type 0) (contents : List (List ℕ)) (b : ℕ) → AllByRecursion (λ items. AllByRecursion P items) contents → AllByRecursion P (items_of contents b)
+items_all P [] b all = tt
+items_all P (items ∷ contents) zero all = all.0
+items_all P (items ∷ contents) (suc b) all = items_all P contents b all.1
+
+set_all : (P : ℕ → Type 0) (contents : List (List ℕ)) (b : ℕ) (items : List ℕ) → AllByRecursion (λ x. AllByRecursion P x) contents → AllByRecursion P items → AllByRecursion (λ x. AllByRecursion P x) (set contents b items)
+set_all P [] b items all here = tt
+set_all P (x ∷ contents) zero items all here = (here, all.1)
+set_all P (x ∷ contents) (suc b) items all here = (all.0, set_all P contents b items all.1 here)
+
+pub empty_values : (P : ℕ → Type 0) (caps : List ℕ) → AllByRecursion (λ items. AllByRecursion P items) (empty_buffers caps)
+empty_values P [] = tt
+empty_values P (capacity ∷ caps) = (tt, empty_values P caps)
+
+pub run_values : (P : ℕ → Type 0) (caps : List ℕ) (earlier : List Entry) (contents : List (List ℕ)) (es : List Entry) (left : List (List ℕ)) → AllByRecursion (λ items. AllByRecursion P items) contents → AllByRecursion (λ e. P e.value) es → IsRunFrom caps earlier contents es left
+    → AllByRecursion (λ items. AllByRecursion P items) left
+run_values P caps earlier contents [] left now all run = subst (λ l. AllByRecursion (λ items. AllByRecursion P items) l) run now
+run_values P caps earlier contents (e ∷ es) left now all run =
+    run_values P caps (earlier ++ e ∷ []) (after_entry contents e) es left
+      (set_all P contents e.buffer.0 (after_effect e.kind (items_of contents e.buffer.0) e.value) now (effect_all P e.kind (items_of contents e.buffer.0) e.value (items_all P contents e.buffer.0 now) all.0))
+      all.1 run.1

@@ -1,0 +1,115 @@
+-- The trace of a plan's system has a spelling, and what writing it answers.
+use Rattle.std.proofs.Common.{◌≡◌, ℕ, zero, suc, ◌+◌, ◌*◌, ◌^◌, ◌<◌, ◌≤◌, Bool, true, false, List, [], ◌∷◌, length, get_or, map, Some, refl, sym, ap, ◌∙◌, subst, arith}
+use Rattle.std.specs.Prelude.{slice_get, All, Option, Result, Ok, Err, IsErrAnd}
+use Rattle.std.specs.List.{AllByRecursion, sum_by}
+use Rattle.std.proofs.lemmas.List.{length-map}
+use Rattle.std.proofs.lemmas.List.Sums.{sum_by-cons}
+use Rattle.std.proofs.lemmas.Option.{slice_get_within}
+use Rattle.event_log.specs.declared.entries.Entry.{Entry}
+use Rattle.event_log.specs.Runs.{IsRun}
+use Rattle.event_log.specs.Buffers.{empty_buffers}
+use Rattle.event_log.specs.Traces.{IsInterleaving}
+use Rattle.boot.specs.Plan.{Plan, IsPlan}
+use Rattle.tracer.specs.declared.gathering.GatherError.{GatherError}
+use Rattle.tracer.specs.declared.gathering.GatherError.TheVariants as gathering
+use Rattle.tracer.specs.Gather.{IsOrder, TakesFirstReady, HasNoOrder}
+use Rattle.tracer.specs.TraceText.{IsSpellable, IsCapacity, IsEntryOf, spelling}
+use Rattle.tracer.specs.Sinks.{Outs}
+use Rattle.tracer.proofs.OrderLemmas.{runs_have_order, run_alike}
+use Rattle.mctower.specs.Buffer.{Buffer}
+use Rattle.mctower.specs.State.{CpuState, Shown}
+use Rattle.mctower.specs.Claims.{traces_of, caps_of, contents_of, HasOneOrder}
+use Rattle.mctower.specs.Sound.{IsSound}
+use Rattle.mctower.specs.Plans.{IsEntryAt, IsCpuOf, IsSystemOf, IsOfPlan, from_gather}
+use Rattle.mctower.specs.Running.{IsTextOf, IsOut, Writes}
+use Rattle.mctower.specs.declared.run.Fault.{Fault}
+use Rattle.mctower.proofs.OrderNumbers.{order_length, order_all, run_numbers, run_values, empty_values}
+
+all_by : {X : Type 0} (P : X → Type 0) (xs : List X) → All P xs → AllByRecursion P xs
+all_by P [] all = tt
+all_by P (x ∷ xs) all = (all 0 x (omega arith), all_by P xs (λ k d lt. all (suc k) d (omega arith)))
+
+map_get : {X Y : Type 0} (f : X → Y) (xs : List X) (k : ℕ) (y : Y) → slice_get (map f xs) k ≡ Some y → (x : X) × (slice_get xs k ≡ Some x) × (f x ≡ y)
+map_get f [] k y at = absurd (cc)
+map_get f (x ∷ xs) zero y at = (x, refl, cc)
+map_get f (x ∷ xs) (suc k) y at = map_get f xs k y at
+
+few_together : (traces : List (List Entry)) → ((k : ℕ) (trace : List Entry) → slice_get traces k ≡ Some trace → length trace ≤ 65536) → sum_by length traces ≤ length traces * 65536
+few_together [] each = omega arith
+few_together (trace ∷ traces) each = omega (arith, sum_by-cons length trace traces, each 0 trace refl, few_together traces (λ k other at. each (suc k) other at))
+
+own_range : (threads c : ℕ) → threads ≤ 64 → c < 8 → (es : List Entry) → AllByRecursion (IsEntryAt threads c) es → AllByRecursion (λ e. (e.cpu.0 < 8) × (e.thread.0 < 64)) es
+own_range threads c few lt [] all = tt
+own_range threads c few lt (e ∷ es) all =
+    let is : IsEntryAt threads c e = all.0 in
+    ((subst (λ n. n < 8) (sym is.cpu) lt, (let t = is.thread in omega arith)), own_range threads c few lt es all.1)
+
+in_range : (buffers : ℕ) (es : List Entry) → AllByRecursion (λ e. (e.cpu.0 < 8) × (e.thread.0 < 64)) es → AllByRecursion (λ e. (e.buffer.0 < buffers) × (e.op < 524288) × (e.pos < 524288)) es → AllByRecursion (λ e. e.value < 2 ^ 64) es → AllByRecursion (IsEntryOf buffers) es
+in_range buffers [] own numbers values = tt
+in_range buffers (e ∷ es) own numbers values =
+    (record { cpu = own.0.0; thread = own.0.1; buffer = numbers.0.0; value = values.0; op = numbers.0.1; pos = numbers.0.2 }, in_range buffers es own.1 numbers.1 values.1)
+
+-- the order of the traces of a plan's system has a spelling
+pub has_spelling : (plan : Plan) (s : Shown) (order : List Entry) → IsPlan plan → IsSystemOf plan s → IsSound s → IsInterleaving (traces_of s) order → IsRun plan.caps order (contents_of s)
+    → AllByRecursion (λ e. e.value < 2 ^ 64) order → AllByRecursion (λ items. AllByRecursion (λ v. v < 2 ^ 64) items) (contents_of s) → IsSpellable plan.caps order (contents_of s)
+has_spelling plan s order within of sound keeps run values left =
+    let count : length (traces_of s) ≡ length s.cpus = length-map s.cpus (λ (p : CpuState). p.trace) in
+    let small : (k : ℕ) (trace : List Entry) → slice_get (traces_of s) k ≡ Some trace → length trace ≤ 65536 = λ k trace at.
+      (let at_cpu = map_get (λ (p : CpuState). p.trace) s.cpus k trace at in
+       let fits : length at_cpu.0.trace + at_cpu.0.begun ≤ at_cpu.0.limit = (sound.counted k at_cpu.0 at_cpu.1).fits in
+       let limit : at_cpu.0.limit ≡ plan.trace = (of.each k at_cpu.0 at_cpu.1).limit in
+       let most : plan.trace ≤ 65536 = within.most_trace in
+       let same : length at_cpu.0.trace ≡ length trace = ap length at_cpu.2 in
+       omega arith) in
+    let few : length order ≤ 524288 = (let total = few_together (traces_of s) small in let long = order_length (traces_of s) order keeps in let cpus = of.cpus in let most = within.most_cpus in omega arith) in
+    let own : AllByRecursion (λ (e : Entry). (e.cpu.0 < 8) × (e.thread.0 < 64)) order = order_all (λ e. (e.cpu.0 < 8) × (e.thread.0 < 64)) (traces_of s) order
+      (λ k trace at.
+        let at_cpu = map_get (λ (p : CpuState). p.trace) s.cpus k trace at in
+        let here : k < 8 = (let lt = slice_get_within s.cpus k at_cpu.0 at_cpu.1 in let cpus = of.cpus in let most = within.most_cpus in omega arith) in
+        own_range (length plan.tasks) k within.tasks.most here trace (subst (λ (l : List Entry). AllByRecursion (IsEntryAt (length plan.tasks) k) l) at_cpu.2 (of.each k at_cpu.0 at_cpu.1).entries)) keeps in
+    let numbers : AllByRecursion (λ (e : Entry). (e.buffer.0 < length plan.caps) × (e.op < 524288) × (e.pos < 524288)) order = run_numbers 524288 plan.caps [] (empty_buffers plan.caps) order (contents_of s) (omega arith) run in
+    record {
+      some_buffer = within.caps.some;
+      few_buffers = within.caps.most;
+      capacities = all_by IsCapacity plan.caps within.caps.each;
+      few_entries = few;
+      entries = in_range (length plan.caps) order own numbers values;
+      each_left = length-map s.guarded.buffers (λ (b : Buffer). b.items) ∙ (sym (length-map s.guarded.buffers (λ (b : Buffer). b.capacity)) ∙ ap length of.caps);
+      values = left }
+
+-- the gathered order of a system's traces is a run that ends in its contents
+pub gathered_run : (s : Shown) (caps : List ℕ) (order : List Entry) → caps_of s ≡ caps → HasOneOrder s → IsOrder (traces_of s) order → IsRun caps order (contents_of s)
+gathered_run s caps order same one is = subst (λ l. IsRun l order (contents_of s)) same (run_alike (traces_of s) (caps_of s) one.order order (contents_of s) one.keeps one.run is)
+
+-- a refusal to gather is want of memory
+pub gather_refused : (A : Type 0) (caps : List ℕ) (s : Shown) (error : GatherError) (failed : Bool) (old : Option (List ℕ)) → HasOneOrder s → failed ≡ false → (error ≡ gathering.NoOrder → HasNoOrder (traces_of s)) → Writes {A = A} caps s (Err (from_gather error)) failed old old
+gather_refused A caps s gathering.NoMemory failed old one live none = (live, refl)
+gather_refused A caps s gathering.NoOrder failed old one live none = absurd (runs_have_order (traces_of s) (caps_of s) one.order (contents_of s) one.keeps one.run (none refl))
+
+-- what is out of a spellable text
+pub text_out : (caps : List ℕ) (s : Shown) (order : List Entry) (failed : Bool) (old new : Option (List ℕ)) → IsOrder (traces_of s) order → TakesFirstReady (traces_of s) order → IsRun caps order (contents_of s) → IsSpellable caps order (contents_of s) → Outs failed old new (spelling caps order (contents_of s)) → IsOut caps s failed old new
+text_out caps s order failed old new keeps first run spellable out = record {
+    text = spelling caps order (contents_of s);
+    is = record { order = order; keeps = keeps; first = first; run = run; spelled = record { spellable = spellable; spelled = refl } };
+    out = out }
+
+-- what is written of a plan's system: a text that has a spelling
+pub spelled_as : (cpus : ℕ) (caps : List ℕ) (s : Shown) (es : List Entry) (left : List (List ℕ)) → IsOfPlan cpus caps s → IsSound s → HasOneOrder s → IsOrder (traces_of s) es → left ≡ contents_of s
+    → ((k : ℕ) (d : Entry) → k < length es → (get_or es k d).value < 2 ^ 64) → IsSpellable caps es left
+spelled_as cpus caps s es left plan sound one is same values =
+    let fit : AllByRecursion (λ (e : Entry). e.value < 2 ^ 64) es = all_by (λ e. e.value < 2 ^ 64) es (λ k d lt. values k d lt) in
+    let run : IsRun plan.plan.caps es (contents_of s) = gathered_run s plan.plan.caps es plan.system.caps one is in
+    subst (λ l. IsSpellable l es left) (sym plan.caps) (subst (λ l. IsSpellable plan.plan.caps es l) (sym same)
+      (has_spelling plan.plan s es plan.within plan.system sound is.0 run fit (run_values (λ v. v < 2 ^ 64) plan.plan.caps [] (empty_buffers plan.plan.caps) es (contents_of s) (empty_values (λ v. v < 2 ^ 64) plan.plan.caps) fit run)))
+
+-- what is out of it
+pub out_as : (cpus : ℕ) (caps : List ℕ) (s : Shown) (es : List Entry) (left : List (List ℕ)) (failed : Bool) (old new : Option (List ℕ)) → IsOfPlan cpus caps s → HasOneOrder s → IsOrder (traces_of s) es → TakesFirstReady (traces_of s) es → left ≡ contents_of s
+    → IsSpellable caps es left → Outs failed old new (spelling caps es left) → IsOut caps s failed old new
+out_as cpus caps s es left failed old new plan one is first same spellable out =
+    text_out caps s es failed old new is first (gathered_run s caps es (plan.system.caps ∙ sym plan.caps) one is)
+      (subst (λ l. IsSpellable caps es l) same spellable) (subst (λ l. Outs failed old new (spelling caps es l)) same out)
+
+-- a fault that is passed on
+pub err_writes : {A : Type 0} (caps : List ℕ) (s : Shown) (r : Result A Fault) (e : Fault) (failed : Bool) (old new : Option (List ℕ)) → IsErrAnd r (λ f. f ≡ e) → Writes {A = A} caps s (Err e) failed old new → Writes caps s r failed old new
+err_writes caps s (Ok x) e failed old new is writes = absurd is
+err_writes {A = A} caps s (Err f) e failed old new is writes = subst (λ x. Writes {A = A} caps s (Err x) failed old new) (sym is) writes

@@ -1,0 +1,76 @@
+-- Running a plan: the system that a schedule leaves, its trace text, and what a run answers.
+use Rattle.std.specs.Prelude.{◌≡◌, ℕ, ◌<◌, Bool, true, false, List, length, All, Option, Result, Ok, Err}
+use Rattle.event_log.specs.declared.ids.CpuId.{CpuId}
+use Rattle.event_log.specs.declared.entries.Entry.{Entry}
+use Rattle.event_log.specs.Runs.{IsRun}
+use Rattle.tracer.specs.Gather.{IsOrder, TakesFirstReady}
+use Rattle.tracer.specs.Sinks.{Outs}
+use Rattle.tracer.specs.TraceText.{IsTraceText}
+use Rattle.boot.specs.declared.refusals.BootError.{BootError}
+use Rattle.boot.specs.Plan.{Plan}
+use Rattle.mctower.specs.declared.run.Fault.{Fault}
+use Rattle.mctower.specs.declared.run.Fault.TheVariants.{NoMemory, Boot, BadCpu, NoOrder, WriteFault}
+use Rattle.mctower.specs.State.{Shown}
+use Rattle.mctower.specs.Steps.{steps_of}
+use Rattle.mctower.specs.Boots.{booted}
+use Rattle.mctower.specs.Claims.{traces_of, contents_of}
+
+-- the system after a schedule's steps from a plan's boot, with room for just these steps
+abbrev pub ran : Plan → List CpuId → Shown
+ran plan steps = steps_of steps (booted plan (length steps))
+
+-- every step is of one of so many CPUs
+abbrev pub AreCpus : ℕ → List CpuId → Type 0
+AreCpus cpus steps = All (λ c. c.0 < cpus) steps
+
+-- the text is the trace text of these capacities, of the system's traces in the one order that takes the first trace that is
+-- ready, and of its contents; and that order is a run that ends in these contents
+pub record IsTextOf (caps : List ℕ) (s : Shown) (text : List ℕ) : Type 0 where
+  pub order : List Entry
+  pub keeps : IsOrder (traces_of s) order
+  pub first : TakesFirstReady (traces_of s) order
+  pub run : IsRun caps order (contents_of s)
+  pub spelled : IsTraceText text caps order (contents_of s)
+
+-- the system's text is out, or where the sink failed a beginning of it
+pub record IsOut (caps : List ℕ) (s : Shown) (failed : Bool) (old new : Option (List ℕ)) : Type 0 where
+  pub text : List ℕ
+  pub is : IsTextOf caps s text
+  pub out : Outs failed old new text
+
+-- the sink has not failed, and nothing was written
+abbrev pub IsUntouched : Bool → Option (List ℕ) → Option (List ℕ) → Type 0
+IsUntouched failed old new = (failed ≡ false) × (new ≡ old)
+
+-- what writing the text of a system answers, by whether the sink failed and what it held before and after
+abbrev pub Writes : {A : Type 0} → List ℕ → Shown → Result A Fault → Bool → Option (List ℕ) → Option (List ℕ) → Type 0
+Writes caps s (Ok _) failed old new = (failed ≡ false) × IsOut caps s failed old new
+Writes caps s (Err NoMemory) failed old new = IsUntouched failed old new
+Writes caps s (Err (Boot e)) failed old new = ⊥
+Writes caps s (Err BadCpu) failed old new = ⊥
+Writes caps s (Err NoOrder) failed old new = ⊥
+Writes caps s (Err WriteFault) failed old new = (failed ≡ true) × IsOut caps s failed old new
+
+-- what a run of a plan answers: a step of a CPU that the plan has not is refused before anything is written; else the plan's
+-- system takes the steps, and its text is written
+abbrev pub RunsPlan : Plan → List CpuId → Result Shown Fault → Bool → Option (List ℕ) → Option (List ℕ) → Type 0
+RunsPlan plan steps (Ok s) failed old new = AreCpus plan.cpus steps × (s ≡ ran plan steps) × (failed ≡ false) × IsOut plan.caps (ran plan steps) failed old new
+RunsPlan plan steps (Err NoMemory) failed old new = IsUntouched failed old new
+RunsPlan plan steps (Err (Boot e)) failed old new = ⊥
+RunsPlan plan steps (Err BadCpu) failed old new = (¬ AreCpus plan.cpus steps) × IsUntouched failed old new
+RunsPlan plan steps (Err NoOrder) failed old new = ⊥
+RunsPlan plan steps (Err WriteFault) failed old new = AreCpus plan.cpus steps × (failed ≡ true) × IsOut plan.caps (ran plan steps) failed old new
+
+-- what a run answers where the plan's text is refused: that refusal, before anything is written
+abbrev pub Refuses : BootError → Result Shown Fault → Bool → Option (List ℕ) → Option (List ℕ) → Type 0
+Refuses e (Ok s) failed old new = ⊥
+Refuses e (Err NoMemory) failed old new = IsUntouched failed old new
+Refuses e (Err (Boot f)) failed old new = (f ≡ e) × IsUntouched failed old new
+Refuses e (Err BadCpu) failed old new = ⊥
+Refuses e (Err NoOrder) failed old new = ⊥
+Refuses e (Err WriteFault) failed old new = ⊥
+
+-- what a run of a text answers, by the plan that the text gives or its first fault; want of memory aside
+abbrev pub RunsText : Result Plan BootError → List CpuId → Result Shown Fault → Bool → Option (List ℕ) → Option (List ℕ) → Type 0
+RunsText (Ok plan) steps result failed old new = RunsPlan plan steps result failed old new
+RunsText (Err e) steps result failed old new = Refuses e result failed old new

@@ -1,0 +1,198 @@
+//! A run of a plan: from the plan's text and a schedule to the trace text.
+
+ghost use Rattle.std.specs.Prelude.{◌≡◌, ◌<◌, ◌≤◌, ◌^◌, ℕ, false, length, map, slice_index_or, IfOk};
+ghost use Rattle.boot.specs.Plan.{plan_of};
+ghost use Rattle.event_log.specs.declared.entries.Entry.{Entry as AnEntry};
+ghost use Rattle.tracer.specs.Gather.{traces_in};
+ghost use Rattle.tracer.specs.Sinks.{has_failed, writer_of};
+ghost use Rattle.mctower.specs.Claims.{traces_of, contents_of};
+ghost use Rattle.mctower.specs.Plans.{IsOfPlan, from_boot};
+ghost use Rattle.mctower.specs.Running.{RunsText, Writes};
+ghost use Rattle.mctower.specs.declared.run.Fault.TheVariants.{NoMemory, NoOrder, BadCpu as BadCpuFault, WriteFault as WriteFailed};
+
+use crate::kernel::{BadCpu, System};
+use arrayvec::ArrayVec;
+use boot::{Boot, BootError};
+use event_log::{BufId, CpuId, Entry, NoMemory};
+use std::alloc::{AllocError, AllocFailed, Global};
+use std::io::Write;
+use thiserror::Error;
+use tracer::{GatherError, Sink, WriteFault, gather, write_trace};
+
+/// Why a run gave no trace text. Each prints as its name, its number and where it is.
+#[derive(Clone, Copy, Debug, PartialEq, Eq, Error)]
+pub enum Fault {
+    /// An allocation was refused.
+    #[error("NoMemory(1)")]
+    NoMemory,
+    /// The plan is refused.
+    #[error("{0}")]
+    Boot(BootError),
+    /// The schedule names a CPU that the plan has not.
+    #[error("BadCpu(4)")]
+    BadCpu,
+    /// The traces have no order that keeps each of them. It never comes.
+    #[error("NoOrder(6)")]
+    NoOrder,
+    /// A write to the sink failed.
+    #[error("WriteFault(8)")]
+    WriteFault,
+}
+
+impl From<AllocError> for Fault {
+    ghost from_gives = { λ _ e. e ≡ NoMemory };
+
+    fn from(_error: AllocError) -> Fault {
+        Fault::NoMemory
+    }
+}
+
+impl<T: Drop> From<AllocFailed<T>> for Fault {
+    ghost from_gives = { λ _ e. e ≡ NoMemory };
+
+    fn from(_error: AllocFailed<T>) -> Fault {
+        Fault::NoMemory
+    }
+}
+
+impl From<NoMemory> for Fault {
+    ghost from_gives = { λ _ e. e ≡ NoMemory };
+
+    fn from(_error: NoMemory) -> Fault {
+        Fault::NoMemory
+    }
+}
+
+impl From<BootError> for Fault {
+    ghost from_gives = { λ error e. e ≡ from_boot error };
+
+    fn from(error: BootError) -> Fault {
+        match error {
+            BootError::NoMemory => Fault::NoMemory,
+            refused => Fault::Boot(refused),
+        }
+    }
+}
+
+impl From<BadCpu> for Fault {
+    ghost from_gives = { λ _ e. e ≡ BadCpuFault };
+
+    fn from(_error: BadCpu) -> Fault {
+        Fault::BadCpu
+    }
+}
+
+impl From<GatherError> for Fault {
+    ghost use Rattle.mctower.specs.Plans.{from_gather};
+
+    ghost from_gives = { λ error e. e ≡ from_gather error };
+
+    fn from(error: GatherError) -> Fault {
+        match error {
+            GatherError::NoMemory => Fault::NoMemory,
+            GatherError::NoOrder => Fault::NoOrder,
+        }
+    }
+}
+
+impl From<WriteFault> for Fault {
+    ghost from_gives = { λ _ e. e ≡ WriteFailed };
+
+    fn from(_error: WriteFault) -> Fault {
+        Fault::WriteFault
+    }
+}
+
+/// Reads a plan, lets its system take the steps of a schedule, and writes the trace text: the
+/// plan's capacities, the entries of all CPUs in one order, and what the buffers hold after the
+/// last step. The system has room for as many steps as the schedule has. Gives the system.
+///
+/// The sink must not have failed, and the steps are at most 1,048,576.
+///
+/// Errors: the first of these. `Boot` where the plan is refused, and why; `BadCpu` where the
+/// schedule names a CPU that the plan has not; `WriteFault` exactly where the sink failed, and then
+/// a beginning of the text is out. Before any other error nothing was written. `NoMemory` where an
+/// allocation was refused; `NoOrder` never comes, since the traces of a system have an order.
+pub fn run_text<W: Write>(
+    alloc: Global,
+    plan: &str,
+    steps: &[CpuId],
+    sink: &mut Sink<W>,
+) -> Result<System, Fault>
+    requires live { has_failed sink.old ≡ false }
+    requires few { length steps.now ≤ 1048576 }
+    ensures { RunsText (plan_of plan.now) steps.now result (has_failed sink.new) (W.contents (writer_of sink.old)) (W.contents (writer_of sink.new)) }
+{
+    let boot = Boot::read(alloc, plan)?;
+    let cpus = boot.cpus();
+    let caps = boot.caps();
+    let mut system = System::open(alloc, boot, steps.len())?;
+    system.run(steps)?;
+    write_system(alloc, cpus, caps.as_slice(), &system, sink)?;
+    Ok(system)
+}
+
+/// Writes the trace text of the system of a plan with these CPUs and capacities.
+///
+/// Errors: `NoMemory` where an allocation was refused, and then nothing was written; `WriteFault`
+/// exactly where the sink failed.
+fn write_system<W: Write>(
+    alloc: Global,
+    cpus: u8,
+    caps: &[u8],
+    system: &System,
+    sink: &mut Sink<W>,
+) -> Result<(), Fault>
+    requires live { has_failed sink.old ≡ false }
+    requires plan { IsOfPlan cpus caps.now system.now }
+    ensures { Writes caps.now system.now result (has_failed sink.new) (W.contents (writer_of sink.old)) (W.contents (writer_of sink.new)) }
+{
+    system.holds();
+    let traces = traces(alloc, cpus, system)?;
+    let order = gather(alloc, &traces)?;
+    values_fit(&order);
+    let left = contents(caps.len(), system);
+    write_trace(sink, caps, &order, &left)?;
+    Ok(())
+}
+
+// Each value has 64 bits, as its type says; a list of entries does not tell it by itself. It
+// computes nothing.
+fn values_fit(entries: &[Entry])
+    ensures { (k : ℕ) (d : AnEntry) → k < length entries.now → (slice_index_or entries.now k d).value < 2 ^ 64 }
+{
+    for entry in entries {
+        value_fits(entry.value);
+    }
+}
+
+// A value has 64 bits.
+fn value_fits(value: u64)
+    ensures { value < 2 ^ 64 }
+{}
+
+/// A copy of the traces of the CPUs, which are so many.
+fn traces(alloc: Global, cpus: u8, system: &System) -> Result<Vec<Vec<Entry>>, AllocError>
+    requires { length system.now.cpus ≡ cpus }
+    ensures { IfOk result (λ all. traces_in all.items ≡ traces_of system.now) }
+{
+    let mut all = Vec::new(alloc);
+    for cpu in 0..cpus {
+        let trace = system.trace(CpuId(cpu)).to_vec(alloc)?;
+        all.push(trace)?;
+    }
+    Ok(all)
+}
+
+/// What the buffers hold, which are so many, at most 16.
+fn contents(buffers: usize, system: &System) -> ArrayVec<ArrayVec<u64, 32>, 16>
+    requires all { length system.now.guarded.buffers ≡ buffers }
+    requires few { buffers ≤ 16 }
+    ensures { map (λ items. items.items) result.items ≡ contents_of system.now }
+{
+    let mut left = ArrayVec::new();
+    for buffer in 0..buffers {
+        left.push(system.buffer(BufId(buffer as u8)));
+    }
+    left
+}
