@@ -32,12 +32,15 @@ order_length traces (e ∷ order) keeps =
 pub order_all : (P : Entry → Type 0) (traces : List (List Entry)) (order : List Entry) → ((k : ℕ) (trace : List Entry) → slice_get traces k ≡ Some trace → AllByRecursion P trace) → IsInterleaving traces order → AllByRecursion P order
 order_all P traces [] each keeps = tt
 order_all P traces (e ∷ order) each keeps =
-    let here : AllByRecursion P (e ∷ keeps.1) = each keeps.0 (e ∷ keeps.1) keeps.2 in
-    (here.0, order_all P (set traces keeps.0 keeps.1) order
-      (λ k trace at. elim (get_set traces keeps.0 k keeps.1 trace at) [
-        inl same ↦ subst (λ (l : List Entry). AllByRecursion P l) same.1 here.1
-      | inr other ↦ each k trace other.1 ])
-      keeps.3)
+    let here : AllByRecursion P (e ∷ keeps.1) = each keeps.0 (e ∷ keeps.1) keeps.2 in (
+      here.0,
+      order_all P (set traces keeps.0 keeps.1) order
+          (λ k trace at. elim (get_set traces keeps.0 k keeps.1 trace at) [
+            | inl same ↦ subst (λ (l : List Entry). AllByRecursion P l) same.1 here.1
+            | inr other ↦ each k trace other.1
+          ])
+          keeps.3,
+    )
 
 -- the numbers of a run's entries are below any number that is not below its length
 pub run_numbers : (n : ℕ) (caps : List ℕ) (earlier : List Entry) (contents : List (List ℕ)) (es : List Entry) (left : List (List ℕ)) → length earlier + length es ≤ n → IsRunFrom caps earlier contents es left
@@ -79,5 +82,5 @@ pub run_values : (P : ℕ → Type 0) (caps : List ℕ) (earlier : List Entry) (
 run_values P caps earlier contents [] left now all run = subst (λ l. AllByRecursion (λ items. AllByRecursion P items) l) run now
 run_values P caps earlier contents (e ∷ es) left now all run =
     run_values P caps (earlier ++ e ∷ []) (after_entry contents e) es left
-      (set_all P contents e.buffer.0 (after_effect e.kind (items_of contents e.buffer.0) e.value) now (effect_all P e.kind (items_of contents e.buffer.0) e.value (items_all P contents e.buffer.0 now) all.0))
-      all.1 run.1
+    (set_all P contents e.buffer.0 (after_effect e.kind (items_of contents e.buffer.0) e.value) now (effect_all P e.kind (items_of contents e.buffer.0) e.value (items_all P contents e.buffer.0 now) all.0))
+    all.1 run.1

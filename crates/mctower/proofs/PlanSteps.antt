@@ -49,8 +49,9 @@ noted_cpu plan c p e here of = record { limit = of.limit; entries = all_push (Is
 each_set : (plan : Plan) (cpus : List CpuState) (i : ℕ) (q : CpuState) → IsCpuOf plan i q → ((c : ℕ) (p : CpuState) → slice_get cpus c ≡ Some p → IsCpuOf plan c p) → (c : ℕ) (p : CpuState) → slice_get (set cpus i q) c ≡ Some p → IsCpuOf plan c p
 each_set plan cpus i q here each c p at =
     elim (get_set cpus i c q p at) [
-      inl same ↦ subst (λ x. IsCpuOf plan c x) same.1 (subst (λ n. IsCpuOf plan n q) (sym same.0) here)
-    | inr other ↦ each c p other.1 ]
+      | inl same ↦ subst (λ x. IsCpuOf plan c x) same.1 (subst (λ n. IsCpuOf plan n q) (sym same.0) here)
+      | inr other ↦ each c p other.1
+    ]
 
 -- a call leaves the capacity of its buffer
 taken_capacity : (x : Buffer) (items : List ℕ) → (after_take x items).capacity ≡ x.capacity
@@ -91,16 +92,18 @@ turned_plan plan s c p t (Some program) (Some g) at here of =
       cpus = length-set s.cpus c.0 (turn_of c p t program g s.guarded).cpu ∙ of.cpus;
       guests = length-set s.guests t.0 (turn_of c p t program g s.guarded).guest ∙ of.guests;
       caps = after.caps ∙ of.caps;
-      each = each_set plan s.cpus c.0 (turn_of c p t program g s.guarded).cpu after.cpu of.each }
+      each = each_set plan s.cpus c.0 (turn_of c p t program g s.guarded).cpu after.cpu of.each;
+    }
 turned_plan plan s c p t None g at here of = of
 turned_plan plan s c p t (Some program) None at here of = of
 
 moved_at_plan : (plan : Plan) (s : Shown) (c : CpuId) (p : CpuState) (o : Option Tid) → IsCpuOf plan c.0 p → IsSystemOf plan s → IsSystemOf plan (moved_at c s p o)
 moved_at_plan plan s c p None here of = record {
-    cpus = length-set s.cpus c.0 (switched_to p p.ready) ∙ of.cpus;
-    guests = of.guests;
-    caps = of.caps;
-    each = each_set plan s.cpus c.0 (switched_to p p.ready) (switched_cpu plan c.0 p p.ready here) of.each }
+  cpus = length-set s.cpus c.0 (switched_to p p.ready) ∙ of.cpus;
+  guests = of.guests;
+  caps = of.caps;
+  each = each_set plan s.cpus c.0 (switched_to p p.ready) (switched_cpu plan c.0 p p.ready here) of.each;
+}
 moved_at_plan plan s c p (Some t) here of = turned_plan plan s c p t (slice_get s.programs t.0) (slice_get s.guests t.0) refl here of
 
 moved_plan : (plan : Plan) (s : Shown) (c : CpuId) (o : Option CpuState) → slice_get s.cpus c.0 ≡ o → IsSystemOf plan s → IsSystemOf plan (moved c s o)
@@ -147,4 +150,5 @@ booted_plan plan room =
       cpus = made.0;
       guests = length-map plan.tasks (λ (task : Task). new_guest (record { 0 = task.home }));
       caps = new_caps plan.caps;
-      each = made.1 }
+      each = made.1;
+    }

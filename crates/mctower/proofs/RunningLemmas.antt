@@ -30,7 +30,7 @@ err_runs plan steps (Err f) e failed old new is runs = subst (λ x. RunsPlan pla
 pub bad_cpu : (plan : Plan) (steps : List CpuId) (n : ℕ) (first : Shown) (text : Result Plan BootError) (r : Result Shown Fault) (failed : Bool) (old : Option (List ℕ)) → text ≡ Ok plan → first ≡ booted plan n → (AreCpus (length first.cpus) steps → false ≡ true) → failed ≡ false → IsErrAnd r (λ f. f ≡ BadCpu) → RunsText text steps r failed old old
 bad_cpu plan steps n first text r failed old reads opened unknown live is =
     subst (λ x. RunsText x steps r failed old old) (sym reads)
-      (err_runs plan steps r BadCpu failed old old is ((λ known. false≢true (unknown (subst (λ c. AreCpus c steps) (sym (cpus_in plan n first opened)) known))), (live, refl)))
+    (err_runs plan steps r BadCpu failed old old is ((λ known. false≢true (unknown (subst (λ c. AreCpus c steps) (sym (cpus_in plan n first opened)) known))), (live, refl)))
 
 -- what is out is of the run's system
 out_ran : (plan : Plan) (steps : List CpuId) (caps : List ℕ) (first last : Shown) (failed : Bool) (old new : Option (List ℕ)) → caps ≡ plan.caps → first ≡ booted plan (length steps) → last ≡ steps_of steps first → IsOut caps last failed old new → IsOut plan.caps (ran plan steps) failed old new
@@ -49,10 +49,10 @@ write_fault A plan steps caps first last WriteFault failed old new same opened t
 pub not_written : (A : Type 0) (plan : Plan) (steps : List CpuId) (caps : List ℕ) (first last : Shown) (text : Result Plan BootError) (r : Result Shown Fault) (e : Fault) (failed : Bool) (old new : Option (List ℕ)) → text ≡ Ok plan → caps ≡ plan.caps → first ≡ booted plan (length steps) → last ≡ steps_of steps first → AreCpus (length first.cpus) steps → Writes {A = A} caps last (Err e) failed old new → IsErrAnd r (λ f. f ≡ e) → RunsText text steps r failed old new
 not_written A plan steps caps first last text r e failed old new reads same opened took known writes is =
     subst (λ x. RunsText x steps r failed old new) (sym reads)
-      (err_runs plan steps r e failed old new is (write_fault A plan steps caps first last e failed old new same opened took known writes))
+    (err_runs plan steps r e failed old new is (write_fault A plan steps caps first last e failed old new same opened took known writes))
 
 -- the text was written
 pub written : (plan : Plan) (steps : List CpuId) (caps : List ℕ) (first last : Shown) (text : Result Plan BootError) (failed : Bool) (old new : Option (List ℕ)) → text ≡ Ok plan → caps ≡ plan.caps → first ≡ booted plan (length steps) → last ≡ steps_of steps first → AreCpus (length first.cpus) steps → (failed ≡ false) × IsOut caps last failed old new → RunsText text steps (Ok last) failed old new
 written plan steps caps first last text failed old new reads same opened took known writes =
     subst (λ x. RunsText x steps (Ok last) failed old new) (sym reads)
-      (subst (λ c. AreCpus c steps) (cpus_in plan (length steps) first opened) known, took ∙ ap (steps_of steps) opened, writes.0, out_ran plan steps caps first last failed old new same opened took writes.1)
+    (subst (λ c. AreCpus c steps) (cpus_in plan (length steps) first opened) known, took ∙ ap (steps_of steps) opened, writes.0, out_ran plan steps caps first last failed old new same opened took writes.1)

@@ -55,18 +55,18 @@ pub has_spelling : (plan : Plan) (s : Shown) (order : List Entry) → IsPlan pla
 has_spelling plan s order within of sound keeps run values left =
     let count : length (traces_of s) ≡ length s.cpus = length-map s.cpus (λ (p : CpuState). p.trace) in
     let small : (k : ℕ) (trace : List Entry) → slice_get (traces_of s) k ≡ Some trace → length trace ≤ 65536 = λ k trace at.
-      (let at_cpu = map_get (λ (p : CpuState). p.trace) s.cpus k trace at in
-       let fits : length at_cpu.0.trace + at_cpu.0.begun ≤ at_cpu.0.limit = (sound.counted k at_cpu.0 at_cpu.1).fits in
-       let limit : at_cpu.0.limit ≡ plan.trace = (of.each k at_cpu.0 at_cpu.1).limit in
-       let most : plan.trace ≤ 65536 = within.most_trace in
-       let same : length at_cpu.0.trace ≡ length trace = ap length at_cpu.2 in
-       omega arith) in
+    (let at_cpu = map_get (λ (p : CpuState). p.trace) s.cpus k trace at in
+    let fits : length at_cpu.0.trace + at_cpu.0.begun ≤ at_cpu.0.limit = (sound.counted k at_cpu.0 at_cpu.1).fits in
+    let limit : at_cpu.0.limit ≡ plan.trace = (of.each k at_cpu.0 at_cpu.1).limit in
+    let most : plan.trace ≤ 65536 = within.most_trace in
+    let same : length at_cpu.0.trace ≡ length trace = ap length at_cpu.2 in
+    omega arith) in
     let few : length order ≤ 524288 = (let total = few_together (traces_of s) small in let long = order_length (traces_of s) order keeps in let cpus = of.cpus in let most = within.most_cpus in omega arith) in
     let own : AllByRecursion (λ (e : Entry). (e.cpu.0 < 8) × (e.thread.0 < 64)) order = order_all (λ e. (e.cpu.0 < 8) × (e.thread.0 < 64)) (traces_of s) order
-      (λ k trace at.
-        let at_cpu = map_get (λ (p : CpuState). p.trace) s.cpus k trace at in
-        let here : k < 8 = (let lt = slice_get_within s.cpus k at_cpu.0 at_cpu.1 in let cpus = of.cpus in let most = within.most_cpus in omega arith) in
-        own_range (length plan.tasks) k within.tasks.most here trace (subst (λ (l : List Entry). AllByRecursion (IsEntryAt (length plan.tasks) k) l) at_cpu.2 (of.each k at_cpu.0 at_cpu.1).entries)) keeps in
+    (λ k trace at.
+    let at_cpu = map_get (λ (p : CpuState). p.trace) s.cpus k trace at in
+    let here : k < 8 = (let lt = slice_get_within s.cpus k at_cpu.0 at_cpu.1 in let cpus = of.cpus in let most = within.most_cpus in omega arith) in
+    own_range (length plan.tasks) k within.tasks.most here trace (subst (λ (l : List Entry). AllByRecursion (IsEntryAt (length plan.tasks) k) l) at_cpu.2 (of.each k at_cpu.0 at_cpu.1).entries)) keeps in
     let numbers : AllByRecursion (λ (e : Entry). (e.buffer.0 < length plan.caps) × (e.op < 524288) × (e.pos < 524288)) order = run_numbers 524288 plan.caps [] (empty_buffers plan.caps) order (contents_of s) (omega arith) run in
     record {
       some_buffer = within.caps.some;
@@ -75,7 +75,8 @@ has_spelling plan s order within of sound keeps run values left =
       few_entries = few;
       entries = in_range (length plan.caps) order own numbers values;
       each_left = length-map s.guarded.buffers (λ (b : Buffer). b.items) ∙ (sym (length-map s.guarded.buffers (λ (b : Buffer). b.capacity)) ∙ ap length of.caps);
-      values = left }
+      values = left;
+    }
 
 -- the gathered order of a system's traces is a run that ends in its contents
 pub gathered_run : (s : Shown) (caps : List ℕ) (order : List Entry) → caps_of s ≡ caps → HasOneOrder s → IsOrder (traces_of s) order → IsRun caps order (contents_of s)
@@ -89,9 +90,10 @@ gather_refused A caps s gathering.NoOrder failed old one live none = absurd (run
 -- what is out of a spellable text
 pub text_out : (caps : List ℕ) (s : Shown) (order : List Entry) (failed : Bool) (old new : Option (List ℕ)) → IsOrder (traces_of s) order → TakesFirstReady (traces_of s) order → IsRun caps order (contents_of s) → IsSpellable caps order (contents_of s) → Outs failed old new (spelling caps order (contents_of s)) → IsOut caps s failed old new
 text_out caps s order failed old new keeps first run spellable out = record {
-    text = spelling caps order (contents_of s);
-    is = record { order = order; keeps = keeps; first = first; run = run; spelled = record { spellable = spellable; spelled = refl } };
-    out = out }
+  text = spelling caps order (contents_of s);
+  is = record { order = order; keeps = keeps; first = first; run = run; spelled = record { spellable = spellable; spelled = refl } };
+  out = out;
+}
 
 -- what is written of a plan's system: a text that has a spelling
 pub spelled_as : (cpus : ℕ) (caps : List ℕ) (s : Shown) (es : List Entry) (left : List (List ℕ)) → IsOfPlan cpus caps s → IsSound s → HasOneOrder s → IsOrder (traces_of s) es → left ≡ contents_of s
@@ -100,14 +102,14 @@ spelled_as cpus caps s es left plan sound one is same values =
     let fit : AllByRecursion (λ (e : Entry). e.value < 2 ^ 64) es = all_by (λ e. e.value < 2 ^ 64) es (λ k d lt. values k d lt) in
     let run : IsRun plan.plan.caps es (contents_of s) = gathered_run s plan.plan.caps es plan.system.caps one is in
     subst (λ l. IsSpellable l es left) (sym plan.caps) (subst (λ l. IsSpellable plan.plan.caps es l) (sym same)
-      (has_spelling plan.plan s es plan.within plan.system sound is.0 run fit (run_values (λ v. v < 2 ^ 64) plan.plan.caps [] (empty_buffers plan.plan.caps) es (contents_of s) (empty_values (λ v. v < 2 ^ 64) plan.plan.caps) fit run)))
+    (has_spelling plan.plan s es plan.within plan.system sound is.0 run fit (run_values (λ v. v < 2 ^ 64) plan.plan.caps [] (empty_buffers plan.plan.caps) es (contents_of s) (empty_values (λ v. v < 2 ^ 64) plan.plan.caps) fit run)))
 
 -- what is out of it
 pub out_as : (cpus : ℕ) (caps : List ℕ) (s : Shown) (es : List Entry) (left : List (List ℕ)) (failed : Bool) (old new : Option (List ℕ)) → IsOfPlan cpus caps s → HasOneOrder s → IsOrder (traces_of s) es → TakesFirstReady (traces_of s) es → left ≡ contents_of s
     → IsSpellable caps es left → Outs failed old new (spelling caps es left) → IsOut caps s failed old new
 out_as cpus caps s es left failed old new plan one is first same spellable out =
     text_out caps s es failed old new is first (gathered_run s caps es (plan.system.caps ∙ sym plan.caps) one is)
-      (subst (λ l. IsSpellable caps es l) same spellable) (subst (λ l. Outs failed old new (spelling caps es l)) same out)
+    (subst (λ l. IsSpellable caps es l) same spellable) (subst (λ l. Outs failed old new (spelling caps es l)) same out)
 
 -- a fault that is passed on
 pub err_writes : {A : Type 0} (caps : List ℕ) (s : Shown) (r : Result A Fault) (e : Fault) (failed : Bool) (old new : Option (List ℕ)) → IsErrAnd r (λ f. f ≡ e) → Writes {A = A} caps s (Err e) failed old new → Writes caps s r failed old new

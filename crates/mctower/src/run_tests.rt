@@ -12,7 +12,8 @@ use std::test::*;
 use tracer::Sink;
 
 /// One thread that sends 7.
-const ONE_SEND: &str = "cpus = 1\ntrace = 4\nbuffers = [1]\n\n[[thread]]\ncpu = 0\nprogram = [\"set r0 7\", \"send 0 r0\", \"exit\"]\n";
+const ONE_SEND: &str =
+    "cpus = 1\ntrace = 4\nbuffers = [1]\n\n[[thread]]\ncpu = 0\nprogram = [\"set r0 7\", \"send 0 r0\", \"exit\"]\n";
 
 const ROW: &[u8; 66] = b"mctower-trace 1\nbuffers 1\ncap 0 1\ne 0 0 send 0 7 0 0\nleft 0 7\nend\n";
 
@@ -23,7 +24,8 @@ const PIPELINE: &str = "cpus = 3\ntrace = 6\nbuffers = [1, 4]\n
 [[thread]]\ncpu = 2\nprogram = [\"recv 1 r0\", \"recv 1 r0\", \"recv 1 r0\"]\n";
 
 /// What an independent kernel in plain Rust writes of it.
-const PIPELINE_TRACE: &[u8] = b"mctower-trace 1\nbuffers 2\ncap 0 1\ncap 1 4\ne 0 0 send 0 3 0 0\ne 1 1 recv 0 3 1 0\ne 0 0 send 0 2 2 1\ne 1 1 send 1 6 0 0\ne 1 1 recv 0 2 3 1\ne 0 0 send 0 1 4 2\ne 2 2 recv 1 6 1 0\ne 1 1 send 1 4 2 1\ne 1 1 recv 0 1 5 2\ne 2 2 recv 1 4 3 1\nleft 0\nleft 1\nend\n";
+const PIPELINE_TRACE: &[u8] =
+    b"mctower-trace 1\nbuffers 2\ncap 0 1\ncap 1 4\ne 0 0 send 0 3 0 0\ne 1 1 recv 0 3 1 0\ne 0 0 send 0 2 2 1\ne 1 1 send 1 6 0 0\ne 1 1 recv 0 2 3 1\ne 0 0 send 0 1 4 2\ne 2 2 recv 1 6 1 0\ne 1 1 send 1 4 2 1\ne 1 1 recv 0 1 5 2\ne 2 2 recv 1 4 3 1\nleft 0\nleft 1\nend\n";
 
 /// A writer that takes no byte behind the first `room`.
 #[derive(Drop)]
@@ -121,8 +123,17 @@ fn refusals_print_their_place(rt: HostRuntime) -> Result<(), Fail> {
     assert_eq!(rt; out.out.len(), 0);
     let refused = Fault::Boot(BootError::OutOfRange(PlanKey::Cpus));
     assert_eq!(rt; fault, Some(refused));
-    assert_eq!(rt; format!(in rt.alloc(); "{refused}")?.as_str(), "OutOfRange(22) cpus");
-    assert_eq!(rt; format!(in rt.alloc(); "{}", Fault::BadCpu)?.as_str(), "BadCpu(4)");
-    assert_eq!(rt; format!(in rt.alloc(); "{}", Fault::WriteFault)?.as_str(), "WriteFault(8)");
+    assert_eq!(rt;
+        format!(in rt.alloc(); "{refused}")?.as_str(),
+        "OutOfRange(22) cpus"
+    );
+    assert_eq!(rt;
+        format!(in rt.alloc(); "{}", Fault::BadCpu)?.as_str(),
+        "BadCpu(4)"
+    );
+    assert_eq!(rt;
+        format!(in rt.alloc(); "{}", Fault::WriteFault)?.as_str(),
+        "WriteFault(8)"
+    );
     Ok(())
 }
