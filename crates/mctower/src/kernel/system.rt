@@ -54,11 +54,18 @@ impl System {
         requires { cpu.0 < length self.old.cpus }
         ensures next { self.new ≡ (step_of cpu self.old).next }
         ensures answer { result ≡ (step_of cpu self.old).answer }
+
+        // What holds after every list of steps.
+        ensures one_order { HasOneOrder self.new }
+        ensures follow { FollowPrograms self.new }
+        ensures once { StandOnce self.new }
     {
         if let Some(reason) = self.reason(cpu) {
+            self.holds();
             return Step::Halted(reason);
         }
         self.advance(cpu);
+        self.holds();
         Step::Stepped
     }
 
@@ -123,14 +130,21 @@ impl System {
         ensures ran { OnOk result (self.new ≡ steps_of steps.now self.old) }
         ensures kept { OnErr result (self.new ≡ self.old) }
         ensures known { IsOk result ↔ All (λ c. c.0 < length self.old.cpus) steps.now }
+
+        // What holds after every list of steps.
+        ensures one_order { HasOneOrder self.new }
+        ensures follow { FollowPrograms self.new }
+        ensures once { StandOnce self.new }
     {
         let count = self.cpus.len();
         if !steps.iter().all(|cpu| usize::from(cpu.0) < count) {
+            self.holds();
             return Err(BadCpu);
         }
         for cpu in steps {
             let _ = self.step(*cpu);
         }
+        self.holds();
         Ok(())
     }
 

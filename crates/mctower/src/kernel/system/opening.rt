@@ -54,25 +54,31 @@ fn admit_all(cpus: &mut Vec<Cpu>, boot: &Boot)
 
 impl System {
     ghost use Rattle.mctower.specs.Boots.{booted};
+    ghost use Rattle.mctower.specs.Claims.{HasOneOrder, FollowPrograms, StandOnce};
 
     /// The system of a plan before its first step, with room for `room` steps: each CPU's threads
     /// are ready by rising number, and every buffer is empty. All memory is taken here.
     ///
     /// Errors: `NoMemory` where an allocation was refused; nothing was made.
     pub fn open(alloc: Global, boot: Boot, room: usize) -> Result<System, NoMemory>
-        ensures { IfOk result (λ s. s ≡ booted boot room) }
+        ensures booted { IfOk result (λ s. s ≡ booted boot room) }
+        ensures one_order { IfOk result HasOneOrder }
+        ensures follow { IfOk result FollowPrograms }
+        ensures once { IfOk result StandOnce }
     {
         let guarded = Guarded::open(alloc, boot.caps().as_slice(), boot.cpus(), room)?;
         let guests = fresh_guests(alloc, &boot)?;
         let mut cpus = idle_cpus(alloc, boot.cpus(), boot.trace() as usize)?;
         admit_all(&mut cpus, &boot);
-        Ok(System {
+        let system = System {
             boot,
             guests,
             cpus,
             guarded,
             room,
             taken: 0,
-        })
+        };
+        system.holds();
+        Ok(system)
     }
 }

@@ -6,8 +6,8 @@ use Rattle.mctower.proofs.BootSteps.{fresh_sound}
 use Rattle.mctower.proofs.BootedLemmas.{booted_fresh, booted_is}
 use Rattle.mctower.proofs.kernel.system.System.open.Goals as goal
 
-pub invariant_of-result : goal.invariant_of-result
-invariant_of-result c =
+pub invariant_of-system : goal.invariant_of-system
+invariant_of-system c =
     let small : c.args.room < 2 ^ 64 = omega (arith, c.ranges.room) in
     let is : shown c.args.boot c.in_ok-guests.guests.items c.admit_all.new.cpus.items c.in_ok-guarded.guarded c.args.room 0 ≡ booted c.args.boot c.args.room
     = booted_is c.args.boot c.args.room c.in_ok-guests.guests.items c.admit_all.new.cpus.items c.in_ok-guarded.guarded c.in_ok-guests.ensures
