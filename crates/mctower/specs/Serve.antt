@@ -6,9 +6,9 @@ use Rattle.tracer.specs.declared.verdicts.Verdict.TheVariants as verdict
 use Rattle.tracer.specs.Judging.{verdict_of}
 use Rattle.mctower.specs.Line.{Meant, count, run, threads, check}
 
--- the line that `count` prints
-abbrev pub count_line : ℕ → List ℕ
-count_line number = codes "plain " ++ (decimal number ++ 10 ∷ [])
+-- the two lines that `count` prints
+abbrev pub count_lines : ℕ → List ℕ
+count_lines number = codes "plain " ++ (decimal number ++ (codes "\ntable " ++ (decimal number ++ 10 ∷ [])))
 
 -- the exit status of a verdict: 0 for a yes and 3 for a no
 abbrev pub verdict_status : Verdict → ℕ
@@ -26,7 +26,7 @@ PrintsYes verdict.NoMemory old new = Unit {0}
 -- whose bytes went from old to new; the bytes that were on standard input are `text`, where they are known
 abbrev pub Serves : Option Meant → Option (List ℕ) → Option (List ℕ) → Option (List ℕ) → ℕ → Type 0
 Serves None text old new status = ((status ≡ 1) ⊎ (status ≡ 2)) × (new ≡ old)
-Serves (Some (count cpus times)) text old new status = (status ≡ 1) ⊎ ((status ≡ 0) × Appends old new (count_line (times * cpus)))
+Serves (Some (count cpus times)) text old new status = (status ≡ 1) ⊎ ((status ≡ 0) × Appends old new (count_lines (times * cpus)))
 Serves (Some (run schedule)) text old new status = Unit {0}
 Serves (Some (threads turns)) text old new status = Unit {0}
 Serves (Some check) text old new status =

@@ -21,10 +21,12 @@ const COUNT: &str = "\
 mctower count --cpus N --times K
 
 Each of N CPUs (1 to 8) does K critical sections (1 to 1000); each section adds 1 to one number.
-Input: none. Output: the number, 'plain T' from the machine that one thread steps.
+Input: none. Output: the number, twice: 'plain T' from the machine that one thread steps, and
+'table T' from the one that N worker threads share.
 
 example: mctower count --cpus 2 --times 3
 prints:  plain 6
+         table 6
 ";
 
 const RUN: &str = "\

@@ -19,6 +19,8 @@ pub mod workers;
 use line::LineError;
 use std::io::{BufWriter, Write};
 use std::process::ExitCode;
+use std::sync::Wait;
+use std::thread::Threads;
 use std::{env, io};
 use tracer::Sink;
 
@@ -50,18 +52,23 @@ fn words_after_the_name(rt: &HostRuntime) -> Result<Vec<String>, LineError> {
 }
 
 /// Serves the words over the standard streams.
-fn serve_words<E: Write>(rt: &HostRuntime, words: &Vec<String>, err: &mut Sink<E>) -> u8
+fn serve_words<T: AllocGlobal + Input + Print + Threads + Wait + Sync, E: Write>(
+    rt: &T,
+    words: &Vec<String>,
+    err: &mut Sink<E>,
+) -> u8
     requires { has_failed err.old ≡ false }
 {
     let texts: Result<Vec<&str>, _> = words.iter().map(|word| word.as_str()).collect(rt.alloc());
     let Ok(texts) = texts else {
         return print::refuse(err, &LineError::NoMemory);
     };
-    let Ok(buffered) = BufWriter::new(rt.alloc(), rt.stdout()) else {
+    let Ok(buffered) = BufWriter::new(rt.alloc(), io::writer(rt)) else {
         return print::refuse(err, &LineError::NoMemory);
     };
     let mut out = Sink::new(buffered);
     serve::serve(
+        rt,
         rt.alloc(),
         texts.as_slice(),
         &mut rt.reader(),

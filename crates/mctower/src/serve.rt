@@ -6,18 +6,21 @@ ghost use Rattle.event_log.specs.declared.ids.TheConstants.{CPUS};
 ghost use Rattle.tracer.specs.Sinks.{has_failed, writer_of};
 ghost use Rattle.tracer.specs.Judging.{verdict_of};
 ghost use Rattle.mctower.specs.Line.{order_of, meant_by, check};
-ghost use Rattle.mctower.specs.Serve.{count_line, PrintsYes, Serves, verdict_status};
+ghost use Rattle.mctower.specs.Serve.{count_lines, PrintsYes, Serves, verdict_status};
 
 use crate::count::count_plain;
 use crate::help::help_on;
 use crate::line::{LineError, MOST_TIMES, Order, read_line};
 use crate::print::{print, refuse};
+use crate::workers::{CountFault, count_table};
 use arrayvec::ArrayString;
 use itoa::Buffer;
 use std::alloc::Global;
 use std::fmt::Write as _;
 use std::io;
 use std::io::{Read, Write};
+use std::sync::Wait;
+use std::thread::Threads;
 use thiserror::Error;
 use tracer::{Sink, Verdict, WriteFault, check};
 
@@ -27,6 +30,9 @@ pub enum ServeError {
     /// Memory ran out.
     #[error("NoMemory(1)")]
     NoMemory,
+    /// A thread could not be started.
+    #[error("NoThread(5)")]
+    NoThread,
     /// Standard input could not be read.
     #[error("ReadFault(7)")]
     ReadFault,
@@ -35,8 +41,9 @@ pub enum ServeError {
     WriteFault,
 }
 
-/// Counts, and prints `plain T`.
-fn serve_count<O: Write>(
+/// Counts over both machines, and prints `plain T` and `table T`.
+fn serve_count<O: Write, T: Threads + Wait + Sync>(
+    rt: &T,
     alloc: Global,
     cpus: u8,
     times: u64,
@@ -45,14 +52,30 @@ fn serve_count<O: Write>(
     requires cpus { cpus ≤ CPUS }
     requires times { times ≤ MOST_TIMES }
     requires live { has_failed out.old ≡ false }
-    ensures { OnOk result (Appends (O.contents (writer_of out.old)) (O.contents (writer_of out.new)) (count_line (times * cpus))) }
+    ensures { OnOk result (Appends (O.contents (writer_of out.old)) (O.contents (writer_of out.new)) (count_lines (times * cpus))) }
 {
     let Ok(number) = count_plain(alloc, cpus, times) else {
         return Err(ServeError::NoMemory);
     };
-    let mut digits = Buffer::new();
-    let number = digits.format(number).as_bytes();
-    match print(out, &[b"plain ".as_slice(), number, b"\n".as_slice()]) {
+    let shared = match count_table(rt, alloc, cpus, times) {
+        Ok(shared) => shared,
+        Err(CountFault::NoMemory) => return Err(ServeError::NoMemory),
+        Err(CountFault::NoThread) => return Err(ServeError::NoThread),
+    };
+    let mut plain = Buffer::new();
+    let mut table = Buffer::new();
+    let plain = plain.format(number).as_bytes();
+    let table = table.format(shared).as_bytes();
+    match print(
+        out,
+        &[
+            b"plain ".as_slice(),
+            plain,
+            b"\ntable ".as_slice(),
+            table,
+            b"\n".as_slice(),
+        ],
+    ) {
         Ok(()) => Ok(()),
         Err(WriteFault) => Err(ServeError::WriteFault),
     }
@@ -122,7 +145,8 @@ fn serve_check<R: Read, O: Write>(
 /// Gives the exit status: 0 for a good run or a yes of `check`; 1 for a refusal, with the line
 /// `error: Name(N)` on `err`; 2 for a bad command line, with a help text on `err` and nothing on
 /// `out`; 3 for a no of `check`.
-pub fn serve<R: Read, O: Write, E: Write>(
+pub fn serve<R: Read, O: Write, E: Write, T: Threads + Wait + Sync>(
+    rt: &T,
     alloc: Global,
     words: &[&str],
     input: &mut R,
@@ -140,7 +164,7 @@ pub fn serve<R: Read, O: Write, E: Write>(
             return 2;
         }
         Err(LineError::NoMemory) => Err(ServeError::NoMemory),
-        Ok(Order::Count(cpus, times)) => serve_count(alloc, cpus, times, out).map(|()| 0),
+        Ok(Order::Count(cpus, times)) => serve_count(rt, alloc, cpus, times, out).map(|()| 0),
         Ok(Order::Check) => serve_check(alloc, input, out),
         Ok(Order::Run(_) | Order::Threads(_)) => unreachable!(),
     };
@@ -175,11 +199,12 @@ mod tests {
         }
     }
 
-    fn serving(alloc: Global, words: &[&str], mut input: &[u8]) -> Served {
-        let mut out = Vec::new(alloc);
-        let mut err = Vec::new(alloc);
+    fn serving(rt: &HostRuntime, words: &[&str], mut input: &[u8]) -> Served {
+        let mut out = Vec::new(rt.alloc());
+        let mut err = Vec::new(rt.alloc());
         let status = serve(
-            alloc,
+            rt,
+            rt.alloc(),
             words,
             &mut input,
             &mut Sink::new(&mut out),
@@ -191,19 +216,18 @@ mod tests {
     #[test]
     fn count_prints_its_number(rt: HostRuntime) {
         let words = ["count", "--cpus", "2", "--times", "3"];
-        assert!(rt; serving(rt.alloc(), words.as_slice(), b"").is(0, b"plain 6\n", b""));
+        assert!(rt; serving(&rt, words.as_slice(), b"").is(0, b"plain 6\ntable 6\n", b""));
         let words = ["count", "--cpus", "1", "--times", "1"];
-        assert!(rt; serving(rt.alloc(), words.as_slice(), b"").is(0, b"plain 1\n", b""));
+        assert!(rt; serving(&rt, words.as_slice(), b"").is(0, b"plain 1\ntable 1\n", b""));
         let words = ["count", "--cpus", "8", "--times", "1000"];
-        assert!(rt; serving(rt.alloc(), words.as_slice(), b"").is(0, b"plain 8000\n", b""));
+        assert!(rt; serving(&rt, words.as_slice(), b"").is(0, b"plain 8000\ntable 8000\n", b""));
     }
 
     #[test]
     fn bad_lines_have_a_message_and_no_output(rt: HostRuntime) {
-        let alloc = rt.alloc();
-        assert!(rt; serving(alloc, [].as_slice(), b"").is_bad_line());
-        assert!(rt; serving(alloc, ["--help"].as_slice(), b"").is_bad_line());
-        assert!(rt; serving(alloc, ["count", "--help"].as_slice(), b"").is_bad_line());
+        assert!(rt; serving(&rt, [].as_slice(), b"").is_bad_line());
+        assert!(rt; serving(&rt, ["--help"].as_slice(), b"").is_bad_line());
+        assert!(rt; serving(&rt, ["count", "--help"].as_slice(), b"").is_bad_line());
         assert!(rt;
             serving(
                 alloc,
@@ -221,7 +245,7 @@ mod tests {
             .is_bad_line()
         );
         assert!(rt;
-            serving(alloc, ["count", "--cpus", "2", "--times"].as_slice(), b"").is_bad_line()
+            serving(&rt, ["count", "--cpus", "2", "--times"].as_slice(), b"").is_bad_line()
         );
         assert!(rt;
             serving(
@@ -239,8 +263,8 @@ mod tests {
             )
             .is_bad_line()
         );
-        assert!(rt; serving(alloc, ["threads", "--turns", "5"].as_slice(), b"").is_bad_line());
-        assert!(rt; serving(alloc, ["check", "file"].as_slice(), b"").is_bad_line());
+        assert!(rt; serving(&rt, ["threads", "--turns", "5"].as_slice(), b"").is_bad_line());
+        assert!(rt; serving(&rt, ["check", "file"].as_slice(), b"").is_bad_line());
     }
 
     const RUN: &[u8] = b"mctower-trace 1\nbuffers 1\ncap 0 1\ne 0 0 send 0 7 0 0\nleft 0 7\nend\n";
@@ -250,12 +274,10 @@ mod tests {
 
     #[test]
     fn check_says_yes_or_no(rt: HostRuntime) {
-        assert!(rt; serving(rt.alloc(), ["check"].as_slice(), RUN).is(0, b"yes\n", b""));
-        let taken = serving(rt.alloc(), ["check"].as_slice(), TOO_FEW);
+        assert!(rt; serving(&rt, ["check"].as_slice(), RUN).is(0, b"yes\n", b""));
+        let taken = serving(&rt, ["check"].as_slice(), TOO_FEW);
         assert!(rt; taken.is(3, b"no 4 EmptyTake(35)\n", b""));
-        assert!(rt;
-            serving(rt.alloc(), ["check"].as_slice(), b"").is(3, b"no 1 Spelling(30)\n", b"")
-        );
+        assert!(rt; serving(&rt, ["check"].as_slice(), b"").is(3, b"no 1 Spelling(30)\n", b""));
     }
 
     /// A reader that fails after its bytes.
@@ -276,6 +298,7 @@ mod tests {
         let mut out = Vec::new(rt.alloc());
         let mut err = Vec::new(rt.alloc());
         let status = serve(
+            &rt,
             rt.alloc(),
             ["check"].as_slice(),
             &mut Failing(RUN),
@@ -309,6 +332,7 @@ mod tests {
         let mut out = Vec::new(rt.alloc());
         let mut err = Vec::new(rt.alloc());
         let status = serve(
+            &rt,
             rt.alloc(),
             ["count", "--cpus", "2", "--times", "3"].as_slice(),
             &mut b"".as_slice(),
