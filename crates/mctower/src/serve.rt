@@ -199,7 +199,11 @@ mod tests {
         }
     }
 
-    fn serving(rt: &HostRuntime, words: &[&str], mut input: &[u8]) -> Served {
+    fn serving<T: AllocGlobal + Threads + Wait + Sync>(
+        rt: &T,
+        words: &[&str],
+        mut input: &[u8],
+    ) -> Served {
         let mut out = Vec::new(rt.alloc());
         let mut err = Vec::new(rt.alloc());
         let status = serve(
@@ -230,7 +234,7 @@ mod tests {
         assert!(rt; serving(&rt, ["count", "--help"].as_slice(), b"").is_bad_line());
         assert!(rt;
             serving(
-                alloc,
+                &rt,
                 ["count", "--cpus", "9", "--times", "1"].as_slice(),
                 b""
             )
@@ -238,7 +242,7 @@ mod tests {
         );
         assert!(rt;
             serving(
-                alloc,
+                &rt,
                 ["count", "--cpus", "2", "--times", "3", "4"].as_slice(),
                 b""
             )
@@ -249,7 +253,7 @@ mod tests {
         );
         assert!(rt;
             serving(
-                alloc,
+                &rt,
                 ["count", "--cpus", "2", "--times", "0"].as_slice(),
                 b""
             )
@@ -257,7 +261,7 @@ mod tests {
         );
         assert!(rt;
             serving(
-                alloc,
+                &rt,
                 ["count", "--cpus", "2", "--times", "1001"].as_slice(),
                 b""
             )
