@@ -32,11 +32,11 @@ prints:  plain 6
 const RUN: &str = "\
 mctower run [--schedule S]
 
-Input: a plan, in TOML. Output: the trace text of the run; on standard error where each CPU and
-each thread stands. S says which CPU takes each step: items 'c' or 'c*n' (n steps of CPU c),
-joined by commas, 1,048,576 steps at most. Without a schedule no step is taken.
+Input: a plan, in TOML. Output: the trace text of the run. S says which CPU takes each step: items
+'c' or 'c*n' (n steps of CPU c), joined by commas, 1,048,576 steps at most. Without a schedule no
+step is taken.
 
-example: mctower run --schedule '0*21' < plan.toml
+example: mctower run --schedule '0*6' < plan.toml
 where plan.toml is:
   cpus = 1
   trace = 4
@@ -61,7 +61,7 @@ mctower check
 Input: a trace text, as run prints it. Output: 'yes', or 'no L Name(N)' with the first line L at
 fault and its reason; then the exit status is 3.
 
-example: mctower run --schedule '0*21' < plan.toml | mctower check
+example: mctower run --schedule '0*6' < plan.toml | mctower check
 prints:  yes
 ";
 

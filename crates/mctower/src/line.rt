@@ -24,7 +24,7 @@ pub const MOST_TURNS: u64 = 1_000_000_000;
 /// The commands that a server stands for; each other one is refused.
 pub const SERVES_COUNT: bool = true;
 
-pub const SERVES_RUN: bool = false;
+pub const SERVES_RUN: bool = true;
 
 pub const SERVES_THREADS: bool = false;
 

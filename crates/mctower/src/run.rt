@@ -1,13 +1,16 @@
 //! A run of a plan: from the plan's text and a schedule to the trace text.
 
-ghost use Rattle.std.specs.Prelude.{◌≡◌, ◌<◌, ◌≤◌, ◌^◌, ℕ, false, length, map, slice_index_or, IfOk};
+ghost use Rattle.std.specs.Prelude.{◌≡◌, ◌<◌, ◌≤◌, ◌^◌, ℕ, List, false, length, map, slice_index_or, IfOk};
 ghost use Rattle.boot.specs.Plan.{plan_of};
 ghost use Rattle.event_log.specs.declared.entries.Entry.{Entry as AnEntry};
 ghost use Rattle.tracer.specs.Gather.{traces_in};
 ghost use Rattle.tracer.specs.Sinks.{has_failed, writer_of};
 ghost use Rattle.mctower.specs.Claims.{traces_of, contents_of};
 ghost use Rattle.mctower.specs.Plans.{IsOfPlan, from_boot};
-ghost use Rattle.mctower.specs.Running.{RunsText, Writes};
+ghost use Rattle.mctower.specs.Running.{RunsText, Writes, IsTextOf};
+ghost use Rattle.mctower.specs.State.{Shown};
+ghost use Rattle.tracer.specs.declared.verdicts.Verdict.TheVariants.{Yes as SaysYes};
+ghost use Rattle.tracer.specs.Judging.{verdict_of};
 ghost use Rattle.mctower.specs.declared.run.Fault.TheVariants.{NoMemory, NoOrder, BadCpu as BadCpuFault, WriteFault as WriteFailed};
 
 use crate::kernel::{BadCpu, System};
@@ -131,6 +134,12 @@ pub fn run_text<W: Write>(
     write_system(alloc, cpus, caps.as_slice(), &system, sink)?;
     Ok(system)
 }
+
+/// A law: the judge says yes to the text of a system, so `check` says yes to all that `run_text`
+/// writes with an `Ok`.
+pub fn run_gets_yes()
+    ensures { (text caps : List ℕ) (s : Shown) → IsTextOf caps s text → verdict_of text ≡ SaysYes }
+{}
 
 /// Writes the trace text of the system of a plan with these CPUs and capacities.
 ///

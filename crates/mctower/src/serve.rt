@@ -1,6 +1,6 @@
 //! Serving a command line: reads the order, does it, prints, and gives the exit status.
 
-ghost use Rattle.std.specs.Prelude.{◌≡◌, ◌≤◌, ◌*◌, ◌⊎◌, Some, IfOk, IfSome, OnOk, codes, false, map};
+ghost use Rattle.std.specs.Prelude.{◌≡◌, ◌≤◌, ◌*◌, ◌⊎◌, Some, IfOk, IfSome, OnOk, codes, false, length, map};
 ghost use Rattle.std.specs.Io.KnownBytes.{Appends};
 ghost use Rattle.event_log.specs.declared.ids.TheConstants.{CPUS};
 ghost use Rattle.tracer.specs.Sinks.{has_failed, writer_of};
@@ -12,8 +12,12 @@ use crate::count::count_plain;
 use crate::help::help_on;
 use crate::line::{LineError, MOST_TIMES, Order, read_line};
 use crate::print::{print, refuse};
+use crate::run::{Fault, run_text};
+use crate::schedule::{MOST_STEPS, StepsError, read_steps};
 use crate::workers::{CountFault, count_table};
 use arrayvec::ArrayString;
+use boot::BootError;
+use event_log::CpuId;
 use itoa::Buffer;
 use std::alloc::Global;
 use std::fmt::Write as _;
@@ -39,6 +43,9 @@ pub enum ServeError {
     /// Standard output could not be written; a beginning may be out.
     #[error("WriteFault(8)")]
     WriteFault,
+    /// A plan could not be run.
+    #[error("{0}")]
+    Run(Fault),
 }
 
 /// Counts over both machines, and prints `plain T` and `table T`.
@@ -140,6 +147,44 @@ fn serve_check<R: Read, O: Write>(
     print_verdict(check(text.as_slice()), out)
 }
 
+/// The steps of a schedule; without one there is none.
+fn steps_in(alloc: Global, schedule: Option<String>) -> Result<Vec<CpuId>, StepsError>
+    ensures { IfOk result (λ steps. length steps.items ≤ MOST_STEPS) }
+{
+    let Some(text) = schedule else {
+        return Ok(Vec::new(alloc));
+    };
+    let steps = read_steps(alloc, text.as_str())?;
+    // A schedule has no more steps; `run_text` asks for it.
+    if steps.len() > MOST_STEPS {
+        return Err(StepsError::BadSchedule);
+    }
+    Ok(steps)
+}
+
+/// Runs the plan on the input under a schedule's steps.
+fn serve_run<R: Read, O: Write>(
+    alloc: Global,
+    steps: &[CpuId],
+    input: &mut R,
+    out: &mut Sink<O>,
+) -> Result<(), ServeError>
+    requires live { has_failed out.old ≡ false }
+    requires few { length steps.now ≤ MOST_STEPS }
+{
+    let bytes = read_all(alloc, input)?;
+    let Ok(plan) = str::from_utf8(bytes.as_slice()) else {
+        return Err(ServeError::Run(Fault::Boot(BootError::BadToml)));
+    };
+    if let Err(fault) = run_text(alloc, plan, steps, out) {
+        return Err(ServeError::Run(fault));
+    }
+    match print(out, &[]) {
+        Ok(()) => Ok(()),
+        Err(WriteFault) => Err(ServeError::WriteFault),
+    }
+}
+
 /// Serves one command line: `words` are those after the program's name.
 ///
 /// Gives the exit status: 0 for a good run or a yes of `check`; 1 for a refusal, with the line
@@ -166,7 +211,15 @@ pub fn serve<R: Read, O: Write, E: Write, T: Threads + Wait + Sync>(
         Err(LineError::NoMemory) => Err(ServeError::NoMemory),
         Ok(Order::Count(cpus, times)) => serve_count(rt, alloc, cpus, times, out).map(|()| 0),
         Ok(Order::Check) => serve_check(alloc, input, out),
-        Ok(Order::Run(_) | Order::Threads(_)) => unreachable!(),
+        Ok(Order::Run(schedule)) => match steps_in(alloc, schedule) {
+            Ok(steps) => serve_run(alloc, steps.as_slice(), input, out).map(|()| 0),
+            Err(StepsError::NoMemory) => Err(ServeError::NoMemory),
+            Err(StepsError::BadSchedule) => {
+                let _ = refuse(err, &StepsError::BadSchedule);
+                return 2;
+            }
+        },
+        Ok(Order::Threads(_)) => unreachable!(),
     };
     match served {
         Ok(status) => status,
@@ -282,6 +335,33 @@ mod tests {
         let taken = serving(&rt, ["check"].as_slice(), TOO_FEW);
         assert!(rt; taken.is(3, b"no 4 EmptyTake(35)\n", b""));
         assert!(rt; serving(&rt, ["check"].as_slice(), b"").is(3, b"no 1 Spelling(30)\n", b""));
+    }
+
+    const PLAN: &[u8] =
+        b"cpus = 1\ntrace = 4\nbuffers = [1]\n[[thread]]\ncpu = 0\nprogram = [\"set r0 7\", \"send 0 r0\", \"exit\"]\n";
+
+    const NO_STEP: &[u8] = b"mctower-trace 1\nbuffers 1\ncap 0 1\nleft 0\nend\n";
+
+    #[test]
+    fn run_prints_its_trace(rt: HostRuntime) {
+        assert!(rt; serving(&rt, ["run", "--schedule", "0*6"].as_slice(), PLAN).is(0, RUN, b""));
+        assert!(rt; serving(&rt, ["run", "--schedule", "0*5"].as_slice(), PLAN).is(0, RUN, b""));
+        assert!(rt;
+            serving(&rt, ["run", "--schedule", "0*4"].as_slice(), PLAN).is(0, NO_STEP, b"")
+        );
+        assert!(rt; serving(&rt, ["run"].as_slice(), PLAN).is(0, NO_STEP, b""));
+    }
+
+    #[test]
+    fn a_run_that_is_refused_prints_no_trace(rt: HostRuntime) {
+        let bad_cpu = serving(&rt, ["run", "--schedule", "0*3,1"].as_slice(), PLAN);
+        assert!(rt; bad_cpu.is(1, b"", b"error: BadCpu(4)\n"));
+        let bad_schedule = serving(&rt, ["run", "--schedule", "0*"].as_slice(), PLAN);
+        assert!(rt; bad_schedule.is(2, b"", b"error: BadSchedule(9)\n"));
+        let bad_plan = serving(&rt, ["run"].as_slice(), b"cpus = 9");
+        assert!(rt; bad_plan.is(1, b"", b"error: OutOfRange(22) cpus\n"));
+        let no_text = serving(&rt, ["run"].as_slice(), b"cpus = 1 # \xff");
+        assert!(rt; no_text.is(1, b"", b"error: BadToml(20)\n"));
     }
 
     /// A reader that fails after its bytes.
