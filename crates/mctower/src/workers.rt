@@ -245,7 +245,7 @@ mod tests {
 
     #[test]
     fn eight_threads_count_together(rt: HostRuntime) -> Result<(), Fail> {
-        assert_eq!(rt; count_table(&rt, rt.alloc(), 8, 1000)?, 8000);
+        assert_eq!(rt; count_table(&rt, rt.alloc(), 8, 50)?, 400);
         assert_eq!(rt; count_table(&rt, rt.alloc(), 2, 3)?, 6);
         assert_eq!(rt; count_table(&rt, rt.alloc(), 1, 1)?, 1);
         Ok(())
