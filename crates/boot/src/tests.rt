@@ -38,7 +38,7 @@ fn a_plan_is_read_whole(rt: HostRuntime) -> Result<(), Fail> {
     assert_eq!(rt; boot.home(Tid(1)), CpuId(0));
     assert_eq!(rt;
         boot.program(Tid(0)).instruction(0),
-        Instruction::Recv(BufId(1), Register::R2)
+        Instruction::Recv(BufId(1), Register::Reg2)
     );
     assert_eq!(rt; boot.program(Tid(1)).len(), 2);
     Ok(())

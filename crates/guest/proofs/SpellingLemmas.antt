@@ -12,7 +12,7 @@ use Rattle.event_log.specs.Digits.{is_number, number_to}
 use Rattle.event_log.specs.Reading.{◌>>=◌}
 use Rattle.event_log.proofs.DigitsLemmas.{ascii_digits, number_to-decimal, number_to-spelling, number_to-Some, decimal-spelled, is_number-spelled}
 use Rattle.guest.specs.declared.instructions.Register.{Register}
-use Rattle.guest.specs.declared.instructions.Register.TheVariants.{R0, R1, R2, R3}
+use Rattle.guest.specs.declared.instructions.Register.TheVariants.{Reg0, Reg1, Reg2, Reg3}
 use Rattle.guest.specs.declared.instructions.Instruction.{Instruction}
 use Rattle.guest.specs.declared.instructions.Instruction.TheVariants.{Set, Add, Sub, Jnz, Send, Recv, Yield, Exit}
 use Rattle.guest.specs.declared.refusals.GuestFault.{GuestFault}
@@ -44,13 +44,13 @@ register_spelled : (piece : List ℕ) (r : Register) → register_in piece ≡ O
 unfolding register_in
 register_spelled piece r h =
     elim (chosen (bytes_eq piece (codes "r0")) _ _ _ h) [
-      | inl p ↦ let e : R0 ≡ r = cc in subst (λ q. piece ≡ name_of q) e (same_text _ _ p.0)
+      | inl p ↦ let e : Reg0 ≡ r = cc in subst (λ q. piece ≡ name_of q) e (same_text _ _ p.0)
       | inr n ↦ elim (chosen (bytes_eq piece (codes "r1")) _ _ _ n.1) [
-        | inl p ↦ let e : R1 ≡ r = cc in subst (λ q. piece ≡ name_of q) e (same_text _ _ p.0)
+        | inl p ↦ let e : Reg1 ≡ r = cc in subst (λ q. piece ≡ name_of q) e (same_text _ _ p.0)
         | inr n ↦ elim (chosen (bytes_eq piece (codes "r2")) _ _ _ n.1) [
-          | inl p ↦ let e : R2 ≡ r = cc in subst (λ q. piece ≡ name_of q) e (same_text _ _ p.0)
+          | inl p ↦ let e : Reg2 ≡ r = cc in subst (λ q. piece ≡ name_of q) e (same_text _ _ p.0)
           | inr n ↦ elim (chosen (bytes_eq piece (codes "r3")) _ _ _ n.1) [
-            | inl p ↦ let e : R3 ≡ r = cc in subst (λ q. piece ≡ name_of q) e (same_text _ _ p.0)
+            | inl p ↦ let e : Reg3 ≡ r = cc in subst (λ q. piece ≡ name_of q) e (same_text _ _ p.0)
             | inr n ↦ let bad = n.1 in absurd (cc)
           ]
         ]
@@ -209,10 +209,10 @@ module _ where
   five_no_space a b c d e p q r s t = All-cons P a (b ∷ c ∷ d ∷ e ∷ []) p (four_no_space b c d e q r s t)
 
 name_no_space : (r : Register) → HasNoSpace (name_of r)
-name_no_space R0 = two_no_space 114 48 refl refl
-name_no_space R1 = two_no_space 114 49 refl refl
-name_no_space R2 = two_no_space 114 50 refl refl
-name_no_space R3 = two_no_space 114 51 refl refl
+name_no_space Reg0 = two_no_space 114 48 refl refl
+name_no_space Reg1 = two_no_space 114 49 refl refl
+name_no_space Reg2 = two_no_space 114 50 refl refl
+name_no_space Reg3 = two_no_space 114 51 refl refl
 
 -- pieces without spaces come back
 one_split : (word : List ℕ) → HasNoSpace word → slice_split (λ byte. byte == 32) (join_with_byte 32 (word ∷ [])) ≡ word ∷ []
@@ -225,10 +225,10 @@ three_split word a b w p q =
 
 register_again : (r : Register) → register_in (name_of r) ≡ Ok r
 unfolding register_in
-register_again R0 = refl
-register_again R1 = refl
-register_again R2 = refl
-register_again R3 = refl
+register_again Reg0 = refl
+register_again Reg1 = refl
+register_again Reg2 = refl
+register_again Reg3 = refl
 
 word_again : (n : ℕ) → n < 2 ^ 64 → word_in (decimal n) ≡ Ok n
 unfolding word_in

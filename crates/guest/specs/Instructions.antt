@@ -1,16 +1,16 @@
 -- Registers by their numbers, and the instruction of a line.
 use Rattle.std.specs.Prelude.{ℕ, Bool, true, nat_lt, ◌<◌, ◌≤◌, ◌^◌, List, length, All, slice_get, unwrap_or}
 use Rattle.guest.specs.declared.instructions.Register.{Register}
-use Rattle.guest.specs.declared.instructions.Register.TheVariants.{R0, R1, R2, R3}
+use Rattle.guest.specs.declared.instructions.Register.TheVariants.{Reg0, Reg1, Reg2, Reg3}
 use Rattle.guest.specs.declared.instructions.Instruction.{Instruction}
 use Rattle.guest.specs.declared.instructions.Instruction.TheVariants.{Set, Add, Sub, Jnz, Send, Recv, Yield, Exit}
 
 -- a register's number
 abbrev pub number_of : Register → ℕ
-number_of R0 = 0
-number_of R1 = 1
-number_of R2 = 2
-number_of R3 = 3
+number_of Reg0 = 0
+number_of Reg1 = 1
+number_of Reg2 = 2
+number_of Reg3 = 3
 
 -- the instruction of a line; past the last line it is `exit`
 abbrev pub instruction_at : List Instruction → ℕ → Instruction

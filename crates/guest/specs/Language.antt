@@ -5,7 +5,7 @@ use Rattle.event_log.specs.declared.ids.BufId.{BufId}
 use Rattle.event_log.specs.Digits.{is_number, number_to}
 use Rattle.event_log.specs.Reading.{◌>>=◌, read_from}
 use Rattle.guest.specs.declared.instructions.Register.{Register}
-use Rattle.guest.specs.declared.instructions.Register.TheVariants.{R0, R1, R2, R3}
+use Rattle.guest.specs.declared.instructions.Register.TheVariants.{Reg0, Reg1, Reg2, Reg3}
 use Rattle.guest.specs.declared.instructions.Instruction.{Instruction}
 use Rattle.guest.specs.declared.instructions.Instruction.TheVariants.{Set, Add, Sub, Jnz, Send, Recv, Yield, Exit}
 use Rattle.guest.specs.declared.refusals.GuestFault.{GuestFault}
@@ -21,10 +21,10 @@ or_fault fault (Some x) = Ok x
 -- the register that a piece names
 unfoldable pub register_in : List ℕ → Result Register GuestFault
 register_in piece =
-    if bytes_eq piece (codes "r0") then Ok R0
-    else if bytes_eq piece (codes "r1") then Ok R1
-    else if bytes_eq piece (codes "r2") then Ok R2
-    else if bytes_eq piece (codes "r3") then Ok R3
+    if bytes_eq piece (codes "r0") then Ok Reg0
+    else if bytes_eq piece (codes "r1") then Ok Reg1
+    else if bytes_eq piece (codes "r2") then Ok Reg2
+    else if bytes_eq piece (codes "r3") then Ok Reg3
     else Err BadRegister
 
 -- the number of 64 bits that a piece spells

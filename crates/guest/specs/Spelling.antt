@@ -2,7 +2,7 @@
 use Rattle.std.specs.Prelude.{◌≡◌, ℕ, List, [], ◌∷◌, Ok, codes, decimal}
 use Rattle.std.specs.List.{join_with_byte}
 use Rattle.guest.specs.declared.instructions.Register.{Register}
-use Rattle.guest.specs.declared.instructions.Register.TheVariants.{R0, R1, R2, R3}
+use Rattle.guest.specs.declared.instructions.Register.TheVariants.{Reg0, Reg1, Reg2, Reg3}
 use Rattle.guest.specs.declared.instructions.Instruction.{Instruction}
 use Rattle.guest.specs.declared.instructions.Instruction.TheVariants.{Set, Add, Sub, Jnz, Send, Recv, Yield, Exit}
 use Rattle.guest.specs.Instructions.{IsWithin}
@@ -10,10 +10,10 @@ use Rattle.guest.specs.Language.{line_in}
 
 -- the name of a register
 abbrev pub name_of : Register → List ℕ
-name_of R0 = codes "r0"
-name_of R1 = codes "r1"
-name_of R2 = codes "r2"
-name_of R3 = codes "r3"
+name_of Reg0 = codes "r0"
+name_of Reg1 = codes "r1"
+name_of Reg2 = codes "r2"
+name_of Reg3 = codes "r3"
 
 -- the pieces of an instruction's line
 abbrev pub pieces_of : Instruction → List (List ℕ)

@@ -13,13 +13,13 @@ pub const LINES: usize = 256;
 #[derive(Clone, Copy, Debug, PartialEq, Eq)]
 pub enum Register {
     /// `r0`
-    R0,
+    Reg0,
     /// `r1`
-    R1,
+    Reg1,
     /// `r2`
-    R2,
+    Reg2,
     /// `r3`
-    R3,
+    Reg3,
 }
 
 impl Register {
@@ -32,10 +32,10 @@ impl Register {
         ensures below { result < 4 }
     {
         match self {
-            Register::R0 => 0,
-            Register::R1 => 1,
-            Register::R2 => 2,
-            Register::R3 => 3,
+            Register::Reg0 => 0,
+            Register::Reg1 => 1,
+            Register::Reg2 => 2,
+            Register::Reg3 => 3,
         }
     }
 }

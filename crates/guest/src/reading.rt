@@ -17,10 +17,10 @@ fn register(piece: &str) -> Result<Register, GuestFault>
     ensures { result ≡ register_in piece.now }
 {
     match piece {
-        "r0" => Ok(Register::R0),
-        "r1" => Ok(Register::R1),
-        "r2" => Ok(Register::R2),
-        "r3" => Ok(Register::R3),
+        "r0" => Ok(Register::Reg0),
+        "r1" => Ok(Register::Reg1),
+        "r2" => Ok(Register::Reg2),
+        "r3" => Ok(Register::Reg3),
         _ => Err(GuestFault::BadRegister),
     }
 }

@@ -29,24 +29,24 @@ fn each_line_is_its_instruction(rt: HostRuntime) -> Result<(), Fail> {
     assert_eq!(rt; program.len(), 8);
     assert_eq!(rt;
         program.instruction(0),
-        Instruction::Set(Register::R0, 18446744073709551615)
+        Instruction::Set(Register::Reg0, 18446744073709551615)
     );
     assert_eq!(rt;
         program.instruction(1),
-        Instruction::Add(Register::R1, Register::R2)
+        Instruction::Add(Register::Reg1, Register::Reg2)
     );
     assert_eq!(rt;
         program.instruction(2),
-        Instruction::Sub(Register::R3, Register::R0)
+        Instruction::Sub(Register::Reg3, Register::Reg0)
     );
-    assert_eq!(rt; program.instruction(3), Instruction::Jnz(Register::R2, 7));
+    assert_eq!(rt; program.instruction(3), Instruction::Jnz(Register::Reg2, 7));
     assert_eq!(rt;
         program.instruction(4),
-        Instruction::Send(BufId(15), Register::R1)
+        Instruction::Send(BufId(15), Register::Reg1)
     );
     assert_eq!(rt;
         program.instruction(5),
-        Instruction::Recv(BufId(0), Register::R3)
+        Instruction::Recv(BufId(0), Register::Reg3)
     );
     assert_eq!(rt; program.instruction(6), Instruction::Yield);
     assert_eq!(rt; program.instruction(7), Instruction::Exit);
@@ -162,8 +162,8 @@ fn sums_and_differences_wrap(rt: HostRuntime) -> Result<(), Fail> {
     for _ in 0..4 {
         thread.step_local(&program);
     }
-    assert_eq!(rt; thread.value(Register::R0), 0);
-    assert_eq!(rt; thread.value(Register::R2), 18446744073709551615);
+    assert_eq!(rt; thread.value(Register::Reg0), 0);
+    assert_eq!(rt; thread.value(Register::Reg2), 18446744073709551615);
     assert_eq!(rt; thread.next(&program), Instruction::Exit);
     Ok(())
 }
@@ -179,7 +179,7 @@ fn a_loop_counts_down(rt: HostRuntime) -> Result<(), Fail> {
         assert_ne!(rt; thread.next(&program), Instruction::Exit);
         thread.step_local(&program);
     }
-    assert_eq!(rt; thread.value(Register::R0), 0);
+    assert_eq!(rt; thread.value(Register::Reg0), 0);
     assert_eq!(rt; thread.next(&program), Instruction::Exit);
     Ok(())
 }
@@ -193,11 +193,11 @@ fn calls_move_the_thread_only_where_it_stands_at_them(rt: HostRuntime) -> Result
     thread.after_recv(&program, 7);
     assert_eq!(rt;
         thread.next(&program),
-        Instruction::Send(BufId(0), Register::R0)
+        Instruction::Send(BufId(0), Register::Reg0)
     );
     thread.after_send(&program);
     thread.after_recv(&program, 7);
-    assert_eq!(rt; thread.value(Register::R3), 7);
+    assert_eq!(rt; thread.value(Register::Reg3), 7);
     assert_eq!(rt; thread.next(&program), Instruction::Yield);
     thread.after_yield(&program);
     assert_eq!(rt; thread.next(&program), Instruction::Exit);
