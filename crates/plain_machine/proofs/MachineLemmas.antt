@@ -1,12 +1,12 @@
 -- Each action keeps the table of the owned machine in agreement with its log.
-use Rattle.std.proofs.Common.{◌≡◌, ℕ, ◌<◌, Bool, true, false, List, [], ◌∷◌, ◌==◌, Option, Some, None, IsSome, IfSome, MatchOption, option_map, if◌then◌else◌, refl, ap, sym, ◌∙◌, subst}
+use Rattle.std.proofs.Common.{◌≡◌, ℕ, ◌%◌, ◌^◌, ◌<◌, Bool, true, false, List, [], ◌∷◌, ◌==◌, Option, Some, None, IsSome, IfSome, MatchOption, option_map, if◌then◌else◌, refl, ap, sym, ◌∙◌, subst}
 use Rattle.event_log.specs.declared.ids.CpuId.{CpuId}
 use Rattle.event_log.specs.declared.ids.LockId.{LockId}
 use Rattle.event_log.specs.declared.ids.TheConstants.{CPUS}
 use Rattle.event_log.specs.declared.events.Event.{Event}
 use Rattle.event_log.specs.declared.events.Event.TheVariants.{Draw, Look, Free}
 use Rattle.event_log.specs.History.{same_lock}
-use Rattle.event_log.specs.WordsLog.{IsLegalWords, Outside, Waiting, Inside, standing}
+use Rattle.event_log.specs.WordsLog.{IsLegalWords, Outside, Waiting, Inside, draws, frees, standing}
 use Rattle.event_log.specs.Sections.{block_after}
 use Rattle.event_log.proofs.Same.{same_lock_true}
 use Rattle.layer_traits.proofs.OneLockLemmas.{event_lock, standing_own, elsewhere, drew, missed, hit, freed, hit_finds, fresh}
@@ -16,7 +16,7 @@ use Rattle.layer_traits.specs.OneLock.{LockFits, opened}
 use Rattle.layer_traits.specs.Protocol.{Rules, MayCome, StaysAllowed, section, sections}
 use Rattle.plain_machine.proofs.TableLemmas.{cell_within, cell_put, cell_other}
 use Rattle.plain_machine.specs.declared.cells.Cell.{Cell}
-use Rattle.plain_machine.specs.Machine.{HasCell, IsSound}
+use Rattle.plain_machine.specs.Machine.{HasCell, IsSound, ticket_in}
 use Rattle.plain_machine.specs.Table.{cell_at, with_cell, fresh_cell, drawn_cell, looked_cell, freed_cell, AreFresh}
 
 -- what a filled table has for each lock that opens
@@ -156,41 +156,53 @@ module _ {E B O : Type 0} (rules : Rules E B O) (opening : LockId → Option B) 
       (freed rules.edited opening lock cpu ticket mark log legal inside block edited cell.next cell.serving cell.home cell_fits)
 
   -- what the three actions leave of log and table
+  drawn_there : (ticket : ℕ) (cells' : List (Option (Cell B)))
+      → IfSome (cell_at cells lock) (λ c. (ticket ≡ c.next) × (cells' ≡ with_cell cells lock (drawn_cell c)))
+      → (ticket ≡ cell.next) × (cells' ≡ with_cell cells lock (drawn_cell cell))
+  drawn_there ticket cells' did = subst (λ o. IfSome o (λ c. (ticket ≡ c.next) × (cells' ≡ with_cell cells lock (drawn_cell c)))) cell_is did
+
+  pub draw_tells : (cpu : CpuId) (ticket : ℕ) (log' : List (Event (Mark E))) (cells' : List (Option (Cell B)))
+      → IfSome (cell_at cells lock) (λ c. (ticket ≡ c.next) × (cells' ≡ with_cell cells lock (drawn_cell c)))
+      → log' ≡ Draw cpu lock (draws lock log % 2 ^ 64) ∷ log → log' ≡ Draw cpu lock ticket ∷ log
+  draw_tells cpu ticket log' cells' did is =
+      is ∙ ap (λ t. Draw cpu lock t ∷ log) (sym ((drawn_there ticket cells' did).0 ∙ cell_fits.next_is))
+
   pub draw_keeps : (cpu : CpuId) → cpu.0 < CPUS → standing cpu log ≡ Outside → (ticket : ℕ) (log' : List (Event (Mark E))) (cells' : List (Option (Cell B)))
       → IfSome (cell_at cells lock) (λ c. (ticket ≡ c.next) × (cells' ≡ with_cell cells lock (drawn_cell c)))
-      → log' ≡ Draw cpu lock ticket ∷ log → IsSound rules opening log' cells'
+      → log' ≡ Draw cpu lock (draws lock log % 2 ^ 64) ∷ log → IsSound rules opening log' cells'
   draw_keeps cpu known outside ticket log' cells' did is =
-      let there : (ticket ≡ cell.next) × (cells' ≡ with_cell cells lock (drawn_cell cell))
-      = subst (λ o. IfSome o (λ c. (ticket ≡ c.next) × (cells' ≡ with_cell cells lock (drawn_cell c)))) cell_is did in
-      subst (λ l. IsSound rules opening l cells') (sym (is ∙ ap (λ t. Draw cpu lock t ∷ log) there.0))
-      (subst (λ cs. IsSound rules opening (Draw cpu lock cell.next ∷ log) cs) (sym there.1) (draw_sound cpu known outside))
+      subst (λ l. IsSound rules opening l cells') (sym (is ∙ ap (λ t. Draw cpu lock t ∷ log) (sym cell_fits.next_is)))
+      (subst (λ cs. IsSound rules opening (Draw cpu lock cell.next ∷ log) cs) (sym (drawn_there ticket cells' did).1) (draw_sound cpu known outside))
 
-  looked_there : (ticket read : ℕ) (found : Option B) (cells' : List (Option (Cell B)))
-      → IfSome (cell_at cells lock) (λ c. (read ≡ c.serving) × (found ≡ (if c.serving == ticket then c.home else None)) × (cells' ≡ with_cell cells lock (looked_cell c ticket)))
-      → (read ≡ cell.serving) × (found ≡ (if cell.serving == ticket then cell.home else None)) × (cells' ≡ with_cell cells lock (looked_cell cell ticket))
-  looked_there ticket read found cells' did =
-      subst (λ o. IfSome o (λ c. (read ≡ c.serving) × (found ≡ (if c.serving == ticket then c.home else None)) × (cells' ≡ with_cell cells lock (looked_cell c ticket)))) cell_is did
+  looked_there : (ticket : ℕ) (found : Option B) (cells' : List (Option (Cell B)))
+      → IfSome (cell_at cells lock) (λ c. (found ≡ (if c.serving == ticket then c.home else None)) × (cells' ≡ with_cell cells lock (looked_cell c ticket)))
+      → (found ≡ (if cell.serving == ticket then cell.home else None)) × (cells' ≡ with_cell cells lock (looked_cell cell ticket))
+  looked_there ticket found cells' did =
+      subst (λ o. IfSome o (λ c. (found ≡ (if c.serving == ticket then c.home else None)) × (cells' ≡ with_cell cells lock (looked_cell c ticket)))) cell_is did
 
-  pub look_keeps : (cpu : CpuId) (ticket : ℕ) → standing cpu log ≡ Waiting lock ticket → (read : ℕ) (found : Option B) (log' : List (Event (Mark E))) (cells' : List (Option (Cell B)))
-      → IfSome (cell_at cells lock) (λ c. (read ≡ c.serving) × (found ≡ (if c.serving == ticket then c.home else None)) × (cells' ≡ with_cell cells lock (looked_cell c ticket)))
-      → log' ≡ Look cpu lock ticket read ∷ log → IsSound rules opening log' cells'
-  look_keeps cpu ticket waiting read found log' cells' did is =
-      let there = looked_there ticket read found cells' did in
-      subst (λ l. IsSound rules opening l cells') (sym (is ∙ ap (λ r. Look cpu lock ticket r ∷ log) there.0))
-      (subst (λ cs. IsSound rules opening (Look cpu lock ticket cell.serving ∷ log) cs) (sym there.2) (look_sound cpu ticket waiting))
+  -- a look of a CPU that waits has its ticket, and reads the word
+  pub look_tells : (cpu : CpuId) (ticket : ℕ) → standing cpu log ≡ Waiting lock ticket → (log' : List (Event (Mark E)))
+      → log' ≡ Look cpu lock (ticket_in (standing cpu log)) (frees lock log % 2 ^ 64) ∷ log → log' ≡ Look cpu lock ticket cell.serving ∷ log
+  look_tells cpu ticket waiting log' is =
+      is ∙ ap (λ s. Look cpu lock (ticket_in s) (frees lock log % 2 ^ 64) ∷ log) waiting ∙ ap (λ r. Look cpu lock ticket r ∷ log) (sym cell_fits.serving_is)
 
-  pub look_hits : (cpu : CpuId) (ticket : ℕ) → standing cpu log ≡ Waiting lock ticket → (read : ℕ) (found : Option B) (log' : List (Event (Mark E))) (cells' : List (Option (Cell B)))
-      → IfSome (cell_at cells lock) (λ c. (read ≡ c.serving) × (found ≡ (if c.serving == ticket then c.home else None)) × (cells' ≡ with_cell cells lock (looked_cell c ticket)))
-      → log' ≡ Look cpu lock ticket read ∷ log
+  pub look_keeps : (cpu : CpuId) (ticket : ℕ) → standing cpu log ≡ Waiting lock ticket → (found : Option B) (log' : List (Event (Mark E))) (cells' : List (Option (Cell B)))
+      → IfSome (cell_at cells lock) (λ c. (found ≡ (if c.serving == ticket then c.home else None)) × (cells' ≡ with_cell cells lock (looked_cell c ticket)))
+      → log' ≡ Look cpu lock (ticket_in (standing cpu log)) (frees lock log % 2 ^ 64) ∷ log → IsSound rules opening log' cells'
+  look_keeps cpu ticket waiting found log' cells' did is =
+      subst (λ l. IsSound rules opening l cells') (sym (look_tells cpu ticket waiting log' is))
+      (subst (λ cs. IsSound rules opening (Look cpu lock ticket cell.serving ∷ log) cs) (sym (looked_there ticket found cells' did).1) (look_sound cpu ticket waiting))
+
+  pub look_hits : (cpu : CpuId) (ticket : ℕ) → standing cpu log ≡ Waiting lock ticket → (found : Option B) (log' : List (Event (Mark E))) (cells' : List (Option (Cell B)))
+      → IfSome (cell_at cells lock) (λ c. (found ≡ (if c.serving == ticket then c.home else None)) × (cells' ≡ with_cell cells lock (looked_cell c ticket)))
+      → log' ≡ Look cpu lock (ticket_in (standing cpu log)) (frees lock log % 2 ^ 64) ∷ log
       → MatchOption found (standing cpu log' ≡ Waiting lock ticket)
       (λ block. (standing cpu log' ≡ Inside lock ticket) × (block_after rules.edited opening lock (sections log') ≡ Some block))
-  look_hits cpu ticket waiting read found log' cells' did is =
-      let there = looked_there ticket read found cells' did in
-      let grown : log' ≡ Look cpu lock ticket cell.serving ∷ log = is ∙ ap (λ r. Look cpu lock ticket r ∷ log) there.0 in
+  look_hits cpu ticket waiting found log' cells' did is =
       subst (λ l. MatchOption found (standing cpu l ≡ Waiting lock ticket)
-      (λ block. (standing cpu l ≡ Inside lock ticket) × (block_after rules.edited opening lock (sections l) ≡ Some block))) (sym grown)
+      (λ block. (standing cpu l ≡ Inside lock ticket) × (block_after rules.edited opening lock (sections l) ≡ Some block))) (sym (look_tells cpu ticket waiting log' is))
       (subst (λ f. MatchOption f (standing cpu (Look cpu lock ticket cell.serving ∷ log) ≡ Waiting lock ticket)
-      (λ block. (standing cpu (Look cpu lock ticket cell.serving ∷ log) ≡ Inside lock ticket) × (block_after rules.edited opening lock (sections log) ≡ Some block))) (sym there.1)
+      (λ block. (standing cpu (Look cpu lock ticket cell.serving ∷ log) ≡ Inside lock ticket) × (block_after rules.edited opening lock (sections log) ≡ Some block))) (sym (looked_there ticket found cells' did).0)
       (look_finds cpu ticket waiting))
 
   pub free_keeps : (cpu : CpuId) (ticket : ℕ) (mark : Mark E) (block : B) → standing cpu log ≡ Inside lock ticket

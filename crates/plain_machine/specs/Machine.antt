@@ -1,23 +1,55 @@
 -- What the owned machine shows, and when its table agrees with its log.
-use Rattle.std.specs.Prelude.{◌≡◌, ℕ, ◌-◌, List, length, reverse, Option, Some, IsSome}
+use Rattle.std.specs.Prelude.{◌≡◌, ℕ, ◌-◌, ◌%◌, ◌^◌, List, [], ◌∷◌, length, reverse, Option, Some, IsSome}
+use Rattle.event_log.specs.declared.ids.CpuId.{CpuId}
 use Rattle.event_log.specs.declared.ids.LockId.{LockId}
 use Rattle.event_log.specs.declared.events.Event.{Event}
-use Rattle.event_log.specs.declared.logs.EventLog.{EventLog}
+use Rattle.event_log.specs.declared.events.Event.TheVariants as event
 use Rattle.event_log.specs.History.{IsLawful}
 use Rattle.event_log.specs.Log.{events_in, room_of}
+use Rattle.event_log.specs.WordsLog.{Standing, Outside, Waiting, Inside, standing, draws, frees}
 use Rattle.layer_traits.specs.declared.edits.Mark.{Mark}
 use Rattle.layer_traits.specs.OneLock.{LockFits}
 use Rattle.layer_traits.specs.Protocol.{Rules, MayCome}
 use Rattle.plain_machine.specs.declared.cells.Cell.{Cell}
+use Rattle.plain_machine.specs.declared.notes.Act.{Act}
+use Rattle.plain_machine.specs.declared.notes.Act.TheVariants.{Draw, Look, Free}
+use Rattle.plain_machine.specs.declared.notes.Note.{Note}
+use Rattle.plain_machine.specs.declared.notes.Notes.{Notes}
 use Rattle.plain_machine.specs.Table.{cell_at}
 
--- the history that a log stores: its events, newest first
-abbrev pub history : {X : Type 0} → EventLog X → List X
-history log = reverse (events_in log)
+-- the ticket with which a CPU stands at a lock; 0 where it has none
+abbrev pub ticket_in : Standing → ℕ
+ticket_in Outside = 0
+ticket_in (Waiting lock ticket) = ticket
+ticket_in (Inside lock ticket) = ticket
+
+-- the past with the event of what was done at a lock, where these marks, newest first, are not yet told. A draw gives the number of
+-- earlier draws, a look has its CPU's ticket and reads the number of earlier frees, and a free has the newest mark.
+abbrev pub with_event : {M : Type 0} → Act → CpuId → LockId → List M → List (Event M) → List (Event M)
+with_event Draw cpu lock marks past = event.Draw cpu lock (draws lock past % 2 ^ 64) ∷ past
+with_event Look cpu lock marks past = event.Look cpu lock (ticket_in (standing cpu past)) (frees lock past % 2 ^ 64) ∷ past
+with_event Free cpu lock [] past = past
+with_event Free cpu lock (mark ∷ marks) past = event.Free cpu lock mark ∷ past
+
+-- the marks that older notes have
+abbrev pub older : {M : Type 0} → Act → List M → List M
+older Draw marks = marks
+older Look marks = marks
+older Free [] = []
+older Free (mark ∷ marks) = marks
+
+-- the events that these notes and the marks of their frees tell, all newest first
+abbrev pub told : {M : Type 0} → List Note → List M → List (Event M)
+told [] marks = []
+told (note ∷ notes) marks = with_event note.act note.cpu note.lock marks (told notes (older note.act marks))
+
+-- the history that a log stores, newest first
+abbrev pub history : {M : Type 0} → Notes M → List (Event M)
+history log = told (reverse (events_in log.notes)) (reverse (events_in log.marks))
 
 -- for how many more events a log has room
-abbrev pub room_left : {X : Type 0} → EventLog X → ℕ
-room_left log = room_of log - length (events_in log)
+abbrev pub room_left : {M : Type 0} → Notes M → ℕ
+room_left log = room_of log.notes - length (events_in log.notes)
 
 -- the lock has a cell, whose words and home are those that the log says
 pub record HasCell {E B : Type 0} (edited : E → B → B) (opening : LockId → Option B) (log : List (Event (Mark E))) (cells : List (Option (Cell B))) (lock : LockId) : Type 0 where

@@ -53,23 +53,19 @@ pub fn draw<B>(cells: &mut Vec<Option<Cell<B>>>, lock: LockId) -> u64
     }
 }
 
-/// Looks at `lock` with `ticket`, and gives what it read with the block, if it hits and the block
-/// is home.
-pub fn look<B>(cells: &mut Vec<Option<Cell<B>>>, lock: LockId, ticket: u64) -> (u64, Option<B>)
+/// Looks at `lock` with `ticket`, and gives the block, if the look hits and the block is home.
+pub fn look<B>(cells: &mut Vec<Option<Cell<B>>>, lock: LockId, ticket: u64) -> Option<B>
     requires { IsSome (cell_at cells.old.items lock) }
-    ensures { IfSome (cell_at cells.old.items lock) (λ cell. (result.0 ≡ cell.serving)
-        × (result.1 ≡ (if cell.serving == ticket then cell.home else None))
+    ensures { IfSome (cell_at cells.old.items lock) (λ cell. (result ≡ (if cell.serving == ticket then cell.home else None))
         × (cells.new.items ≡ with_cell cells.old.items lock (looked_cell cell ticket))) }
 {
     match &mut cells[address(lock)] {
         Some(cell) => {
-            let read = cell.serving;
-            let found = if read == ticket {
+            if cell.serving == ticket {
                 cell.home.take()
             } else {
                 None
-            };
-            (read, found)
+            }
         }
         None => unreachable!(),
     }

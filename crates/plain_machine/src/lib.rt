@@ -3,6 +3,7 @@
 #![tactic(auto)]
 
 mod cells;
+mod notes;
 mod plain;
 #[cfg(test)]
 mod tests;

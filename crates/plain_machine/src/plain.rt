@@ -1,10 +1,10 @@
 //! The owned machine.
 
-ghost use Rattle.std.specs.Prelude.{◌≡◌, ◌+◌, ◌%◌, ◌^◌, ◌<◌, ◌≤◌, ◌∷◌, [], IsSome, IsNone, IfSome, IfOk, ◌↔◌};
-ghost use Rattle.plain_machine.specs.Machine.{history, room_left};
+ghost use Rattle.std.specs.Prelude.{◌≡◌, ◌%◌, ◌^◌, ◌<◌, [], IsSome, IsNone, IfSome, IfOk, ◌↔◌};
 
 use crate::cells::{self, Cell, LockWords};
-use event_log::{CPUS, CpuId, Event, EventLog, LockId, NoMemory};
+use crate::notes::Notes;
+use event_log::{CPUS, CpuId, LockId, NoMemory};
 use layer_traits::{Edit, Mark, Words};
 use std::alloc::Global;
 use std::snapshot::Snapshot;
@@ -13,7 +13,7 @@ use std::snapshot::Snapshot;
 /// happened to them. It acts for every CPU. No call after [`Plain::open`] takes memory.
 #[derive(Drop)]
 pub struct Plain<E: Edit> {
-    log: EventLog<Event<Mark<E>>>,
+    log: Notes<Mark<E>>,
     cells: Vec<Option<Cell<E::Block>>>,
     // The blocks that the locks opened with, for clauses alone.
     opening: Snapshot<Vec<(LockId, E::Block)>>,
@@ -41,7 +41,7 @@ impl<E: Edit> Plain<E> {
         ensures acts { IfOk result (λ w. (c : _) → c.0 < CPUS → ⟦<Plain<E> as Words>⟧.ActsFor w c) }
     {
         let opening = Snapshot::of(&blocks);
-        let log = EventLog::with_room(alloc, room)?;
+        let log = Notes::with_room(alloc, room)?;
         let len = cells::table_len(&blocks);
         let mut cells = cells::empty_table(alloc, len)?;
         cells::fill(&mut cells, blocks);
@@ -74,19 +74,10 @@ impl<E: Edit> Plain<E> {
     }
 }
 
-/// Puts `event` into a log that has room.
-fn note<X: Drop>(log: &mut EventLog<X>, event: X)
-    requires { 0 < room_left log.old }
-    ensures history { history log.new ≡ event ∷ history log.old }
-    ensures room { room_left log.old ≡ room_left log.new + 1 }
-{
-    log.push(event).unwrap();
-}
-
 impl<E: Edit> Words for Plain<E> {
     ghost use Rattle.event_log.specs.declared.ids.TheConstants.{CPUS};
     ghost use Rattle.layer_traits.specs.OneLock.{opened};
-    ghost use Rattle.plain_machine.specs.Machine.{IsSound};
+    ghost use Rattle.plain_machine.specs.Machine.{IsSound, history, room_left};
 
     type Edit = E;
 
@@ -108,27 +99,19 @@ impl<E: Edit> Words for Plain<E> {
 
     fn draw(&mut self, cpu: CpuId, lock: LockId) -> u64 {
         let ticket = cells::draw(&mut self.cells, lock);
-        note(&mut self.log, Event::Draw { cpu, lock, ticket });
+        self.log.draw(cpu, lock);
         ticket
     }
 
     fn look(&mut self, cpu: CpuId, lock: LockId, ticket: u64) -> Option<E::Block> {
-        let (read, found) = cells::look(&mut self.cells, lock, ticket);
-        note(
-            &mut self.log,
-            Event::Look {
-                cpu,
-                lock,
-                ticket,
-                read,
-            },
-        );
+        let found = cells::look(&mut self.cells, lock, ticket);
+        self.log.look(cpu, lock);
         found
     }
 
     fn free(&mut self, cpu: CpuId, lock: LockId, block: E::Block, mark: Mark<E>) {
         cells::free(&mut self.cells, lock, block);
-        note(&mut self.log, Event::Free { cpu, lock, mark });
+        self.log.free(cpu, lock, mark);
     }
 
     ghost legal = { λ w c acts. acts.1.legal };

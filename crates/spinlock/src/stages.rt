@@ -29,14 +29,14 @@ pub enum Stage<E, B> {
     },
 }
 
-impl<E, B> Stage<E, B> {
-    /// The stage after a look with `ticket` that found this block, or missed.
-    pub fn after_look(lock: LockId, edit: E, ticket: u64, found: Option<B>) -> Stage<E, B>
-        ensures { MatchOption found (result ≡ Stage.Drawn lock edit ticket) (λ block. result ≡ Stage.Held lock edit block) }
+impl<E: Drop, B: Drop> Stage<E, B> {
+    /// Goes on after a look of the CPU: a look that found this block hits, and with another the
+    /// stage stays as it is.
+    pub fn after_look(&mut self, lock: LockId, edit: E, found: Option<B>)
+        ensures { MatchOption found (self.new ≡ self.old) (λ block. self.new ≡ Stage.Held lock edit block) }
     {
-        match found {
-            Some(block) => Stage::Held { lock, edit, block },
-            None => Stage::Drawn { lock, edit, ticket },
+        if let Some(block) = found {
+            *self = Stage::Held { lock, edit, block };
         }
     }
 }

@@ -64,7 +64,7 @@ impl<W: Words> LockLayer<W::Edit> for Ticket<W> {
     }
 
     fn poll(&mut self, m: &mut W, lock: LockId, edit: W::Edit) -> Option<<W::Edit as Edit>::Out> {
-        match mem::replace(&mut self.stage, Stage::Out) {
+        match self.stage {
             Stage::Out => {
                 let ticket = m.draw(self.cpu, lock);
                 self.stage = Stage::Drawn { lock, edit, ticket };
@@ -72,14 +72,18 @@ impl<W: Words> LockLayer<W::Edit> for Ticket<W> {
             }
             Stage::Drawn { lock, edit, ticket } => {
                 let found = m.look(self.cpu, lock, ticket);
-                self.stage = Stage::after_look(lock, edit, ticket, found);
+                self.stage.after_look(lock, edit, found);
                 None
             }
-            Stage::Held {
-                lock,
-                edit,
-                mut block,
-            } => {
+            Stage::Held { .. } => {
+                let Stage::Held {
+                    lock,
+                    edit,
+                    mut block,
+                } = mem::replace(&mut self.stage, Stage::Out)
+                else {
+                    unreachable!()
+                };
                 let out = edit.apply(&mut block);
                 m.free(self.cpu, lock, block, W::mark(edit));
                 Some(out)

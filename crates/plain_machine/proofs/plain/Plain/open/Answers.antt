@@ -1,7 +1,7 @@
-use Rattle.std.proofs.Common.{◌<◌, All, reverse, ap, subst, sym}
+use Rattle.std.proofs.Common.{◌<◌, All, ap, subst, sym}
 use Rattle.layer_traits.specs.OneLock.{opened}
 use Rattle.plain_machine.proofs.MachineLemmas.{fresh_sound}
-use Rattle.plain_machine.specs.Machine.{IsSound}
+use Rattle.plain_machine.specs.Machine.{IsSound, history}
 use Rattle.plain_machine.specs.Table.{address_of}
 use Rattle.plain_machine.proofs.plain.Plain.open.Goals as goal
 
@@ -16,6 +16,6 @@ returns-clause-acts g c = λ cpu known.
     let rules = g.E.Edit.rules in
     let cells = c.fill.new.cells.items in (
       known,
-      subst (λ blocks. IsSound rules (opened blocks.items) (reverse c.in_ok-log.log.events.items) cells) (sym c.of-opening.ensures)
-          (subst (λ log. IsSound rules (opened c.args.blocks.items) log cells) (sym (ap reverse c.in_ok-log.ensures.empty)) (fresh_sound rules c.args.blocks.items cells c.fill.ensures)),
+      subst (λ blocks. IsSound rules (opened blocks.items) (history c.in_ok-log.log) cells) (sym c.of-opening.ensures)
+          (subst (λ log. IsSound rules (opened c.args.blocks.items) log cells) (sym c.in_ok-log.ensures.history) (fresh_sound rules c.args.blocks.items cells c.fill.ensures)),
     )

@@ -1,0 +1,114 @@
+//! The stored log: which CPU did what at which lock.
+
+ghost use Rattle.std.specs.Prelude.{◌≡◌, ◌+◌, ◌%◌, ◌^◌, ◌≤◌, ◌<◌, ◌++◌, ◌∷◌, [], length, IfOk};
+ghost use Rattle.event_log.specs.Log.{events_in, room_of};
+
+use event_log::{CpuId, EventLog, LockId, NoMemory};
+use std::alloc::Global;
+
+/// What a CPU did at a lock.
+#[derive(Clone, Copy)]
+pub enum Act {
+    /// It drew a ticket.
+    Draw,
+    /// It looked with its ticket.
+    Look,
+    /// It freed the lock.
+    Free,
+}
+
+/// An event as the log stores it. The numbers that a draw or a look gave are not stored: those are
+/// what the replay of the events before it says, so a note takes four bytes.
+#[derive(Clone, Copy)]
+pub struct Note {
+    /// The CPU that acted.
+    pub cpu: CpuId,
+    /// The lock at which it acted.
+    pub lock: LockId,
+    /// What it did there.
+    pub act: Act,
+}
+
+/// A log of the events on the words of all locks, with room for a number of events that is fixed
+/// when it is made: a note of each event, and the mark of each free, both oldest first. No call
+/// after `with_room` takes memory.
+#[derive(Drop)]
+pub struct Notes<M> {
+    notes: EventLog<Note>,
+    marks: EventLog<M>,
+    ghost rooms: { room_of marks ≡ room_of notes },
+    ghost fewer: { length (events_in marks) ≤ length (events_in notes) },
+}
+
+impl<M> Notes<M> {
+    ghost use Rattle.event_log.specs.WordsLog.{draws, frees, standing};
+    ghost use Rattle.event_log.specs.declared.events.Event.TheVariants as event;
+    ghost use Rattle.plain_machine.specs.Machine.{history, room_left, ticket_in};
+
+    /// An empty log with room for `n` events.
+    ///
+    /// Errors: `NoMemory` where the room could not be had; nothing was made.
+    pub fn with_room(alloc: Global, n: usize) -> Result<Notes<M>, NoMemory>
+    where
+        M: Drop,
+        ensures history { IfOk result (λ log. history log ≡ []) }
+        ensures room { IfOk result (λ log. room_left log ≡ n) }
+    {
+        let notes = EventLog::with_room(alloc, n)?;
+        let marks = EventLog::with_room(alloc, n)?;
+        Ok(Notes { notes, marks })
+    }
+
+    /// Notes a draw.
+    pub fn draw(&mut self, cpu: CpuId, lock: LockId)
+        requires { 0 < room_left self.old }
+        ensures history { history self.new ≡ event.Draw cpu lock (draws lock (history self.old) % 2 ^ 64) ∷ history self.old }
+        ensures room { room_left self.old ≡ room_left self.new + 1 }
+    {
+        self.put(Note {
+            cpu,
+            lock,
+            act: Act::Draw,
+        });
+    }
+
+    /// Notes a look of a CPU that waits, with its ticket.
+    pub fn look(&mut self, cpu: CpuId, lock: LockId)
+        requires { 0 < room_left self.old }
+        ensures history { history self.new
+            ≡ event.Look cpu lock (ticket_in (standing cpu (history self.old))) (frees lock (history self.old) % 2 ^ 64) ∷ history self.old }
+        ensures room { room_left self.old ≡ room_left self.new + 1 }
+    {
+        self.put(Note {
+            cpu,
+            lock,
+            act: Act::Look,
+        });
+    }
+
+    /// Notes a free with its mark.
+    pub fn free(&mut self, cpu: CpuId, lock: LockId, mark: M)
+    where
+        M: Drop,
+        requires { 0 < room_left self.old }
+        ensures history { history self.new ≡ event.Free cpu lock mark ∷ history self.old }
+        ensures room { room_left self.old ≡ room_left self.new + 1 }
+    {
+        self.put(Note {
+            cpu,
+            lock,
+            act: Act::Free,
+        });
+        self.marks.push(mark).unwrap();
+    }
+
+    /// Puts `note` at the end of the notes.
+    fn put(&mut self, note: Note)
+        requires { 0 < room_left self.old }
+        ensures notes { events_in self.new.notes ≡ events_in self.old.notes ++ note ∷ [] }
+        ensures room { room_of self.new.notes ≡ room_of self.old.notes }
+        ensures marks { self.new.marks ≡ self.old.marks }
+    {
+        self.notes.push(note).unwrap();
+    }
+}
