@@ -1,9 +1,8 @@
 //! What the program prints: lines on standard output, and one line for each refusal.
 
-ghost use Rattle.std.specs.Prelude.{◌≡◌, OnOk, false};
+ghost use Rattle.std.specs.Prelude.{◌≡◌, false, is_err};
 ghost use Rattle.std.specs.List.{flat_map};
-ghost use Rattle.std.specs.Io.KnownBytes.{Appends};
-ghost use Rattle.tracer.specs.Sinks.{has_failed, writer_of};
+ghost use Rattle.tracer.specs.Sinks.{Outs, has_failed, writer_of};
 
 use arrayvec::ArrayString;
 use std::fmt;
@@ -11,11 +10,11 @@ use std::fmt::Write as _;
 use std::io::Write;
 use tracer::{Sink, WriteFault};
 
-/// Writes all pieces.
+/// Writes all pieces, or where a write failed a beginning of them.
 fn put_all<W: Write>(sink: &mut Sink<W>, pieces: &[&[u8]]) -> Result<(), WriteFault>
     requires { has_failed sink.old ≡ false }
-    ensures live { OnOk result (has_failed sink.new ≡ false) }
-    ensures out { OnOk result (Appends (W.contents (writer_of sink.old)) (W.contents (writer_of sink.new)) (flat_map (λ p. p.now) pieces.now)) }
+    ensures failed { is_err result ≡ has_failed sink.new }
+    ensures out { Outs (has_failed sink.new) (W.contents (writer_of sink.old)) (W.contents (writer_of sink.new)) (flat_map (λ p. p.now) pieces.now) }
 {
     for piece in pieces {
         sink.put(*piece)?;
@@ -25,10 +24,11 @@ fn put_all<W: Write>(sink: &mut Sink<W>, pieces: &[&[u8]]) -> Result<(), WriteFa
 
 /// Writes all pieces and sees that they are out.
 ///
-/// Errors: `WriteFault` where a write failed; then a beginning may be out.
+/// Errors: `WriteFault` exactly where a write failed; then a beginning is out.
 pub fn print<W: Write>(sink: &mut Sink<W>, pieces: &[&[u8]]) -> Result<(), WriteFault>
     requires { has_failed sink.old ≡ false }
-    ensures { OnOk result (Appends (W.contents (writer_of sink.old)) (W.contents (writer_of sink.new)) (flat_map (λ p. p.now) pieces.now)) }
+    ensures failed { is_err result ≡ has_failed sink.new }
+    ensures out { Outs (has_failed sink.new) (W.contents (writer_of sink.old)) (W.contents (writer_of sink.new)) (flat_map (λ p. p.now) pieces.now) }
 {
     put_all(sink, pieces)?;
     sink.flush()

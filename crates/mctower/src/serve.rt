@@ -1,12 +1,12 @@
 //! Serving a command line: reads the order, does it, prints, and gives the exit status.
 
-ghost use Rattle.std.specs.Prelude.{◌≡◌, ◌≤◌, ◌*◌, ◌⊎◌, Some, IfOk, IfSome, OnOk, codes, false, length, map};
-ghost use Rattle.std.specs.Io.KnownBytes.{Appends};
+ghost use Rattle.std.specs.Prelude.{◌≡◌, ◌≤◌, ◌*◌, ◌⊎◌, IfOk, false, length, map, option_map, string_bytes};
+ghost use Rattle.std.specs.List.{flat_map};
 ghost use Rattle.event_log.specs.declared.ids.TheConstants.{CPUS};
 ghost use Rattle.tracer.specs.Sinks.{has_failed, writer_of};
-ghost use Rattle.tracer.specs.Judging.{verdict_of};
-ghost use Rattle.mctower.specs.Line.{order_of, meant_by, check};
-ghost use Rattle.mctower.specs.Serve.{count_lines, PrintsYes, Serves, verdict_status};
+ghost use Rattle.mctower.specs.Line.{order_of};
+ghost use Rattle.mctower.specs.Schedule.{ReadsSteps};
+ghost use Rattle.mctower.specs.Serve.{Checks, Counts, IsInput, IsRefused, Puts, Runs, Serves, Tells, status_of, steps_asked};
 
 use crate::count::count_plain;
 use crate::help::help_on;
@@ -48,6 +48,17 @@ pub enum ServeError {
     Run(Fault),
 }
 
+/// Puts the pieces out; the exit status is then this one.
+fn put_out<O: Write>(out: &mut Sink<O>, pieces: &[&[u8]], status: u8) -> Result<u8, ServeError>
+    requires { has_failed out.old ≡ false }
+    ensures { Puts status (flat_map (λ p. p.now) pieces.now) (status_of result) (has_failed out.new) (O.contents (writer_of out.old)) (O.contents (writer_of out.new)) }
+{
+    match print(out, pieces) {
+        Ok(()) => Ok(status),
+        Err(WriteFault) => Err(ServeError::WriteFault),
+    }
+}
+
 /// Counts over both machines, and prints `plain T` and `table T`.
 fn serve_count<O: Write, T: Threads + Wait + Sync>(
     rt: &T,
@@ -55,11 +66,11 @@ fn serve_count<O: Write, T: Threads + Wait + Sync>(
     cpus: u8,
     times: u64,
     out: &mut Sink<O>,
-) -> Result<(), ServeError>
+) -> Result<u8, ServeError>
     requires cpus { cpus ≤ CPUS }
     requires times { times ≤ MOST_TIMES }
     requires live { has_failed out.old ≡ false }
-    ensures { OnOk result (Appends (O.contents (writer_of out.old)) (O.contents (writer_of out.new)) (count_lines (times * cpus))) }
+    ensures { Counts (times * cpus) (status_of result) (has_failed out.new) (O.contents (writer_of out.old)) (O.contents (writer_of out.new)) }
 {
     let Ok(number) = count_plain(alloc, cpus, times) else {
         return Err(ServeError::NoMemory);
@@ -73,24 +84,19 @@ fn serve_count<O: Write, T: Threads + Wait + Sync>(
     let mut table = Buffer::new();
     let plain = plain.format(number).as_bytes();
     let table = table.format(shared).as_bytes();
-    match print(
-        out,
-        &[
-            b"plain ".as_slice(),
-            plain,
-            b"\ntable ".as_slice(),
-            table,
-            b"\n".as_slice(),
-        ],
-    ) {
-        Ok(()) => Ok(()),
-        Err(WriteFault) => Err(ServeError::WriteFault),
-    }
+    let lines = [
+        b"plain ".as_slice(),
+        plain,
+        b"\ntable ".as_slice(),
+        table,
+        b"\n".as_slice(),
+    ];
+    put_out(out, &lines, 0)
 }
 
 /// All of the input.
 fn read_all<R: Read>(alloc: Global, input: &mut R) -> Result<Vec<u8>, ServeError>
-    ensures { IfOk result (λ bytes. IfSome (R.remaining input.old) (λ text. bytes.items ≡ text)) }
+    ensures { IfOk result (λ bytes. IsInput (R.remaining input.old) bytes.items) }
 {
     let mut bytes = Vec::new(alloc);
     match input.read_to_end(&mut bytes) {
@@ -105,29 +111,31 @@ fn read_all<R: Read>(alloc: Global, input: &mut R) -> Result<Vec<u8>, ServeError
     }
 }
 
-/// The longest line for a no: a line number has 20 digits at most.
-const LONGEST_NO: usize = 64;
+/// The longest name of a reason.
+const LONGEST_NAME: usize = 32;
 
 /// Prints a verdict: `yes`, or `no L Name(N)`. Gives the exit status.
 fn print_verdict<O: Write>(verdict: Verdict, out: &mut Sink<O>) -> Result<u8, ServeError>
     requires { has_failed out.old ≡ false }
-    ensures status { IfOk result (λ status. status ≡ verdict_status verdict) }
-    ensures yes { OnOk result (PrintsYes verdict (O.contents (writer_of out.old)) (O.contents (writer_of out.new))) }
+    ensures { IsRefused (status_of result) (has_failed out.new) (O.contents (writer_of out.old)) (O.contents (writer_of out.new))
+        ⊎ Tells verdict (status_of result) (has_failed out.new) (O.contents (writer_of out.old)) (O.contents (writer_of out.new)) }
 {
     match verdict {
-        Verdict::Yes => {
-            if print(out, &[b"yes\n".as_slice()]).is_err() {
-                return Err(ServeError::WriteFault);
-            }
-            Ok(0)
-        }
+        Verdict::Yes => put_out(out, &[b"yes\n".as_slice()], 0),
         Verdict::No(line, reason) => {
-            let mut text = ArrayString::<LONGEST_NO>::new();
-            let _ = writeln!(text, "no {line} {reason}");
-            if print(out, &[text.as_str().as_bytes()]).is_err() {
-                return Err(ServeError::WriteFault);
-            }
-            Ok(3)
+            let mut name = ArrayString::<LONGEST_NAME>::new();
+            let _ = write!(name, "{reason}");
+            let mut number = Buffer::new();
+            let number = number.format(line).as_bytes();
+            let name = name.as_str().as_bytes();
+            let pieces = [
+                b"no ".as_slice(),
+                number,
+                b" ".as_slice(),
+                name,
+                b"\n".as_slice(),
+            ];
+            put_out(out, &pieces, 3)
         }
         Verdict::NoMemory => Err(ServeError::NoMemory),
     }
@@ -140,26 +148,20 @@ fn serve_check<R: Read, O: Write>(
     out: &mut Sink<O>,
 ) -> Result<u8, ServeError>
     requires { has_failed out.old ≡ false }
-    ensures status { IfOk result (λ status. IfSome (R.remaining input.old) (λ text. status ≡ verdict_status (verdict_of text))) }
-    ensures yes { OnOk result (IfSome (R.remaining input.old) (λ text. PrintsYes (verdict_of text) (O.contents (writer_of out.old)) (O.contents (writer_of out.new)))) }
+    ensures { Checks (R.remaining input.old) (status_of result) (has_failed out.new) (O.contents (writer_of out.old)) (O.contents (writer_of out.new)) }
 {
     let text = read_all(alloc, input)?;
     print_verdict(check(text.as_slice()), out)
 }
 
-/// The steps of a schedule; without one there is none.
+/// The steps that a schedule asks for; without one there is none.
 fn steps_in(alloc: Global, schedule: Option<String>) -> Result<Vec<CpuId>, StepsError>
-    ensures { IfOk result (λ steps. length steps.items ≤ MOST_STEPS) }
+    ensures { ReadsSteps (steps_asked (option_map string_bytes schedule)) result }
 {
-    let Some(text) = schedule else {
-        return Ok(Vec::new(alloc));
-    };
-    let steps = read_steps(alloc, text.as_str())?;
-    // A schedule has no more steps; `run_text` asks for it.
-    if steps.len() > MOST_STEPS {
-        return Err(StepsError::BadSchedule);
+    match schedule {
+        None => Ok(Vec::new(alloc)),
+        Some(text) => read_steps(alloc, text.as_str()),
     }
-    Ok(steps)
 }
 
 /// Runs the plan on the input under a schedule's steps.
@@ -168,9 +170,10 @@ fn serve_run<R: Read, O: Write>(
     steps: &[CpuId],
     input: &mut R,
     out: &mut Sink<O>,
-) -> Result<(), ServeError>
+) -> Result<u8, ServeError>
     requires live { has_failed out.old ≡ false }
     requires few { length steps.now ≤ MOST_STEPS }
+    ensures { Runs (R.remaining input.old) steps.now (status_of result) (has_failed out.new) (O.contents (writer_of out.old)) (O.contents (writer_of out.new)) }
 {
     let bytes = read_all(alloc, input)?;
     let Ok(plan) = str::from_utf8(bytes.as_slice()) else {
@@ -179,10 +182,7 @@ fn serve_run<R: Read, O: Write>(
     if let Err(fault) = run_text(alloc, plan, steps, out) {
         return Err(ServeError::Run(fault));
     }
-    match print(out, &[]) {
-        Ok(()) => Ok(()),
-        Err(WriteFault) => Err(ServeError::WriteFault),
-    }
+    put_out(out, &[], 0)
 }
 
 /// Serves one command line: `words` are those after the program's name.
@@ -201,7 +201,7 @@ pub fn serve<R: Read, O: Write, E: Write, T: Threads + Wait + Sync>(
     requires out { has_failed out.old ≡ false }
     requires err { has_failed err.old ≡ false }
     ensures { Serves (order_of (map (λ w. w.now) words.now)) (R.remaining input.old)
-        (O.contents (writer_of out.old)) (O.contents (writer_of out.new)) result }
+        result (has_failed out.new) (O.contents (writer_of out.old)) (O.contents (writer_of out.new)) }
 {
     let served = match read_line(alloc, words) {
         Err(LineError::Refused) => {
@@ -209,10 +209,10 @@ pub fn serve<R: Read, O: Write, E: Write, T: Threads + Wait + Sync>(
             return 2;
         }
         Err(LineError::NoMemory) => Err(ServeError::NoMemory),
-        Ok(Order::Count(cpus, times)) => serve_count(rt, alloc, cpus, times, out).map(|()| 0),
+        Ok(Order::Count(cpus, times)) => serve_count(rt, alloc, cpus, times, out),
         Ok(Order::Check) => serve_check(alloc, input, out),
         Ok(Order::Run(schedule)) => match steps_in(alloc, schedule) {
-            Ok(steps) => serve_run(alloc, steps.as_slice(), input, out).map(|()| 0),
+            Ok(steps) => serve_run(alloc, steps.as_slice(), input, out),
             Err(StepsError::NoMemory) => Err(ServeError::NoMemory),
             Err(StepsError::BadSchedule) => {
                 let _ = refuse(err, &StepsError::BadSchedule);
@@ -424,5 +424,20 @@ mod tests {
             &mut Sink::new(&mut err),
         );
         assert!(rt; Served { status, out, err }.is(1, b"plai", b"error: WriteFault(8)\n"));
+    }
+
+    #[test]
+    fn a_trace_that_cannot_be_written_is_told(rt: HostRuntime) {
+        let mut out = Vec::new(rt.alloc());
+        let mut err = Vec::new(rt.alloc());
+        let status = serve(
+            &rt,
+            rt.alloc(),
+            ["run", "--schedule", "0*6"].as_slice(),
+            &mut PLAN,
+            &mut Sink::new(Full(&mut out, 20)),
+            &mut Sink::new(&mut err),
+        );
+        assert!(rt; Served { status, out, err }.is(1, &RUN[..20], b"error: WriteFault(8)\n"));
     }
 }
