@@ -10,3 +10,4 @@ pub mod Meeting
 pub mod Laying
 pub mod Closing
 pub mod Returning
+pub mod Fresh

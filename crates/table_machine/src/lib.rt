@@ -11,6 +11,8 @@ mod plays;
 mod rule;
 mod seats;
 mod shared;
+#[cfg(test)]
+mod tests;
 mod views;
 
 pub use keys::Key;

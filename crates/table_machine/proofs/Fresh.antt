@@ -1,0 +1,62 @@
+-- The keys of a table at which nothing has happened, and those of a table of two.
+use Rattle.std.proofs.Common.{◌≡◌, ◌≢◌, ℕ, zero, suc, ◌+◌, ◌<◌, List, [], ◌∷◌, ◌++◌, length, get_or, All, refl, ap, sym, ◌∙◌, subst, length-append, arith}
+use mathlib.Core.Logic.{dite}
+use native.Mathlib.Decide.{ℕ_discrete}
+use mathlib.Core.Option.{some, some-injective, some-ne-none}
+use lib.ListN.{get_elem?}
+use Rattle.event_log.specs.declared.ids.CpuId.{CpuId}
+use Rattle.event_log.specs.declared.events.Event.{Event}
+use Rattle.event_log.specs.History.{Grows}
+use Rattle.event_log.specs.WordsLog.{actor, standing, Outside}
+use Rattle.event_log.proofs.Foreign.{standing_others}
+use Rattle.layer_traits.specs.declared.edits.Mark.{Mark}
+use Rattle.table_machine.specs.Views.{IsCpu}
+use Rattle.table_machine.specs.Desks.{Board, Desk, new_desk, new_desks, Covers, IsOver}
+use Rattle.table_machine.proofs.Seeing.{at_longer}
+
+length_new : (E : Type 0) {B : Type 0} (board : Board B) (n : ℕ) → length (new_desks {E = E} board n) ≡ n
+length_new E board zero = refl
+length_new E board (suc n) = length-append (new_desks {E = E} board n) (new_desk board n ∷ []) ∙ omega (arith, length_new E board n)
+
+at_last : {A : Type 0} (l : List A) (a : A) (n : ℕ) → length l ≡ n → get_elem? (l ++ a ∷ []) n ≡ some a
+at_last [] a zero e = refl
+at_last [] a (suc n) e = absurd (omega arith)
+at_last (x ∷ xs) a zero e = absurd (omega arith)
+at_last (x ∷ xs) a (suc n) e = at_last xs a n (omega arith)
+
+read_at : {A : Type 0} (l : List A) (k : ℕ) (d a : A) → get_elem? l k ≡ some a → get_or l k d ≡ a
+read_at [] k d a at = absurd (some-ne-none a (sym at))
+read_at (x ∷ xs) zero d a at = some-injective x a at
+read_at (x ∷ xs) (suc k) d a at = read_at xs k d a at
+
+new_at : {E B : Type 0} (board : Board B) (n k : ℕ) → k < n → get_elem? (new_desks {E = E} board n) k ≡ some (new_desk board k)
+new_at board zero k below = absurd (omega arith)
+new_at {E = E} board (suc n) k below = dite (ℕ_discrete k n)
+    (λ (e : k ≡ n). subst (λ (m : ℕ). get_elem? (new_desks {E = E} board (suc n)) m ≡ some (new_desk board m)) (sym e) (at_last (new_desks board n) (new_desk board n) n (length_new E board n)))
+    (λ (ne : k ≢ n). at_longer (new_desks board n) (new_desk board n ∷ []) k (new_desk board k) (new_at board n k (omega arith)))
+
+-- the new keys are those of all CPUs
+pub new_cover : {E B : Type 0} (board : Board B) (n : ℕ) → Covers {E = E} n (new_desks board n)
+new_cover board n c below = (c.0, new_desk board c.0, new_at board n c.0 below, refl)
+
+-- none of them has a ticket outstanding
+pub new_over : {E B : Type 0} (board : Board B) (n : ℕ) → All (IsOver {E = E} board) (new_desks board n)
+new_over {E = E} board n k d below =
+    let under : k < n = subst (λ (m : ℕ). k < m) (length_new E board n) below in
+    subst (λ (x : Desk _ _). IsOver board x) (sym (read_at (new_desks board n) k d (new_desk board k) (new_at board n k under))) (record { table = refl; outside = refl })
+
+-- two keys are those of all CPUs where there are two
+pub two_cover : {E B : Type 0} (d e : Desk E B) (n : ℕ) → n ≡ 2 → d.cpu.0 ≡ 0 → e.cpu.0 ≡ 1 → Covers n (d ∷ e ∷ [])
+two_cover d e n two first second c below = dite (ℕ_discrete c.0 0)
+    (λ (z : c.0 ≡ 0). (0, d, refl, (let same : d.cpu.0 ≡ c.0 = first ∙ sym z in ap (λ (k : ℕ). record { 0 = k }) same)))
+    (λ (ne : c.0 ≢ 0). (1, e, refl, (let same : e.cpu.0 ≡ c.0 = omega arith in ap (λ (k : ℕ). record { 0 = k }) same)))
+
+pub two_over : {E B : Type 0} (board : Board B) (d e : Desk E B) → IsOver board d → IsOver board e → All (IsOver board) (d ∷ e ∷ [])
+two_over board d e first second zero x below = first
+two_over board d e first second (suc zero) x below = second
+two_over board d e first second (suc (suc k)) x below = absurd (omega arith)
+
+-- a CPU that was outside is so after events of others
+pub outside_still : {E B : Type 0} (d : Desk E B) (c : CpuId) (new : List (Event (Mark E))) → d.cpu ≡ c → standing c d.seen ≡ Outside → Grows (IsCpu d.cpu) actor d.seen new → standing c new ≡ Outside
+outside_still d c new same outside grows =
+    subst (λ (l : List _). standing c l ≡ Outside) (sym grows.is) (standing_others c grows.others d.seen (grows.foreign c (sym same)) ∙ outside)

@@ -1,0 +1,271 @@
+//! Seats at one table, which a single thread takes in turn.
+
+ghost use Rattle.std.specs.Prelude.{◌≡◌, ◌+◌, ◌%◌, ◌^◌, ◌<◌, [], ◌∷◌, Some, IsSome, IfOk, MatchOption};
+ghost use Rattle.event_log.specs.WordsLog.{standing, Outside, Waiting, Inside};
+ghost use Rattle.event_log.specs.Sections.{block_after};
+ghost use Rattle.layer_traits.specs.Protocol.{sections};
+ghost use Rattle.layer_traits.specs.OneLock.{AreDistinct};
+ghost use Rattle.table_machine.specs.Desks.{IsOver, new_desk, new_desks};
+ghost use Rattle.table_machine.specs.declared.tests.TheConstants.{LOCK, OTHER};
+
+use crate::{Key, Shared, meet};
+use event_log::{BufId, CpuId, LockId, NoMemory};
+use layer_traits::{Edit, Words};
+use std::alloc::Global;
+use std::process::Abort;
+use std::test::Fail;
+
+/// Adds 1 to a number modulo 2^64, and answers the old number.
+#[derive(Clone, Copy)]
+struct AddOne;
+
+impl Edit for AddOne {
+    type Block = u64;
+
+    type Out = u64;
+
+    ghost rules = { record {
+      edited = λ e n. (n + 1) % 2 ^ 64;
+      answer = λ e n. n;
+      allowed = λ opening past s. Unit {0};
+    } };
+
+    fn apply(self, block: &mut u64) -> u64 {
+        let old = *block;
+        *block = old.wrapping_add(1);
+        old
+    }
+}
+
+const A: CpuId = CpuId(0);
+
+const B: CpuId = CpuId(1);
+
+const LOCK: LockId = LockId::Buffer(BufId(3));
+
+const OTHER: LockId = LockId::Pending(CpuId(1));
+
+/// A table of two locks with the numbers 40 and 7, and the keys of its two CPUs.
+fn two_keys<R: Abort>(
+    rt: &R,
+    alloc: Global,
+) -> Result<(Shared<AddOne>, Key<AddOne>, Key<AddOne>), NoMemory>
+    ensures start { IfOk result (λ t. t.0.start ≡ (LOCK, 40) ∷ (OTHER, 7) ∷ []) }
+    ensures cpus { IfOk result (λ t. t.0.cpus ≡ 2) }
+    ensures first { IfOk result (λ t. t.1 ≡ new_desk t.0 0) }
+    ensures second { IfOk result (λ t. t.2 ≡ new_desk t.0 1) }
+{
+    let Ok(blocks) = vec![in alloc; (LOCK, 40), (OTHER, 7)] else {
+        return Err(NoMemory);
+    };
+    let (shared, mut keys) = Shared::open(alloc, blocks, 2)?;
+    let second = keys.pop().expect(rt, "the key of the second CPU");
+    let first = keys.pop().expect(rt, "the key of the first CPU");
+    Ok((shared, first, second))
+}
+
+/// Closes a table at which nothing was done.
+fn untouched(shared: Shared<AddOne>, keys: Vec<Key<AddOne>>) -> Vec<(LockId, u64)>
+    requires distinct { AreDistinct shared.start }
+    requires keys { keys.items ≡ new_desks shared shared.cpus }
+{
+    shared.close(keys)
+}
+
+/// Closes the table of two CPUs.
+fn closed(
+    alloc: Global,
+    shared: Shared<AddOne>,
+    first: Key<AddOne>,
+    second: Key<AddOne>,
+) -> Result<Vec<(LockId, u64)>, NoMemory>
+    requires distinct { AreDistinct shared.start }
+    requires cpus { shared.cpus ≡ 2 }
+    requires first { IsOver shared first × (first.cpu.0 ≡ 0) }
+    requires second { IsOver shared second × (second.cpu.0 ≡ 1) }
+{
+    let Ok(keys) = vec![in alloc; first, second] else {
+        return Err(NoMemory);
+    };
+    Ok(shared.close(keys))
+}
+
+/// Draws a ticket, with which the CPU waits.
+fn draws<W: Words<Edit = AddOne>>(words: &mut W, cpu: CpuId, lock: LockId) -> u64
+    requires cpu { W.ActsFor words.old cpu }
+    requires lock { IsSome (W.opening words.old lock) }
+    requires room { (m : _) → 0 < W.room m }
+    requires outside { standing cpu (W.seen words.old) ≡ Outside }
+    ensures acts { W.ActsFor words.new cpu }
+    ensures lock { IsSome (W.opening words.new lock) }
+    ensures site { W.site words.new ≡ W.site words.old }
+    ensures waits { standing cpu (W.seen words.new) ≡ Waiting lock result }
+{
+    words.draw(cpu, lock)
+}
+
+/// Looks with the ticket that was drawn.
+fn looks<W: Words<Edit = AddOne>>(
+    words: &mut W,
+    cpu: CpuId,
+    lock: LockId,
+    ticket: u64,
+) -> Option<u64>
+    requires cpu { W.ActsFor words.old cpu }
+    requires lock { IsSome (W.opening words.old lock) }
+    requires room { (m : _) → 0 < W.room m }
+    requires waiting { standing cpu (W.seen words.old) ≡ Waiting lock ticket }
+    ensures acts { W.ActsFor words.new cpu }
+    ensures lock { IsSome (W.opening words.new lock) }
+    ensures site { W.site words.new ≡ W.site words.old }
+    ensures hits { MatchOption result
+        (standing cpu (W.seen words.new) ≡ Waiting lock ticket)
+        (λ block. (standing cpu (W.seen words.new) ≡ Inside lock ticket)
+        × (block_after (λ e n. (n + 1) % 2 ^ 64) (W.opening words.new) lock (sections (W.seen words.new)) ≡ Some block)) }
+{
+    words.look(cpu, lock, ticket)
+}
+
+/// Adds 1 to the block that a look gave, and frees the lock with it.
+fn frees<W: Words<Edit = AddOne>>(words: &mut W, cpu: CpuId, lock: LockId, ticket: u64, found: u64)
+    requires cpu { W.ActsFor words.old cpu }
+    requires lock { IsSome (W.opening words.old lock) }
+    requires room { (m : _) → 0 < W.room m }
+    requires inside { standing cpu (W.seen words.old) ≡ Inside lock ticket }
+    requires found { block_after (λ e n. (n + 1) % 2 ^ 64) (W.opening words.old) lock (sections (W.seen words.old)) ≡ Some found }
+    ensures acts { W.ActsFor words.new cpu }
+    ensures lock { IsSome (W.opening words.new lock) }
+    ensures site { W.site words.new ≡ W.site words.old }
+    ensures outside { standing cpu (W.seen words.new) ≡ Outside }
+{
+    let mut block = found;
+    AddOne.apply(&mut block);
+    words.free(cpu, lock, block, W::mark(AddOne));
+}
+
+/// A whole section at a lock for which nobody waits: the number that it found.
+fn adds_one<R: Abort, W: Words<Edit = AddOne>>(
+    rt: &R,
+    words: &mut W,
+    cpu: CpuId,
+    lock: LockId,
+) -> u64
+    requires cpu { W.ActsFor words.old cpu }
+    requires lock { IsSome (W.opening words.old lock) }
+    requires room { (m : _) → 0 < W.room m }
+    requires outside { standing cpu (W.seen words.old) ≡ Outside }
+    ensures acts { W.ActsFor words.new cpu }
+    ensures lock { IsSome (W.opening words.new lock) }
+    ensures site { W.site words.new ≡ W.site words.old }
+    ensures outside { standing cpu (W.seen words.new) ≡ Outside }
+{
+    let ticket = draws(words, cpu, lock);
+    let Some(found) = looks(words, cpu, lock, ticket) else {
+        panic!(rt; "nobody waits, and the look missed");
+    };
+    frees(words, cpu, lock, ticket, found);
+    found
+}
+
+#[test]
+fn a_table_may_have_no_blocks(rt: HostRuntime) -> Result<(), Fail> {
+    for cpus in [0, 8] {
+        let (shared, keys) = Shared::<AddOne>::open(rt.alloc(), Vec::new(rt.alloc()), cpus)?;
+        assert_eq!(rt; keys.len(), usize::from(cpus));
+        let blocks = untouched(shared, keys);
+        assert!(rt; blocks.is_empty());
+    }
+    Ok(())
+}
+
+#[test]
+fn blocks_come_back_in_the_order_of_open(rt: HostRuntime) -> Result<(), Fail> {
+    let given = vec![in rt.alloc(); (OTHER, 7), (LOCK, 40), (LockId::Buffer(BufId(0)), 1)]?;
+    let (shared, keys) = Shared::<AddOne>::open(rt.alloc(), given, 3)?;
+    for (i, key) in keys.iter().enumerate() {
+        assert_eq!(rt; usize::from(key.cpu().0), i);
+    }
+    let blocks = untouched(shared, keys);
+    assert_eq!(rt;
+        blocks.as_slice(),
+        [(OTHER, 7), (LOCK, 40), (LockId::Buffer(BufId(0)), 1)].as_slice()
+    );
+    Ok(())
+}
+
+#[test]
+fn each_section_finds_what_the_one_before_left(rt: HostRuntime) -> Result<(), Fail> {
+    let (shared, first, second) = two_keys(&rt, rt.alloc())?;
+    let mut a = shared.seat(first);
+    let mut b = shared.seat(second);
+    assert_eq!(rt; adds_one(&rt, &mut a, A, LOCK), 40);
+    meet(&mut a, &mut b);
+    assert_eq!(rt; adds_one(&rt, &mut b, B, LOCK), 41);
+    assert_eq!(rt; adds_one(&rt, &mut a, A, LOCK), 42);
+    let (first, second) = (a.back(), b.back());
+    assert_eq!(rt; (first.cpu(), second.cpu()), (A, B));
+    let blocks = closed(rt.alloc(), shared, first, second)?;
+    assert_eq!(rt; blocks.as_slice(), [(LOCK, 43), (OTHER, 7)].as_slice());
+    Ok(())
+}
+
+#[test]
+fn the_second_waits_until_the_first_is_out(rt: HostRuntime) -> Result<(), Fail> {
+    let (shared, first, second) = two_keys(&rt, rt.alloc())?;
+    let mut a = shared.seat(first);
+    let mut b = shared.seat(second);
+    let early = draws(&mut a, A, LOCK);
+    let late = draws(&mut b, B, LOCK);
+    assert_eq!(rt; (early, late), (0, 1));
+    let None = looks(&mut b, B, LOCK, late) else {
+        panic!(rt; "the second looked before the first");
+    };
+    let Some(found) = looks(&mut a, A, LOCK, early) else {
+        panic!(rt; "it was the first's turn");
+    };
+    let None = looks(&mut b, B, LOCK, late) else {
+        panic!(rt; "the first is inside");
+    };
+    assert_eq!(rt; found, 40);
+    frees(&mut a, A, LOCK, early, found);
+    let Some(found) = looks(&mut b, B, LOCK, late) else {
+        panic!(rt; "it was the second's turn");
+    };
+    assert_eq!(rt; found, 41);
+    frees(&mut b, B, LOCK, late, found);
+    let (first, second) = (a.back(), b.back());
+    let blocks = closed(rt.alloc(), shared, first, second)?;
+    assert_eq!(rt; blocks.as_slice(), [(LOCK, 42), (OTHER, 7)].as_slice());
+    Ok(())
+}
+
+#[test]
+fn two_locks_are_held_at_once(rt: HostRuntime) -> Result<(), Fail> {
+    let (shared, first, second) = two_keys(&rt, rt.alloc())?;
+    let mut a = shared.seat(first);
+    let mut b = shared.seat(second);
+    let ticket = draws(&mut a, A, LOCK);
+    let Some(found) = looks(&mut a, A, LOCK, ticket) else {
+        panic!(rt; "nobody waits");
+    };
+    assert_eq!(rt; adds_one(&rt, &mut b, B, OTHER), 7);
+    frees(&mut a, A, LOCK, ticket, found);
+    let (first, second) = (a.back(), b.back());
+    let blocks = closed(rt.alloc(), shared, first, second)?;
+    assert_eq!(rt; blocks.as_slice(), [(LOCK, 41), (OTHER, 8)].as_slice());
+    Ok(())
+}
+
+// Run with each allocation refused in turn: what is refused is `NoMemory`.
+#[test]
+fn a_refused_allocation_is_no_memory(rt: HostRuntime) -> Result<(), Fail> {
+    let blocks = vec![in rt.alloc(); (OTHER, 7), (LOCK, 40)]?;
+    match Shared::<AddOne>::open(rt.alloc(), blocks, 2) {
+        Ok((shared, keys)) => {
+            let blocks = untouched(shared, keys);
+            assert_eq!(rt; blocks.as_slice(), [(OTHER, 7), (LOCK, 40)].as_slice());
+        }
+        Err(error) => assert_eq!(rt; error, NoMemory),
+    }
+    Ok(())
+}
