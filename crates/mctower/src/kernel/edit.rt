@@ -1,10 +1,12 @@
 //! The block that a buffer's lock guards, and the one edit of it: a message call, tried.
 
-ghost use Rattle.std.specs.Prelude.{◌≡◌, ◌≤◌, ◌<◌};
+ghost use Rattle.std.specs.Prelude.{◌≡◌, ◌≤◌, ◌<◌, IfOk};
 
 use arrayvec::ArrayVec;
-use event_log::Tid;
+use event_log::{NoMemory, Tid};
 use layer_traits::Edit;
+use std::alloc::Global;
+use std::collections::VecDeque;
 use std::marker::Model;
 
 /// How many messages the largest buffer holds.
@@ -39,10 +41,11 @@ pub struct Effect {
     pub pos: u64,
 }
 
-/// The block of a buffer: its messages, and how many calls took effect on it.
+/// The block of a buffer: its messages, and how many calls took effect on it. Its messages stand
+/// apart, in room that is taken when it is made, so that it is small where sections pass it on.
 #[derive(Drop)]
 pub struct BufferBlock {
-    items: ArrayVec<u64, 32>,
+    items: VecDeque<u64>,
     capacity: usize,
     effects: u64,
     sends: u64,
@@ -50,14 +53,15 @@ pub struct BufferBlock {
 }
 
 impl Model for BufferBlock {
-    ghost use Rattle.std.specs.Prelude.{◌≤◌};
+    ghost use Rattle.std.specs.Prelude.{◌≤◌, length};
+    ghost use Rattle.std.specs.VecDeque.{deque_capacity};
     ghost use Rattle.mctower.specs.Buffer.{Buffer};
 
     ghost Value = { Buffer };
 
     ghost view = { λ b. record { capacity = b.capacity; items = b.items.items; effects = b.effects; sends = b.sends; receives = b.receives } };
 
-    ghost invariant = { λ b. b.capacity ≤ 32 };
+    ghost invariant = { λ b. (b.capacity ≤ 32) × (length b.items.items ≤ b.capacity) × (b.capacity ≤ deque_capacity b.items) };
 }
 
 impl BufferBlock {
@@ -65,26 +69,33 @@ impl BufferBlock {
     ghost use Rattle.mctower.specs.Effects.{effect_on, edited_by};
     ghost use Rattle.mctower.specs.declared.kernel.edit.Call.TheVariants.{Send, Recv};
 
-    /// An empty buffer with room for `capacity` messages, at most 32.
-    pub fn new(capacity: usize) -> BufferBlock
+    /// An empty buffer with room for `capacity` messages, at most 32. No later call takes memory.
+    ///
+    /// Errors: `NoMemory` where the room could not be had; nothing was made.
+    pub fn new(alloc: Global, capacity: usize) -> Result<BufferBlock, NoMemory>
         requires { capacity ≤ 32 }
-        ensures { result ≡ new_buffer capacity }
+        ensures { IfOk result (λ b. b ≡ new_buffer capacity) }
     {
-        BufferBlock {
-            items: ArrayVec::new(),
+        let Ok(items) = VecDeque::with_capacity(alloc, capacity) else {
+            return Err(NoMemory);
+        };
+        Ok(BufferBlock {
+            items,
             capacity,
             effects: 0,
             sends: 0,
             receives: 0,
-        }
+        })
     }
 
     /// Its messages, front first.
     pub fn items(&self) -> ArrayVec<u64, 32>
         ensures { result.items ≡ self.now.items }
     {
+        let (first, second) = self.items.as_slices();
         let mut items = ArrayVec::new();
-        items.try_extend_from_slice(self.items.as_slice()).unwrap();
+        items.try_extend_from_slice(first).unwrap();
+        items.try_extend_from_slice(second).unwrap();
         items
     }
 
@@ -113,7 +124,7 @@ impl BufferBlock {
             op: self.effects,
             pos: self.sends,
         };
-        self.items.push(message);
+        self.items.push_back_reserved(message);
         self.effects = self.effects.wrapping_add(1);
         self.sends = self.sends.wrapping_add(1);
         Some(effect)
@@ -123,11 +134,9 @@ impl BufferBlock {
         ensures block { self.new ≡ edited_by Recv self.old }
         ensures answer { result ≡ effect_on Recv self.old }
     {
-        if self.items.is_empty() {
-            return None;
-        }
+        let value = self.items.pop_front()?;
         let effect = Effect {
-            value: self.items.remove(0),
+            value,
             op: self.effects,
             pos: self.receives,
         };

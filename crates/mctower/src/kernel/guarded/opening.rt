@@ -21,9 +21,8 @@ fn fresh_buffers(alloc: Global, caps: &[u8]) -> Result<Vec<BufferBlock>, NoMemor
         return Err(NoMemory);
     };
     for capacity in caps {
-        buffers
-            .push(BufferBlock::new(usize::from(*capacity)))
-            .unwrap();
+        let buffer = BufferBlock::new(alloc, usize::from(*capacity))?;
+        buffers.push(buffer).unwrap();
     }
     Ok(buffers)
 }
@@ -39,9 +38,8 @@ fn fresh_locks(alloc: Global, caps: &[u8]) -> Result<Vec<(LockId, BufferBlock)>,
     };
     for (i, capacity) in caps.iter().enumerate() {
         let lock = LockId::Buffer(BufId(i as u8));
-        locks
-            .push((lock, BufferBlock::new(usize::from(*capacity))))
-            .unwrap();
+        let buffer = BufferBlock::new(alloc, usize::from(*capacity))?;
+        locks.push((lock, buffer)).unwrap();
     }
     Ok(locks)
 }
