@@ -121,6 +121,41 @@ fn each_fault_has_its_line_and_number(rt: HostRuntime) -> Result<(), Fail> {
     Ok(())
 }
 
+/// Lines that are no instruction, alone in a program, each with its fault.
+const BAD_LINES: [(&str, &str); 22] = [
+    ("SET r0 7", "UnknownWord(10)"),
+    ("set\tr0 7", "UnknownWord(10)"),
+    ("set r0 7 ", "UnknownWord(10)"),
+    ("set r0 7 8", "UnknownWord(10)"),
+    ("sub r0", "UnknownWord(10)"),
+    ("jnz r0", "UnknownWord(10)"),
+    ("send 0 r0 r1", "UnknownWord(10)"),
+    ("recv 0", "UnknownWord(10)"),
+    ("yield 0", "UnknownWord(10)"),
+    ("close 0", "UnknownWord(10)"),
+    ("set r4 7", "BadRegister(11)"),
+    ("set r00 7", "BadRegister(11)"),
+    ("sub r0 R1", "BadRegister(11)"),
+    ("jnz 0 0", "BadRegister(11)"),
+    ("recv 0 7", "BadRegister(11)"),
+    ("set r0 -7", "BadNumber(12)"),
+    ("set r0 7a", "BadNumber(12)"),
+    ("send 00 r0", "BadNumber(12)"),
+    ("recv 16 r0", "BadNumber(12)"),
+    ("send r0 0", "BadNumber(12)"),
+    ("jnz r0 00", "BadNumber(12)"),
+    ("jnz r0 1", "BadTarget(13)"),
+];
+
+#[test]
+fn each_bad_line_has_its_fault(rt: HostRuntime) -> Result<(), Fail> {
+    for (line, fault) in BAD_LINES {
+        let text = format!(in rt.alloc(); "line 0 {fault}")?;
+        assert_eq!(rt; refusal(&rt, &[line])?.as_str(), text.as_str(), "{line}");
+    }
+    Ok(())
+}
+
 #[test]
 fn the_first_fault_of_the_first_line_counts(rt: HostRuntime) -> Result<(), Fail> {
     assert_eq!(rt;
@@ -221,6 +256,7 @@ fn a_refusal_prints_its_name_and_number(rt: HostRuntime) -> Result<(), Fail> {
     Ok(())
 }
 
+// To be run with each allocation refused in turn, as bench/refuse.sh does.
 #[test]
 fn a_refused_allocation_is_no_memory_or_not_needed(rt: HostRuntime) {
     match Program::read(rt.alloc(), &["set r0 7", "send 0 r0", "jnz r0 0", "exit"]) {
