@@ -2,6 +2,8 @@ pub mod Line
 pub mod Schedule
 pub mod Count
 pub mod Serve
+pub mod Print
+pub mod Help
 pub mod Buffer
 pub mod Effects
 pub mod EditRules

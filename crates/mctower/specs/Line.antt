@@ -11,7 +11,6 @@ use Rattle.clap.specs.Simple.{with_rule, with_subcommand, subcommand_rows_of}
 use Rattle.clap.specs.declared.parser.matches.ArgMatches.{ArgMatches}
 use Rattle.clap.specs.Faults.{fault_of}
 use Rattle.clap.specs.Kinds.{Kinds}
-use Rattle.mctower.specs.declared.line.TheConstants.{MOST_CPUS, MOST_TIMES, MOST_TURNS, SERVES_COUNT, SERVES_RUN, SERVES_THREADS, SERVES_CHECK}
 use Rattle.mctower.specs.declared.line.Order.{Order}
 use Rattle.mctower.specs.declared.line.Order.TheVariants.{Count, Run, Threads, Check}
 use Rattle.mctower.specs.declared.line.LineError.{LineError}
@@ -72,17 +71,17 @@ number_in least most text = if is_unsigned_in least most text then Some (digits_
 abbrev pub number_at : ℕ → ℕ → Text → List Row → Option ℕ
 number_at least most name rows = option_and_then (number_in least most) (first_of name rows)
 
--- the order of the command `count` with these values
+-- the order of the command `count` with these values: 1 to 8 CPUs, 1 to 1000 sections for each
 abbrev pub count_in : List Row → Option Meant
-count_in rows = option_and_then (λ cpus. option_map (λ times. count cpus times) (number_at 1 MOST_TIMES (codes "times") rows)) (number_at 1 MOST_CPUS (codes "cpus") rows)
+count_in rows = option_and_then (λ cpus. option_map (λ times. count cpus times) (number_at 1 1000 (codes "times") rows)) (number_at 1 8 (codes "cpus") rows)
 
 -- the order of the command `run` with these values
 abbrev pub run_in : List Row → Option Meant
 run_in rows = Some (run (first_of (codes "schedule") rows))
 
--- the order of the command `threads` with these values
+-- the order of the command `threads` with these values: 1 to 1,000,000,000 turns
 abbrev pub threads_in : List Row → Option Meant
-threads_in rows = option_map (λ turns. threads turns) (number_at 1 MOST_TURNS (codes "turns") rows)
+threads_in rows = option_map (λ turns. threads turns) (number_at 1 1000000000 (codes "turns") rows)
 
 -- the order of a command by its name and its values
 abbrev pub order_in : Text × List Row → Option Meant
@@ -104,12 +103,12 @@ is_faultless (kind ∷ kinds) = false
 unfoldable pub is_taken : List Text → Bool
 is_taken words = is_faultless (fault_of program words)
 
--- a server stands for the command
+-- a server stands for the command: for each but `threads`
 abbrev pub is_served : Meant → Bool
-is_served (count _ _) = SERVES_COUNT
-is_served (run _) = SERVES_RUN
-is_served (threads _) = SERVES_THREADS
-is_served check = SERVES_CHECK
+is_served (count _ _) = true
+is_served (run _) = true
+is_served (threads _) = false
+is_served check = true
 
 -- the order, if its command is served
 abbrev pub if_served : Meant → Option Meant

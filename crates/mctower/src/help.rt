@@ -1,6 +1,9 @@
 //! The texts that teach the command line: for each command what goes in, what comes out, and an
 //! example. They go to standard error where the words are refused, also where they ask for help.
 
+ghost use Rattle.std.specs.Prelude.{◌≡◌, map};
+ghost use Rattle.mctower.specs.Help.{topic_of, help_of};
+
 const PROGRAM: &str = "\
 mctower: a verified thread tower, from ticket locks to kernel threads
 
@@ -65,14 +68,22 @@ example: mctower run --schedule '0*6' < plan.toml | mctower check
 prints:  yes
 ";
 
-/// The help on the command that the words name, or on the whole program.
-pub(crate) fn help_on(words: &[&str]) -> &'static str {
-    let name = match words {
+/// The command that the words name: the first word, or the one behind `help`.
+fn topic<'a>(words: &[&'a str]) -> &'a str
+    ensures { result.now ≡ topic_of (map (λ w. w.now) words.now) }
+{
+    match words {
         [] => "",
-        ["help", name, ..] => name,
-        [name, ..] => name,
-    };
-    match name {
+        [name] => name,
+        [word, name, ..] => if *word == "help" { name } else { word },
+    }
+}
+
+/// The help on the command that the words name, or on the whole program.
+pub(crate) fn help_on(words: &[&str]) -> &'static str
+    ensures { result.now ≡ help_of (topic_of (map (λ w. w.now) words.now)) }
+{
+    match topic(words) {
         "count" => COUNT,
         "run" => RUN,
         "threads" => THREADS,

@@ -3,6 +3,7 @@
 ghost use Rattle.std.specs.Prelude.{◌≡◌, false, is_err};
 ghost use Rattle.std.specs.List.{flat_map};
 ghost use Rattle.tracer.specs.Sinks.{Outs, has_failed, writer_of};
+ghost use Rattle.mctower.specs.Print.{PrintsRefusal};
 
 use arrayvec::ArrayString;
 use std::fmt;
@@ -34,16 +35,18 @@ pub fn print<W: Write>(sink: &mut Sink<W>, pieces: &[&[u8]]) -> Result<(), Write
     sink.flush()
 }
 
-/// The longest line for a refusal.
+/// How many bytes of what a refusal says are shown at most.
 const LONGEST: usize = 200;
 
 /// Prints the line `error: ..` for a refusal, if it can, and gives the exit status. Takes no memory.
 pub fn refuse<W: Write, F: fmt::Display>(sink: &mut Sink<W>, fault: &F) -> u8
     requires { has_failed sink.old ≡ false }
-    ensures { result ≡ 1 }
+    ensures status { result ≡ 1 }
+    ensures line { PrintsRefusal (has_failed sink.new) (W.contents (writer_of sink.old)) (W.contents (writer_of sink.new)) }
 {
-    let mut line = ArrayString::<LONGEST>::new();
-    let _ = writeln!(line, "error: {}", fault);
-    let _ = print(sink, &[line.as_str().as_bytes()]);
+    let mut shown = ArrayString::<LONGEST>::new();
+    let _ = write!(shown, "{fault}");
+    let shown = shown.as_str().as_bytes();
+    let _ = print(sink, &[b"error: ".as_slice(), shown, b"\n".as_slice()]);
     1
 }

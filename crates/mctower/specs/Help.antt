@@ -1,0 +1,18 @@
+-- Which help the words of a command line get.
+use Rattle.std.specs.Prelude.{ℕ, List, [], ◌∷◌, codes, bytes_eq, if◌then◌else◌}
+use Rattle.mctower.specs.declared.help.TheConstants.{PROGRAM, COUNT, RUN, THREADS, CHECK}
+
+-- the command that the words name: the first word, or the one behind `help`
+abbrev pub topic_of : List (List ℕ) → List ℕ
+topic_of [] = []
+topic_of (word ∷ []) = word
+topic_of (word ∷ name ∷ more) = if bytes_eq word (codes "help") then name else word
+
+-- the help on a command; on the whole program where no command has the name
+abbrev pub help_of : List ℕ → List ℕ
+help_of name =
+    if bytes_eq name (codes "count") then COUNT.now
+    else if bytes_eq name (codes "run") then RUN.now
+    else if bytes_eq name (codes "threads") then THREADS.now
+    else if bytes_eq name (codes "check") then CHECK.now
+    else PROGRAM.now
