@@ -258,8 +258,10 @@ fn two_locks_are_held_at_once(rt: HostRuntime) -> Result<(), Fail> {
 
 // Run with each allocation refused in turn: what is refused is `NoMemory`.
 #[test]
-fn a_refused_allocation_is_no_memory(rt: HostRuntime) -> Result<(), Fail> {
-    let blocks = vec![in rt.alloc(); (OTHER, 7), (LOCK, 40)]?;
+fn a_refused_allocation_is_no_memory(rt: HostRuntime) {
+    let Ok(blocks) = vec![in rt.alloc(); (OTHER, 7), (LOCK, 40)] else {
+        return;
+    };
     match Shared::<AddOne>::open(rt.alloc(), blocks, 2) {
         Ok((shared, keys)) => {
             let blocks = untouched(shared, keys);
@@ -267,5 +269,4 @@ fn a_refused_allocation_is_no_memory(rt: HostRuntime) -> Result<(), Fail> {
         }
         Err(error) => assert_eq!(rt; error, NoMemory),
     }
-    Ok(())
 }
