@@ -226,11 +226,11 @@ fn boot(plan: &str) -> Kernel {
     kernel
 }
 
-fn steps(schedule: &str) -> Vec<usize> {
+fn steps(schedule: &str) -> Vec<u8> {
     let mut steps = vec![];
     for item in schedule.split(',') {
         let (c, n) = item.split_once('*').unwrap_or((item, "1"));
-        steps.extend(std::iter::repeat(number(c)).take(number(n)));
+        steps.extend(std::iter::repeat(number(c) as u8).take(number(n)));
     }
     steps
 }
@@ -276,7 +276,7 @@ fn main() -> std::io::Result<()> {
     let mut kernel = boot(&plan);
     let start = std::time::Instant::now();
     for c in steps {
-        kernel.step(c);
+        kernel.step(usize::from(c));
     }
     eprintln!("steps alone: {:?}", start.elapsed());
     let mut out = std::io::BufWriter::new(std::io::stdout().lock());
