@@ -276,8 +276,8 @@ mod tests {
         assert!(rt; serving(&rt, words.as_slice(), b"").is(0, b"plain 6\ntable 6\n", b""));
         let words = ["count", "--cpus", "1", "--times", "1"];
         assert!(rt; serving(&rt, words.as_slice(), b"").is(0, b"plain 1\ntable 1\n", b""));
-        let words = ["count", "--cpus", "8", "--times", "50"];
-        assert!(rt; serving(&rt, words.as_slice(), b"").is(0, b"plain 400\ntable 400\n", b""));
+        let words = ["count", "--cpus", "8", "--times", "1000"];
+        assert!(rt; serving(&rt, words.as_slice(), b"").is(0, b"plain 8000\ntable 8000\n", b""));
     }
 
     #[test]

@@ -17,8 +17,8 @@ use std::alloc::{AllocError, Global};
 use std::snapshot::Snapshot;
 use std::sync::Wait;
 use std::sync::atomic::{AtomicBool, Ordering};
+use std::thread;
 use std::thread::{Promise, Threads};
-use std::{hint, thread};
 use table_machine::{Key, Seat, Shared};
 use thiserror::Error;
 
@@ -53,14 +53,14 @@ impl Promise<Option<Key<AddOne>>> for MadeBy {
     ghost kept_by = { λ p r. MayHaveMade NUMBER p.key.value r p.times };
 }
 
-// How often a worker looks before it lets other threads run: with more threads than processors, the
-// one whose turn it is may not be running.
-const SPINS: u8 = 64;
+// How often a worker polls before it lets other threads run: with more threads than processors, the
+// one whose turn it is may not be running. So many looks take about as long as a change of threads.
+// It has no pause between them, since after a look that hit the next poll frees the lock.
+const SPINS: u16 = 1000;
 
-// Lets some time pass, and tells how many turns of it are left before other threads may run.
-fn pause(spins: u8) -> u8 {
+// Lets other threads run where no spins are left, and tells how many are left then.
+fn pause(spins: u16) -> u16 {
     if spins > 0 {
-        hint::spin_loop();
         spins - 1
     } else {
         thread::yield_now();
@@ -244,10 +244,36 @@ mod tests {
     use std::test::Fail;
 
     #[test]
-    fn eight_threads_count_together(rt: HostRuntime) -> Result<(), Fail> {
-        assert_eq!(rt; count_table(&rt, rt.alloc(), 8, 50)?, 400);
+    fn threads_count_together(rt: HostRuntime) -> Result<(), Fail> {
         assert_eq!(rt; count_table(&rt, rt.alloc(), 2, 3)?, 6);
         assert_eq!(rt; count_table(&rt, rt.alloc(), 1, 1)?, 1);
+        assert_eq!(rt; count_table(&rt, rt.alloc(), 0, 1000)?, 0);
+        assert_eq!(rt; count_table(&rt, rt.alloc(), 8, 0)?, 0);
+        Ok(())
+    }
+
+    #[test]
+    fn eight_threads_count_ten_times(rt: HostRuntime) -> Result<(), Fail> {
+        for round in 0..10 {
+            assert_eq!(rt;
+                count_table(&rt, rt.alloc(), 8, 1000)?,
+                8000,
+                "round {round}"
+            );
+        }
+        Ok(())
+    }
+
+    // Run with each allocation refused in turn. A thread whose own memory is refused is one that
+    // could not be started. After a refusal the count is whole.
+    #[test]
+    fn a_refused_allocation_is_no_memory_or_no_thread(rt: HostRuntime) -> Result<(), Fail> {
+        match count_table(&rt, rt.alloc(), 3, 5) {
+            Ok(number) => assert_eq!(rt; number, 15),
+            Err(CountFault::NoMemory | CountFault::NoThread) => {
+                assert_eq!(rt; count_table(&rt, rt.alloc(), 3, 5)?, 15);
+            }
+        }
         Ok(())
     }
 
