@@ -3,16 +3,11 @@
 //!
 //! plain_check < trace
 
+mod buffer;
+
+use buffer::Buffer;
 use std::collections::VecDeque;
 use std::io::Read;
-
-struct Buffer {
-    capacity: usize,
-    items: VecDeque<u64>,
-    ops: u64,
-    sends: u64,
-    recvs: u64,
-}
 
 fn number(piece: Option<&[u8]>, most: u64) -> Result<u64, &'static str> {
     let digits = piece.ok_or("Spelling(30)")?;

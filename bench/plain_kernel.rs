@@ -3,6 +3,9 @@
 //!
 //! plain_kernel SCHEDULE < plan > trace
 
+mod buffer;
+
+use buffer::Buffer;
 use std::collections::VecDeque;
 use std::io::{Read, Write};
 
@@ -33,14 +36,6 @@ struct Entry {
 struct Lock {
     next: u64,
     serving: u64,
-}
-
-struct Buffer {
-    capacity: usize,
-    items: VecDeque<u64>,
-    ops: u64,
-    sends: u64,
-    recvs: u64,
 }
 
 struct Guest {
