@@ -185,6 +185,127 @@ fn a_text_that_is_no_document_is_refused(rt: HostRuntime) -> Result<(), Fail> {
     Ok(())
 }
 
+/// Each key of the plan: absent, of another kind, with an item of another kind, out of range.
+const KEYS: [(&str, &str, &str); 26] = [
+    ("cpus = 1", "cpus = 1.0", "MissingKey(21) cpus"),
+    ("cpus = 1", "cpus = true", "MissingKey(21) cpus"),
+    ("cpus = 1", "cpus = [1]", "MissingKey(21) cpus"),
+    ("trace = 4", "", "MissingKey(21) trace"),
+    ("trace = 4", "trace = \"4\"", "MissingKey(21) trace"),
+    ("trace = 4", "trace = 0", "OutOfRange(22) trace"),
+    ("trace = 4", "trace = -4", "OutOfRange(22) trace"),
+    ("buffers = [1]", "", "MissingKey(21) buffers"),
+    ("buffers = [1]", "buffers = 1", "MissingKey(21) buffers"),
+    ("[1]", "[1.5]", "MissingKey(21) buffers"),
+    ("[1]", "[[1]]", "MissingKey(21) buffers"),
+    ("[1]", "[1, true]", "MissingKey(21) buffers"),
+    ("[1]", "[-1]", "OutOfRange(22) buffers"),
+    ("[[thread]]", "[[threads]]", "MissingKey(21) thread"),
+    ("[[thread]]", "[thread]", "MissingKey(21) thread"),
+    (
+        "[[thread]]",
+        "thread = 1\n[[other]]",
+        "MissingKey(21) thread",
+    ),
+    (
+        "[[thread]]",
+        "thread = [{ cpu = 0, program = [\"exit\"] }, 1]\n[[other]]",
+        "MissingKey(21) thread",
+    ),
+    ("cpu = 0", "cpu = \"0\"", "MissingKey(21) thread 0 cpu"),
+    ("cpu = 0", "cpu = 0.0", "MissingKey(21) thread 0 cpu"),
+    ("cpu = 0", "cpu = -1", "OutOfRange(22) thread 0 cpu"),
+    ("program =", "programs =", "MissingKey(21) thread 0 program"),
+    (
+        "program = [",
+        "program = 1 # [",
+        "MissingKey(21) thread 0 program",
+    ),
+    ("\"exit\"", "[\"exit\"]", "MissingKey(21) thread 0 program"),
+    (
+        "\"exit\"",
+        "\"recv 15 r0\"",
+        "OutOfRange(22) thread 0 program",
+    ),
+    ("cpus = 1", "cpus = 1\ncpus = 1", "BadToml(20)"),
+    ("[1]", "[1", "BadToml(20)"),
+];
+
+#[test]
+fn each_key_is_there_and_in_its_range(rt: HostRuntime) -> Result<(), Fail> {
+    for (from, to, text) in KEYS {
+        assert_eq!(rt; changed(&rt, from, to)?.as_str(), text, "{to}");
+    }
+    Ok(())
+}
+
+/// Two faults in one plan: the one that is tested first counts.
+const TWO_FAULTS: [(&str, &str, &str); 9] = [
+    (
+        "cpus = 1\ntrace = 4",
+        "cpus = 9\ntrace = 0",
+        "OutOfRange(22) cpus",
+    ),
+    ("cpus = 1\ntrace = 4", "trace = 0", "MissingKey(21) cpus"),
+    ("4\nbuffers = [1]", "0\nbuffers = 1", "OutOfRange(22) trace"),
+    (
+        "[1]\n\n[[thread]]",
+        "[33]\n\n[thread]",
+        "OutOfRange(22) buffers",
+    ),
+    (
+        "[1]",
+        "[1,1,1,1,1,1,1,1,1,1,1,1,1,1,1,1,\"1\"]",
+        "MissingKey(21) buffers",
+    ),
+    (
+        "0\nprogram =",
+        "1\nprograms =",
+        "OutOfRange(22) thread 0 cpu",
+    ),
+    (
+        "\"exit\"",
+        "\"send 1 r0\", 1",
+        "MissingKey(21) thread 0 program",
+    ),
+    (
+        "\"exit\"",
+        "\"send 1 r0\", \"what\"",
+        "Guest(23) thread 0 line 3 UnknownWord(10)",
+    ),
+    ("cpus = 1", "cpus = 9\n= 1", "BadToml(20)"),
+];
+
+#[test]
+fn the_fault_that_is_tested_first_counts(rt: HostRuntime) -> Result<(), Fail> {
+    for (from, to, text) in TWO_FAULTS {
+        assert_eq!(rt; changed(&rt, from, to)?.as_str(), text, "{to}");
+    }
+    let two = format!(in rt.alloc(); "{ONE_SEND}[[thread]]\ncpu = 1\nprogram = [\"what\"]\n")?;
+    let first = two.replace(rt.alloc(), "send 0 r0", "send 1 r0")?;
+    assert_eq!(rt;
+        line(&rt, first.as_str())?.as_str(),
+        "OutOfRange(22) thread 0 program"
+    );
+    assert_eq!(rt;
+        line(&rt, two.as_str())?.as_str(),
+        "OutOfRange(22) thread 1 cpu"
+    );
+    Ok(())
+}
+
+#[test]
+fn a_plan_has_at_most_64_threads(rt: HostRuntime) -> Result<(), Fail> {
+    let thread = "[[thread]]\ncpu = 0\nprogram = [\"exit\"]\n";
+    let more = thread.repeat(rt.alloc(), 63)?;
+    let most = format!(in rt.alloc(); "{ONE_SEND}{more}")?;
+    assert_eq!(rt; line(&rt, most.as_str())?.as_str(), "read");
+    let over = format!(in rt.alloc(); "{most}{thread}")?;
+    assert_eq!(rt; line(&rt, over.as_str())?.as_str(), "OutOfRange(22) thread");
+    Ok(())
+}
+
+// To be run with each allocation refused in turn, as bench/refuse.sh does.
 #[test]
 fn a_refused_allocation_is_no_memory_or_not_needed(rt: HostRuntime) {
     match Boot::read(rt.alloc(), ONE_SEND) {

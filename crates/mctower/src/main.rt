@@ -8,12 +8,22 @@ pub mod count;
 mod help;
 pub mod kernel;
 pub mod line;
+#[cfg(test)]
+mod plan_tests;
 pub mod print;
+#[cfg(test)]
+mod refusal_tests;
+#[cfg(test)]
+mod refused_tests;
 pub mod run;
 #[cfg(test)]
 mod run_tests;
 pub mod schedule;
 pub mod serve;
+#[cfg(test)]
+mod twin;
+#[cfg(test)]
+mod twin_tests;
 pub mod workers;
 
 use line::LineError;

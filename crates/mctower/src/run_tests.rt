@@ -17,16 +17,6 @@ const ONE_SEND: &str =
 
 const ROW: &[u8; 66] = b"mctower-trace 1\nbuffers 1\ncap 0 1\ne 0 0 send 0 7 0 0\nleft 0 7\nend\n";
 
-/// A pipeline over three CPUs and two buffers: the second thread doubles what the first makes.
-const PIPELINE: &str = "cpus = 3\ntrace = 6\nbuffers = [1, 4]\n
-[[thread]]\ncpu = 0\nprogram = [\"set r0 3\", \"set r1 1\", \"send 0 r0\", \"sub r0 r1\", \"jnz r0 2\"]\n
-[[thread]]\ncpu = 1\nprogram = [\"set r1 1\", \"set r2 3\", \"recv 0 r0\", \"add r0 r0\", \"send 1 r0\", \"sub r2 r1\", \"jnz r2 2\"]\n
-[[thread]]\ncpu = 2\nprogram = [\"recv 1 r0\", \"recv 1 r0\", \"recv 1 r0\"]\n";
-
-/// What an independent kernel in plain Rust writes of it.
-const PIPELINE_TRACE: &[u8] =
-    b"mctower-trace 1\nbuffers 2\ncap 0 1\ncap 1 4\ne 0 0 send 0 3 0 0\ne 1 1 recv 0 3 1 0\ne 0 0 send 0 2 2 1\ne 1 1 send 1 6 0 0\ne 1 1 recv 0 2 3 1\ne 0 0 send 0 1 4 2\ne 2 2 recv 1 6 1 0\ne 1 1 send 1 4 2 1\ne 1 1 recv 0 1 5 2\ne 2 2 recv 1 4 3 1\nleft 0\nleft 1\nend\n";
-
 /// A writer that takes no byte behind the first `room`.
 #[derive(Drop)]
 struct Narrow {
@@ -91,18 +81,6 @@ fn a_cpu_that_the_plan_has_not(rt: HostRuntime) {
     let fault = fault_of(rt.alloc(), ONE_SEND, &steps, &mut out);
     assert_eq!(rt; fault, Some(Fault::BadCpu));
     assert_eq!(rt; out.out.len(), 0);
-}
-
-#[test]
-fn the_pipeline_has_the_trace_of_a_plain_kernel(rt: HostRuntime) {
-    let mut out = wide(rt.alloc());
-    let mut steps = [CpuId(0); 180];
-    for (k, step) in steps.iter_mut().enumerate() {
-        *step = CpuId((k / 20 % 3) as u8);
-    }
-    let fault = fault_of(rt.alloc(), PIPELINE, &steps, &mut out);
-    assert_eq!(rt; fault, None);
-    assert_eq!(rt; out.out.as_slice(), PIPELINE_TRACE);
 }
 
 #[test]

@@ -1,0 +1,207 @@
+//! The plans of the folder plans/ of this repository, each run by the schedule in its comment. The
+//! traces are what a plain program in bench/ writes of them, which has no code of this crate.
+//!
+//! A test can't take in a file as it is built. So the texts stand here again, and where the files
+//! are there to be read, as they are under `rt test`, the last test holds the two together.
+
+use crate::run::run_text;
+use crate::schedule::{MOST_STEPS, read_steps};
+use std::fs;
+use std::test::Fail;
+use tracer::{Sink, Verdict, check};
+
+const ONE_SEND: &str = r#"# One thread sends one number into a buffer with room for one, and ends.
+#   mctower run --schedule '0*6' < plans/one-send.toml
+# Six steps: the switch to the thread, the set, the three actions of the send's section, the exit.
+# A test of crates/mctower holds this text too: src/plan_tests.rt.
+cpus = 1
+trace = 4
+buffers = [1]
+
+[[thread]]
+cpu = 0
+program = ["set r0 7", "send 0 r0", "exit"]
+"#;
+
+const ONE_SEND_TRACE: &str = r#"mctower-trace 1
+buffers 1
+cap 0 1
+e 0 0 send 0 7 0 0
+left 0 7
+end
+"#;
+
+const PING_PONG: &str =
+    r#"# Two threads on two CPUs pass a number to and fro, each through a buffer of its own; the number
+# grows by one on each way, and after three rounds both end.
+#   mctower run --schedule '0*16,1*16,0*16,1*16,0*16,1*16,0*16,1*16,0*16,1*16' < plans/ping-pong.toml
+# A test of crates/mctower holds this text too: src/plan_tests.rt.
+cpus = 2
+trace = 12
+buffers = [1, 1]
+
+[[thread]]
+cpu = 0
+program = ["set r1 1", "set r2 3", "send 0 r0", "recv 1 r0", "add r0 r1", "sub r2 r1", "jnz r2 2"]
+
+[[thread]]
+cpu = 1
+program = ["set r1 1", "set r2 3", "recv 0 r0", "add r0 r1", "send 1 r0", "sub r2 r1", "jnz r2 2"]
+"#;
+
+const PING_PONG_TRACE: &str = r#"mctower-trace 1
+buffers 2
+cap 0 1
+cap 1 1
+e 0 0 send 0 0 0 0
+e 1 1 recv 0 0 1 0
+e 1 1 send 1 1 0 0
+e 0 0 recv 1 1 1 0
+e 0 0 send 0 2 2 1
+e 1 1 recv 0 2 3 1
+e 1 1 send 1 3 2 1
+e 0 0 recv 1 3 3 1
+e 0 0 send 0 4 4 2
+e 1 1 recv 0 4 5 2
+e 1 1 send 1 5 4 2
+e 0 0 recv 1 5 5 2
+left 0
+left 1
+end
+"#;
+
+const FULL_BUFFER: &str =
+    r#"# A sender fills a buffer with room for two and has to try again until a receiver on the same CPU
+# has made room: what is received is what was sent, in order.
+#   mctower run --schedule '0*80' < plans/full-buffer.toml
+# A test of crates/mctower holds this text too: src/plan_tests.rt.
+cpus = 1
+trace = 8
+buffers = [2]
+
+[[thread]]
+cpu = 0
+program = ["set r0 1", "send 0 r0", "set r0 2", "send 0 r0", "set r0 3", "send 0 r0", "set r0 4", "send 0 r0"]
+
+[[thread]]
+cpu = 0
+program = ["recv 0 r0", "recv 0 r0", "recv 0 r0"]
+"#;
+
+const FULL_BUFFER_TRACE: &str = r#"mctower-trace 1
+buffers 1
+cap 0 2
+e 0 0 send 0 1 0 0
+e 0 0 send 0 2 1 1
+e 0 1 recv 0 1 2 0
+e 0 1 recv 0 2 3 1
+e 0 0 send 0 3 4 2
+e 0 0 send 0 4 5 3
+e 0 1 recv 0 3 6 2
+left 0 4
+end
+"#;
+
+const SEVERAL_BUFFERS: &str =
+    r#"# A pipeline over three CPUs and two buffers: the first thread makes 3, 2, 1, the second doubles,
+# the third receives. The trace is one order over both buffers.
+#   mctower run --schedule '0*20,1*20,2*20,0*20,1*20,2*20,0*20,1*20,2*20' < plans/several-buffers.toml
+# A test of crates/mctower holds this text too: src/plan_tests.rt.
+cpus = 3
+trace = 6
+buffers = [1, 4]
+
+[[thread]]
+cpu = 0
+program = ["set r0 3", "set r1 1", "send 0 r0", "sub r0 r1", "jnz r0 2"]
+
+[[thread]]
+cpu = 1
+program = ["set r1 1", "set r2 3", "recv 0 r0", "add r0 r0", "send 1 r0", "sub r2 r1", "jnz r2 2"]
+
+[[thread]]
+cpu = 2
+program = ["recv 1 r0", "recv 1 r0", "recv 1 r0"]
+"#;
+
+const SEVERAL_BUFFERS_TRACE: &str = r#"mctower-trace 1
+buffers 2
+cap 0 1
+cap 1 4
+e 0 0 send 0 3 0 0
+e 1 1 recv 0 3 1 0
+e 0 0 send 0 2 2 1
+e 1 1 send 1 6 0 0
+e 1 1 recv 0 2 3 1
+e 0 0 send 0 1 4 2
+e 2 2 recv 1 6 1 0
+e 1 1 send 1 4 2 1
+e 1 1 recv 0 1 5 2
+e 2 2 recv 1 4 3 1
+left 0
+left 1
+end
+"#;
+
+/// The plan of a sum that wraps.
+pub const WRAP_AROUND: &str = r#"# Registers count modulo 2^64: the largest number plus one is zero.
+#   mctower run --schedule '0*8' < plans/wrap-around.toml
+# A test of crates/mctower holds this text too: src/plan_tests.rt.
+cpus = 1
+trace = 4
+buffers = [1]
+
+[[thread]]
+cpu = 0
+program = ["set r0 18446744073709551615", "set r1 1", "add r0 r1", "send 0 r0", "exit"]
+"#;
+
+const WRAP_AROUND_TRACE: &str = r#"mctower-trace 1
+buffers 1
+cap 0 1
+e 0 0 send 0 0 0 0
+left 0 0
+end
+"#;
+
+/// Each plan with the name of its file and its trace.
+const PLANS: [(&str, &str, &str); 5] = [
+    ("one-send", ONE_SEND, ONE_SEND_TRACE),
+    ("ping-pong", PING_PONG, PING_PONG_TRACE),
+    ("full-buffer", FULL_BUFFER, FULL_BUFFER_TRACE),
+    ("several-buffers", SEVERAL_BUFFERS, SEVERAL_BUFFERS_TRACE),
+    ("wrap-around", WRAP_AROUND, WRAP_AROUND_TRACE),
+];
+
+/// The schedule in a plan's comment.
+fn schedule_in(plan: &str) -> Option<&str> {
+    let (_, rest) = plan.split_once("--schedule '")?;
+    let (schedule, _) = rest.split_once("'")?;
+    Some(schedule)
+}
+
+#[test]
+fn each_plan_has_its_trace_and_a_yes(rt: HostRuntime) -> Result<(), Fail> {
+    for (name, plan, trace) in PLANS {
+        let schedule = schedule_in(plan).ok_or("a plan without a schedule")?;
+        let steps = read_steps(rt.alloc(), schedule)?;
+        assert!(rt; steps.len() <= MOST_STEPS);
+        let mut out = Vec::new(rt.alloc());
+        let fault = run_text(rt.alloc(), plan, &steps, &mut Sink::new(&mut out)).err();
+        assert_eq!(rt; fault, None, "{name}");
+        assert_eq!(rt; out.as_slice(), trace.as_bytes(), "{name}");
+        assert_eq!(rt; check(&out), Verdict::Yes, "{name}");
+    }
+    Ok(())
+}
+
+#[test]
+fn the_files_are_these_texts(rt: HostRuntime) -> Result<(), Fail> {
+    for (name, plan, _) in PLANS {
+        let path = format!(in rt.alloc(); "../../plans/{name}.toml")?;
+        if let Ok(text) = fs::read_to_string(&rt, path.as_str()) {
+            assert_eq!(rt; text.as_str(), plan, "{name}");
+        }
+    }
+    Ok(())
+}

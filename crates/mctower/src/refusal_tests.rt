@@ -1,0 +1,225 @@
+//! Bad plans and bad schedules as the command line refuses them: the error line, the status, and
+//! nothing on standard output.
+
+use crate::serve::serve;
+use std::sync::Wait;
+use std::test::Fail;
+use std::thread::Threads;
+use tracer::Sink;
+
+/// One thread that sends 7.
+const ONE_SEND: &str =
+    "cpus = 1\ntrace = 4\nbuffers = [1]\n\n[[thread]]\ncpu = 0\nprogram = [\"set r0 7\", \"send 0 r0\", \"exit\"]\n";
+
+/// Each change of that plan: a part of its text, what stands there instead, and the error line.
+const CHANGES: [(&str, &str, &str); 20] = [
+    ("cpus = 1", "cpus = \"1\"", "MissingKey(21) cpus"),
+    ("cpus = 1", "cpus = 9", "OutOfRange(22) cpus"),
+    ("trace = 4", "", "MissingKey(21) trace"),
+    ("trace = 4", "trace = 65537", "OutOfRange(22) trace"),
+    ("[1]", "[\"1\"]", "MissingKey(21) buffers"),
+    ("[1]", "[33]", "OutOfRange(22) buffers"),
+    ("[[thread]]", "[thread]", "MissingKey(21) thread"),
+    (
+        "[[thread]]",
+        "thread = []\n[[other]]",
+        "OutOfRange(22) thread",
+    ),
+    ("cpu = 0", "", "MissingKey(21) thread 0 cpu"),
+    ("cpu = 0", "cpu = 1", "OutOfRange(22) thread 0 cpu"),
+    ("\"exit\"", "1", "MissingKey(21) thread 0 program"),
+    ("send 0 r0", "send 1 r0", "OutOfRange(22) thread 0 program"),
+    (
+        "\"set r0 7\", \"send 0 r0\", \"exit\"",
+        "",
+        "Guest(23) thread 0 line 0 Empty(15)",
+    ),
+    (
+        "set r0 7",
+        "set  r0 7",
+        "Guest(23) thread 0 line 0 UnknownWord(10)",
+    ),
+    (
+        "set r0 7",
+        "set r9 7",
+        "Guest(23) thread 0 line 0 BadRegister(11)",
+    ),
+    (
+        "set r0 7",
+        "set r0 07",
+        "Guest(23) thread 0 line 0 BadNumber(12)",
+    ),
+    (
+        "send 0 r0",
+        "jnz r0 3",
+        "Guest(23) thread 0 line 1 BadTarget(13)",
+    ),
+    ("cpus = 1", "cpus = ", "BadToml(20)"),
+    ("cpus = 1", "cpus = 1\ncpus = 1", "BadToml(20)"),
+    ("[1]", "[1", "BadToml(20)"),
+];
+
+/// Whether the words, on this input, are refused with this line and this status.
+fn is_refused<T: AllocGlobal + Threads + Wait + Sync>(
+    rt: &T,
+    words: &[&str],
+    mut input: &[u8],
+    status: u8,
+    line: &str,
+) -> Result<bool, Fail> {
+    let mut out = Vec::new(rt.alloc());
+    let mut err = Vec::new(rt.alloc());
+    let given = serve(
+        rt,
+        rt.alloc(),
+        words,
+        &mut input,
+        &mut Sink::new(&mut out),
+        &mut Sink::new(&mut err),
+    );
+    let text = format!(in rt.alloc(); "error: {line}\n")?;
+    Ok(given == status && out.is_empty() && err.as_slice() == text.as_bytes())
+}
+
+#[test]
+fn each_bad_plan_has_its_error_line(rt: HostRuntime) -> Result<(), Fail> {
+    for (from, to, line) in CHANGES {
+        let plan = ONE_SEND.replace(rt.alloc(), from, to)?;
+        let words = ["run", "--schedule", "0*6"];
+        assert!(rt;
+            is_refused(&rt, words.as_slice(), plan.as_bytes(), 1, line)?,
+            "{line}"
+        );
+    }
+    Ok(())
+}
+
+#[test]
+fn a_program_that_is_too_long_has_its_error_line(rt: HostRuntime) -> Result<(), Fail> {
+    let lines = "\"exit\", ".repeat(rt.alloc(), 256)?;
+    let plan = ONE_SEND.replace(rt.alloc(), "\"set r0 7\", \"send 0 r0\", ", lines.as_str())?;
+    let line = "Guest(23) thread 0 line 256 TooLong(14)";
+    assert!(rt; is_refused(&rt, ["run"].as_slice(), plan.as_bytes(), 1, line)?);
+    Ok(())
+}
+
+#[test]
+fn a_fault_names_its_thread(rt: HostRuntime) -> Result<(), Fail> {
+    let more = "[[thread]]\ncpu = 0\nprogram = [\"exit\"]\n".repeat(rt.alloc(), 2)?;
+    let plan = format!(in rt.alloc(); "{ONE_SEND}{more}[[thread]]\nprogram = [\"exit\"]\n")?;
+    let line = "MissingKey(21) thread 3 cpu";
+    assert!(rt; is_refused(&rt, ["run"].as_slice(), plan.as_bytes(), 1, line)?);
+    let plan = format!(in rt.alloc();
+        "{ONE_SEND}{more}[[thread]]\ncpu = 0\nprogram = [\"exit\", \"jnz r0 2\"]\n"
+    )?;
+    let line = "Guest(23) thread 3 line 1 BadTarget(13)";
+    assert!(rt; is_refused(&rt, ["run"].as_slice(), plan.as_bytes(), 1, line)?);
+    Ok(())
+}
+
+#[test]
+fn a_plan_that_is_no_text_is_no_document(rt: HostRuntime) -> Result<(), Fail> {
+    let mut plan = Vec::from_slice(rt.alloc(), ONE_SEND.as_bytes())?;
+    plan.extend_from_slice(b"# \xff\n")?;
+    assert!(rt; is_refused(&rt, ["run"].as_slice(), &plan, 1, "BadToml(20)")?);
+    Ok(())
+}
+
+#[test]
+fn a_bad_schedule_is_a_bad_command_line(rt: HostRuntime) -> Result<(), Fail> {
+    let bad = [
+        "",
+        ",",
+        "0,",
+        ",0",
+        "0,,1",
+        " 0",
+        "0 ",
+        "00",
+        "01",
+        "256",
+        "a",
+        "+1",
+        "0*",
+        "*3",
+        "0*0",
+        "0*01",
+        "0*1048577",
+        "0*1048576,0",
+        "0*2*3",
+        "0;1",
+    ];
+    for schedule in bad {
+        let words = ["run", "--schedule", schedule];
+        let line = "BadSchedule(9)";
+        assert!(rt;
+            is_refused(&rt, words.as_slice(), ONE_SEND.as_bytes(), 2, line)?,
+            "{schedule}"
+        );
+        // It is read before any input, so before a plan that is refused.
+        assert!(rt;
+            is_refused(&rt, words.as_slice(), b"cpus = 9", 2, line)?,
+            "{schedule}"
+        );
+    }
+    Ok(())
+}
+
+#[test]
+fn a_cpu_that_the_plan_has_not_is_told_after_the_plan(rt: HostRuntime) -> Result<(), Fail> {
+    for schedule in ["1", "0*6,255", "0*3,1", "7*1000,0"] {
+        let words = ["run", "--schedule", schedule];
+        let plan = ONE_SEND.as_bytes();
+        assert!(rt;
+            is_refused(&rt, words.as_slice(), plan, 1, "BadCpu(4)")?,
+            "{schedule}"
+        );
+        let line = "OutOfRange(22) cpus";
+        assert!(rt;
+            is_refused(&rt, words.as_slice(), b"cpus = 9", 1, line)?,
+            "{schedule}"
+        );
+    }
+    Ok(())
+}
+
+/// A trace whose third entry takes from an empty buffer.
+const TAKES: &str = r#"mctower-trace 1
+buffers 1
+cap 0 2
+e 0 0 send 0 7 0 0
+e 1 1 recv 0 7 1 0
+e 1 1 recv 0 8 2 1
+e 0 0 send 0 8 3 1
+left 0
+end
+"#;
+
+/// Whether `check` answers this line, with the status of a no.
+fn is_no<T: AllocGlobal + Threads + Wait + Sync>(rt: &T, text: &str, line: &str) -> bool {
+    let mut out = Vec::new(rt.alloc());
+    let mut err = Vec::new(rt.alloc());
+    let status = serve(
+        rt,
+        rt.alloc(),
+        ["check"].as_slice(),
+        &mut text.as_bytes(),
+        &mut Sink::new(&mut out),
+        &mut Sink::new(&mut err),
+    );
+    status == 3 && out.as_slice() == line.as_bytes() && err.is_empty()
+}
+
+#[test]
+fn three_texts_have_their_lines(rt: HostRuntime) -> Result<(), Fail> {
+    assert!(rt; is_no(&rt, TAKES, "no 6 EmptyTake(35)\n"));
+    let cut = TAKES.replace(
+        rt.alloc(),
+        "e 1 1 recv 0 8 2 1\ne 0 0 send 0 8 3 1\nleft 0\nend\n",
+        "left 0\n",
+    )?;
+    assert!(rt; is_no(&rt, cut.as_str(), "no 7 Spelling(30)\n"));
+    let zero = TAKES.replace(rt.alloc(), "7 1 0\n", "7 01 0\n")?;
+    assert!(rt; is_no(&rt, zero.as_str(), "no 5 Spelling(30)\n"));
+    Ok(())
+}
