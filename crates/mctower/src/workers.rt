@@ -58,13 +58,14 @@ impl Promise<Option<Key<AddOne>>> for MadeBy {
 // It has no pause between them, since after a look that hit the next poll frees the lock.
 const SPINS: u16 = 1000;
 
-// Lets other threads run where no spins are left, and tells how many are left then.
+// Lets other threads run where no spins are left, and tells how many are left then: after that one,
+// so that a worker whose look hits frees the lock before it lets others run again.
 fn pause(spins: u16) -> u16 {
     if spins > 0 {
         spins - 1
     } else {
         thread::yield_now();
-        0
+        1
     }
 }
 
