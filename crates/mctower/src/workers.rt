@@ -254,14 +254,8 @@ mod tests {
     }
 
     #[test]
-    fn eight_threads_count_ten_times(rt: HostRuntime) -> Result<(), Fail> {
-        for round in 0..10 {
-            assert_eq!(rt;
-                count_table(&rt, rt.alloc(), 8, 1000)?,
-                8000,
-                "round {round}"
-            );
-        }
+    fn eight_threads_count_to_eight_thousand(rt: HostRuntime) -> Result<(), Fail> {
+        assert_eq!(rt; count_table(&rt, rt.alloc(), 8, 1000)?, 8000);
         Ok(())
     }
 
