@@ -135,7 +135,7 @@ const BAD_LINES: [(&str, &str); 22] = [
     ("close 0", "UnknownWord(10)"),
     ("set r4 7", "BadRegister(11)"),
     ("set r00 7", "BadRegister(11)"),
-    ("sub r0 R1", "BadRegister(11)"),
+    ("sub r0 R0", "BadRegister(11)"),
     ("jnz 0 0", "BadRegister(11)"),
     ("recv 0 7", "BadRegister(11)"),
     ("set r0 -7", "BadNumber(12)"),
