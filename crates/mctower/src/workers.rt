@@ -253,12 +253,6 @@ mod tests {
         Ok(())
     }
 
-    #[test]
-    fn eight_threads_count_to_eight_thousand(rt: HostRuntime) -> Result<(), Fail> {
-        assert_eq!(rt; count_table(&rt, rt.alloc(), 8, 1000)?, 8000);
-        Ok(())
-    }
-
     // Run with each allocation refused in turn. A thread whose own memory is refused is one that
     // could not be started. After a refusal the count is whole.
     #[test]
