@@ -1,14 +1,11 @@
-//! Calls of which one allocation may be refused: each gives its answer, or `NoMemory` with nothing
-//! written. With ample memory they give their answers; bench/refuse.sh refuses each allocation of
-//! these tests in turn, until none is left to refuse.
+//! Calls of which one allocation may be refused: each gives its answer, or `NoMemory`. With ample
+//! memory they give their answers; bench/refuse.sh refuses each allocation of these tests in turn,
+//! until none is left to refuse.
 
 use crate::count::count_plain;
 use crate::kernel::System;
-use crate::run::{Fault, run_text};
 use boot::{Boot, BootError};
-use event_log::{CpuId, NoMemory};
-use std::io::{self, Write};
-use tracer::Sink;
+use event_log::NoMemory;
 
 /// Two threads on two CPUs, and two buffers.
 const PLAN: &str = r#"cpus = 2
@@ -23,51 +20,6 @@ program = ["set r0 7", "send 0 r0", "recv 1 r1"]
 cpu = 1
 program = ["recv 0 r0", "add r0 r0", "send 1 r0"]
 "#;
-
-const TRACE: &str = r#"mctower-trace 1
-buffers 2
-cap 0 1
-cap 1 2
-e 0 0 send 0 7 0 0
-e 1 1 recv 0 7 1 0
-e 1 1 send 1 14 0 0
-e 0 0 recv 1 14 1 0
-left 0
-left 1
-end
-"#;
-
-/// A writer that takes no memory.
-#[derive(Drop)]
-struct Page {
-    bytes: [u8; 200],
-    used: usize,
-}
-
-impl Write for Page {
-    fn write(&mut self, buf: &[u8]) -> io::Result<usize> {
-        let mut taken = 0;
-        for (to, from) in self.bytes.iter_mut().skip(self.used).zip(buf) {
-            *to = *from;
-            taken += 1;
-        }
-        self.used = self.used.wrapping_add(taken);
-        Ok(taken)
-    }
-
-    fn flush(&mut self) -> io::Result<()> {
-        Ok(())
-    }
-}
-
-/// Twenty steps of CPU 0, then of CPU 1, and the same again.
-fn steps() -> [CpuId; 80] {
-    let mut steps = [CpuId(0); 80];
-    for (number, step) in steps.iter_mut().enumerate() {
-        *step = CpuId((number / 20 % 2) as u8);
-    }
-    steps
-}
 
 #[test]
 fn count_with_a_refused_allocation(rt: HostRuntime) {
@@ -84,21 +36,5 @@ fn open_with_a_refused_allocation(rt: HostRuntime) {
             matches!(System::open(rt.alloc(), boot, 80), Ok(_) | Err(NoMemory))
         ),
         Err(error) => assert_eq!(rt; error, BootError::NoMemory),
-    }
-}
-
-#[test]
-fn run_with_a_refused_allocation(rt: HostRuntime) {
-    let mut page = Page {
-        bytes: [0; 200],
-        used: 0,
-    };
-    let fault = run_text(rt.alloc(), PLAN, &steps(), &mut Sink::new(&mut page)).err();
-    if fault.is_none() {
-        assert_eq!(rt; page.used, TRACE.len());
-        assert!(rt; page.bytes.starts_with(TRACE.as_bytes()));
-    } else {
-        assert_eq!(rt; fault, Some(Fault::NoMemory));
-        assert_eq!(rt; page.used, 0);
     }
 }
