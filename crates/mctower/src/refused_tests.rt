@@ -1,11 +1,15 @@
-//! Calls of which one allocation may be refused: each gives its answer, or `NoMemory`. With ample
-//! memory they give their answers; bench/refuse.sh refuses each allocation of these tests in turn,
-//! until none is left to refuse.
+//! Calls of which one allocation may be refused: each gives its answer, or `NoMemory` with nothing
+//! written. With ample memory they give their answers; bench/refuse.sh refuses each allocation of
+//! these tests in turn, until none is left to refuse.
 
 use crate::count::count_plain;
 use crate::kernel::System;
+use crate::run::{Fault, run_text};
+use crate::schedule::{MOST_STEPS, StepsError, read_steps};
+use arrayvec::ArrayVec;
 use boot::{Boot, BootError};
 use event_log::NoMemory;
+use tracer::Sink;
 
 /// Two threads on two CPUs, and two buffers.
 const PLAN: &str = r#"cpus = 2
@@ -19,6 +23,19 @@ program = ["set r0 7", "send 0 r0", "recv 1 r1"]
 [[thread]]
 cpu = 1
 program = ["recv 0 r0", "add r0 r0", "send 1 r0"]
+"#;
+
+const TRACE: &str = r#"mctower-trace 1
+buffers 2
+cap 0 1
+cap 1 2
+e 0 0 send 0 7 0 0
+e 1 1 recv 0 7 1 0
+e 1 1 send 1 14 0 0
+e 0 0 recv 1 14 1 0
+left 0
+left 1
+end
 "#;
 
 #[test]
@@ -36,5 +53,23 @@ fn open_with_a_refused_allocation(rt: HostRuntime) {
             matches!(System::open(rt.alloc(), boot, 80), Ok(_) | Err(NoMemory))
         ),
         Err(error) => assert_eq!(rt; error, BootError::NoMemory),
+    }
+}
+
+#[test]
+fn run_with_a_refused_allocation(rt: HostRuntime) {
+    let mut page = ArrayVec::<u8, 200>::new();
+    match read_steps(rt.alloc(), "0*20,1*20,0*20,1*20") {
+        Ok(steps) => {
+            assert!(rt; steps.len() <= MOST_STEPS);
+            match run_text(rt.alloc(), PLAN, &steps, &mut Sink::new(&mut page)) {
+                Ok(_) => assert_eq!(rt; page.as_slice(), TRACE.as_bytes()),
+                Err(fault) => {
+                    assert_eq!(rt; fault, Fault::NoMemory);
+                    assert!(rt; page.is_empty());
+                }
+            }
+        }
+        Err(error) => assert_eq!(rt; error, StepsError::NoMemory),
     }
 }
