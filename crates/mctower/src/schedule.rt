@@ -104,12 +104,10 @@ fn read_cpu(text: &str) -> Option<CpuId>
 }
 
 fn push_steps(steps: &mut Vec<CpuId>, item: Item) -> Result<(), AllocError>
+    requires { length steps.old.items + item.steps ≤ 1048576 }
     ensures { OnOk result (steps.new.items ≡ steps.old.items ++ replicate item.steps item.cpu) }
 {
-    for _ in 0..item.steps {
-        steps.push(item.cpu)?;
-    }
-    Ok(())
+    steps.resize(steps.len() + item.steps, item.cpu)
 }
 
 #[cfg(test)]

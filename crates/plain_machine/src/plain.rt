@@ -104,9 +104,8 @@ impl<E: Edit> Words for Plain<E> {
     }
 
     fn look(&mut self, cpu: CpuId, lock: LockId, ticket: u64) -> Option<E::Block> {
-        let found = cells::look(&mut self.cells, lock, ticket);
         self.log.look(cpu, lock);
-        found
+        cells::look(&mut self.cells, lock, ticket)
     }
 
     fn free(&mut self, cpu: CpuId, lock: LockId, block: E::Block, mark: Mark<E>) {

@@ -41,10 +41,9 @@ pub struct Effect {
     pub pos: u64,
 }
 
-/// The block of a buffer: its messages, and how many calls took effect on it. Its messages stand
-/// apart, in room that is taken when it is made, so that it is small where sections pass it on.
+/// What a buffer holds: its messages, and how many calls took effect on it.
 #[derive(Drop)]
-pub struct BufferBlock {
+struct Held {
     items: VecDeque<u64>,
     capacity: usize,
     effects: u64,
@@ -52,7 +51,7 @@ pub struct BufferBlock {
     receives: u64,
 }
 
-impl Model for BufferBlock {
+impl Model for Held {
     ghost use Rattle.std.specs.Prelude.{◌≤◌, length};
     ghost use Rattle.std.specs.VecDeque.{deque_capacity};
     ghost use Rattle.mctower.specs.Buffer.{Buffer};
@@ -64,32 +63,11 @@ impl Model for BufferBlock {
     ghost invariant = { λ b. (b.capacity ≤ 32) × (length b.items.items ≤ b.capacity) × (b.capacity ≤ deque_capacity b.items) };
 }
 
-impl BufferBlock {
-    ghost use Rattle.mctower.specs.Buffer.{new_buffer};
+impl Held {
     ghost use Rattle.mctower.specs.Effects.{effect_on, edited_by};
     ghost use Rattle.mctower.specs.declared.kernel.edit.Call.TheVariants.{Send, Recv};
 
-    /// An empty buffer with room for `capacity` messages, at most 32. No later call takes memory.
-    ///
-    /// Errors: `NoMemory` where the room could not be had; nothing was made.
-    pub fn new(alloc: Global, capacity: usize) -> Result<BufferBlock, NoMemory>
-        requires { capacity ≤ 32 }
-        ensures { IfOk result (λ b. b ≡ new_buffer capacity) }
-    {
-        let Ok(items) = VecDeque::with_capacity(alloc, capacity) else {
-            return Err(NoMemory);
-        };
-        Ok(BufferBlock {
-            items,
-            capacity,
-            effects: 0,
-            sends: 0,
-            receives: 0,
-        })
-    }
-
-    /// Its messages, front first.
-    pub fn items(&self) -> ArrayVec<u64, 32>
+    fn items(&self) -> ArrayVec<u64, 32>
         ensures { result.items ≡ self.now.items }
     {
         let (first, second) = self.items.as_slices();
@@ -97,19 +75,6 @@ impl BufferBlock {
         items.try_extend_from_slice(first).unwrap();
         items.try_extend_from_slice(second).unwrap();
         items
-    }
-
-    /// Tries `call`. A send takes effect where there is room: its message joins the end. A receive
-    /// takes effect where a message is there: the first one leaves. Else nothing changes, and the
-    /// answer is `None`.
-    pub fn attempt(&mut self, call: Call) -> Option<Effect>
-        ensures block { self.new ≡ edited_by call self.old }
-        ensures answer { result ≡ effect_on call self.old }
-    {
-        match call {
-            Call::Send(message) => self.put(message),
-            Call::Recv => self.take(),
-        }
     }
 
     fn put(&mut self, message: u64) -> Option<Effect>
@@ -143,6 +108,69 @@ impl BufferBlock {
         self.effects = self.effects.wrapping_add(1);
         self.receives = self.receives.wrapping_add(1);
         Some(effect)
+    }
+}
+
+/// The block of a buffer: its messages, and how many calls took effect on it. It is a pointer, in
+/// room that is taken when it is made, so that a section passes it on at no cost.
+#[derive(Drop)]
+pub struct BufferBlock {
+    held: Box<Held>,
+}
+
+impl Model for BufferBlock {
+    ghost use Rattle.mctower.specs.Buffer.{Buffer};
+
+    ghost Value = { Buffer };
+
+    ghost view = { λ b. b.held.value };
+}
+
+impl BufferBlock {
+    ghost use Rattle.mctower.specs.Buffer.{new_buffer};
+    ghost use Rattle.mctower.specs.Effects.{effect_on, edited_by};
+
+    /// An empty buffer with room for `capacity` messages, at most 32. No later call takes memory.
+    ///
+    /// Errors: `NoMemory` where the room could not be had; nothing was made.
+    pub fn new(alloc: Global, capacity: usize) -> Result<BufferBlock, NoMemory>
+        requires { capacity ≤ 32 }
+        ensures { IfOk result (λ b. b ≡ new_buffer capacity) }
+    {
+        let Ok(items) = VecDeque::with_capacity(alloc, capacity) else {
+            return Err(NoMemory);
+        };
+        let held = Held {
+            items,
+            capacity,
+            effects: 0,
+            sends: 0,
+            receives: 0,
+        };
+        match Box::new(alloc, held) {
+            Ok(held) => Ok(BufferBlock { held }),
+            Err(_) => Err(NoMemory),
+        }
+    }
+
+    /// Its messages, front first.
+    pub fn items(&self) -> ArrayVec<u64, 32>
+        ensures { result.items ≡ self.now.items }
+    {
+        self.held.items()
+    }
+
+    /// Tries `call`. A send takes effect where there is room: its message joins the end. A receive
+    /// takes effect where a message is there: the first one leaves. Else nothing changes, and the
+    /// answer is `None`.
+    pub fn attempt(&mut self, call: Call) -> Option<Effect>
+        ensures block { self.new ≡ edited_by call self.old }
+        ensures answer { result ≡ effect_on call self.old }
+    {
+        match call {
+            Call::Send(message) => self.held.put(message),
+            Call::Recv => self.held.take(),
+        }
     }
 }
 
