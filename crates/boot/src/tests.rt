@@ -185,8 +185,12 @@ fn a_text_that_is_no_document_is_refused(rt: HostRuntime) -> Result<(), Fail> {
     Ok(())
 }
 
-/// Each key of the plan: absent, of another kind, with an item of another kind, out of range.
-const KEYS: [(&str, &str, &str); 26] = [
+/// Each key of the plan: at the end of its range, absent, of another kind, with an item of another
+/// kind, out of range.
+const KEYS: [(&str, &str, &str); 31] = [
+    ("cpus = 1", "cpus = 8", "read"),
+    ("trace = 4", "trace = 1", "read"),
+    ("[1]", "[1,2,3,4,5,6,7,8,9,10,11,12,13,14,15,32]", "read"),
     ("cpus = 1", "cpus = 1.0", "MissingKey(21) cpus"),
     ("cpus = 1", "cpus = true", "MissingKey(21) cpus"),
     ("cpus = 1", "cpus = [1]", "MissingKey(21) cpus"),
@@ -199,6 +203,7 @@ const KEYS: [(&str, &str, &str); 26] = [
     ("[1]", "[1.5]", "MissingKey(21) buffers"),
     ("[1]", "[[1]]", "MissingKey(21) buffers"),
     ("[1]", "[1, true]", "MissingKey(21) buffers"),
+    ("[1]", "[0]", "OutOfRange(22) buffers"),
     ("[1]", "[-1]", "OutOfRange(22) buffers"),
     ("[[thread]]", "[[threads]]", "MissingKey(21) thread"),
     ("[[thread]]", "[thread]", "MissingKey(21) thread"),
@@ -215,6 +220,7 @@ const KEYS: [(&str, &str, &str); 26] = [
     ("cpu = 0", "cpu = \"0\"", "MissingKey(21) thread 0 cpu"),
     ("cpu = 0", "cpu = 0.0", "MissingKey(21) thread 0 cpu"),
     ("cpu = 0", "cpu = -1", "OutOfRange(22) thread 0 cpu"),
+    ("cpu = 0", "cpu = 256", "OutOfRange(22) thread 0 cpu"),
     ("program =", "programs =", "MissingKey(21) thread 0 program"),
     (
         "program = [",
@@ -240,7 +246,7 @@ fn each_key_is_there_and_in_its_range(rt: HostRuntime) -> Result<(), Fail> {
 }
 
 /// Two faults in one plan: the one that is tested first counts.
-const TWO_FAULTS: [(&str, &str, &str); 9] = [
+const TWO_FAULTS: [(&str, &str, &str); 11] = [
     (
         "cpus = 1\ntrace = 4",
         "cpus = 9\ntrace = 0",
@@ -268,6 +274,12 @@ const TWO_FAULTS: [(&str, &str, &str); 9] = [
         "\"send 1 r0\", 1",
         "MissingKey(21) thread 0 program",
     ),
+    (
+        "[[thread]]",
+        "thread = [{ cpu = 9, program = [] }, 1]\n[[other]]",
+        "MissingKey(21) thread",
+    ),
+    ("\"exit\"", "\"what\", 1", "MissingKey(21) thread 0 program"),
     (
         "\"exit\"",
         "\"send 1 r0\", \"what\"",
@@ -302,6 +314,11 @@ fn a_plan_has_at_most_64_threads(rt: HostRuntime) -> Result<(), Fail> {
     assert_eq!(rt; line(&rt, most.as_str())?.as_str(), "read");
     let over = format!(in rt.alloc(); "{most}{thread}")?;
     assert_eq!(rt; line(&rt, over.as_str())?.as_str(), "OutOfRange(22) thread");
+    let wrong = over.replace(rt.alloc(), "cpu = 0", "cpu = 1")?;
+    assert_eq!(rt;
+        line(&rt, wrong.as_str())?.as_str(),
+        "OutOfRange(22) thread"
+    );
     Ok(())
 }
 

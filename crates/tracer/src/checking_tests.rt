@@ -2,6 +2,7 @@
 
 use crate::{Reason, Verdict, check};
 use std::alloc::Global;
+use std::fmt::Write;
 use std::test::*;
 
 const ROW: &[u8; 66] = b"mctower-trace 1\nbuffers 1\ncap 0 1\ne 0 0 send 0 7 0 0\nleft 0 7\nend\n";
@@ -76,6 +77,107 @@ fn changes_of_one_text(rt: HostRuntime) -> Result<(), Fail> {
     longer.push(b' ')?;
     assert_eq!(rt; check(&longer), Verdict::No(7, Reason::Spelling));
     Ok(())
+}
+
+/// Each change of one line of the text of one send: what stands there instead, and the line and the
+/// first reason of the answer.
+const LINES: [(usize, &str, usize, Reason); 54] = [
+    (1, "mctower-trace 2\n", 1, Reason::Spelling),
+    (1, " mctower-trace 1\n", 1, Reason::Spelling),
+    (1, "", 1, Reason::Spelling),
+    (2, "buffers\n", 2, Reason::Spelling),
+    (2, "buffers 01\n", 2, Reason::Spelling),
+    (2, "buffers 17 \n", 2, Reason::Spelling),
+    (2, "buffers 0\n", 2, Reason::Range),
+    (2, "buffers 99999999999999999999\n", 2, Reason::Range),
+    (2, "buffers 2\n", 4, Reason::Spelling),
+    (3, "cap 1 1\n", 3, Reason::Spelling),
+    (3, "cap 00 1\n", 3, Reason::Spelling),
+    (3, "cap 18446744073709551616 1\n", 3, Reason::Spelling),
+    (3, "cap 1 33\n", 3, Reason::Spelling),
+    (3, "", 3, Reason::Spelling),
+    (3, "cap 0 0\n", 3, Reason::Range),
+    (3, "cap 0 33\n", 3, Reason::Range),
+    (3, "cap 0 1\ncap 1 1\n", 4, Reason::Spelling),
+    (4, "\n", 4, Reason::Spelling),
+    (4, "e\n", 4, Reason::Spelling),
+    (4, "e  0 0 send 0 7 0 0\n", 4, Reason::Spelling),
+    (4, "e 0 0 send 0 7 0 0 \n", 4, Reason::Spelling),
+    (4, "e 0 0 send 0 7 0\n", 4, Reason::Spelling),
+    (4, "e 0 0 give 0 7 0 0\n", 4, Reason::Spelling),
+    (4, "e 8 0 send 0 7 0 00\n", 4, Reason::Spelling),
+    (4, "E 0 0 send 0 7 0 0\n", 4, Reason::Spelling),
+    (4, "e 8 0 send 0 7 0 0\n", 4, Reason::Range),
+    (4, "e 0 64 send 0 7 0 0\n", 4, Reason::Range),
+    (4, "e 0 0 send 1 7 0 0\n", 4, Reason::Range),
+    (4, "e 0 0 send 0 7 524288 0\n", 4, Reason::Range),
+    (4, "e 0 0 send 0 7 0 524288\n", 4, Reason::Range),
+    (4, "e 0 0 recv 1 8 1 1\n", 4, Reason::Range),
+    (4, "e 0 0 recv 0 8 524287 1\n", 4, Reason::Op),
+    (4, "e 0 0 recv 0 8 0 524287\n", 4, Reason::Pos),
+    (4, "e 0 0 recv 0 8 0 0\n", 4, Reason::EmptyTake),
+    (4, "e 0 0 send 0 7 0 0\ne 0 0 send 0 8 2 2\n", 5, Reason::Op),
+    (
+        4,
+        "e 0 0 send 0 7 0 0\ne 0 0 send 0 8 1 2\n",
+        5,
+        Reason::Pos,
+    ),
+    (4, "", 4, Reason::Left),
+    (5, "left 1 7\n", 5, Reason::Spelling),
+    (5, "left 0 07\n", 5, Reason::Spelling),
+    (5, "left 0 7 \n", 5, Reason::Spelling),
+    (5, "left 0 18446744073709551616 x\n", 5, Reason::Spelling),
+    (5, "left\n", 5, Reason::Spelling),
+    (5, "", 5, Reason::Spelling),
+    (5, "left 0 18446744073709551616\n", 5, Reason::Range),
+    (5, "left 0 8 18446744073709551616\n", 5, Reason::Range),
+    (5, "left 0\n", 5, Reason::Left),
+    (5, "left 0 7 7\n", 5, Reason::Left),
+    (5, "left 0 7\nleft 1\n", 6, Reason::Spelling),
+    (5, "left 0 7\ne 0 0 recv 0 7 1 0\n", 6, Reason::Spelling),
+    (6, "end \n", 6, Reason::Spelling),
+    (6, "END\n", 6, Reason::Spelling),
+    (6, "", 6, Reason::Spelling),
+    (6, "end\n\n", 7, Reason::Spelling),
+    (6, "end\nend\n", 7, Reason::Spelling),
+];
+
+#[test]
+fn the_first_reason_against_the_first_bad_line_counts(rt: HostRuntime) -> Result<(), Fail> {
+    for (at, lines, line, reason) in LINES {
+        let text = with_line(rt.alloc(), ROW, at, lines.as_bytes())?;
+        assert_eq!(rt; check(&text), Verdict::No(line, reason), "{lines}");
+    }
+    Ok(())
+}
+
+/// The text of 524,288 entries of buffer 0, of `more` behind them, and of nothing left.
+fn with_most_entries(alloc: Global, more: &str) -> Result<String, Fail> {
+    let mut text = String::from_str(alloc, "mctower-trace 1\nbuffers 2\ncap 0 1\ncap 1 1\n")?;
+    for i in 0..262_144u64 {
+        let op = i.wrapping_mul(2);
+        write!(text, "e 7 63 send 0 {i} {op} {i}\n")?;
+        write!(text, "e 0 0 recv 0 {i} {} {i}\n", op.wrapping_add(1))?;
+    }
+    write!(text, "{more}left 0\nleft 1\nend\n")?;
+    Ok(text)
+}
+
+#[test]
+fn there_are_at_most_524288_entries(rt: HostRuntime) -> Result<(), Fail> {
+    let most = with_most_entries(rt.alloc(), "")?;
+    assert_eq!(rt; check(most.as_bytes()), Verdict::Yes);
+    let over = with_most_entries(rt.alloc(), "e 0 0 recv 1 7 1 1\n")?;
+    assert_eq!(rt; check(over.as_bytes()), Verdict::No(524_293, Reason::Range));
+    Ok(())
+}
+
+// The judge takes no memory, so whichever allocation is refused, there is none to refuse.
+#[test]
+fn check_needs_no_refused_allocation(rt: HostRuntime) {
+    assert_eq!(rt; check(ROW), Verdict::Yes);
+    assert_eq!(rt; check(TAKES), Verdict::No(6, Reason::EmptyTake));
 }
 
 #[test]

@@ -3,7 +3,7 @@
 ghost use Rattle.std.specs.Prelude.{◌≡◌, false};
 ghost use Rattle.tracer.specs.Sinks.{has_failed};
 
-use crate::{Entry, Kind, Sink, write_trace};
+use crate::{Entry, Kind, Sink, WriteFault, write_trace};
 use arrayvec::ArrayVec;
 use event_log::{BufId, CpuId, Tid};
 use std::alloc::Global;
@@ -82,4 +82,30 @@ fn ten_bytes_one_at_a_time(rt: HostRuntime) {
     let answer = one_send(&mut Sink::new(&mut writer));
     assert!(rt; !answer);
     assert_eq!(rt; writer.out.as_slice(), b"mctower-tr".as_slice());
+}
+
+/// A writer that takes nothing, and fails when it is asked to pass on what it holds.
+#[derive(Drop)]
+struct Stuck;
+
+impl Write for Stuck {
+    fn write(&mut self, _buf: &[u8]) -> io::Result<usize> {
+        Ok(0)
+    }
+
+    fn flush(&mut self) -> io::Result<()> {
+        Err(io::Error::from(io::ErrorKind::BrokenPipe))
+    }
+}
+
+#[test]
+fn a_writer_that_takes_no_byte_has_failed(rt: HostRuntime) {
+    let mut sink = Sink::new(Stuck);
+    assert_eq!(rt; sink.put(b""), Ok(()));
+    assert!(rt; !sink.failed());
+    assert_eq!(rt; sink.put(b"a"), Err(WriteFault));
+    assert!(rt; sink.failed());
+    let mut sink = Sink::new(Stuck);
+    assert_eq!(rt; sink.flush(), Err(WriteFault));
+    assert!(rt; sink.failed());
 }
