@@ -46,7 +46,15 @@ impl<E: Edit> Shared<E> {
     }
 }
 
-impl<E: Edit> Seat<'_, E> {
+impl<'a, E: Edit> Seat<'a, E> {
+    /// The table at which the seat stands. The key that the seat gives back may be seated there
+    /// again, whatever was done through the seat meanwhile.
+    pub fn table(&self) -> &'a Shared<E>
+        ensures { IsOf result.now self.now }
+    {
+        self.shared
+    }
+
     /// Leaves the seat. The key keeps all that the seat has seen. Takes no memory.
     pub fn back(self) -> Key<E>
         ensures { result ≡ self.entry }

@@ -210,6 +210,20 @@ fn each_section_finds_what_the_one_before_left(rt: HostRuntime) -> Result<(), Fa
 }
 
 #[test]
+fn a_key_takes_its_seat_again(rt: HostRuntime) -> Result<(), Fail> {
+    let (shared, first, second) = two_keys(&rt, rt.alloc())?;
+    let mut seat = shared.seat(first);
+    assert_eq!(rt; adds_one(&rt, &mut seat, A, LOCK), 40);
+    let table = seat.table();
+    let mut again = table.seat(seat.back());
+    assert_eq!(rt; adds_one(&rt, &mut again, A, LOCK), 41);
+    let first = again.back();
+    let blocks = closed(rt.alloc(), shared, first, second)?;
+    assert_eq!(rt; blocks.as_slice(), [(LOCK, 42), (OTHER, 7)].as_slice());
+    Ok(())
+}
+
+#[test]
 fn the_second_waits_until_the_first_is_out(rt: HostRuntime) -> Result<(), Fail> {
     let (shared, first, second) = two_keys(&rt, rt.alloc())?;
     let mut a = shared.seat(first);
