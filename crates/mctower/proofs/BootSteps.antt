@@ -1,6 +1,7 @@
 -- A system that has taken no step meets the invariant; and admitting one thread after the other makes such a system.
 use Rattle.std.proofs.Common.{◌≡◌, ◌≢◌, ℕ, zero, suc, ◌+◌, ◌<◌, ◌≤◌, Bool, true, false, cond, List, [], ◌∷◌, ◌++◌, length, set, get_or, map, reverse, Option, Some, None, refl, sym, ap, ◌∙◌, subst, arith, ◌⊎◌, inl, inr}
 use Rattle.std.specs.Prelude.{slice_get, slice_index_or, option_to_list, count_by, if◌then◌else◌, ◌==◌, ◌&&◌}
+use Rattle.std.specs.List.{AllByRecursion}
 use Rattle.std.proofs.lemmas.Bool.{eq-eqb, ne_eqb, cases_eq, false≢true}
 use Rattle.std.proofs.lemmas.List.{append_assoc}
 use Rattle.std.proofs.lemmas.List.Sums.{sum_by_push, sum_by-cons}
@@ -21,7 +22,7 @@ use Rattle.mctower.specs.declared.kernel.guests.Stage.TheVariants.{Between, Begu
 use Rattle.mctower.specs.Buffer.{Buffer, new_buffer}
 use Rattle.mctower.specs.State.{CpuState, Shown}
 use Rattle.mctower.specs.GuestView.{is_ended, is_begun}
-use Rattle.mctower.specs.Claims.{traces_of, caps_of, contents_of, of_thread, Follows, standing_at, times, due_at}
+use Rattle.mctower.specs.Claims.{traces_of, caps_of, contents_of, of_thread, Follows, homes_of, IsOfHome, standing_at, times, due_at}
 use Rattle.mctower.specs.Sound.{IsSound, IsOrdered, IsCounted, IsUnderWay, Counts, has_begun_on}
 use Rattle.mctower.specs.Boots.{idle_cpu, admitted, new_guest}
 use Rattle.mctower.specs.Fresh.{IsFresh, IsFreshCpu, IsFreshGuest}
@@ -77,6 +78,7 @@ fresh_sound s fresh = record {
         calls = subst (λ (l : List Entry). IsProgramsCalls program (reverse (of_thread t l)) g.thread) (sym none) (subst (λ d. IsProgramsCalls program [] d) (sym its.thread) starts);
         ends = λ over. absurd (false≢true (sym (ap is_ended its.stage) ∙ over));
       };
+  stay = λ c p at. subst (λ (l : List Entry). AllByRecursion (IsOfHome (homes_of s) c) l) (sym (fresh.cpus c p at).trace) tt;
   once = fresh.once;
   counted = λ c p at.
       let its : IsFreshCpu p = fresh.cpus c p at in

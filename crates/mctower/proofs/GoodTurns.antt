@@ -24,9 +24,9 @@ use Rattle.mctower.specs.Steps.{Turn, after_turn, let_go, put_behind, begun_at, 
 use Rattle.mctower.specs.Effects.{effect_on, edited_by}
 use Rattle.layer_traits.specs.Plans.{at_give}
 use Rattle.event_log.specs.Actions.{Phase, Rests, Waits, Holds, phase}
-use Rattle.mctower.specs.Claims.{traces_of, of_thread, entries_of, Follows, FollowPrograms, standing_at, times, due_at, StandOnce}
+use Rattle.mctower.specs.Claims.{traces_of, of_thread, entries_of, Follows, FollowPrograms, homes_of, IsOfHome, standing_at, times, due_at, StandOnce}
 use Rattle.mctower.specs.Sound.{IsOrdered, IsCounted, IsUnderWay, IsCall, CallsKnown, has_begun_on, IsSound}
-use Rattle.mctower.proofs.ListLemmas.{get_set, get_set_same, get_set_other, get_within, within_get, map_set_same, set_get}
+use Rattle.mctower.proofs.ListLemmas.{get_set, get_set_same, get_set_other, get_within, within_get, map_set_same, set_get, all_push}
 use Rattle.mctower.specs.Turns.{HasCount}
 use Rattle.mctower.proofs.OrderSteps.{eq_or_not, interleaving_more}
 use Rattle.mctower.proofs.CallSteps.{finish_at, calls_more, of_other, of_own, begins, has_count_in}
@@ -119,6 +119,13 @@ module _ (s : Shown) (c : CpuId) (p : CpuState) (t : Tid) (program : List Instru
   not_calling : (IsCall (todo_of program g) → ⊥) → is_begun g.stage ≡ false
   not_calling never = not_begun g.stage (λ b. never (sound.calling t.0 program g at_program at_guest b))
 
+  -- the list of homes has its home
+  at_its_home : slice_get (homes_of s) t.0 ≡ Some c.0
+  at_its_home =
+      slice_get-map (λ (k : Guest). k.home.0) s.guests t.0
+      ∙ ap (λ (o : Option Guest). option_map (λ (k : Guest). k.home.0) o) at_guest
+      ∙ ap (λ n. Some n) lives.0
+
   -- the thread ends
   pub good_finish : todo_of program g ≡ Finish → IsGoodTurn s c p t program g (record { cpu = let_go p; guest = ended g; guarded = s.guarded })
   good_finish todo =
@@ -128,6 +135,7 @@ module _ (s : Shown) (c : CpuId) (p : CpuState) (t : Tid) (program : List Instru
         others = λ u ne. refl;
         own = λ old. record { calls = old.calls; ends = λ e. finish_at g.thread (next_of program g.thread) todo };
         home = refl;
+        stay = λ all. all;
         stand = λ u ne. sym (others_ready u ne);
         stands =
             let here : (g.home.0 == c.0) ≡ true = eq-eqb g.home.0 c.0 lives.0 in
@@ -151,6 +159,7 @@ module _ (s : Shown) (c : CpuId) (p : CpuState) (t : Tid) (program : List Instru
         others = λ u ne. refl;
         own = λ old. record { calls = calls-yield program _ g.thread old.calls; ends = λ e. absurd (cc (e, lives.1)) };
         home = refl;
+        stay = λ all. all;
         stand = λ u ne. behind_others u ne;
         stands = behind_own ∙ sym (due_once g refl lives.1);
         count = refl;
@@ -172,6 +181,7 @@ module _ (s : Shown) (c : CpuId) (p : CpuState) (t : Tid) (program : List Instru
         others = λ u ne. refl;
         own = λ old. record { calls = calls-local program _ g.thread old.calls; ends = λ e. absurd (cc (e, lives.1)) };
         home = refl;
+        stay = λ all. all;
         stand = λ u ne. refl;
         stands = due_here;
         count = refl;
@@ -214,6 +224,7 @@ module _ (s : Shown) (c : CpuId) (p : CpuState) (t : Tid) (program : List Instru
         others = λ u ne. ap (of_thread u) same.1;
         own = λ old. record { calls = rw same.1 old.calls; ends = λ e. absurd (cc) };
         home = refl;
+        stay = λ all. rw same.1 all;
         stand = λ u ne. ap (times u) same.0;
         stands = ap (times t.0) same.0 ∙ due_here ∙ due_once g refl lives.1 ∙ sym (due_once (begun g) refl refl);
         count = goes.0;
@@ -255,6 +266,7 @@ module _ (s : Shown) (c : CpuId) (p : CpuState) (t : Tid) (program : List Instru
         others = λ u ne. ap (of_thread u) same.1;
         own = λ old. record { calls = rw same.1 old.calls; ends = λ e. absurd (cc) };
         home = refl;
+        stay = λ all. rw same.1 all;
         stand = λ u ne. rw same.2 (behind_others u ne);
         stands = rw same.2 (behind_own ∙ sym (due_once (begun g) refl refl));
         count = goes.0;
@@ -294,6 +306,7 @@ module _ (s : Shown) (c : CpuId) (p : CpuState) (t : Tid) (program : List Instru
           ends = λ v. absurd (cc);
         };
         home = refl;
+        stay = λ all. rw same.1 (all_push (IsOfHome (homes_of s) c.0) p.trace e all (refl, at_its_home));
         stand = λ u ne. ap (times u) same.0;
         stands = ap (times t.0) same.0 ∙ due_here ∙ due_once g refl lives.1 ∙ sym (due_once (returned program (begun g) call f.value) refl refl);
         count = let h = goes.0 in let k = goes.2 in omega arith;

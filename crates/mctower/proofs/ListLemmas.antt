@@ -1,6 +1,7 @@
 -- Reads and writes of lists by their index.
-use Rattle.std.proofs.Common.{◌≡◌, ◌≢◌, ℕ, zero, suc, ◌<◌, ◌≤◌, List, [], ◌∷◌, length, get_or, set, map, Option, Some, None, refl, sym, ap, arith, ◌∙◌}
+use Rattle.std.proofs.Common.{◌≡◌, ◌≢◌, ℕ, zero, suc, ◌<◌, ◌≤◌, List, [], ◌∷◌, ◌++◌, length, get_or, set, map, Option, Some, None, refl, sym, ap, arith, ◌∙◌}
 use Rattle.std.specs.Prelude.{slice_get}
+use Rattle.std.specs.List.{AllByRecursion}
 use Rattle.std.proofs.Common.{◌⊎◌, inl, inr}
 
 -- what was written is read
@@ -48,3 +49,8 @@ pub within_get : {X : Type 0} (xs : List X) (i : ℕ) (x : X) → slice_get xs i
 within_get [] i x e = absurd (cc)
 within_get (z ∷ zs) zero x e = omega arith
 within_get (z ∷ zs) (suc i) x e = let rest : i < length zs = within_get zs i x e in omega arith
+
+-- what holds of every element, and of one more behind them
+pub all_push : {X : Type 0} (P : X → Type 0) (xs : List X) (x : X) → AllByRecursion P xs → P x → AllByRecursion P (xs ++ x ∷ [])
+all_push P [] x all here = (here, tt)
+all_push P (y ∷ xs) x all here = (all.0, all_push P xs x all.1 here)

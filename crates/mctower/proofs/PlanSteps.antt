@@ -26,11 +26,7 @@ use Rattle.mctower.specs.GuestView.{todo_of, begun}
 use Rattle.mctower.specs.Boots.{booted, idle_cpu, admitted, admitted_at, with_threads, new_guest}
 use Rattle.mctower.specs.Steps.{switched_to, begun_at, noted, entry_of, answer_of, buffers_after, acted, Turn, answered, turn_at, turn_of, turned, moved_at, moved, unless_halted, reason_of, step_of, steps_of}
 use Rattle.mctower.specs.Plans.{IsEntryAt, IsCpuOf, IsSystemOf}
-use Rattle.mctower.proofs.ListLemmas.{get_set, map_set_same}
-
-all_push : {X : Type 0} (P : X → Type 0) (xs : List X) (x : X) → AllByRecursion P xs → P x → AllByRecursion P (xs ++ x ∷ [])
-all_push P [] x all here = (here, tt)
-all_push P (y ∷ xs) x all here = (all.0, all_push P xs x all.1 here)
+use Rattle.mctower.proofs.ListLemmas.{get_set, map_set_same, all_push}
 
 -- a switch and a call that begins leave the entries and the room
 switched_cpu : (plan : Plan) (c : ℕ) (p : CpuState) (ready : List Tid) → IsCpuOf plan c p → IsCpuOf plan c (switched_to p ready)

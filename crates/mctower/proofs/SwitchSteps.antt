@@ -1,6 +1,7 @@
 -- A switch keeps the invariant of the system; and what the invariant gives the turn of a running thread.
 use Rattle.std.proofs.Common.{◌≡◌, ◌≢◌, ℕ, ◌+◌, ◌<◌, ◌≤◌, Bool, true, false, cond, List, [], ◌∷◌, ◌++◌, length, set, get_or, map, Option, Some, None, refl, sym, ap, ◌∙◌, subst, arith, ◌⊎◌, inl, inr}
 use Rattle.std.specs.Prelude.{slice_get, slice_index_or, option_to_list, count_by, if◌then◌else◌, ◌==◌, ◌&&◌}
+use Rattle.std.specs.List.{AllByRecursion}
 use Rattle.std.proofs.lemmas.Bool.{eq-eqb}
 use Rattle.std.proofs.lemmas.Bool.Decides.{nat_tests}
 use Rattle.std.proofs.lemmas.Option.{same_Some, get_or_from_slice_get}
@@ -27,7 +28,7 @@ use Rattle.mctower.specs.GuestView.{todo_of, is_ended, is_begun}
 use Rattle.mctower.specs.Steps.{switched_to, section_of, is_full_for, is_full, have_ended, own_reason, reason_of, option_or, after_switch}
 use Rattle.mctower.specs.Turns.{HasCount, MayTry, MayTurn}
 use Rattle.mctower.specs.Guards.{MayGoOn}
-use Rattle.mctower.specs.Claims.{traces_of, of_thread, Follows, FollowPrograms, standing_at, times, due_at, StandOnce, HasOneOrder}
+use Rattle.mctower.specs.Claims.{traces_of, of_thread, Follows, FollowPrograms, homes_of, IsOfHome, StayHome, standing_at, times, due_at, StandOnce, HasOneOrder}
 use Rattle.mctower.specs.Sound.{IsSound, IsOrdered, IsCounted, IsUnderWay, has_begun_on}
 use Rattle.mctower.proofs.ListLemmas.{get_set, get_set_same, get_set_other, map_set_same, get_within, within_get}
 use Rattle.mctower.proofs.TurnLemmas.{due_home, stands_running}
@@ -71,6 +72,15 @@ traces_switch s c p at_cpu = map_set_same (λ (q : CpuState). q.trace) s.cpus c.
 follow_switch : (s : Shown) (c : CpuId) (p : CpuState) → slice_get s.cpus c.0 ≡ Some p → FollowPrograms s → FollowPrograms (after_switch s c p)
 follow_switch s c p at_cpu follow u program h at_program at =
     subst (λ ts. Follows program h (of_thread u (slice_index_or ts h.home.0 []))) (sym (traces_switch s c p at_cpu)) (follow u program h at_program at)
+
+stay_switch : (s : Shown) (c : CpuId) (p : CpuState) → slice_get s.cpus c.0 ≡ Some p → StayHome s → StayHome (after_switch s c p)
+stay_switch s c p at_cpu stay d q at =
+    elim (get_set s.cpus c.0 d (switched_to p p.ready) q at) [
+      | inl here ↦
+          let now : AllByRecursion (IsOfHome (homes_of s) c.0) (switched_to p p.ready).trace = subst (λ (l : List Entry). AllByRecursion (IsOfHome (homes_of s) c.0) l) (sym (switched_trace p p.ready)) (stay c.0 p at_cpu) in
+          subst (λ (n : ℕ). AllByRecursion (IsOfHome (homes_of s) n) q.trace) (sym here.0) (subst (λ (x : CpuState). AllByRecursion (IsOfHome (homes_of s) c.0) x.trace) here.1 now)
+      | inr there ↦ stay d q there.1
+    ]
 
 counted_switch : (s : Shown) (c : CpuId) (p : CpuState) → slice_get s.cpus c.0 ≡ Some p → IsSound s → (d : ℕ) (q : CpuState) → slice_get (after_switch s c p).cpus d ≡ Some q → IsCounted s.guests d q
 counted_switch s c p at_cpu sound d q at =
@@ -125,6 +135,7 @@ pub switch_sound : (s : Shown) (c : CpuId) (p : CpuState) → IsSound s → slic
 switch_sound s c p sound at_cpu free left = record {
   ordered = ordered_switch s c p at_cpu sound.ordered;
   follow = follow_switch s c p at_cpu sound.follow;
+  stay = stay_switch s c p at_cpu sound.stay;
   once = once_switch s c p at_cpu free sound.once;
   counted = counted_switch s c p at_cpu sound;
   calling = sound.calling;

@@ -1,7 +1,7 @@
 -- A turn of a running thread keeps the invariant of the system.
 use Rattle.std.proofs.Common.{◌≡◌, ◌≢◌, ℕ, zero, suc, ◌+◌, ◌-◌, ◌<◌, ◌≤◌, ◌%◌, ◌^◌, Bool, true, false, List, [], ◌∷◌, ◌++◌, length, get_or, set, map, Option, Some, None, refl, sym, ap, ◌∙◌, subst, arith, ◌⊎◌, inl, inr, ◌==◌, ◌&&◌}
 use Rattle.std.specs.Prelude.{slice_get, slice_set, slice_index_or, if◌then◌else◌, option_to_list, count_by, filter, reverse, option_map}
-use Rattle.std.specs.List.{sum_by}
+use Rattle.std.specs.List.{sum_by, AllByRecursion}
 use Rattle.std.proofs.lemmas.Bool.{eq-eqb, ne_eqb, eqb-true}
 use Rattle.std.proofs.lemmas.List.{map-set, length-map, length-set, get_or-set_other}
 use Rattle.std.proofs.lemmas.List.Sums.{sum_by-set, sum_by-cons, sum_by_push}
@@ -21,7 +21,7 @@ use Rattle.mctower.specs.Buffer.{Buffer}
 use Rattle.mctower.specs.State.{CpuState, Guarded, Shown}
 use Rattle.mctower.specs.GuestView.{todo_of, is_ended, is_begun}
 use Rattle.mctower.specs.Steps.{Turn, after_turn}
-use Rattle.mctower.specs.Claims.{traces_of, of_thread, entries_of, Follows, FollowPrograms, standing_at, times, due_at, StandOnce}
+use Rattle.mctower.specs.Claims.{traces_of, of_thread, entries_of, Follows, FollowPrograms, homes_of, IsOfHome, StayHome, standing_at, times, due_at, StandOnce}
 use Rattle.mctower.specs.Sound.{IsOrdered, IsCounted, IsUnderWay, IsCall, CallsKnown, has_begun_on, IsSound}
 use Rattle.mctower.proofs.ListLemmas.{get_set, get_set_same, get_set_other, get_within, within_get, map_set_same}
 use Rattle.mctower.proofs.OrderSteps.{eq_or_not}
@@ -64,6 +64,7 @@ pub record IsGoodTurn (s : Shown) (c : CpuId) (p : CpuState) (t : Tid) (program 
   pub others : (u : ℕ) → u ≢ t.0 → of_thread u turn.cpu.trace ≡ of_thread u p.trace
   pub own : Follows program g (of_thread t.0 p.trace) → Follows program turn.guest (of_thread t.0 turn.cpu.trace)
   pub home : turn.guest.home ≡ g.home
+  pub stay : AllByRecursion (IsOfHome (homes_of s) c.0) p.trace → AllByRecursion (IsOfHome (homes_of s) c.0) turn.cpu.trace
   pub stand : (u : ℕ) → u ≢ t.0 → times u (standing_at turn.cpu) ≡ times u (standing_at p)
   pub stands : times t.0 (standing_at turn.cpu) ≡ due_at c.0 (Some turn.guest)
   pub count : turn.cpu.begun + (if is_begun g.stage then 1 else 0) ≡ p.begun + (if is_begun turn.guest.stage then 1 else 0)
@@ -145,6 +146,20 @@ module _ (s : Shown) (c : CpuId) (p : CpuState) (t : Tid) (program : List Instru
         (subst (λ (v : Guest). Follows program v (entries_of (after_turn s c t turn) t.0 v)) same.1 follow_here))
     | inr other ↦ subst (λ es. Follows prog k es) (entries_same u k other.0) (sound.follow u prog k at_prog other.1)
   ]
+
+  homes_same : homes_of (after_turn s c t turn) ≡ homes_of s
+  homes_same = map_set_same (λ (k : Guest). k.home.0) s.guests t.0 turn.guest g at_guest (ap (λ (h : CpuId). h.0) good.home)
+
+  stay_there : (d : ℕ) (q : CpuState) → slice_get (set s.cpus c.0 turn.cpu) d ≡ Some q → AllByRecursion (IsOfHome (homes_of s) d) q.trace
+  stay_there d q at = elim (get_set s.cpus c.0 d turn.cpu q at) [
+    | inl same ↦
+        subst (λ (r : CpuState). AllByRecursion (IsOfHome (homes_of s) d) r.trace) same.1
+        (subst (λ n. AllByRecursion (IsOfHome (homes_of s) n) turn.cpu.trace) (sym same.0) (good.stay (sound.stay c.0 p at_cpu)))
+    | inr other ↦ sound.stay d q other.1
+  ]
+
+  stay_after : StayHome (after_turn s c t turn)
+  stay_after d q at = subst (λ homes. AllByRecursion (IsOfHome homes d) q.trace) (sym homes_same) (stay_there d q at)
 
   count_step : (d : ℕ) → count_by (has_begun_on d) (set s.guests t.0 turn.guest) + (if has_begun_on d g then 1 else 0) ≡ count_by (has_begun_on d) s.guests + (if has_begun_on d turn.guest then 1 else 0)
   count_step d =
@@ -229,6 +244,7 @@ module _ (s : Shown) (c : CpuId) (p : CpuState) (t : Tid) (program : List Instru
   sound_turn room = record {
     ordered = good.ordered;
     follow = follow_after;
+    stay = stay_after;
     once = once_after;
     counted = counted_after;
     calling = calling_after;

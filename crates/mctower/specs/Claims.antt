@@ -1,5 +1,6 @@
 -- What holds of the system after every list of steps.
 use Rattle.std.specs.Prelude.{ℕ, ◌≡◌, ◌==◌, List, [], ◌++◌, map, filter, reverse, Option, Some, None, slice_get, slice_index_or, if◌then◌else◌, true, false, option_to_list, count_by}
+use Rattle.std.specs.List.{AllByRecursion}
 use Rattle.event_log.specs.declared.entries.Entry.{Entry}
 use Rattle.event_log.specs.declared.ids.Tid.{Tid}
 use Rattle.event_log.specs.Runs.{IsRun}
@@ -48,6 +49,18 @@ pub record Follows (program : List Instruction) (g : Guest) (entries : List Entr
 -- each thread follows its program
 abbrev pub FollowPrograms : Shown → Type 0
 FollowPrograms s = (t : ℕ) (program : List Instruction) (g : Guest) → slice_get s.programs t ≡ Some program → slice_get s.guests t ≡ Some g → Follows program g (entries_of s t g)
+
+-- where each thread is at home
+abbrev pub homes_of : Shown → List ℕ
+homes_of s = map (λ g. g.home.0) s.guests
+
+-- the entry is of CPU c, and of a thread that is at home there
+abbrev pub IsOfHome : List ℕ → ℕ → Entry → Type 0
+IsOfHome homes c e = (e.cpu.0 ≡ c) × (slice_get homes e.thread.0 ≡ Some c)
+
+-- each entry in a CPU's trace is of that CPU, and of a thread that is at home there
+abbrev pub StayHome : Shown → Type 0
+StayHome s = (c : ℕ) (p : CpuState) → slice_get s.cpus c ≡ Some p → AllByRecursion (IsOfHome (homes_of s) c) p.trace
 
 -- the threads that stand at a CPU: the one that runs, and the ready ones
 abbrev pub standing_at : CpuState → List Tid

@@ -20,7 +20,7 @@ use Rattle.mctower.specs.Buffer.{Buffer}
 use Rattle.mctower.specs.State.{CpuState, Shown}
 use Rattle.mctower.specs.GuestView.{todo_at, todo_of, is_begun}
 use Rattle.mctower.specs.Steps.{section_of}
-use Rattle.mctower.specs.Claims.{traces_of, caps_of, contents_of, FollowPrograms, StandOnce}
+use Rattle.mctower.specs.Claims.{traces_of, caps_of, contents_of, FollowPrograms, StayHome, StandOnce}
 
 -- the counters of buffer k count its entries in the order
 pub record Counts (order : List Entry) (k : ℕ) (x : Buffer) : Type 0 where
@@ -74,6 +74,7 @@ IsCall (Tries b call) = Unit {0}
 pub record IsSound (s : Shown) : Type 0 where
   pub ordered : IsOrdered s
   pub follow : FollowPrograms s
+  pub stay : StayHome s
   pub once : StandOnce s
   pub counted : (c : ℕ) (p : CpuState) → slice_get s.cpus c ≡ Some p → IsCounted s.guests c p
   pub calling : (t : ℕ) (program : List Instruction) (g : Guest) → slice_get s.programs t ≡ Some program → slice_get s.guests t ≡ Some g → g.stage ≡ Begun → IsCall (todo_of program g)

@@ -42,7 +42,7 @@ impl Model for System {
 
 impl System {
     ghost use Rattle.mctower.specs.Steps.{step_of, steps_of, own_reason, reason_of, moved};
-    ghost use Rattle.mctower.specs.Claims.{HasOneOrder, FollowPrograms, StandOnce, IsPlaceOf, traces_of, contents_of};
+    ghost use Rattle.mctower.specs.Claims.{HasOneOrder, FollowPrograms, StayHome, StandOnce, IsPlaceOf, traces_of, contents_of};
     ghost use Rattle.mctower.specs.Sound.{IsSound};
 
     /// Takes one step of `cpu`, which must exist: one local action or one atomic action.
@@ -58,6 +58,7 @@ impl System {
         // What holds after every list of steps.
         ensures one_order { HasOneOrder self.new }
         ensures follow { FollowPrograms self.new }
+        ensures stay { StayHome self.new }
         ensures once { StandOnce self.new }
     {
         if let Some(reason) = self.reason(cpu) {
@@ -134,6 +135,7 @@ impl System {
         // What holds after every list of steps.
         ensures one_order { HasOneOrder self.new }
         ensures follow { FollowPrograms self.new }
+        ensures stay { StayHome self.new }
         ensures once { StandOnce self.new }
     {
         let count = self.cpus.len();
@@ -188,6 +190,7 @@ impl System {
     pub fn holds(&self)
         ensures one_order { HasOneOrder self.now }
         ensures follow { FollowPrograms self.now }
+        ensures stay { StayHome self.now }
         ensures once { StandOnce self.now }
         ensures sound { IsSound self.now }
     {

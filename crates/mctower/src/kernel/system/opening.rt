@@ -54,7 +54,7 @@ fn admit_all(cpus: &mut Vec<Cpu>, boot: &Boot)
 
 impl System {
     ghost use Rattle.mctower.specs.Boots.{booted};
-    ghost use Rattle.mctower.specs.Claims.{HasOneOrder, FollowPrograms, StandOnce};
+    ghost use Rattle.mctower.specs.Claims.{HasOneOrder, FollowPrograms, StayHome, StandOnce};
 
     /// The system of a plan before its first step, with room for `room` steps: each CPU's threads
     /// are ready by rising number, and every buffer is empty. All memory is taken here.
@@ -64,6 +64,7 @@ impl System {
         ensures booted { IfOk result (λ s. s ≡ booted boot room) }
         ensures one_order { IfOk result HasOneOrder }
         ensures follow { IfOk result FollowPrograms }
+        ensures stay { IfOk result StayHome }
         ensures once { IfOk result StandOnce }
     {
         let guarded = Guarded::open(alloc, boot.caps().as_slice(), boot.cpus(), room)?;
