@@ -1,5 +1,6 @@
 -- Counting: sections that each add 1 to one number.
-use Rattle.std.specs.Prelude.{◌≡◌, ◌+◌, ◌%◌, ◌^◌, ◌<◌, ℕ, List, Option, None, length, slice_index_or}
+use Rattle.std.specs.Prelude.{◌≡◌, ◌+◌, ◌%◌, ◌^◌, ◌<◌, ℕ, zero, suc, true, List, ◌∷◌, Option, None, length, slice_index_or}
+use Rattle.event_log.specs.Actions.{Action, Take, Try, Give}
 use Rattle.event_log.specs.declared.ids.CpuId.{CpuId}
 use Rattle.event_log.specs.declared.ids.LockId.{LockId}
 use Rattle.event_log.specs.History.{how_many, same_lock}
@@ -25,3 +26,17 @@ pub record IsReady {P M S : Type 0} (cpu_of : P → CpuId) (under_way : P → Op
 abbrev pub AreReady : {P M S : Type 0} → (P → CpuId) → (P → Option S) → (P → M → Type 0) → List P → M → Type 0
 AreReady cpu_of under_way Fits parts machine =
     (i : ℕ) (d : _) → i < length parts → IsReady cpu_of under_way Fits i (slice_index_or parts i d) machine
+
+-- the actions after a whole section of the CPU of this number: it took a place, entered and gave the lock on
+abbrev pub after_section : LockId → ℕ → List (Action AddOne) → List (Action AddOne)
+after_section lock number past = Give (record { 0 = number }) lock (record {}) ∷ Try (record { 0 = number }) lock true ∷ Take (record { 0 = number }) lock ∷ past
+
+-- the actions after a round: a whole section of each of so many CPUs, from CPU 0 on
+abbrev pub after_round : LockId → ℕ → List (Action AddOne) → List (Action AddOne)
+after_round lock zero past = past
+after_round lock (suc before) past = after_section lock before (after_round lock before past)
+
+-- the actions after so many rounds of so many CPUs
+abbrev pub after_rounds : LockId → ℕ → ℕ → List (Action AddOne) → List (Action AddOne)
+after_rounds lock cpus zero past = past
+after_rounds lock cpus (suc before) past = after_round lock cpus (after_rounds lock cpus before past)

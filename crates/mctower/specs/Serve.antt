@@ -1,5 +1,5 @@
--- What serving an order gives: the exit status, and what is on standard output.
-use Rattle.std.specs.Prelude.{◌≡◌, ◌*◌, ◌++◌, ◌⊎◌, ℕ, Bool, List, [], ◌∷◌, Option, Some, None, Result, Ok, Err, IfSome, IsUtf8, codes, decimal, if◌then◌else◌}
+-- What serving an order gives: the exit status, what is on standard output and on standard error, and whether the input is read.
+use Rattle.std.specs.Prelude.{◌≡◌, ◌*◌, ◌++◌, ◌⊎◌, ℕ, Bool, true, false, List, [], ◌∷◌, Option, Some, None, Result, Ok, Err, IfSome, IsUtf8, codes, decimal, if◌then◌else◌, is_some}
 use Rattle.clap.specs.Walk.{Text}
 use Rattle.event_log.specs.declared.ids.CpuId.{CpuId}
 use Rattle.boot.specs.Plan.{Plan, plan_of}
@@ -7,7 +7,9 @@ use Rattle.tracer.specs.declared.verdicts.Verdict.{Verdict}
 use Rattle.tracer.specs.declared.verdicts.Verdict.TheVariants as verdict
 use Rattle.tracer.specs.Judging.{verdict_of}
 use Rattle.tracer.specs.Sinks.{Outs}
+use Rattle.mctower.specs.Help.{help_of, topic_of}
 use Rattle.mctower.specs.Line.{Meant, count, run, threads, check}
+use Rattle.mctower.specs.Print.{PrintsRefusal}
 use Rattle.mctower.specs.Running.{AreCpus, IsTextOf, IsUntouched, ran}
 use Rattle.mctower.specs.Schedule.{steps_of}
 
@@ -101,3 +103,28 @@ Serves (Some check) input status failed old new = Checks input status failed old
 Serves (Some (run schedule)) input status failed old new = RunsAsked (steps_asked schedule) input status failed old new
 -- no such order is taken
 Serves (Some (threads turns)) input status failed old new = ⊥
+
+-- ---- standard error
+
+-- at a bad command line the help on the command that its words name is printed; where the words are an order all the same, its
+-- schedule is none, and a refusal is printed
+abbrev pub PrintsBadLine : List Text → Option Meant → Bool → Option (List ℕ) → Option (List ℕ) → Type 0
+PrintsBadLine words None failed old new = Outs failed old new (help_of (topic_of words))
+PrintsBadLine words (Some meant) failed old new = PrintsRefusal failed old new
+
+-- What is on standard error, by the exit status, whether it failed, and its bytes before and after: nothing after a good run, a
+-- yes or a no; a refusal's line where the status is 1; and where it is 2, what a bad command line gets.
+abbrev pub Reports : List Text → Option Meant → ℕ → Bool → Option (List ℕ) → Option (List ℕ) → Type 0
+Reports words meant status failed old new = (((status ≡ 0) ⊎ (status ≡ 3)) × IsUntouched failed old new)
+    ⊎ (((status ≡ 1) × PrintsRefusal failed old new)
+    ⊎ ((status ≡ 2) × PrintsBadLine words meant failed old new))
+
+-- ---- standard input
+
+-- whether the input is read for these words: for a check, and for a run whose schedule is one
+abbrev pub reads_input : Option Meant → Bool
+reads_input None = false
+reads_input (Some (count cpus times)) = false
+reads_input (Some check) = true
+reads_input (Some (run schedule)) = is_some (steps_asked schedule)
+reads_input (Some (threads turns)) = false

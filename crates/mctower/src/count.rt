@@ -3,9 +3,10 @@
 ghost use Rattle.std.specs.Prelude.{◌≡◌, ℕ, ◌+◌, ◌*◌, ◌<◌, ◌≤◌, ◌%◌, ◌^◌, Some, None, IsSome, IfOk, [], length};
 ghost use Rattle.event_log.specs.declared.ids.CpuId.{CpuId};
 ghost use Rattle.event_log.specs.declared.ids.TheConstants.{CPUS};
-ghost use Rattle.event_log.specs.Actions.{phase, Rests};
+ghost use Rattle.event_log.specs.Actions.{acts_of, phase, Rests};
 ghost use Rattle.event_log.specs.WordsLog.{frees, standing, Outside};
-ghost use Rattle.mctower.specs.Count.{AreReady, counting, sections_at};
+ghost use Rattle.layer_traits.specs.Protocol.{edit_of};
+ghost use Rattle.mctower.specs.Count.{AreReady, after_round, after_rounds, counting, sections_at};
 
 use crate::line::MOST_TIMES;
 use event_log::{BufId, CpuId, LockId, NoMemory};
@@ -49,6 +50,7 @@ fn round<L: LockLayer<AddOne>>(parts: &mut [L], machine: &mut L::Machine, lock: 
     ensures owned { (c : CpuId) → c.0 < CPUS → L.ActsFor machine.new c }
     ensures rests { (c : CpuId) → phase c (L.acts machine.new) ≡ Rests }
     ensures counted { sections_at lock (L.seen machine.new) ≡ sections_at lock (L.seen machine.old) + length parts.old }
+    ensures order { L.acts machine.new ≡ after_round lock (length parts.old) (L.acts machine.old) }
 {
     for i in 0..parts.len() {
         whole(&mut parts[i], machine, lock, AddOne);
@@ -67,6 +69,7 @@ fn rounds<L: LockLayer<AddOne>>(parts: &mut [L], machine: &mut L::Machine, lock:
     ensures owned { (c : CpuId) → c.0 < CPUS → L.ActsFor machine.new c }
     ensures rests { (c : CpuId) → phase c (L.acts machine.new) ≡ Rests }
     ensures counted { sections_at lock (L.seen machine.new) ≡ sections_at lock (L.seen machine.old) + times * length parts.old }
+    ensures order { L.acts machine.new ≡ after_rounds lock (length parts.old) times (L.acts machine.old) }
 {
     for _ in 0..times {
         round(parts, machine, lock);
@@ -112,6 +115,7 @@ pub fn count_rounds(alloc: Global, cpus: u8, times: u64) -> Result<Plain<AddOne>
     ensures opening { IfOk result (λ m. ⟦<Plain<AddOne> as Words>⟧.opening m NUMBER ≡ Some 0) }
     ensures rests { IfOk result (λ m. (c : CpuId) → standing c (⟦<Plain<AddOne> as Words>⟧.seen m) ≡ Outside) }
     ensures counted { IfOk result (λ m. frees NUMBER (⟦<Plain<AddOne> as Words>⟧.seen m) ≡ times * cpus) }
+    ensures order { IfOk result (λ m. acts_of edit_of (⟦<Plain<AddOne> as Words>⟧.seen m) ≡ after_rounds NUMBER cpus times []) }
 {
     let mut machine = number_machine(alloc, 3 * times as usize * cpus as usize)?;
     let Ok(mut parts) = parts_of::<Ticket<Plain<AddOne>>>(alloc, cpus) else {

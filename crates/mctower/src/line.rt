@@ -227,10 +227,6 @@ mod tests {
     use super::*;
     use std::test::Fail;
 
-    fn is_refused(alloc: Global, words: &[&str]) -> bool {
-        matches!(read_line(alloc, words), Err(LineError::Refused))
-    }
-
     #[test]
     fn count_has_its_two_values(rt: HostRuntime) -> Result<(), Fail> {
         let words = ["count", "--cpus", "2", "--times", "3"];
@@ -249,58 +245,6 @@ mod tests {
                 Order::Count(1, 7)
             )
         );
-        Ok(())
-    }
-
-    #[test]
-    fn bad_lines_are_refused(rt: HostRuntime) {
-        let alloc = rt.alloc();
-        assert!(rt; is_refused(alloc, [].as_slice()));
-        assert!(rt; is_refused(alloc, ["--help"].as_slice()));
-        assert!(rt; is_refused(alloc, ["help", "count"].as_slice()));
-        assert!(rt; is_refused(alloc, ["count", "--help"].as_slice()));
-        assert!(rt; is_refused(alloc, ["counts"].as_slice()));
-        assert!(rt; is_refused(alloc, ["count"].as_slice()));
-        assert!(rt; is_refused(alloc, ["count", "--cpus", "2"].as_slice()));
-        assert!(rt; is_refused(alloc, ["count", "--cpus", "2", "--times"].as_slice()));
-        assert!(rt;
-            is_refused(
-                alloc,
-                ["count", "--cpus", "2", "--times", "3", "4"].as_slice()
-            )
-        );
-        assert!(rt; is_refused(alloc, ["count", "--cpus", "2", "--times", "0"].as_slice()));
-        assert!(rt;
-            is_refused(
-                alloc,
-                ["count", "--cpus", "2", "--times", "1001"].as_slice()
-            )
-        );
-        assert!(rt; is_refused(alloc, ["count", "--cpus", "9", "--times", "1"].as_slice()));
-        assert!(rt; is_refused(alloc, ["count", "--cpus", "0", "--times", "1"].as_slice()));
-        assert!(rt; is_refused(alloc, ["count", "--cpus", "two", "--times", "1"].as_slice()));
-        assert!(rt; is_refused(alloc, ["count", "--cpus", "-1", "--times", "1"].as_slice()));
-        assert!(rt;
-            is_refused(
-                alloc,
-                ["count", "--cpus", "1", "--cpus", "1", "--times", "1"].as_slice()
-            )
-        );
-    }
-
-    #[test]
-    fn a_command_without_a_server_is_refused(rt: HostRuntime) {
-        assert!(rt;
-            is_refused(rt.alloc(), ["threads", "--turns", "5"].as_slice()) || SERVES_THREADS
-        );
-        assert!(rt; is_refused(rt.alloc(), ["run"].as_slice()) || SERVES_RUN);
-        assert!(rt; is_refused(rt.alloc(), ["check"].as_slice()) || SERVES_CHECK);
-    }
-
-    #[test]
-    fn errors_have_their_names(rt: HostRuntime) -> Result<(), Fail> {
-        let text = format!(in rt.alloc(); "{}", LineError::NoMemory)?;
-        assert_eq!(rt; text.as_str(), "NoMemory(1)");
         Ok(())
     }
 }

@@ -148,6 +148,17 @@ fn a_bad_schedule_is_a_bad_command_line(rt: HostRuntime) -> Result<(), Fail> {
         "0*1048576,0",
         "0*2*3",
         "0;1",
+        "0, 1",
+        "0\n",
+        "0x1",
+        "*",
+        "0*+1",
+        "0**2",
+        "0*1.5",
+        "0*18446744073709551617",
+        "99999999999999999999",
+        "7*1048576,7*1048576",
+        "٣",
     ];
     for schedule in bad {
         let words = ["run", "--schedule", schedule];

@@ -6,7 +6,7 @@ ghost use Rattle.event_log.specs.declared.ids.TheConstants.{CPUS};
 ghost use Rattle.tracer.specs.Sinks.{has_failed, writer_of};
 ghost use Rattle.mctower.specs.Line.{order_of};
 ghost use Rattle.mctower.specs.Schedule.{ReadsSteps};
-ghost use Rattle.mctower.specs.Serve.{Checks, Counts, IsInput, IsRefused, Puts, Runs, Serves, Tells, status_of, steps_asked};
+ghost use Rattle.mctower.specs.Serve.{Checks, Counts, IsInput, IsRefused, Puts, Reports, Runs, Serves, Tells, reads_input, status_of, steps_asked};
 
 use crate::count::count_plain;
 use crate::help::help_on;
@@ -51,7 +51,8 @@ pub enum ServeError {
 /// Puts the pieces out; the exit status is then this one.
 fn put_out<O: Write>(out: &mut Sink<O>, pieces: &[&[u8]], status: u8) -> Result<u8, ServeError>
     requires { has_failed out.old ≡ false }
-    ensures { Puts status (flat_map (λ p. p.now) pieces.now) (status_of result) (has_failed out.new) (O.contents (writer_of out.old)) (O.contents (writer_of out.new)) }
+    ensures end { IfOk result (λ given. given ≡ status) }
+    ensures put { Puts status (flat_map (λ p. p.now) pieces.now) (status_of result) (has_failed out.new) (O.contents (writer_of out.old)) (O.contents (writer_of out.new)) }
 {
     match print(out, pieces) {
         Ok(()) => Ok(status),
@@ -70,7 +71,8 @@ fn serve_count<O: Write, T: Threads + Wait + Sync>(
     requires cpus { cpus ≤ CPUS }
     requires times { times ≤ MOST_TIMES }
     requires live { has_failed out.old ≡ false }
-    ensures { Counts (times * cpus) (status_of result) (has_failed out.new) (O.contents (writer_of out.old)) (O.contents (writer_of out.new)) }
+    ensures end { IfOk result (λ given. given ≡ 0) }
+    ensures counts { Counts (times * cpus) (status_of result) (has_failed out.new) (O.contents (writer_of out.old)) (O.contents (writer_of out.new)) }
 {
     let Ok(number) = count_plain(alloc, cpus, times) else {
         return Err(ServeError::NoMemory);
@@ -117,7 +119,8 @@ const LONGEST_NAME: usize = 32;
 /// Prints a verdict: `yes`, or `no L Name(N)`. Gives the exit status.
 fn print_verdict<O: Write>(verdict: Verdict, out: &mut Sink<O>) -> Result<u8, ServeError>
     requires { has_failed out.old ≡ false }
-    ensures { IsRefused (status_of result) (has_failed out.new) (O.contents (writer_of out.old)) (O.contents (writer_of out.new))
+    ensures end { IfOk result (λ given. (given ≡ 0) ⊎ (given ≡ 3)) }
+    ensures tells { IsRefused (status_of result) (has_failed out.new) (O.contents (writer_of out.old)) (O.contents (writer_of out.new))
         ⊎ Tells verdict (status_of result) (has_failed out.new) (O.contents (writer_of out.old)) (O.contents (writer_of out.new)) }
 {
     match verdict {
@@ -148,7 +151,8 @@ fn serve_check<R: Read, O: Write>(
     out: &mut Sink<O>,
 ) -> Result<u8, ServeError>
     requires { has_failed out.old ≡ false }
-    ensures { Checks (R.remaining input.old) (status_of result) (has_failed out.new) (O.contents (writer_of out.old)) (O.contents (writer_of out.new)) }
+    ensures end { IfOk result (λ given. (given ≡ 0) ⊎ (given ≡ 3)) }
+    ensures checks { Checks (R.remaining input.old) (status_of result) (has_failed out.new) (O.contents (writer_of out.old)) (O.contents (writer_of out.new)) }
 {
     let text = read_all(alloc, input)?;
     print_verdict(check(text.as_slice()), out)
@@ -173,7 +177,8 @@ fn serve_run<R: Read, O: Write>(
 ) -> Result<u8, ServeError>
     requires live { has_failed out.old ≡ false }
     requires few { length steps.now ≤ MOST_STEPS }
-    ensures { Runs (R.remaining input.old) steps.now (status_of result) (has_failed out.new) (O.contents (writer_of out.old)) (O.contents (writer_of out.new)) }
+    ensures end { IfOk result (λ given. given ≡ 0) }
+    ensures runs { Runs (R.remaining input.old) steps.now (status_of result) (has_failed out.new) (O.contents (writer_of out.old)) (O.contents (writer_of out.new)) }
 {
     let bytes = read_all(alloc, input)?;
     let Ok(plan) = str::from_utf8(bytes.as_slice()) else {
@@ -188,8 +193,9 @@ fn serve_run<R: Read, O: Write>(
 /// Serves one command line: `words` are those after the program's name.
 ///
 /// Gives the exit status: 0 for a good run or a yes of `check`; 1 for a refusal, with the line
-/// `error: Name(N)` on `err`; 2 for a bad command line, with a help text on `err` and nothing on
-/// `out`; 3 for a no of `check`.
+/// `error: Name(N)` on `err`; 2 for a bad command line, with the help on its command on `err` (a
+/// bad schedule has the line of a refusal there) and nothing on `out`; 3 for a no of `check`. With
+/// 0 and 3 nothing is on `err`. The input is read for a check, and for a run whose schedule is one.
 pub fn serve<R: Read, O: Write, E: Write, T: Threads + Wait + Sync>(
     rt: &T,
     alloc: Global,
@@ -200,8 +206,11 @@ pub fn serve<R: Read, O: Write, E: Write, T: Threads + Wait + Sync>(
 ) -> u8
     requires out { has_failed out.old ≡ false }
     requires err { has_failed err.old ≡ false }
-    ensures { Serves (order_of (map (λ w. w.now) words.now)) (R.remaining input.old)
+    ensures served { Serves (order_of (map (λ w. w.now) words.now)) (R.remaining input.old)
         result (has_failed out.new) (O.contents (writer_of out.old)) (O.contents (writer_of out.new)) }
+    ensures told { Reports (map (λ w. w.now) words.now) (order_of (map (λ w. w.now) words.now))
+        result (has_failed err.new) (E.contents (writer_of err.old)) (E.contents (writer_of err.new)) }
+    ensures unread { reads_input (order_of (map (λ w. w.now) words.now)) ≡ false → input.new ≡ input.old }
 {
     let served = match read_line(alloc, words) {
         Err(LineError::Refused) => {
@@ -280,48 +289,35 @@ mod tests {
         assert!(rt; serving(&rt, words.as_slice(), b"").is(0, b"plain 8000\ntable 8000\n", b""));
     }
 
+    /// Bad command lines, with a space between two words.
+    const BAD_LINES: [&str; 18] = [
+        "",
+        "--help",
+        "help count",
+        "counts",
+        "count",
+        "count --help",
+        "count --cpus 2",
+        "count --cpus 2 --times",
+        "count --cpus 2 --times 3 4",
+        "count --cpus 2 --times 0",
+        "count --cpus 2 --times 1001",
+        "count --cpus 9 --times 1",
+        "count --cpus 0 --times 1",
+        "count --cpus two --times 1",
+        "count --cpus -1 --times 1",
+        "count --cpus 1 --cpus 1 --times 1",
+        "threads --turns 5",
+        "check file",
+    ];
+
     #[test]
-    fn bad_lines_have_a_message_and_no_output(rt: HostRuntime) {
-        assert!(rt; serving(&rt, [].as_slice(), b"").is_bad_line());
-        assert!(rt; serving(&rt, ["--help"].as_slice(), b"").is_bad_line());
-        assert!(rt; serving(&rt, ["count", "--help"].as_slice(), b"").is_bad_line());
-        assert!(rt;
-            serving(
-                &rt,
-                ["count", "--cpus", "9", "--times", "1"].as_slice(),
-                b""
-            )
-            .is_bad_line()
-        );
-        assert!(rt;
-            serving(
-                &rt,
-                ["count", "--cpus", "2", "--times", "3", "4"].as_slice(),
-                b""
-            )
-            .is_bad_line()
-        );
-        assert!(rt;
-            serving(&rt, ["count", "--cpus", "2", "--times"].as_slice(), b"").is_bad_line()
-        );
-        assert!(rt;
-            serving(
-                &rt,
-                ["count", "--cpus", "2", "--times", "0"].as_slice(),
-                b""
-            )
-            .is_bad_line()
-        );
-        assert!(rt;
-            serving(
-                &rt,
-                ["count", "--cpus", "2", "--times", "1001"].as_slice(),
-                b""
-            )
-            .is_bad_line()
-        );
-        assert!(rt; serving(&rt, ["threads", "--turns", "5"].as_slice(), b"").is_bad_line());
-        assert!(rt; serving(&rt, ["check", "file"].as_slice(), b"").is_bad_line());
+    fn bad_lines_have_a_message_and_no_output(rt: HostRuntime) -> Result<(), Fail> {
+        for line in BAD_LINES {
+            let words: Vec<&str> = line.split_ascii_whitespace().collect(rt.alloc())?;
+            assert!(rt; serving(&rt, &words, b"").is_bad_line(), "{line}");
+        }
+        Ok(())
     }
 
     const RUN: &[u8] = b"mctower-trace 1\nbuffers 1\ncap 0 1\ne 0 0 send 0 7 0 0\nleft 0 7\nend\n";
@@ -350,18 +346,6 @@ mod tests {
             serving(&rt, ["run", "--schedule", "0*4"].as_slice(), PLAN).is(0, NO_STEP, b"")
         );
         assert!(rt; serving(&rt, ["run"].as_slice(), PLAN).is(0, NO_STEP, b""));
-    }
-
-    #[test]
-    fn a_run_that_is_refused_prints_no_trace(rt: HostRuntime) {
-        let bad_cpu = serving(&rt, ["run", "--schedule", "0*3,1"].as_slice(), PLAN);
-        assert!(rt; bad_cpu.is(1, b"", b"error: BadCpu(4)\n"));
-        let bad_schedule = serving(&rt, ["run", "--schedule", "0*"].as_slice(), PLAN);
-        assert!(rt; bad_schedule.is(2, b"", b"error: BadSchedule(9)\n"));
-        let bad_plan = serving(&rt, ["run"].as_slice(), b"cpus = 9");
-        assert!(rt; bad_plan.is(1, b"", b"error: OutOfRange(22) cpus\n"));
-        let no_text = serving(&rt, ["run"].as_slice(), b"cpus = 1 # \xff");
-        assert!(rt; no_text.is(1, b"", b"error: BadToml(20)\n"));
     }
 
     /// A reader that fails after its bytes.

@@ -265,11 +265,4 @@ mod tests {
         }
         Ok(())
     }
-
-    #[test]
-    fn refusals_print_their_names(rt: HostRuntime) -> Result<(), Fail> {
-        let text = format!(in rt.alloc(); "{} {}", CountFault::NoMemory, CountFault::NoThread)?;
-        assert_eq!(rt; text.as_str(), "NoMemory(1) NoThread(5)");
-        Ok(())
-    }
 }

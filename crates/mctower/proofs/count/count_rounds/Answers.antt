@@ -1,9 +1,10 @@
-use Rattle.std.proofs.Common.{◌≡◌, ℕ, ◌+◌, ◌*◌, ◌∙◌, ap, arith, length, subst, sym, zero-add}
+use Rattle.std.proofs.Common.{◌≡◌, ℕ, ◌+◌, ◌*◌, ◌∙◌, [], ap, arith, length, subst, sym, zero-add}
 use Rattle.event_log.specs.WordsLog.{standing}
 use Rattle.event_log.specs.Sections.{sections_of}
+use Rattle.event_log.specs.Actions.{acts_of}
 use Rattle.layer_traits.specs.Protocol.{edit_of}
 use Rattle.plain_machine.specs.Machine.{history}
-use Rattle.mctower.specs.Count.{sections_at}
+use Rattle.mctower.specs.Count.{after_rounds, sections_at}
 use Rattle.mctower.specs.declared.count.AddOne.{AddOne}
 use Rattle.mctower.specs.declared.count.TheConstants.{NUMBER}
 use Rattle.mctower.proofs.CountLemmas.{frees_are_sections, outside_at_rest}
@@ -27,3 +28,9 @@ returns-clause-counted c =
 
 pub returns-clause-rests : goal.returns-clause-rests
 returns-clause-rests c cpu = outside_at_rest (history c.rounds.new.machine.log) cpu (c.rounds.ensures.rests cpu)
+
+pub returns-clause-order : goal.returns-clause-order
+returns-clause-order c =
+    let none = ap (λ log. after_rounds NUMBER (length c.as_mut_slice.result.now) c.args.times (acts_of (edit_of {E = AddOne}) log)) c.in_ok-machine.ensures.seen in
+    let long = ap length c.as_mut_slice.ensures.value ∙ c.in-Ok.ensures.long in
+    c.rounds.ensures.order ∙ none ∙ ap (λ n. after_rounds NUMBER n c.args.times []) long

@@ -2,7 +2,7 @@ use Rattle.std.proofs.Common.{◌≡◌, ◌+◌, ◌*◌, ◌<◌, ◌≤◌, l
 use Rattle.event_log.specs.declared.ids.CpuId.{CpuId}
 use Rattle.event_log.specs.declared.ids.TheConstants.{CPUS}
 use Rattle.event_log.specs.Actions.{Rests, phase}
-use Rattle.mctower.specs.Count.{AreReady, sections_at}
+use Rattle.mctower.specs.Count.{AreReady, after_round, sections_at}
 use Rattle.mctower.proofs.count.round.Given as goal
 
 -- the parts before the index have done their sections, and all rest
@@ -15,4 +15,5 @@ invariant-loop-i g l = record {
   owned : (c : CpuId) → c.0 < CPUS → g.L.LockLayer.ActsFor l.machine c;
   rests : (c : CpuId) → phase c (g.L.LockLayer.acts l.machine) ≡ Rests;
   counted : sections_at l.lock (g.L.LockLayer.seen l.machine) ≡ sections_at l.lock (g.L.LockLayer.seen l.fn.machine) + l.i;
+  order : g.L.LockLayer.acts l.machine ≡ after_round l.lock l.i (g.L.LockLayer.acts l.fn.machine);
 }

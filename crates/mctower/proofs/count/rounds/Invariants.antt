@@ -2,7 +2,7 @@ use Rattle.std.proofs.Common.{◌≡◌, ◌+◌, ◌*◌, ◌<◌, ◌≤◌, l
 use Rattle.event_log.specs.declared.ids.CpuId.{CpuId}
 use Rattle.event_log.specs.declared.ids.TheConstants.{CPUS}
 use Rattle.event_log.specs.Actions.{Rests, phase}
-use Rattle.mctower.specs.Count.{AreReady, sections_at}
+use Rattle.mctower.specs.Count.{AreReady, after_rounds, sections_at}
 use Rattle.mctower.proofs.count.rounds.Given as goal
 
 -- as many rounds are done as turns of the loop, and all parts rest
@@ -15,4 +15,5 @@ invariant-loop g l = record {
   owned : (c : CpuId) → c.0 < CPUS → g.L.LockLayer.ActsFor l.machine c;
   rests : (c : CpuId) → phase c (g.L.LockLayer.acts l.machine) ≡ Rests;
   counted : sections_at l.lock (g.L.LockLayer.seen l.machine) ≡ sections_at l.lock (g.L.LockLayer.seen l.fn.machine) + l.counter * length l.fn.parts;
+  order : g.L.LockLayer.acts l.machine ≡ after_rounds l.lock (length l.fn.parts) l.counter (g.L.LockLayer.acts l.fn.machine);
 }

@@ -31,11 +31,11 @@ ran_out input text steps s (Ok plan) before status failed old mid new known utf8
     })
 ran_out input text steps s (Err error) before status failed old mid new known utf8 is runs put = absurd runs
 
-pub returns : goal.returns
-returns g c =
+pub returns-clause-runs : goal.returns-clause-runs
+returns-clause-runs g c =
     ran_out (g.R.Read.remaining c.args.input.now) c.as_slice.result.now c.args.steps.now c.in_default-run_text.field-0 (plan_of c.in-Ok.plan.now) _ _ _ _ _ _
     (subst (λ t. IsInput (g.R.Read.remaining c.args.input.now) t) (sym c.as_slice.ensures.value) c.in_ok-bytes.ensures)
     c.in-Ok.ensures.cases.1
     (ap plan_of (sym c.in-Ok.ensures.cases.0))
     c.in_default-run_text.ensures
-    c.put_out.ensures
+    c.put_out.ensures.put
