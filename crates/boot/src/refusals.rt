@@ -27,6 +27,11 @@ pub enum PlanKey {
 }
 
 impl fmt::Display for PlanKey {
+    ghost use Rattle.std.specs.Prelude.{Some};
+    ghost use Rattle.boot.specs.Names.{name_of};
+
+    ghost output = { λ key. Some (name_of key) };
+
     fn fmt<W: fmt::Write>(&self, f: &mut fmt::Formatter<W>) -> fmt::Result {
         match self {
             PlanKey::Cpus => write!(f, "cpus"),

@@ -140,31 +140,31 @@ fn each_change_of_a_thread_has_its_line(rt: HostRuntime) -> Result<(), Fail> {
     Ok(())
 }
 
+/// The lines of the plan's program.
+const LINES: &str = "\"set r0 7\", \"send 0 r0\", \"exit\"";
+
+/// Programs in place of that one.
+const PROGRAMS: [(&str, &str); 7] = [
+    ("", "Guest(23) thread 0 line 0 Empty(15)"),
+    ("\"set  r0 7\"", "Guest(23) thread 0 line 0 UnknownWord(10)"),
+    ("\"set r9 7\"", "Guest(23) thread 0 line 0 BadRegister(11)"),
+    ("\"set r0 07\"", "Guest(23) thread 0 line 0 BadNumber(12)"),
+    (
+        "\"set r0 1\", \"jnz r0 3\", \"exit\"",
+        "Guest(23) thread 0 line 1 BadTarget(13)",
+    ),
+    ("\"send 1 r0\"", "OutOfRange(22) thread 0 program"),
+    ("\"exit\", \"recv 1 r0\"", "OutOfRange(22) thread 0 program"),
+];
+
 #[test]
 fn each_change_of_a_program_has_its_line(rt: HostRuntime) -> Result<(), Fail> {
+    for (lines, text) in PROGRAMS {
+        assert_eq!(rt; changed(&rt, LINES, lines)?.as_str(), text, "{lines}");
+    }
+    let lines = "\"exit\", ".repeat(rt.alloc(), 257)?;
     assert_eq!(rt;
-        changed(&rt, "\"set r0 7\", \"send 0 r0\", \"exit\"", "")?.as_str(),
-        "Guest(23) thread 0 line 0 Empty(15)"
-    );
-    assert_eq!(rt;
-        changed(&rt, "set r0 7", "set  r0 7")?.as_str(),
-        "Guest(23) thread 0 line 0 UnknownWord(10)"
-    );
-    assert_eq!(rt;
-        changed(&rt, "set r0 7", "set r9 7")?.as_str(),
-        "Guest(23) thread 0 line 0 BadRegister(11)"
-    );
-    assert_eq!(rt;
-        changed(&rt, "set r0 7", "set r0 07")?.as_str(),
-        "Guest(23) thread 0 line 0 BadNumber(12)"
-    );
-    assert_eq!(rt;
-        changed(&rt, "send 0 r0", "jnz r0 3")?.as_str(),
-        "Guest(23) thread 0 line 1 BadTarget(13)"
-    );
-    let lines = "\"exit\", ".repeat(rt.alloc(), 256)?;
-    assert_eq!(rt;
-        changed(&rt, "\"set r0 7\", \"send 0 r0\", ", lines.as_str())?.as_str(),
+        changed(&rt, LINES, lines.as_str())?.as_str(),
         "Guest(23) thread 0 line 256 TooLong(14)"
     );
     Ok(())
