@@ -322,12 +322,27 @@ fn a_plan_has_at_most_64_threads(rt: HostRuntime) -> Result<(), Fail> {
     Ok(())
 }
 
+/// Five buffers, threads and lines, so that each vector has to grow again.
+const FIVE_THREADS: &str = "cpus = 1
+trace = 4
+buffers = [1, 2, 3, 4, 5]
+thread = [
+    { cpu = 0, program = [\"set r0 7\", \"send 0 r0\", \"yield\", \"jnz r0 0\", \"exit\"] },
+    { cpu = 0, program = [\"exit\"] },
+    { cpu = 0, program = [\"exit\"] },
+    { cpu = 0, program = [\"exit\"] },
+    { cpu = 0, program = [\"recv 4 r0\"] },
+]
+";
+
 // To be run with each allocation refused in turn, as bench/refuse.sh does.
 #[test]
 fn a_refused_allocation_is_no_memory_or_not_needed(rt: HostRuntime) {
-    match Boot::read(rt.alloc(), ONE_SEND) {
-        Ok(boot) => assert_eq!(rt; boot.threads(), 1),
-        Err(error) => assert_eq!(rt; error, BootError::NoMemory),
+    for (plan, threads) in [(ONE_SEND, 1), (FIVE_THREADS, 5)] {
+        match Boot::read(rt.alloc(), plan) {
+            Ok(boot) => assert_eq!(rt; boot.threads(), threads),
+            Err(error) => assert_eq!(rt; error, BootError::NoMemory),
+        }
     }
     match Boot::read(
         rt.alloc(),

@@ -122,7 +122,7 @@ fn each_fault_has_its_line_and_number(rt: HostRuntime) -> Result<(), Fail> {
 }
 
 /// Lines that are no instruction, alone in a program, each with its fault.
-const BAD_LINES: [(&str, &str); 22] = [
+const BAD_LINES: [(&str, &str); 29] = [
     ("SET r0 7", "UnknownWord(10)"),
     ("set\tr0 7", "UnknownWord(10)"),
     ("set r0 7 ", "UnknownWord(10)"),
@@ -133,16 +133,23 @@ const BAD_LINES: [(&str, &str); 22] = [
     ("recv 0", "UnknownWord(10)"),
     ("yield 0", "UnknownWord(10)"),
     ("close 0", "UnknownWord(10)"),
+    ("set  r9 07", "UnknownWord(10)"),
+    ("mul r9 07", "UnknownWord(10)"),
     ("set r4 7", "BadRegister(11)"),
     ("set r00 7", "BadRegister(11)"),
     ("sub r0 R0", "BadRegister(11)"),
     ("jnz 0 0", "BadRegister(11)"),
     ("recv 0 7", "BadRegister(11)"),
+    ("add r0 ", "BadRegister(11)"),
+    ("jnz r9 x", "BadRegister(11)"),
     ("set r0 -7", "BadNumber(12)"),
     ("set r0 7a", "BadNumber(12)"),
     ("send 00 r0", "BadNumber(12)"),
     ("recv 16 r0", "BadNumber(12)"),
     ("send r0 0", "BadNumber(12)"),
+    ("send  r9", "BadNumber(12)"),
+    ("recv 18446744073709551616 r9", "BadNumber(12)"),
+    ("set r0 ", "BadNumber(12)"),
     ("jnz r0 00", "BadNumber(12)"),
     ("jnz r0 1", "BadTarget(13)"),
 ];
@@ -259,8 +266,10 @@ fn a_refusal_prints_its_name_and_number(rt: HostRuntime) -> Result<(), Fail> {
 // To be run with each allocation refused in turn, as bench/refuse.sh does.
 #[test]
 fn a_refused_allocation_is_no_memory_or_not_needed(rt: HostRuntime) {
-    match Program::read(rt.alloc(), &["set r0 7", "send 0 r0", "jnz r0 0", "exit"]) {
-        Ok(program) => assert_eq!(rt; program.len(), 4),
+    // Five lines, so that their vector has to grow again.
+    let lines = ["set r0 7", "send 0 r0", "yield", "jnz r0 0", "exit"];
+    match Program::read(rt.alloc(), &lines) {
+        Ok(program) => assert_eq!(rt; program.len(), 5),
         Err(error) => assert_eq!(rt; error, GuestError::NoMemory),
     }
     match Program::read(rt.alloc(), &["set r0 7", "jnz r0 3", "exit"]) {
