@@ -2,7 +2,7 @@
 //! traces are what a plain program in bench/ writes of them, which has no code of this crate.
 //!
 //! A test can't take in a file as it is built. So the texts stand here again, and where the files
-//! are there to be read, as they are under `rt test`, the last test holds the two together.
+//! are there to be read, as they are under `rt test`, the test holds the two together.
 
 use crate::run::run_text;
 use crate::schedule::{MOST_STEPS, read_steps};
@@ -181,7 +181,7 @@ fn schedule_in(plan: &str) -> Option<&str> {
 }
 
 #[test]
-fn each_plan_has_its_trace_and_a_yes(rt: HostRuntime) -> Result<(), Fail> {
+fn each_plan_has_its_trace_a_yes_and_its_file(rt: HostRuntime) -> Result<(), Fail> {
     for (name, plan, trace) in PLANS {
         let schedule = schedule_in(plan).ok_or("a plan without a schedule")?;
         let steps = read_steps(rt.alloc(), schedule)?;
@@ -191,13 +191,6 @@ fn each_plan_has_its_trace_and_a_yes(rt: HostRuntime) -> Result<(), Fail> {
         assert_eq!(rt; fault, None, "{name}");
         assert_eq!(rt; out.as_slice(), trace.as_bytes(), "{name}");
         assert_eq!(rt; check(&out), Verdict::Yes, "{name}");
-    }
-    Ok(())
-}
-
-#[test]
-fn the_files_are_these_texts(rt: HostRuntime) -> Result<(), Fail> {
-    for (name, plan, _) in PLANS {
         let path = format!(in rt.alloc(); "../../plans/{name}.toml")?;
         if let Ok(text) = fs::read_to_string(&rt, path.as_str()) {
             assert_eq!(rt; text.as_str(), plan, "{name}");
