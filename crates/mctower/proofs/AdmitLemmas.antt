@@ -1,11 +1,11 @@
 -- Threads that are admitted one after the other.
-use Rattle.std.proofs.Common.{◌≡◌, ℕ, ◌+◌, ◌<◌, ◌≤◌, List, [], ◌∷◌, ◌++◌, length, set, map, take, drop, get_or, Option, Some, None, refl, sym, ap, ◌∙◌, subst, arith, ◌⊎◌, inl, inr}
+use Rattle.std.proofs.Common.{◌≡◌, ℕ, ◌+◌, ◌<◌, ◌≤◌, List, [], ◌∷◌, ◌++◌, length, set, map, take, drop, get_or, Some, sym, ap, ◌∙◌, subst, arith, inl, inr}
 use Rattle.std.specs.Prelude.{slice_get, option_to_list}
 use Rattle.std.proofs.lemmas.List.{drop_more, get_or-map, length-set, map_more, length-append, length_push}
 use Rattle.std.proofs.lemmas.Option.{get_or_from_slice_get}
 use Rattle.event_log.specs.declared.ids.CpuId.{CpuId}
 use Rattle.event_log.specs.declared.ids.Tid.{Tid}
-use Rattle.boot.specs.Plan.{Plan, Task, home_of}
+use Rattle.boot.specs.Plan.{Task}
 use Rattle.mctower.specs.State.{CpuState}
 use Rattle.mctower.specs.Boots.{admitted, new_guest, admitted_at, with_threads}
 use Rattle.mctower.specs.Claims.{standing_at}

@@ -1,6 +1,6 @@
 -- A system that has taken no step meets the invariant; and admitting one thread after the other makes such a system.
-use Rattle.std.proofs.Common.{◌≡◌, ◌≢◌, ℕ, zero, suc, ◌+◌, ◌<◌, ◌≤◌, Bool, true, false, cond, List, [], ◌∷◌, ◌++◌, length, set, get_or, map, reverse, Option, Some, None, refl, sym, ap, ◌∙◌, subst, arith, ◌⊎◌, inl, inr}
-use Rattle.std.specs.Prelude.{slice_get, slice_index_or, option_to_list, count_by, if◌then◌else◌, ◌==◌, ◌&&◌}
+use Rattle.std.proofs.Common.{◌≡◌, ◌≢◌, ℕ, zero, suc, ◌+◌, Bool, true, false, cond, List, [], ◌∷◌, ◌++◌, length, set, map, reverse, Some, None, refl, sym, ap, ◌∙◌, subst, arith, inl, inr}
+use Rattle.std.specs.Prelude.{slice_get, slice_index_or, option_to_list, count_by, ◌==◌, ◌&&◌}
 use Rattle.std.specs.List.{AllByRecursion}
 use Rattle.std.proofs.lemmas.Bool.{eq-eqb, ne_eqb, cases_eq, false≢true}
 use Rattle.std.proofs.lemmas.List.{append_assoc}
@@ -8,25 +8,17 @@ use Rattle.std.proofs.lemmas.List.Sums.{sum_by_push, sum_by-cons}
 use Rattle.event_log.specs.declared.ids.CpuId.{CpuId}
 use Rattle.event_log.specs.declared.ids.Tid.{Tid}
 use Rattle.event_log.specs.declared.entries.Entry.{Entry}
-use Rattle.event_log.specs.declared.entries.Kind.TheVariants as kind
-use Rattle.event_log.specs.Sections.{Section}
-use Rattle.event_log.specs.Runs.{IsRun}
-use Rattle.event_log.specs.Traces.{IsInterleaving}
-use Rattle.guest.specs.declared.instructions.Instruction.{Instruction}
-use Rattle.guest.specs.State.{at_start}
 use Rattle.guest.specs.Calls.{IsProgramsCalls, starts}
-use Rattle.mctower.specs.declared.kernel.edit.BufferEdit.{BufferEdit}
 use Rattle.mctower.specs.declared.kernel.guests.Guest.{Guest}
-use Rattle.mctower.specs.declared.kernel.guests.Stage.{Stage}
-use Rattle.mctower.specs.declared.kernel.guests.Stage.TheVariants.{Between, Begun, Ended}
+use Rattle.mctower.specs.declared.kernel.guests.Stage.TheVariants.{Between, Begun}
 use Rattle.mctower.specs.Buffer.{Buffer, new_buffer}
 use Rattle.mctower.specs.State.{CpuState, Shown}
 use Rattle.mctower.specs.GuestView.{is_ended, is_begun}
-use Rattle.mctower.specs.Claims.{traces_of, caps_of, contents_of, of_thread, Follows, homes_of, IsOfHome, standing_at, times, due_at}
-use Rattle.mctower.specs.Sound.{IsSound, IsOrdered, IsCounted, IsUnderWay, Counts, has_begun_on}
-use Rattle.mctower.specs.Boots.{idle_cpu, admitted, new_guest}
+use Rattle.mctower.specs.Claims.{traces_of, of_thread, homes_of, IsOfHome, standing_at, times, due_at}
+use Rattle.mctower.specs.Sound.{IsSound, IsOrdered, has_begun_on}
+use Rattle.mctower.specs.Boots.{admitted, new_guest}
 use Rattle.mctower.specs.Fresh.{IsFresh, IsFreshCpu, IsFreshGuest}
-use Rattle.mctower.proofs.ListLemmas.{get_set, get_set_same, get_set_other}
+use Rattle.mctower.proofs.ListLemmas.{get_set}
 
 -- no CPU has an entry
 no_traces : (cpus : List CpuState) → ((c : ℕ) (p : CpuState) → slice_get cpus c ≡ Some p → IsFreshCpu p) → (k : ℕ) → slice_index_or (map (λ (p : CpuState). p.trace) cpus) k [] ≡ []

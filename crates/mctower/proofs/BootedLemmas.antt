@@ -1,29 +1,25 @@
 -- The system of a plan before its first step has taken no step, and each thread is ready at home.
-use Rattle.std.proofs.Common.{◌≡◌, ◌≢◌, ℕ, zero, suc, ◌+◌, ◌<◌, ◌≤◌, ◌^◌, Bool, true, false, List, [], ◌∷◌, ◌++◌, length, set, map, replicate, Option, Some, None, refl, sym, ap, ◌∙◌, subst, arith, ◌⊎◌, inl, inr}
-use Rattle.std.specs.Prelude.{slice_get, All, IsTrue, nat_lt, unwrap_or}
+use Rattle.std.proofs.Common.{◌≡◌, ℕ, zero, suc, ◌+◌, ◌<◌, ◌^◌, List, [], ◌∷◌, ◌++◌, length, set, map, replicate, Option, Some, None, refl, sym, ap, ◌∙◌, subst, arith, inl, inr}
+use Rattle.std.specs.Prelude.{slice_get, All, IsTrue, unwrap_or}
 use Rattle.std.proofs.lemmas.Bool.{ltb-true}
 use Rattle.std.proofs.lemmas.List.{length-map, length-set, length-replicate, append_assoc, append-nil, length_push}
 use Rattle.std.proofs.lemmas.Option.{same_Some, get_or_from_slice_get, slice_get_within}
-use Rattle.event_log.specs.declared.ids.CpuId.{CpuId}
 use Rattle.event_log.specs.declared.ids.BufId.{BufId}
 use Rattle.event_log.specs.declared.ids.Tid.{Tid}
-use Rattle.event_log.specs.Sections.{Section}
 use Rattle.guest.specs.declared.instructions.Instruction.{Instruction}
 use Rattle.guest.specs.declared.instructions.Instruction.TheVariants as ins
-use Rattle.guest.specs.State.{State, next_of}
+use Rattle.guest.specs.State.{State}
 use Rattle.guest.specs.Instructions.{names_below}
 use Rattle.boot.specs.Plan.{Plan, Task, IsPlan, IsTask}
 use Rattle.mctower.specs.Buffer.{Buffer, new_buffer}
-use Rattle.mctower.specs.State.{CpuState, Guarded, Shown, shown}
+use Rattle.mctower.specs.State.{CpuState, Guarded, shown}
 use Rattle.mctower.specs.Boots.{idle_cpu, admitted, new_guest, admitted_at, with_threads, fresh_guarded, booted}
-use Rattle.mctower.specs.Fresh.{IsFresh, IsFreshCpu, IsFreshGuest}
+use Rattle.mctower.specs.Fresh.{IsFresh, IsFreshCpu}
 use Rattle.mctower.specs.GuestView.{todo_at}
 use Rattle.mctower.specs.Claims.{standing_at, times, due_at}
-use Rattle.mctower.specs.Sound.{CallsKnown}
 use Rattle.mctower.specs.declared.kernel.edit.Call.{Call}
-use Rattle.mctower.specs.declared.kernel.edit.BufferEdit.{BufferEdit}
 use Rattle.mctower.specs.declared.kernel.guests.Guest.{Guest}
-use Rattle.mctower.specs.declared.kernel.guests.Todo.TheVariants.{Finish, PassOn, Compute, Tries}
+use Rattle.mctower.specs.declared.kernel.guests.Todo.TheVariants.{Tries}
 use Rattle.mctower.proofs.ListLemmas.{get_set, get_within}
 use Rattle.mctower.proofs.BootSteps.{once_none, once_admit}
 

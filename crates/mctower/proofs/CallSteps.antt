@@ -1,9 +1,9 @@
 -- Calls, seen from the instruction and from the effect; counts of begun calls.
-use Rattle.std.proofs.Common.{◌≡◌, ◌≢◌, ℕ, ◌+◌, ◌<◌, ◌≤◌, Bool, true, false, cond, List, [], ◌∷◌, ◌++◌, length, map, set, get_or, reverse, filter, Option, Some, None, refl, sym, ap, ◌∙◌, subst, arith, ◌⊎◌, inl, inr, eqb, zero, ◌-◌, count_by, sum_by}
-use Rattle.std.specs.Prelude.{slice_get, slice_index_or, if◌then◌else◌, ◌==◌, nat_lt, option_map, ◌&&◌}
-use Rattle.std.proofs.lemmas.Bool.{cases_eq, eq-eqb, ne_eqb, false≢true}
-use Rattle.std.proofs.lemmas.Option.{get_or_from_slice_get, same_Some, slice_get-map}
-use Rattle.std.proofs.lemmas.List.{map-set, reverse-append, get_or-set_same, get_or-set_other, append-nil, length_push}
+use Rattle.std.proofs.Common.{◌≡◌, ◌≢◌, ℕ, ◌+◌, ◌<◌, ◌≤◌, Bool, true, false, cond, List, [], ◌∷◌, ◌++◌, length, get_or, reverse, Option, Some, None, refl, sym, ap, ◌∙◌, arith, eqb, count_by}
+use Rattle.std.specs.Prelude.{slice_get, if◌then◌else◌, nat_lt, option_map, ◌&&◌}
+use Rattle.std.proofs.lemmas.Bool.{eq-eqb, ne_eqb}
+use Rattle.std.proofs.lemmas.Option.{get_or_from_slice_get, same_Some}
+use Rattle.std.proofs.lemmas.List.{reverse-append, append-nil}
 use Rattle.std.proofs.lemmas.List.Elements.{filter-append}
 use Rattle.event_log.specs.declared.ids.CpuId.{CpuId}
 use Rattle.event_log.specs.declared.ids.BufId.{BufId}
@@ -14,31 +14,27 @@ use Rattle.layer_traits.specs.Plans.{at_give}
 use Rattle.guest.specs.declared.instructions.Register.{Register}
 use Rattle.guest.specs.declared.instructions.Instruction.{Instruction}
 use Rattle.guest.specs.declared.instructions.Instruction.TheVariants as ins
-use Rattle.guest.specs.State.{State, next_of, value_in, after_local, after_send, after_recv, after_yield}
-use Rattle.guest.specs.Calls.{IsProgramsCalls, HasEnded}
-use Rattle.guest.proofs.CallsLemmas.{calls-local, calls-yield, calls-send, calls-recv}
+use Rattle.guest.specs.State.{State, next_of, value_in}
+use Rattle.guest.specs.Calls.{IsProgramsCalls}
+use Rattle.guest.proofs.CallsLemmas.{calls-send, calls-recv}
 use Rattle.mctower.specs.declared.kernel.edit.Call.{Call}
 use Rattle.mctower.specs.declared.kernel.edit.Call.TheVariants.{Send, Recv}
 use Rattle.mctower.specs.declared.kernel.edit.Effect.{Effect}
 use Rattle.mctower.specs.declared.kernel.guests.Guest.{Guest}
 use Rattle.mctower.specs.declared.kernel.guests.Stage.{Stage}
 use Rattle.mctower.specs.declared.kernel.guests.Stage.TheVariants.{Between, Begun, Ended}
-use Rattle.mctower.specs.declared.kernel.guests.Todo.{Todo}
-use Rattle.mctower.specs.declared.kernel.guests.Todo.TheVariants.{Finish, PassOn, Compute, Tries}
+use Rattle.mctower.specs.declared.kernel.guests.Todo.TheVariants.{Finish, Tries}
 use Rattle.mctower.specs.Buffer.{Buffer}
 use Rattle.mctower.specs.Effects.{effect_on}
-use Rattle.mctower.specs.State.{CpuState, Guarded, Shown}
-use Rattle.mctower.specs.GuestView.{todo_at, todo_of, is_ended, begun, ended, computed, passed, returned, after_call, is_begun}
-use Rattle.mctower.specs.Steps.{switched_to, let_go, put_behind, begun_at, noted, answered, turn_at, acted, answer_of, entry_of, kind_of, under_after, section_of, is_full_for, after_turn, after_switch}
-use Rattle.mctower.specs.Claims.{Follows, of_thread}
-use Rattle.mctower.proofs.ListLemmas.{get_set, get_set_same, get_set_other, map_set_same, within_get, get_within}
+use Rattle.mctower.specs.State.{CpuState}
+use Rattle.mctower.specs.GuestView.{todo_at, is_ended, after_call, is_begun}
+use Rattle.mctower.specs.Steps.{begun_at, entry_of, is_full_for}
+use Rattle.mctower.specs.Claims.{of_thread}
+use Rattle.mctower.proofs.ListLemmas.{within_get}
 use Rattle.std.proofs.lemmas.Bool.Decides.{nat_tests}
-use Rattle.std.proofs.lemmas.List.Sums.{sum_by-set, get_or-le-sum_by}
-use Rattle.event_log.specs.Sections.{Section}
-use Rattle.mctower.specs.declared.kernel.edit.BufferEdit.{BufferEdit}
-use Rattle.mctower.specs.Turns.{HasCount, MayTry, MayTurn}
-use Rattle.mctower.specs.Guards.{MayGoOn}
-use Rattle.mctower.specs.Sound.{has_begun_on, IsCall, IsCounted, IsUnderWay, CallsKnown}
+use Rattle.std.proofs.lemmas.List.Sums.{get_or-le-sum_by}
+use Rattle.mctower.specs.Turns.{HasCount}
+use Rattle.mctower.specs.Sound.{has_begun_on, IsCounted}
 
 -- an instruction that asks to finish is `exit`
 pub finish_at : (s : State) (i : Instruction) → todo_at s i ≡ Finish → i ≡ ins.Exit

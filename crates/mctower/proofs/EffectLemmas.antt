@@ -1,9 +1,9 @@
 -- What a call that took effect did, and that a call that did not left its buffer alone.
-use Rattle.std.proofs.Common.{◌≡◌, ◌≢◌, ℕ, zero, suc, ◌+◌, ◌<◌, ◌≤◌, ◌%◌, ◌^◌, Bool, true, false, List, [], ◌∷◌, ◌++◌, length, get_or, set, map, Option, Some, None, refl, sym, ap, ◌∙◌, subst, arith, ◌⊎◌, inl, inr, ◌==◌, ◌&&◌}
+use Rattle.std.proofs.Common.{◌≡◌, ◌≢◌, ℕ, ◌+◌, ◌<◌, ◌≤◌, ◌^◌, Bool, true, false, List, [], ◌∷◌, ◌++◌, length, set, map, Option, Some, None, refl, sym, ap, ◌∙◌, subst, arith, inl, inr, ◌==◌, ◌&&◌}
 use Rattle.std.proofs.Math.Nat.{mod-eq_of_lt}
-use Rattle.std.specs.Prelude.{slice_get, slice_set, slice_index, if◌then◌else◌, nat_lt}
+use Rattle.std.specs.Prelude.{slice_get, slice_index, if◌then◌else◌, nat_lt}
 use Rattle.std.proofs.lemmas.Bool.{ltb-true}
-use Rattle.std.proofs.lemmas.List.{map-set, length-map, length-set}
+use Rattle.std.proofs.lemmas.List.{map-set, length-map}
 use Rattle.std.proofs.lemmas.List.Sums.{count_by-le-length}
 use Rattle.std.proofs.lemmas.Option.{get_or_from_slice_get, slice_get-map, same_Some}
 use Rattle.event_log.specs.declared.ids.BufId.{BufId}
@@ -19,10 +19,10 @@ use Rattle.mctower.specs.declared.kernel.edit.Call.{Call}
 use Rattle.mctower.specs.declared.kernel.edit.Call.TheVariants.{Send, Recv}
 use Rattle.mctower.specs.declared.kernel.edit.Effect.{Effect}
 use Rattle.mctower.specs.Buffer.{Buffer}
-use Rattle.mctower.specs.Effects.{effect_on, edited_by, taken_from, after_take, counted}
+use Rattle.mctower.specs.Effects.{effect_on, edited_by, taken_from, counted}
 use Rattle.mctower.specs.Steps.{kind_of, entry_of}
 use Rattle.mctower.specs.Sound.{Counts}
-use Rattle.mctower.proofs.ListLemmas.{get_set, get_set_same, get_set_other, get_within, within_get, map_set_same}
+use Rattle.mctower.proofs.ListLemmas.{get_set, within_get, map_set_same}
 use Rattle.mctower.proofs.OrderSteps.{count_own, count_other, count_kind_own, count_kind_other}
 
 -- how many effects of a kind a buffer had

@@ -1,15 +1,12 @@
 -- Each turn of a running thread is a good one: it keeps what the invariant asks.
-use Rattle.std.proofs.Common.{◌≡◌, ◌≢◌, ℕ, zero, suc, ◌+◌, ◌-◌, ◌<◌, ◌≤◌, ◌%◌, ◌^◌, Bool, true, false, List, [], ◌∷◌, ◌++◌, length, get_or, set, map, Option, Some, None, refl, sym, ap, ◌∙◌, subst, arith, ◌⊎◌, inl, inr, ◌==◌, ◌&&◌}
-use Rattle.std.specs.Prelude.{slice_get, slice_set, slice_index_or, if◌then◌else◌, option_to_list, count_by, filter, reverse, option_map}
-use Rattle.std.specs.List.{sum_by}
-use Rattle.std.proofs.lemmas.Bool.{eq-eqb, ne_eqb, eqb-true}
+use Rattle.std.proofs.Common.{◌≡◌, ◌≢◌, ℕ, ◌+◌, ◌-◌, ◌<◌, ◌≤◌, ◌^◌, true, false, List, [], ◌∷◌, ◌++◌, length, set, map, Option, Some, None, refl, sym, ap, ◌∙◌, subst, arith, ◌==◌}
+use Rattle.std.specs.Prelude.{slice_get, if◌then◌else◌, option_map}
+use Rattle.std.proofs.lemmas.Bool.{eq-eqb, ne_eqb}
 use Rattle.std.proofs.lemmas.List.{map-set, length-set, length_push}
-use Rattle.std.proofs.lemmas.List.Sums.{sum_by-set, sum_by-cons, sum_by_push}
-use Rattle.std.proofs.lemmas.Option.{get_or_from_slice_get, slice_get-map, same_Some}
+use Rattle.std.proofs.lemmas.Option.{slice_get-map, same_Some}
 use Rattle.event_log.specs.declared.ids.BufId.{BufId}
 use Rattle.event_log.specs.declared.ids.CpuId.{CpuId}
 use Rattle.event_log.specs.declared.ids.Tid.{Tid}
-use Rattle.event_log.specs.declared.entries.Entry.{Entry}
 use Rattle.event_log.specs.Sections.{Section}
 use Rattle.guest.specs.declared.instructions.Instruction.{Instruction}
 use Rattle.mctower.specs.declared.kernel.edit.Call.{Call}
@@ -19,25 +16,23 @@ use Rattle.mctower.specs.declared.kernel.guests.Stage.{Stage}
 use Rattle.mctower.specs.declared.kernel.guests.Stage.TheVariants.{Between, Begun, Ended}
 use Rattle.mctower.specs.Buffer.{Buffer}
 use Rattle.mctower.specs.State.{CpuState, Guarded, Shown}
-use Rattle.mctower.specs.GuestView.{todo_at, todo_of, is_ended, is_begun, ended, passed, computed, begun, returned}
-use Rattle.mctower.specs.Steps.{Turn, after_turn, let_go, put_behind, begun_at, begun_once, noted, entry_of, kind_of, acted, answer_of, answered, buffers_after, under_after, section_of, turn_at, turn_of, is_full_for}
+use Rattle.mctower.specs.GuestView.{todo_of, is_ended, is_begun, ended, passed, computed, begun, returned}
+use Rattle.mctower.specs.Steps.{Turn, after_turn, let_go, put_behind, begun_at, noted, entry_of, acted, answer_of, answered, under_after, section_of, turn_at, turn_of, is_full_for}
 use Rattle.mctower.specs.Effects.{effect_on, edited_by}
 use Rattle.layer_traits.specs.Plans.{at_give}
 use Rattle.event_log.specs.Actions.{Phase, Rests, Waits, Holds, phase}
-use Rattle.mctower.specs.Claims.{traces_of, of_thread, entries_of, Follows, FollowPrograms, homes_of, IsOfHome, standing_at, times, due_at, StandOnce}
-use Rattle.mctower.specs.Sound.{IsOrdered, IsCounted, IsUnderWay, IsCall, CallsKnown, has_begun_on, IsSound}
-use Rattle.mctower.proofs.ListLemmas.{get_set, get_set_same, get_set_other, get_within, within_get, map_set_same, set_get, all_push}
+use Rattle.mctower.specs.Claims.{traces_of, of_thread, homes_of, IsOfHome, standing_at, times, due_at}
+use Rattle.mctower.specs.Sound.{IsOrdered, IsCall, IsSound}
+use Rattle.mctower.proofs.ListLemmas.{get_set_same, get_set_other, get_within, within_get, map_set_same, set_get, all_push}
 use Rattle.mctower.specs.Turns.{HasCount}
-use Rattle.mctower.proofs.OrderSteps.{eq_or_not, interleaving_more}
+use Rattle.mctower.proofs.OrderSteps.{interleaving_more}
 use Rattle.mctower.proofs.CallSteps.{finish_at, calls_more, of_other, of_own, begins, has_count_in}
 use Rattle.mctower.proofs.EffectLemmas.{left_alone, run_after, counts_after}
-use Rattle.mctower.proofs.TurnLemmas.{IsGoodTurn, due_home, times_cons, times_push, standing_running, stands_running}
-use Rattle.guest.specs.State.{State, next_of, value_in, after_local, after_yield}
-use Rattle.guest.specs.declared.instructions.Instruction.TheVariants as ins
-use Rattle.guest.proofs.CallsLemmas.{calls-local, calls-yield, calls-send, calls-recv}
+use Rattle.mctower.proofs.TurnLemmas.{IsGoodTurn, due_home, times_push, standing_running, stands_running}
+use Rattle.guest.specs.State.{next_of}
+use Rattle.guest.proofs.CallsLemmas.{calls-local, calls-yield}
 use Rattle.mctower.specs.declared.kernel.guests.Todo.{Todo}
 use Rattle.mctower.specs.declared.kernel.guests.Todo.TheVariants.{Finish, PassOn, Compute, Tries}
-use Rattle.mctower.specs.declared.kernel.edit.Call.TheVariants.{Send, Recv}
 use Rattle.mctower.specs.declared.kernel.edit.Effect.{Effect}
 
 -- what a turn leaves that touches no trace and no buffer

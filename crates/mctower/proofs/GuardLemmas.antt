@@ -1,5 +1,5 @@
 -- One action of one CPU keeps the buffers fitting the machine of their locks.
-use Rattle.std.proofs.Common.{◌≡◌, ◌≢◌, ℕ, zero, suc, get_or, ◌+◌, ◌-◌, ◌<◌, ◌≤◌, Bool, true, false, List, [], ◌∷◌, ◌++◌, length, set, map, Option, Some, None, refl, sym, ap, ◌∙◌, subst, arith, ◌⊎◌, inl, inr}
+use Rattle.std.proofs.Common.{◌≡◌, ◌≢◌, ℕ, zero, suc, get_or, ◌+◌, ◌-◌, ◌<◌, ◌≤◌, true, false, List, [], ◌∷◌, ◌++◌, set, map, Option, Some, None, refl, sym, ap, ◌∙◌, subst, arith, inl, inr}
 use Rattle.std.specs.Prelude.{slice_get, IsSome, option_map, is_some, if◌then◌else◌, slice_set}
 use Rattle.std.proofs.lemmas.Bool.{eq-eqb, ne_eqb}
 use Rattle.std.proofs.lemmas.Option.{get_or_from_slice_get}
@@ -10,9 +10,9 @@ use Rattle.event_log.specs.declared.ids.LockId.TheVariants as lock
 use Rattle.event_log.specs.declared.ids.TheConstants.{CPUS}
 use Rattle.event_log.specs.Actions.{Action, AreLegal, next_action, doer, phase}
 use Rattle.event_log.specs.Sections.{Section, section_actor, sections_in, block_after}
-use Rattle.event_log.specs.History.{IsLawful, AreForeign, same_lock}
-use Rattle.layer_traits.specs.Protocol.{section, IsKnown, Rules, StaysAllowed}
-use Rattle.layer_traits.specs.Plans.{Acting, Table, answered, reply, Left, Acted, table_of, at_give}
+use Rattle.event_log.specs.History.{IsLawful, same_lock}
+use Rattle.layer_traits.specs.Protocol.{section, IsKnown, StaysAllowed}
+use Rattle.layer_traits.specs.Plans.{Acting, Table, answered, reply, Left, table_of, at_give}
 use Rattle.layer_traits.specs.Turns.{Polled, MayPoll}
 use Rattle.mctower.specs.Buffer.{Buffer}
 use Rattle.mctower.specs.Effects.{edited_by, effect_on}
@@ -24,7 +24,7 @@ use Rattle.mctower.specs.declared.kernel.edit.Call.{Call}
 use Rattle.event_log.specs.declared.ids.Tid.{Tid}
 use Rattle.mctower.specs.declared.kernel.edit.BufferEdit.{BufferEdit}
 use Rattle.mctower.specs.declared.kernel.edit.Effect.{Effect}
-use Rattle.mctower.proofs.ListLemmas.{get_set, get_set_same}
+use Rattle.mctower.proofs.ListLemmas.{get_set}
 use Rattle.event_log.proofs.Foreign.{no_foreign, doers_known}
 
 -- the action that a poll did, where nobody else acts

@@ -1,5 +1,5 @@
 -- The trace of a plan's system has a spelling, and what writing it answers.
-use Rattle.std.proofs.Common.{◌≡◌, ℕ, zero, suc, ◌+◌, ◌*◌, ◌^◌, ◌<◌, ◌≤◌, Bool, true, false, List, [], ◌∷◌, length, get_or, map, Some, refl, sym, ap, ◌∙◌, subst, arith}
+use Rattle.std.proofs.Common.{◌≡◌, ℕ, zero, suc, ◌+◌, ◌*◌, ◌^◌, ◌<◌, ◌≤◌, Bool, false, List, [], ◌∷◌, length, get_or, map, Some, refl, sym, ap, ◌∙◌, subst, arith}
 use Rattle.std.specs.Prelude.{slice_get, All, Option, Result, Ok, Err, IsErrAnd}
 use Rattle.std.specs.List.{AllByRecursion, sum_by}
 use Rattle.std.proofs.lemmas.List.{length-map}
@@ -20,8 +20,8 @@ use Rattle.mctower.specs.Buffer.{Buffer}
 use Rattle.mctower.specs.State.{CpuState, Shown}
 use Rattle.mctower.specs.Claims.{traces_of, caps_of, contents_of, HasOneOrder}
 use Rattle.mctower.specs.Sound.{IsSound}
-use Rattle.mctower.specs.Plans.{IsEntryAt, IsCpuOf, IsSystemOf, IsOfPlan, from_gather}
-use Rattle.mctower.specs.Running.{IsTextOf, IsOut, Writes}
+use Rattle.mctower.specs.Plans.{IsEntryAt, IsSystemOf, IsOfPlan, from_gather}
+use Rattle.mctower.specs.Running.{IsOut, Writes}
 use Rattle.mctower.specs.declared.run.Fault.{Fault}
 use Rattle.mctower.proofs.OrderNumbers.{order_length, order_all, run_numbers, run_values, empty_values}
 

@@ -1,5 +1,5 @@
 -- A switch keeps the invariant of the system; and what the invariant gives the turn of a running thread.
-use Rattle.std.proofs.Common.{◌≡◌, ◌≢◌, ℕ, ◌+◌, ◌<◌, ◌≤◌, Bool, true, false, cond, List, [], ◌∷◌, ◌++◌, length, set, get_or, map, Option, Some, None, refl, sym, ap, ◌∙◌, subst, arith, ◌⊎◌, inl, inr}
+use Rattle.std.proofs.Common.{◌≡◌, ℕ, ◌+◌, ◌<◌, ◌≤◌, Bool, true, false, cond, List, [], ◌∷◌, ◌++◌, length, get_or, Option, Some, None, refl, sym, ap, ◌∙◌, subst, arith, inl, inr}
 use Rattle.std.specs.Prelude.{slice_get, slice_index_or, option_to_list, count_by, if◌then◌else◌, ◌==◌, ◌&&◌}
 use Rattle.std.specs.List.{AllByRecursion}
 use Rattle.std.proofs.lemmas.Bool.{eq-eqb}
@@ -21,16 +21,15 @@ use Rattle.mctower.specs.declared.kernel.guests.Stage.{Stage}
 use Rattle.mctower.specs.declared.kernel.guests.Stage.TheVariants.{Between, Begun, Ended}
 use Rattle.mctower.specs.declared.kernel.guests.Todo.{Todo}
 use Rattle.mctower.specs.declared.kernel.guests.Todo.TheVariants.{Finish, PassOn, Compute, Tries}
-use Rattle.mctower.specs.declared.kernel.answers.Reason.{Reason}
 use Rattle.mctower.specs.declared.kernel.answers.Reason.TheVariants.{AllEnded, TraceFull, StepsUsed}
-use Rattle.mctower.specs.State.{CpuState, Guarded, Shown}
+use Rattle.mctower.specs.State.{CpuState, Shown}
 use Rattle.mctower.specs.GuestView.{todo_of, is_ended, is_begun}
-use Rattle.mctower.specs.Steps.{switched_to, section_of, is_full_for, is_full, have_ended, own_reason, reason_of, option_or, after_switch}
-use Rattle.mctower.specs.Turns.{HasCount, MayTry, MayTurn}
+use Rattle.mctower.specs.Steps.{switched_to, section_of, is_full_for, is_full, have_ended, reason_of, option_or, after_switch}
+use Rattle.mctower.specs.Turns.{HasCount, MayTurn}
 use Rattle.mctower.specs.Guards.{MayGoOn}
 use Rattle.mctower.specs.Claims.{traces_of, of_thread, Follows, FollowPrograms, homes_of, IsOfHome, StayHome, standing_at, times, due_at, StandOnce, HasOneOrder}
 use Rattle.mctower.specs.Sound.{IsSound, IsOrdered, IsCounted, IsUnderWay, has_begun_on}
-use Rattle.mctower.proofs.ListLemmas.{get_set, get_set_same, get_set_other, map_set_same, get_within, within_get}
+use Rattle.mctower.proofs.ListLemmas.{get_set, map_set_same, get_within, within_get}
 use Rattle.mctower.proofs.TurnLemmas.{due_home, stands_running}
 
 -- the claim of the one order, from the invariant

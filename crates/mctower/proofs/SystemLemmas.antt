@@ -1,9 +1,9 @@
 -- One step of the system, in its parts.
-use Rattle.std.proofs.Common.{◌≡◌, ◌≢◌, ℕ, zero, suc, ◌+◌, ◌<◌, ◌≤◌, Bool, true, false, List, [], ◌∷◌, ◌++◌, length, get_or, set, map, Option, Some, None, refl, sym, ap, ◌∙◌, subst, arith, ◌⊎◌, inl, inr, ◌==◌}
+use Rattle.std.proofs.Common.{◌≡◌, ℕ, ◌+◌, ◌<◌, ◌≤◌, Bool, true, false, List, [], ◌++◌, length, get_or, set, Option, Some, None, refl, sym, ap, ◌∙◌, subst, arith, ◌==◌}
 use Rattle.std.specs.Prelude.{slice_get, if◌then◌else◌, option_to_list}
 use Rattle.std.proofs.lemmas.Bool.{eq-eqb, ne_eqb, eqb-true, false_from_ne_true}
 use Rattle.std.proofs.lemmas.List.{nil_from_length}
-use Rattle.std.proofs.lemmas.Option.{get_or_from_slice_get, same_Some, slice_get_read}
+use Rattle.std.proofs.lemmas.Option.{slice_get_read}
 use Rattle.boot.specs.Plan.{Plan}
 use Rattle.event_log.specs.declared.ids.CpuId.{CpuId}
 use Rattle.event_log.specs.declared.ids.Tid.{Tid}
@@ -12,7 +12,7 @@ use Rattle.mctower.specs.declared.kernel.guests.Guest.{Guest}
 use Rattle.mctower.specs.declared.kernel.guests.Stage.{Stage}
 use Rattle.mctower.specs.declared.kernel.guests.Stage.TheVariants.{Between, Begun, Ended}
 use Rattle.mctower.specs.declared.kernel.answers.Reason.{Reason}
-use Rattle.mctower.specs.declared.kernel.answers.Reason.TheVariants.{AllEnded, TraceFull, StepsUsed}
+use Rattle.mctower.specs.declared.kernel.answers.Reason.TheVariants.{AllEnded, TraceFull}
 use Rattle.mctower.specs.State.{CpuState, Guarded, Shown, shown}
 use Rattle.mctower.specs.GuestView.{todo_of}
 use Rattle.mctower.specs.Steps.{Turn, after_turn, after_switch, turn_of, switched_to, moved, reason_of, own_reason, is_full, is_full_for, have_ended}

@@ -1,29 +1,24 @@
 -- A turn of a running thread keeps the invariant of the system.
-use Rattle.std.proofs.Common.{◌≡◌, ◌≢◌, ℕ, zero, suc, ◌+◌, ◌-◌, ◌<◌, ◌≤◌, ◌%◌, ◌^◌, Bool, true, false, List, [], ◌∷◌, ◌++◌, length, get_or, set, map, Option, Some, None, refl, sym, ap, ◌∙◌, subst, arith, ◌⊎◌, inl, inr, ◌==◌, ◌&&◌}
-use Rattle.std.specs.Prelude.{slice_get, slice_set, slice_index_or, if◌then◌else◌, option_to_list, count_by, filter, reverse, option_map}
-use Rattle.std.specs.List.{sum_by, AllByRecursion}
+use Rattle.std.proofs.Common.{◌≡◌, ◌≢◌, ℕ, ◌+◌, ◌<◌, ◌≤◌, Bool, true, false, List, [], ◌∷◌, ◌++◌, length, get_or, set, Option, Some, refl, sym, ap, ◌∙◌, subst, arith, inl, inr, ◌==◌, ◌&&◌}
+use Rattle.std.specs.Prelude.{slice_get, slice_index_or, if◌then◌else◌, option_to_list, count_by, option_map}
+use Rattle.std.specs.List.{AllByRecursion}
 use Rattle.std.proofs.lemmas.Bool.{eq-eqb, ne_eqb, eqb-true}
-use Rattle.std.proofs.lemmas.List.{map-set, length-map, length-set, get_or-set_other}
+use Rattle.std.proofs.lemmas.List.{map-set, length-set, get_or-set_other}
 use Rattle.std.proofs.lemmas.List.Sums.{sum_by-set, sum_by-cons, sum_by_push}
 use Rattle.std.proofs.lemmas.Option.{get_or_from_slice_get, slice_get-map, same_Some}
-use Rattle.event_log.specs.declared.ids.BufId.{BufId}
 use Rattle.event_log.specs.declared.ids.CpuId.{CpuId}
 use Rattle.event_log.specs.declared.ids.Tid.{Tid}
-use Rattle.event_log.specs.declared.entries.Entry.{Entry}
 use Rattle.event_log.specs.Sections.{Section}
 use Rattle.guest.specs.declared.instructions.Instruction.{Instruction}
-use Rattle.mctower.specs.declared.kernel.edit.Call.{Call}
 use Rattle.mctower.specs.declared.kernel.edit.BufferEdit.{BufferEdit}
 use Rattle.mctower.specs.declared.kernel.guests.Guest.{Guest}
-use Rattle.mctower.specs.declared.kernel.guests.Stage.{Stage}
-use Rattle.mctower.specs.declared.kernel.guests.Stage.TheVariants.{Between, Begun, Ended}
-use Rattle.mctower.specs.Buffer.{Buffer}
-use Rattle.mctower.specs.State.{CpuState, Guarded, Shown}
+use Rattle.mctower.specs.declared.kernel.guests.Stage.TheVariants.{Begun}
+use Rattle.mctower.specs.State.{CpuState, Shown}
 use Rattle.mctower.specs.GuestView.{todo_of, is_ended, is_begun}
 use Rattle.mctower.specs.Steps.{Turn, after_turn}
 use Rattle.mctower.specs.Claims.{traces_of, of_thread, entries_of, Follows, FollowPrograms, homes_of, IsOfHome, StayHome, standing_at, times, due_at, StandOnce}
 use Rattle.mctower.specs.Sound.{IsOrdered, IsCounted, IsUnderWay, IsCall, CallsKnown, has_begun_on, IsSound}
-use Rattle.mctower.proofs.ListLemmas.{get_set, get_set_same, get_set_other, get_within, within_get, map_set_same}
+use Rattle.mctower.proofs.ListLemmas.{get_set, get_set_same, get_set_other, within_get, map_set_same}
 use Rattle.mctower.proofs.OrderSteps.{eq_or_not}
 
 -- a thread that is due somewhere lives there, and has not ended

@@ -10,8 +10,7 @@ use Rattle.guest.specs.Calls.{IsProgramsCalls, HasEnded}
 use Rattle.mctower.specs.declared.kernel.guests.Guest.{Guest}
 use Rattle.mctower.specs.declared.kernel.answers.Place.{Place}
 use Rattle.mctower.specs.declared.kernel.answers.Place.TheVariants.{Running, Ready, Ended}
-use Rattle.mctower.specs.Buffer.{Buffer}
-use Rattle.mctower.specs.State.{CpuState, Guarded, Shown}
+use Rattle.mctower.specs.State.{CpuState, Shown}
 use Rattle.mctower.specs.GuestView.{is_ended}
 
 -- the traces of the CPUs

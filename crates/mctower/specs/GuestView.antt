@@ -1,5 +1,5 @@
 -- How a guest thread goes on.
-use Rattle.std.specs.Prelude.{◌≡◌, ℕ, List, Bool, true, false}
+use Rattle.std.specs.Prelude.{ℕ, List, Bool, true, false}
 use Rattle.guest.specs.declared.instructions.Instruction.{Instruction}
 use Rattle.guest.specs.declared.instructions.Instruction.TheVariants as ins
 use Rattle.guest.specs.State.{State, next_of, value_in, after_local, after_send, after_recv, after_yield}

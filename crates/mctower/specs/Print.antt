@@ -1,5 +1,5 @@
 -- What the program prints where it refuses.
-use Rattle.std.specs.Prelude.{◌≡◌, ℕ, ◌≤◌, ◌++◌, Bool, List, [], ◌∷◌, Option, codes, length}
+use Rattle.std.specs.Prelude.{ℕ, ◌≤◌, ◌++◌, Bool, List, [], ◌∷◌, Option, codes, length}
 use Rattle.tracer.specs.Sinks.{Outs}
 
 -- a line that begins with `error: `, with at most 200 bytes behind that, is out; where the sink failed, a beginning of it

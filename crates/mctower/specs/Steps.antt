@@ -1,15 +1,14 @@
 -- The step table: what one step of one CPU does, as a function of the whole system.
-use Rattle.std.specs.Prelude.{ℕ, ◌+◌, ◌-◌, ◌==◌, ◌&&◌, Bool, true, false, List, [], ◌∷◌, ◌++◌, length, Option, Some, None, option_map, slice_get, slice_set, if◌then◌else◌, not, ◌||◌}
+use Rattle.std.specs.Prelude.{◌+◌, ◌-◌, ◌==◌, Bool, false, List, [], ◌∷◌, ◌++◌, length, Option, Some, None, option_map, slice_get, slice_set, if◌then◌else◌, not, ◌||◌}
 use Rattle.std.specs.List.{list_all}
 use Rattle.event_log.specs.declared.ids.CpuId.{CpuId}
 use Rattle.event_log.specs.declared.ids.BufId.{BufId}
 use Rattle.event_log.specs.declared.ids.Tid.{Tid}
-use Rattle.event_log.specs.declared.ids.LockId.{LockId}
 use Rattle.event_log.specs.declared.ids.LockId.TheVariants as lock
 use Rattle.event_log.specs.declared.entries.Entry.{Entry}
 use Rattle.event_log.specs.declared.entries.Kind.{Kind}
 use Rattle.event_log.specs.declared.entries.Kind.TheVariants as kind
-use Rattle.event_log.specs.Actions.{Action, phase, next_action}
+use Rattle.event_log.specs.Actions.{phase, next_action}
 use Rattle.layer_traits.specs.Plans.{at_give}
 use Rattle.event_log.specs.History.{same_cpu}
 use Rattle.event_log.specs.Sections.{Section}

@@ -2,11 +2,9 @@
 use Rattle.std.specs.Prelude.{◌≡◌, ℕ, ◌+◌, List, [], ◌∷◌, Option, None, Some, MatchOption}
 use Rattle.event_log.specs.declared.ids.CpuId.{CpuId}
 use Rattle.event_log.specs.declared.ids.LockId.{LockId}
-use Rattle.event_log.specs.declared.events.Event.{Event}
 use Rattle.event_log.specs.History.{own}
 use Rattle.event_log.specs.WordsLog.{standing, Outside}
 use Rattle.event_log.specs.Sections.{Section, section_actor}
-use Rattle.layer_traits.specs.declared.edits.Mark.{Mark}
 use Rattle.layer_traits.specs.Protocol.{sections}
 use Rattle.table_machine.specs.Desks.{Board, Desk, IsOf}
 use Rattle.mctower.specs.Count.{sections_at}

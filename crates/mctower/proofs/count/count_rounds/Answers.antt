@@ -1,4 +1,4 @@
-use Rattle.std.proofs.Common.{◌≡◌, ℕ, ◌+◌, ◌*◌, ◌∙◌, [], ap, arith, length, subst, sym, zero-add}
+use Rattle.std.proofs.Common.{◌+◌, ◌*◌, ◌∙◌, [], ap, arith, length, sym, zero-add}
 use Rattle.event_log.specs.WordsLog.{standing}
 use Rattle.event_log.specs.Sections.{sections_of}
 use Rattle.event_log.specs.Actions.{acts_of}

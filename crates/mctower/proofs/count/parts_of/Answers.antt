@@ -1,4 +1,4 @@
-use Rattle.std.proofs.Common.{◌+◌, ◌∷◌, [], ◌∙◌, ap, arith, length, subst, sym}
+use Rattle.std.proofs.Common.{◌+◌, ◌∷◌, [], ◌∙◌, ap, length, subst, sym}
 use Rattle.std.proofs.lemmas.List.{length-append}
 use Rattle.event_log.specs.declared.ids.CpuId.{CpuId}
 use Rattle.mctower.specs.Count.{AreReady}

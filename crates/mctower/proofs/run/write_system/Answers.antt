@@ -2,7 +2,7 @@ use Rattle.std.proofs.Common.{◌≡◌, ◌<◌, ◌^◌, List, ℕ, length, ge
 use Rattle.std.specs.Prelude.{Err}
 use Rattle.event_log.specs.declared.entries.Entry.{Entry}
 use Rattle.tracer.specs.Gather.{traces_in, HasNoOrder, IsOrder, TakesFirstReady}
-use Rattle.mctower.specs.Claims.{traces_of, contents_of}
+use Rattle.mctower.specs.Claims.{traces_of}
 use Rattle.mctower.specs.Plans.{from_gather}
 use Rattle.mctower.specs.declared.run.Fault.TheVariants.{WriteFault}
 use Rattle.mctower.proofs.SpellingLemmas.{gather_refused, err_writes, spelled_as, out_as}

@@ -1,5 +1,5 @@
-use Rattle.std.proofs.Common.{◌≡◌, length, ap, sym, subst, ◌∙◌}
-use Rattle.mctower.specs.Plans.{IsSystemOf, IsOfPlan}
+use Rattle.std.proofs.Common.{length, ap, sym, subst, ◌∙◌}
+use Rattle.mctower.specs.Plans.{IsSystemOf}
 use Rattle.mctower.specs.State.{Shown}
 use Rattle.mctower.proofs.PlanSteps.{booted_plan}
 use Rattle.mctower.proofs.twin_tests.step_both.Goals as goal

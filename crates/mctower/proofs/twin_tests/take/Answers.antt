@@ -1,7 +1,7 @@
-use Rattle.std.proofs.Common.{◌≡◌, [], ◌∷◌, length, ap, sym, subst, ◌∙◌}
+use Rattle.std.proofs.Common.{[], ◌∷◌, length, ap, sym, subst, ◌∙◌}
 use Rattle.std.proofs.lemmas.List.{length-map}
 use Rattle.mctower.specs.Buffer.{Buffer}
-use Rattle.mctower.specs.Plans.{IsSystemOf, IsOfPlan}
+use Rattle.mctower.specs.Plans.{IsSystemOf}
 use Rattle.mctower.specs.State.{Shown}
 use Rattle.mctower.specs.Steps.{step_of}
 use Rattle.mctower.proofs.PlanSteps.{steps_plan}

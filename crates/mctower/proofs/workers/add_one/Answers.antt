@@ -1,7 +1,6 @@
-use Rattle.std.proofs.Common.{◌≡◌, ◌+◌, is_some, true, false, sym, ap, subst, ◌∙◌}
-use Rattle.event_log.specs.declared.ids.CpuId.{CpuId}
+use Rattle.std.proofs.Common.{◌≡◌, ◌+◌, is_some, true, false, ap, subst, ◌∙◌}
 use Rattle.layer_traits.specs.Protocol.{section}
-use Rattle.mctower.specs.Workers.{made, MayGoOn}
+use Rattle.mctower.specs.Workers.{made}
 use Rattle.mctower.proofs.WorkersLemmas.{poll_waits, poll_answers, goes_on}
 use Rattle.mctower.proofs.workers.add_one.Goals as goal
 

@@ -1,17 +1,16 @@
-use Rattle.std.proofs.Common.{◌-◌, rules, ◌≡◌, ◌<◌, length, slice_get, ℕ, get_or, subst, sym, ◌∙◌, refl, ap, Some, arith, Option, map, set, true, false, List, ◌∷◌}
+use Rattle.std.proofs.Common.{◌-◌, ◌≡◌, ◌<◌, length, slice_get, subst, sym, refl, Some, arith, map, set, List, ◌∷◌}
 use Rattle.std.specs.Prelude.{is_some, if◌then◌else◌}
 use Rattle.event_log.specs.declared.ids.CpuId.{CpuId}
 use Rattle.event_log.specs.declared.ids.LockId.TheVariants as lock
-use Rattle.event_log.specs.Actions.{next_action, phase}
-use Rattle.event_log.specs.Sections.{Section, sections_in}
+use Rattle.event_log.specs.Actions.{next_action}
+use Rattle.event_log.specs.Sections.{sections_in}
 use Rattle.layer_traits.specs.Protocol.{section}
 use Rattle.layer_traits.specs.Plans.{reply, table_of}
 use Rattle.mctower.specs.Buffer.{Buffer}
 use Rattle.mctower.specs.EditRules.{buffer_rules}
 use Rattle.mctower.specs.Guards.{MayGoOn, Guards}
 use Rattle.mctower.specs.State.{Guarded}
-use Rattle.mctower.specs.Steps.{acted, answer_of, section_of, buffers_after, under_after}
-use Rattle.mctower.specs.declared.kernel.edit.BufferEdit.{BufferEdit}
+use Rattle.mctower.specs.Steps.{acted, answer_of, section_of, buffers_after}
 use Rattle.mctower.proofs.ListLemmas.{get_within}
 use Rattle.mctower.proofs.GuardLemmas.{part_at, may_go_on, acted_alone, polled_alone, guards_after, answer_is, acted_is, copies_then, copies_else, under_is}
 use Rattle.std.proofs.lemmas.List.{map-set}

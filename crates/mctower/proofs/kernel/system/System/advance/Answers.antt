@@ -1,12 +1,11 @@
-use Rattle.std.proofs.Common.{◌≡◌, ◌<◌, length, slice_get, ℕ, subst, sym, ◌∙◌, refl, ap, Some, None, map, set, get_or, [], List, ◌+◌}
+use Rattle.std.proofs.Common.{◌≡◌, ◌<◌, length, slice_get, ℕ, subst, sym, ◌∙◌, Some, None, map, set, get_or, [], List, ◌+◌}
 use Rattle.std.proofs.lemmas.List.{length-map}
-use Rattle.std.proofs.lemmas.Option.{get_or_from_slice_get, same_Some}
+use Rattle.std.proofs.lemmas.Option.{get_or_from_slice_get}
 use Rattle.guest.specs.declared.instructions.Instruction.{Instruction}
 use Rattle.boot.specs.Plan.{Task, program_of}
 use Rattle.mctower.specs.declared.kernel.guests.Guest.{Guest}
 use Rattle.mctower.specs.State.{Shown, shown}
-use Rattle.mctower.specs.Steps.{reason_of, moved, turn_of, after_turn}
-use Rattle.mctower.specs.Sound.{IsSound}
+use Rattle.mctower.specs.Steps.{reason_of, turn_of, after_turn}
 use Rattle.mctower.proofs.ListLemmas.{within_get}
 use Rattle.mctower.proofs.SystemLemmas.{IsRunning, is_running, running_sound, running_may, running_moved, switch_moved, switch_keeps, turn_shown, switch_shown, read_at, moved_same, turn_same}
 use Rattle.mctower.proofs.kernel.system.System.advance.Goals as goal

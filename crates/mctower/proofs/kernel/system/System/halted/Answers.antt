@@ -1,4 +1,4 @@
-use Rattle.std.proofs.Common.{◌≡◌, ◌<◌, length, slice_get, ℕ, subst, sym, ◌∙◌, refl, ap, Some, None, Option, map, get_or, [], List, true, false}
+use Rattle.std.proofs.Common.{◌≡◌, ◌<◌, length, slice_get, ℕ, subst, sym, ◌∙◌, Some, None, Option, map, get_or, [], List, true, false}
 use Rattle.std.proofs.lemmas.List.{length-map}
 use Rattle.std.proofs.lemmas.Option.{get_or_from_slice_get}
 use Rattle.boot.specs.Plan.{Task, program_of}

@@ -1,4 +1,4 @@
-use Rattle.std.proofs.Common.{◌≡◌, ◌<◌, ◌^◌, ℕ, sym, ap, ◌∙◌, arith, subst, replicate}
+use Rattle.std.proofs.Common.{◌≡◌, ◌<◌, ◌^◌, sym, ap, ◌∙◌, arith, subst, replicate}
 use Rattle.mctower.specs.Boots.{booted, with_threads, idle_cpu, fresh_guarded}
 use Rattle.mctower.specs.State.{shown}
 use Rattle.mctower.specs.Sound.{IsSound}

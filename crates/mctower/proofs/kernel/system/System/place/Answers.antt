@@ -1,11 +1,10 @@
-use Rattle.std.proofs.Common.{◌≡◌, ◌<◌, length, slice_get, ℕ, subst, sym, ◌∙◌, refl, ap, Some, false, true}
+use Rattle.std.proofs.Common.{◌≡◌, ◌<◌, length, slice_get, subst, sym, refl, Some, false}
 use Rattle.std.specs.Prelude.{IsTrue}
 use Rattle.std.proofs.lemmas.Bool.{false≢true}
 use Rattle.mctower.specs.State.{Shown, shown}
 use Rattle.mctower.specs.GuestView.{is_ended}
 use Rattle.mctower.specs.Claims.{IsPlaceOf}
 use Rattle.mctower.specs.declared.kernel.answers.Place.TheVariants.{Ready}
-use Rattle.mctower.proofs.ListLemmas.{within_get}
 use Rattle.mctower.proofs.SystemLemmas.{read_at, ready_once, not_ended}
 use Rattle.mctower.proofs.kernel.system.System.place.Goals as goal
 

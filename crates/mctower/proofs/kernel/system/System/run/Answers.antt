@@ -1,4 +1,4 @@
-use Rattle.std.proofs.Common.{◌≡◌, ap, ◌∙◌, length}
+use Rattle.std.proofs.Common.{ap, ◌∙◌, length}
 use Rattle.mctower.specs.State.{Shown}
 use Rattle.mctower.proofs.RunSteps.{step_length, steps_more}
 use Rattle.mctower.proofs.kernel.system.System.run.Goals as goal

@@ -1,4 +1,4 @@
-use Rattle.std.proofs.Common.{◌≡◌, take, drop, length}
+use Rattle.std.proofs.Common.{◌≡◌, drop, length}
 use Rattle.mctower.specs.Steps.{steps_of}
 use Rattle.mctower.proofs.kernel.system.System.run.Given as goal
 

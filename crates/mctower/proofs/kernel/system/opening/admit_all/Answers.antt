@@ -1,6 +1,6 @@
-use Rattle.std.proofs.Common.{◌≡◌, ◌<◌, ℕ, length, Some, sym, ap, ◌∙◌, arith}
+use Rattle.std.proofs.Common.{◌<◌, length, Some, sym, ap, ◌∙◌, arith}
 use Rattle.std.proofs.lemmas.Option.{slice_get-get_or}
-use Rattle.mctower.proofs.AdmitLemmas.{Admits, admits_more}
+use Rattle.mctower.proofs.AdmitLemmas.{admits_more}
 use Rattle.mctower.proofs.kernel.system.opening.admit_all.Goals as goal
 
 pub loop-t-preserved : goal.loop-t-preserved

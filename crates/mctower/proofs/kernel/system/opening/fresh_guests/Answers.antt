@@ -1,4 +1,4 @@
-use Rattle.std.proofs.Common.{◌≡◌, ◌≤◌, ℕ, length, vec_capacity, sym, ap, ◌∙◌, arith, subst}
+use Rattle.std.proofs.Common.{arith}
 use Rattle.mctower.proofs.AdmitLemmas.{guests_more}
 use Rattle.mctower.proofs.kernel.system.opening.fresh_guests.Goals as goal
 

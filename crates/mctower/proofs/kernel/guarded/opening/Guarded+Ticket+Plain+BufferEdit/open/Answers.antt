@@ -1,4 +1,4 @@
-use Rattle.std.proofs.Common.{◌≡◌, [], sym, ap, ◌∙◌, subst}
+use Rattle.std.proofs.Common.{sym, ap, ◌∙◌, subst}
 use Rattle.event_log.specs.Actions.{acts_of}
 use Rattle.event_log.specs.WordsLog.{standing}
 use Rattle.layer_traits.specs.OneLock.{opened, AreDistinct}
