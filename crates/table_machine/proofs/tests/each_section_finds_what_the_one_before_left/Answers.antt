@@ -1,5 +1,5 @@
 use Rattle.std.proofs.Common.{◌≡◌, ap, ◌∙◌}
-use Rattle.event_log.specs.WordsLog.{standing, Outside}
+use Rattle.event_log.specs.WordsLog.{standing}
 use Rattle.table_machine.specs.Desks.{new_desk}
 use Rattle.table_machine.proofs.Fresh.{outside_still}
 use Rattle.table_machine.proofs.tests.each_section_finds_what_the_one_before_left.Goals as goal
