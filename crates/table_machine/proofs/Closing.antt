@@ -160,7 +160,7 @@ module _ {E B O : Type 0} (R : Rules E B O) where
 
   -- the same, as the table is seen from outside
   pub settles_at : (z : TableId) (start : List (LockId × B)) (n : ℕ) (board : Board B) (v : View E B) (desks : List (Desk E B)) (id : ℕ) (words : List ℕ) (homes : List (Home E B)) → board_of z start n ≡ board
-      → AreDistinct board.start → Gathered board.start v desks → Covers board.cpus desks → Final (Seen (Kept R n start) id v) words homes → Settled R board desks homes
+      → AreDistinct start → Gathered board.start v desks → Covers board.cpus desks → Final (Seen (Kept R n start) id v) words homes → Settled R board desks homes
   settles_at z start n board v desks id words homes board_is distinct g covers final =
-      let P : Board B → Type 0 = λ b. AreDistinct b.start → Gathered b.start v desks → Covers b.cpus desks → Settled R b desks homes in
-      subst P board_is (λ distinct g covers. settles (board_of z start n) v desks id words homes distinct g covers final) distinct g covers
+      let P : Board B → Type 0 = λ b. Gathered b.start v desks → Covers b.cpus desks → Settled R b desks homes in
+      subst P board_is (λ g covers. settles (board_of z start n) v desks id words homes distinct g covers final) g covers

@@ -5,7 +5,6 @@ ghost use Rattle.std.specs.Mem.Slots.{slots_items, slots_len, IsFull};
 ghost use mathlib.Core.Option.{some};
 ghost use lib.ListN.{get_elem?};
 ghost use Rattle.event_log.specs.declared.ids.LockId.{LockId};
-ghost use Rattle.layer_traits.specs.OneLock.{AreDistinct};
 ghost use Rattle.table_machine.specs.declared.views.Home.{Home};
 ghost use Rattle.table_machine.specs.Desks.{Desk, IsOver, Covers, Closes, Gathered};
 
@@ -25,7 +24,6 @@ impl<E: Edit> Shared<E> {
     /// begins with the log of each key and holds of each CPU just the events which its key has
     /// seen; each block is the fold of its lock's sections in that log. Takes no memory.
     pub fn close(self, keys: Vec<Key<E>>) -> Vec<(LockId, E::Block)>
-        requires distinct { AreDistinct self.start }
         requires covers { Covers self.cpus keys.items }
         requires keys { All (IsOver self) keys.items }
         ensures { Closes E.rules self keys.items result.items }

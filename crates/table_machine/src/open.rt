@@ -98,6 +98,7 @@ fn opened_table<E: Edit>(
     blocks: Vec<(LockId, E::Block)>,
     cpus: u8,
 ) -> Result<(Shared<E>, Token<E>), AllocError>
+    requires distinct { AreDistinct blocks.items }
     requires cpus { cpus ≤ CPUS }
     ensures start { IfOk result (λ r. r.0.start ≡ blocks.items) }
     ensures cpus { IfOk result (λ r. r.0.cpus ≡ cpus) }
@@ -131,6 +132,7 @@ fn furnished<E: Edit>(
     requires laid { IsLaidOut made.0.shared.key.blocks.value.items made.0.shared.table_id.words made.0.shared.table_id.slots places.items locks.items }
     requires empty { blocks.items ≡ [] }
     requires room { length made.0.shared.key.blocks.value.items ≤ vec_capacity blocks }
+    requires distinct { AreDistinct made.0.shared.key.blocks.value.items }
     ensures start { result.0.start ≡ made.0.shared.key.blocks.value.items }
     ensures cpus { result.0.cpus ≡ made.0.shared.key.cpus }
     ensures table { result.0.table ≡ made.0.shared.table_id }

@@ -25,6 +25,7 @@ pub struct Shared<E: Edit> {
 
 impl<E: Edit> Model for Shared<E> {
     ghost use Rattle.std.specs.Prelude.{◌≡◌, ◌≤◌, [], length, vec_capacity};
+    ghost use Rattle.layer_traits.specs.OneLock.{AreDistinct};
     ghost use Rattle.table_machine.specs.Desks.{Board};
     ghost use Rattle.table_machine.specs.Places.{IsLaidOut};
 
@@ -33,7 +34,8 @@ impl<E: Edit> Model for Shared<E> {
     ghost view = { λ s. record { table = s.table.shared.table_id; start = s.table.shared.key.blocks.value.items; cpus = s.table.shared.key.cpus } };
 
     ghost invariant = { λ s. (IsLaidOut s.table.shared.key.blocks.value.items s.table.shared.table_id.words s.table.shared.table_id.slots s.places.items s.locks.items)
-        × (s.blocks.items ≡ []) × (length s.table.shared.key.blocks.value.items ≤ vec_capacity s.blocks) };
+        × (s.blocks.items ≡ []) × (length s.table.shared.key.blocks.value.items ≤ vec_capacity s.blocks)
+        × AreDistinct s.table.shared.key.blocks.value.items };
 }
 
 impl<E: Edit> Shared<E> {

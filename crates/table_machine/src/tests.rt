@@ -4,7 +4,6 @@ ghost use Rattle.std.specs.Prelude.{◌≡◌, ◌+◌, ◌%◌, ◌^◌, ◌<�
 ghost use Rattle.event_log.specs.WordsLog.{standing, Outside, Waiting, Inside};
 ghost use Rattle.event_log.specs.Sections.{block_after};
 ghost use Rattle.layer_traits.specs.Protocol.{sections};
-ghost use Rattle.layer_traits.specs.OneLock.{AreDistinct};
 ghost use Rattle.table_machine.specs.Desks.{IsOver, new_desk, new_desks};
 ghost use Rattle.table_machine.specs.declared.tests.TheConstants.{LOCK, OTHER};
 
@@ -66,7 +65,6 @@ fn two_keys<R: Abort>(
 
 /// Closes a table at which nothing was done.
 fn untouched(shared: Shared<AddOne>, keys: Vec<Key<AddOne>>) -> Vec<(LockId, u64)>
-    requires distinct { AreDistinct shared.start }
     requires keys { keys.items ≡ new_desks shared shared.cpus }
 {
     shared.close(keys)
@@ -79,7 +77,6 @@ fn closed(
     first: Key<AddOne>,
     second: Key<AddOne>,
 ) -> Result<Vec<(LockId, u64)>, NoMemory>
-    requires distinct { AreDistinct shared.start }
     requires cpus { shared.cpus ≡ 2 }
     requires first { IsOver shared first × (first.cpu.0 ≡ 0) }
     requires second { IsOver shared second × (second.cpu.0 ≡ 1) }

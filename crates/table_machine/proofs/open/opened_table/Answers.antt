@@ -1,5 +1,6 @@
-use Rattle.std.proofs.Common.{◌∙◌, ap, sym, map, replicate, length}
+use Rattle.std.proofs.Common.{◌∙◌, ap, sym, subst, map, replicate, length}
 use Rattle.event_log.specs.declared.ids.LockId.{LockId}
+use Rattle.layer_traits.specs.OneLock.{AreDistinct}
 use Rattle.table_machine.specs.Places.{word_count}
 use Rattle.table_machine.specs.Rule.{fresh_home}
 use Rattle.table_machine.proofs.Dealing.{kept_opening}
@@ -16,3 +17,6 @@ furnished-requires-clause-laid g c = laid_fits _ c.args.blocks.items _ _ c.as_sl
     (ap (λ k. k.blocks.value.items) c.in-Ok.ensures.ok.5 ∙ ap (λ v. v.items) c.of.ensures)
     c.in-Ok.ensures.ok.0 (c.as_slice.ensures.value ∙ c.in_ok-words.ensures.words) c.in-Ok.ensures.ok.1 c.in_ok-words.ensures.homes
     c.in_ok-words.ensures.small c.in_ok-words.ensures.row c.in_ok-words.ensures.places c.in_ok-words.ensures.locks
+
+pub furnished-requires-clause-distinct : goal.furnished-requires-clause-distinct
+furnished-requires-clause-distinct g c = subst (λ l. AreDistinct l) (sym (ap (λ k. k.blocks.value.items) c.in-Ok.ensures.ok.5 ∙ ap (λ v. v.items) c.of.ensures)) c.requires.distinct
