@@ -195,6 +195,18 @@ fn a_log_without_room_takes_nothing(rt: HostRuntime) -> Result<(), Fail> {
     Ok(())
 }
 
+// Run with each allocation refused in turn: what is refused is `NoMemory`.
+#[test]
+fn a_refused_allocation_is_no_memory(rt: HostRuntime) {
+    match EventLog::<CpuId>::with_room(rt.alloc(), 2) {
+        Ok(mut log) => {
+            assert_eq!(rt; log.push(A), Ok(()));
+            assert_eq!(rt; log.len(), 1);
+        }
+        Err(error) => assert_eq!(rt; error, NoMemory),
+    }
+}
+
 #[test]
 fn refusals_print_their_names_and_numbers(rt: HostRuntime) -> Result<(), Fail> {
     assert_eq!(rt;
