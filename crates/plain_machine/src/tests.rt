@@ -119,3 +119,13 @@ fn too_much_room_is_refused(rt: HostRuntime) -> Result<(), Fail> {
     );
     Ok(())
 }
+
+// Run with each allocation refused in turn: what is refused is `NoMemory`.
+#[test]
+fn a_refused_allocation_is_no_memory(rt: HostRuntime) {
+    let lock = LockId::Buffer(BufId(3));
+    match machine_with(rt.alloc(), lock, 7, 2) {
+        Ok(machine) => assert_eq!(rt; machine.home(lock), Some(&7)),
+        Err(error) => assert_eq!(rt; error, NoMemory),
+    }
+}
