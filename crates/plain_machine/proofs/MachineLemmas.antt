@@ -5,6 +5,7 @@ use Rattle.event_log.specs.declared.ids.LockId.{LockId}
 use Rattle.event_log.specs.declared.ids.TheConstants.{CPUS}
 use Rattle.event_log.specs.declared.events.Event.{Event}
 use Rattle.event_log.specs.declared.events.Event.TheVariants.{Draw, Look, Free}
+use Rattle.event_log.specs.Grants.{ticket_in}
 use Rattle.event_log.specs.History.{same_lock}
 use Rattle.event_log.specs.WordsLog.{IsLegalWords, Outside, Waiting, Inside, draws, frees, standing}
 use Rattle.event_log.specs.Sections.{block_after}
@@ -16,7 +17,7 @@ use Rattle.layer_traits.specs.OneLock.{LockFits, opened}
 use Rattle.layer_traits.specs.Protocol.{Rules, MayCome, StaysAllowed, section, sections}
 use Rattle.plain_machine.proofs.TableLemmas.{cell_within, cell_put, cell_other}
 use Rattle.plain_machine.specs.declared.cells.Cell.{Cell}
-use Rattle.plain_machine.specs.Machine.{HasCell, IsSound, ticket_in}
+use Rattle.plain_machine.specs.Machine.{HasCell, IsSound}
 use Rattle.plain_machine.specs.Table.{cell_at, with_cell, fresh_cell, drawn_cell, looked_cell, freed_cell, AreFresh}
 
 -- what a filled table has for each lock that opens

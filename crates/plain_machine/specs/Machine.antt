@@ -4,9 +4,10 @@ use Rattle.event_log.specs.declared.ids.CpuId.{CpuId}
 use Rattle.event_log.specs.declared.ids.LockId.{LockId}
 use Rattle.event_log.specs.declared.events.Event.{Event}
 use Rattle.event_log.specs.declared.events.Event.TheVariants as event
+use Rattle.event_log.specs.Grants.{ticket_in}
 use Rattle.event_log.specs.History.{IsLawful}
 use Rattle.event_log.specs.Log.{events_in, room_of}
-use Rattle.event_log.specs.WordsLog.{Standing, Outside, Waiting, Inside, standing, draws, frees}
+use Rattle.event_log.specs.WordsLog.{standing, draws, frees}
 use Rattle.layer_traits.specs.declared.edits.Mark.{Mark}
 use Rattle.layer_traits.specs.OneLock.{LockFits}
 use Rattle.layer_traits.specs.Protocol.{Rules, MayCome}
@@ -16,12 +17,6 @@ use Rattle.plain_machine.specs.declared.notes.Act.TheVariants.{Draw, Look, Free}
 use Rattle.plain_machine.specs.declared.notes.Note.{Note}
 use Rattle.plain_machine.specs.declared.notes.Notes.{Notes}
 use Rattle.plain_machine.specs.Table.{cell_at}
-
--- the ticket with which a CPU stands at a lock; 0 where it has none
-abbrev pub ticket_in : Standing → ℕ
-ticket_in Outside = 0
-ticket_in (Waiting lock ticket) = ticket
-ticket_in (Inside lock ticket) = ticket
 
 -- the past with the event of what was done at a lock, where these marks, newest first, are not yet told. A draw gives the number of
 -- earlier draws, a look has its CPU's ticket and reads the number of earlier frees, and a free has the newest mark.

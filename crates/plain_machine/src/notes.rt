@@ -41,9 +41,10 @@ pub struct Notes<M> {
 }
 
 impl<M> Notes<M> {
+    ghost use Rattle.event_log.specs.Grants.{ticket_in};
     ghost use Rattle.event_log.specs.WordsLog.{draws, frees, standing};
     ghost use Rattle.event_log.specs.declared.events.Event.TheVariants as event;
-    ghost use Rattle.plain_machine.specs.Machine.{history, room_left, ticket_in};
+    ghost use Rattle.plain_machine.specs.Machine.{history, room_left};
 
     /// An empty log with room for `n` events.
     ///
