@@ -10,19 +10,19 @@ use Rattle.event_log.specs.declared.ids.LockId.{LockId}
 use Rattle.event_log.specs.History.{own, same_cpu, same_lock, AreOthers}
 use Rattle.event_log.specs.declared.events.Event.{Event}
 use Rattle.event_log.specs.declared.events.Event.TheVariants.{Draw, Look, Free}
-use Rattle.event_log.specs.WordsLog.{actor}
+use Rattle.event_log.specs.WordsLog.{actor, frees}
 use Rattle.event_log.specs.Sections.{Section, section_actor}
 use Rattle.event_log.proofs.Same.{same_cpu_self, same_lock_self}
 use Rattle.layer_traits.specs.declared.edits.Mark.{Mark}
 use Rattle.layer_traits.specs.OneLock.{opened}
-use Rattle.layer_traits.specs.Protocol.{Rules, section, sections}
+use Rattle.layer_traits.specs.Protocol.{Rules, edit_of, section, sections}
 use Rattle.layer_traits.specs.Turns.{Polled}
 use Rattle.table_machine.specs.Desks.{Board, Desk, new_desk, new_desks, Covers, IsOver, Closes}
 use Rattle.mctower.specs.declared.count.AddOne.{AddOne}
 use Rattle.mctower.specs.declared.count.TheConstants.{NUMBER}
 use Rattle.mctower.specs.Count.{counting, sections_at}
-use Rattle.mctower.specs.Workers.{made, MayGoOn, Both, HasMade, IsAtRest}
-use Rattle.mctower.proofs.CountLemmas.{number_is}
+use Rattle.mctower.specs.Workers.{made, MayGoOn, Both, HasMade, IsAtRest, IsNumberOfFrees}
+use Rattle.mctower.proofs.CountLemmas.{frees_are_sections, number_is}
 
 one_more : (b : Bool) (k : ℕ) → (if b then k + 1 else k) ≡ k + (if b then 1 else 0)
 one_more true k = refl
@@ -232,31 +232,41 @@ module _ {B : Type 0} {E : Type 0} (lock : LockId) (times : ℕ) (board : Board 
       let here = came_at board (λ d e. HasMade lock d e times) board.cpus came all k (subst (λ m. k < m) long below) in
       subst (λ (x : Desk E B). IsOver board x) (sym (read_at came k d here.0 here.1)) (record { table = here.2.table; outside = here.2.outside })
 
--- the number that the workers left
-pub number_is_left : (times : ℕ) (board : Board ℕ) (came : List (Desk AddOne ℕ)) (blocks : List (LockId × ℕ)) → Both (λ d e. HasMade NUMBER d e times) (new_desks board board.cpus) came
-    → board.start ≡ (NUMBER, 0) ∷ [] → board.cpus ≤ 8 → times ≤ 1000 → Closes counting board came blocks
-    → (get_elem? blocks 0 ≡ some (NUMBER, times * board.cpus)) × (0 < length blocks)
-number_is_left times board came blocks all start few most closes =
-    let secs = sections closes.log in
-    let first : get_elem? board.start 0 ≡ some (NUMBER, 0) = ap (λ l. get_elem? l 0) start in
-    let there = closes.blocks_are 0 (NUMBER, 0) first in
-    let zeroth : opened board.start NUMBER ≡ Some 0 = ap (λ l. opened l NUMBER) start in
-    let folded : Some (sections_at NUMBER secs % 2 ^ 64) ≡ Some there.0 = sym (number_is (opened board.start) NUMBER secs zeroth) ∙ there.2 in
-    let number : sections_at NUMBER secs % 2 ^ 64 ≡ there.0 = cc in
-    let own_made : (c : CpuId) → c.0 < board.cpus → made c NUMBER secs ≡ times = λ c below. (
-    let here = came_at board (λ d e. HasMade NUMBER d e times) board.cpus came all c.0 below in
-    let cpu_is : here.0.cpu ≡ c = here.2.cpu in
-    let whole : own actor c closes.log ≡ own actor c here.0.seen = subst (λ x. own actor x closes.log ≡ own actor x here.0.seen) cpu_is (closes.keys c.0 here.0 here.1).whole in
-    ap (sections_at NUMBER) (own_sections c closes.log ∙ (ap sections whole ∙ sym (own_sections c here.0.seen))) ∙ (here.2.more ∙ zero-add times)) in
-    let known : (c : CpuId) → board.cpus ≤ c.0 → own section_actor c secs ≡ [] = λ c large. own_sections c closes.log ∙ ap sections (closes.rest c large) in
-    let sum : sections_at NUMBER secs ≡ times * board.cpus = sections_add_up NUMBER board.cpus secs known ∙ total_each (λ c. made c NUMBER secs) board.cpus times own_made in
-    let small : times * board.cpus < 2 ^ 64 = small_product times board.cpus most few in
-    let number_is_that : there.0 ≡ times * board.cpus = sym number ∙ (ap (λ n. n % 2 ^ 64) sum ∙ mod-eq_of_lt small) in
-    let count : length blocks ≡ 1 = closes.count ∙ ap length start in
-    (there.1 ∙ ap (λ (b : ℕ). some (NUMBER, b)) number_is_that, omega arith)
-  where
-    small_product : (a b : ℕ) → a ≤ 1000 → b ≤ 8 → a * b < 2 ^ 64
-    small_product a b p q = let bound : a * b ≤ 1000 * 8 = mul-le-mul p q in omega arith
+module _ (times : ℕ) (board : Board ℕ) (came : List (Desk AddOne ℕ)) (blocks : List (LockId × ℕ)) (all : Both (λ d e. HasMade NUMBER d e times) (new_desks board board.cpus) came)
+    (closes : Closes counting board came blocks) where
+  -- the Frees of the log of the closed table: each CPU of the table has so many
+  frees_are : frees NUMBER closes.log ≡ times * board.cpus
+  frees_are =
+      let secs = sections closes.log in
+      let own_made : (c : CpuId) → c.0 < board.cpus → made c NUMBER secs ≡ times = λ c below. (
+      let here = came_at board (λ d e. HasMade NUMBER d e times) board.cpus came all c.0 below in
+      let cpu_is : here.0.cpu ≡ c = here.2.cpu in
+      let whole : own actor c closes.log ≡ own actor c here.0.seen = subst (λ x. own actor x closes.log ≡ own actor x here.0.seen) cpu_is (closes.keys c.0 here.0 here.1).whole in
+      ap (sections_at NUMBER) (own_sections c closes.log ∙ (ap sections whole ∙ sym (own_sections c here.0.seen))) ∙ (here.2.more ∙ zero-add times)) in
+      let known : (c : CpuId) → board.cpus ≤ c.0 → own section_actor c secs ≡ [] = λ c large. own_sections c closes.log ∙ ap sections (closes.rest c large) in
+      sym (frees_are_sections edit_of NUMBER closes.log) ∙ (sections_add_up NUMBER board.cpus secs known ∙ total_each (λ c. made c NUMBER secs) board.cpus times own_made)
+
+  -- a number that is so many is that of the Frees
+  pub left_by_frees : (number : ℕ) → number ≡ times * board.cpus → IsNumberOfFrees counting NUMBER board came number
+  left_by_frees number is = record { log = closes.log; legal = closes.legal; keys = closes.keys; rest = closes.rest; is = is ∙ sym frees_are }
+
+  -- the number that the workers left
+  pub number_is_left : board.start ≡ (NUMBER, 0) ∷ [] → board.cpus ≤ 8 → times ≤ 1000 → (get_elem? blocks 0 ≡ some (NUMBER, times * board.cpus)) × (0 < length blocks)
+  number_is_left start few most =
+      let secs = sections closes.log in
+      let first : get_elem? board.start 0 ≡ some (NUMBER, 0) = ap (λ l. get_elem? l 0) start in
+      let there = closes.blocks_are 0 (NUMBER, 0) first in
+      let zeroth : opened board.start NUMBER ≡ Some 0 = ap (λ l. opened l NUMBER) start in
+      let folded : Some (sections_at NUMBER secs % 2 ^ 64) ≡ Some there.0 = sym (number_is (opened board.start) NUMBER secs zeroth) ∙ there.2 in
+      let number : sections_at NUMBER secs % 2 ^ 64 ≡ there.0 = cc in
+      let sum : sections_at NUMBER secs ≡ times * board.cpus = frees_are_sections edit_of NUMBER closes.log ∙ frees_are in
+      let small : times * board.cpus < 2 ^ 64 = small_product times board.cpus most few in
+      let number_is_that : there.0 ≡ times * board.cpus = sym number ∙ (ap (λ n. n % 2 ^ 64) sum ∙ mod-eq_of_lt small) in
+      let count : length blocks ≡ 1 = closes.count ∙ ap length start in
+      (there.1 ∙ ap (λ (b : ℕ). some (NUMBER, b)) number_is_that, omega arith)
+    where
+      small_product : (a b : ℕ) → a ≤ 1000 → b ≤ 8 → a * b < 2 ^ 64
+      small_product a b p q = let bound : a * b ≤ 1000 * 8 = mul-le-mul p q in omega arith
 
 pub number_read : (blocks : List (LockId × ℕ)) (n : ℕ) (o : LockId × ℕ) → get_elem? blocks 0 ≡ some (NUMBER, n) → o ≡ get_or blocks 0 o → o.1 ≡ n
 number_read blocks n o at is = ap (λ (p : LockId × ℕ). p.1) (is ∙ read_at blocks 0 o (NUMBER, n) at)

@@ -1,12 +1,17 @@
 -- What a worker leaves: its CPU has done so many sections more.
-use Rattle.std.specs.Prelude.{◌≡◌, ℕ, ◌+◌, List, [], ◌∷◌, Option, None, Some, MatchOption}
+use Rattle.std.specs.Prelude.{◌≡◌, ℕ, ◌+◌, ◌≤◌, List, [], ◌∷◌, Option, None, Some, MatchOption}
 use Rattle.event_log.specs.declared.ids.CpuId.{CpuId}
 use Rattle.event_log.specs.declared.ids.LockId.{LockId}
-use Rattle.event_log.specs.History.{own}
-use Rattle.event_log.specs.WordsLog.{standing, Outside}
+use mathlib.Core.Option.{some}
+use lib.ListN.{get_elem?}
+use Rattle.event_log.specs.declared.events.Event.{Event}
+use Rattle.event_log.specs.History.{IsLawful, own}
+use Rattle.event_log.specs.WordsLog.{actor, frees, standing, Outside}
 use Rattle.event_log.specs.Sections.{Section, section_actor}
-use Rattle.layer_traits.specs.Protocol.{sections}
-use Rattle.table_machine.specs.Desks.{Board, Desk, IsOf}
+use Rattle.layer_traits.specs.declared.edits.Mark.{Mark}
+use Rattle.layer_traits.specs.OneLock.{opened}
+use Rattle.layer_traits.specs.Protocol.{Rules, MayCome, sections}
+use Rattle.table_machine.specs.Desks.{Board, Desk, IsIn, IsOf}
 use Rattle.mctower.specs.Count.{sections_at}
 
 -- how many sections at this lock are this CPU's
@@ -44,3 +49,11 @@ Both Fits (x ∷ xs) (y ∷ ys) = Fits x y × Both Fits xs ys
 -- each key has come back after so many sections of its CPU
 abbrev pub AllHaveMade : {E B : Type 0} → LockId → List (Desk E B) → List (Desk E B) → ℕ → Type 0
 AllHaveMade lock old new times = Both (λ d e. HasMade lock d e times) old new
+
+-- how often this lock was freed in one legal log of the table, in which all desks stand whole, with no other CPU's events
+pub record IsNumberOfFrees {E B O : Type 0} (rules : Rules E B O) (lock : LockId) (board : Board B) (desks : List (Desk E B)) (number : ℕ) : Type 0 where
+  pub log : List (Event (Mark E))
+  pub legal : IsLawful (MayCome (rules.allowed (opened board.start))) log
+  pub keys : (i : ℕ) (desk : Desk E B) → get_elem? desks i ≡ some desk → IsIn log desk
+  pub rest : (c : CpuId) → board.cpus ≤ c.0 → own actor c log ≡ []
+  pub is : number ≡ frees lock log

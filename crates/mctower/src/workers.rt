@@ -5,7 +5,8 @@ ghost use Rattle.event_log.specs.declared.ids.CpuId.{CpuId};
 ghost use Rattle.event_log.specs.WordsLog.{standing, Outside};
 ghost use Rattle.layer_traits.specs.OneLock.{opened};
 ghost use Rattle.table_machine.specs.Desks.{IsOf, new_desks};
-ghost use Rattle.mctower.specs.Workers.{made, HasMade, MayHaveMade, AllHaveMade, IsAtRest};
+ghost use Rattle.mctower.specs.Count.{counting};
+ghost use Rattle.mctower.specs.Workers.{made, HasMade, MayHaveMade, AllHaveMade, IsAtRest, IsNumberOfFrees};
 
 use crate::count::{AddOne, NUMBER};
 use crate::line::MOST_TIMES;
@@ -204,13 +205,16 @@ fn open_number(alloc: Global, cpus: u8) -> Result<(Shared<AddOne>, Vec<Key<AddOn
     Shared::open(alloc, blocks, cpus)
 }
 
-// The number that the workers left, as the closed table gives it.
-fn number_left(shared: Shared<AddOne>, keys: Vec<Key<AddOne>>, times: u64) -> u64
+/// Closes the table, whose number was 0 before each of its CPUs did `times` sections that add 1, and
+/// gives the number. It is how often its lock was freed in one legal log, which begins with the log
+/// of each key and has no other CPU's events.
+pub fn number_left(shared: Shared<AddOne>, keys: Vec<Key<AddOne>>, times: u64) -> u64
     requires start { shared.start ≡ (NUMBER, 0) ∷ [] }
     requires cpus { shared.cpus ≤ CPUS }
     requires times { times ≤ MOST_TIMES }
     requires came { AllHaveMade NUMBER (new_desks shared shared.cpus) keys.items times }
-    ensures { result ≡ times * shared.cpus }
+    ensures number { result ≡ times * shared.cpus }
+    ensures frees { IsNumberOfFrees counting NUMBER shared keys.items result }
 {
     let blocks = shared.close(keys);
     blocks[0].1

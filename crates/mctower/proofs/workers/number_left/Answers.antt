@@ -1,5 +1,5 @@
 use Rattle.mctower.specs.declared.count.TheConstants.{NUMBER}
-use Rattle.mctower.proofs.WorkersLemmas.{came_cover, came_over, number_is_left, number_read}
+use Rattle.mctower.proofs.WorkersLemmas.{came_cover, came_over, left_by_frees, number_is_left, number_read}
 use Rattle.mctower.proofs.workers.number_left.Goals as goal
 
 pub close-blocks-requires-clause-covers : goal.close-blocks-requires-clause-covers
@@ -8,6 +8,11 @@ close-blocks-requires-clause-covers c = came_cover NUMBER c.args.times c.args.sh
 pub close-blocks-requires-clause-keys : goal.close-blocks-requires-clause-keys
 close-blocks-requires-clause-keys c = came_over NUMBER c.args.times c.args.shared c.args.keys.items c.requires.came
 
-pub returns : goal.returns
-returns c = number_read c.close-blocks.result.items _ c.index.result.now
-    (number_is_left c.args.times c.args.shared c.args.keys.items c.close-blocks.result.items c.requires.came c.requires.start c.requires.cpus c.requires.times c.close-blocks.ensures).0 c.index.ensures
+pub returns-clause-number : goal.returns-clause-number
+returns-clause-number c = number_read c.close-blocks.result.items _ c.index.result.now
+    (number_is_left c.args.times c.args.shared c.args.keys.items c.close-blocks.result.items c.requires.came c.close-blocks.ensures c.requires.start c.requires.cpus c.requires.times).0 c.index.ensures
+
+pub returns-clause-frees : goal.returns-clause-frees
+returns-clause-frees c = left_by_frees c.args.times c.args.shared c.args.keys.items c.close-blocks.result.items c.requires.came c.close-blocks.ensures _
+    (number_read c.close-blocks.result.items _ c.index.result.now
+    (number_is_left c.args.times c.args.shared c.args.keys.items c.close-blocks.result.items c.requires.came c.close-blocks.ensures c.requires.start c.requires.cpus c.requires.times).0 c.index.ensures)
