@@ -12,7 +12,7 @@ use Rattle.mctower.specs.declared.kernel.guests.Guest.{Guest}
 use Rattle.mctower.specs.State.{CpuState, Shown}
 use Rattle.mctower.specs.GuestView.{is_ended}
 use Rattle.mctower.specs.Steps.{have_ended}
-use Rattle.mctower.specs.Claims.{standing_at, times, due_at, StandOnce}
+use Rattle.mctower.specs.Claims.{standing_at, times, due_at, StandsOnce}
 
 -- a thread that stands at no CPU of a list
 nowhere : (t : ℕ) (cpus : List CpuState) → ((c : ℕ) (p : CpuState) → slice_get cpus c ≡ Some p → times t (standing_at p) ≡ 0) → times t (flat_map standing_at cpus) ≡ 0
@@ -46,7 +46,7 @@ due_away : (c : ℕ) (g : Guest) → g.home.0 ≢ c → due_at c (Some g) ≡ 0
 due_away c g away = ap (λ b. cond b (cond (is_ended g.stage) 0 1) 0) (ne_eqb g.home.0 c away)
 
 -- all queues and running threads joined hold each live thread exactly once, and no ended one
-pub once_count : (s : Shown) → StandOnce s → (t : ℕ) (g : Guest) → slice_get s.guests t ≡ Some g → g.home.0 < length s.cpus → times t (flat_map standing_at s.cpus) ≡ (if is_ended g.stage then 0 else 1)
+pub once_count : (s : Shown) → StandsOnce s → (t : ℕ) (g : Guest) → slice_get s.guests t ≡ Some g → g.home.0 < length s.cpus → times t (flat_map standing_at s.cpus) ≡ (if is_ended g.stage then 0 else 1)
 once_count s once t g at home =
     only_at t s.cpus g.home.0 (cond (is_ended g.stage) 0 1) home
     (λ c p at_cpu e. once c p t at_cpu ∙ (ap (due_at c) at ∙ due_here c g (sym e)))
@@ -83,14 +83,14 @@ none_due c g over = due_in (same_cpu g.home c) (is_ended g.stage) over
     due_in false over e = refl
 
 -- where nobody stands at a CPU, each home thread of it has ended
-pub idle_ended : (s : Shown) (c : CpuId) (p : CpuState) → StandOnce s → slice_get s.cpus c.0 ≡ Some p → standing_at p ≡ [] → have_ended c s.guests ≡ true
+pub idle_ended : (s : Shown) (c : CpuId) (p : CpuState) → StandsOnce s → slice_get s.cpus c.0 ≡ Some p → standing_at p ≡ [] → have_ended c s.guests ≡ true
 idle_ended s c p once at idle =
     all_pass (is_over c) s.guests (λ t g at_guest. over_at c g (sym (ap (due_at c.0) at_guest) ∙ (sym (once c.0 p t at) ∙ ap (times t) idle)))
 
 stands_first : (t : Tid) (rest : List Tid) → times t.0 (t ∷ rest) ≡ 1 + times t.0 rest
 stands_first t rest = sum_by-cons (λ (u : Tid). cond (u.0 == t.0) 1 0) t rest ∙ ap (λ b. cond b 1 0 + times t.0 rest) (eq-eqb t.0 t.0 refl)
 
-idle_in : (s : Shown) (c : CpuId) (p : CpuState) (standing : List Tid) → StandOnce s → slice_get s.cpus c.0 ≡ Some p → have_ended c s.guests ≡ true → standing_at p ≡ standing → standing ≡ []
+idle_in : (s : Shown) (c : CpuId) (p : CpuState) (standing : List Tid) → StandsOnce s → slice_get s.cpus c.0 ≡ Some p → have_ended c s.guests ≡ true → standing_at p ≡ standing → standing ≡ []
 idle_in s c p [] once at over is = refl
 idle_in s c p (t ∷ rest) once at over is =
     let stands : due_at c.0 (slice_get s.guests t.0) ≡ 1 + times t.0 rest = sym (once c.0 p t.0 at) ∙ (ap (times t.0) is ∙ stands_first t rest) in
@@ -101,5 +101,5 @@ idle_in s c p (t ∷ rest) once at over is =
     due_some (Some g) e stands = let none : due_at c.0 (slice_get s.guests t.0) ≡ 0 = ap (due_at c.0) e ∙ none_due c g (passes_at (is_over c) s.guests t.0 g over e) in omega (arith, stands, none)
 
 -- where each home thread of a CPU has ended, nobody stands at it
-pub ended_idle : (s : Shown) (c : CpuId) (p : CpuState) → StandOnce s → slice_get s.cpus c.0 ≡ Some p → have_ended c s.guests ≡ true → standing_at p ≡ []
+pub ended_idle : (s : Shown) (c : CpuId) (p : CpuState) → StandsOnce s → slice_get s.cpus c.0 ≡ Some p → have_ended c s.guests ≡ true → standing_at p ≡ []
 ended_idle s c p once at over = idle_in s c p (standing_at p) once at over refl

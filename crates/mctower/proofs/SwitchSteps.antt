@@ -27,7 +27,7 @@ use Rattle.mctower.specs.GuestView.{todo_of, is_ended, is_begun}
 use Rattle.mctower.specs.Steps.{switched_to, section_of, is_full_for, is_full, have_ended, reason_of, option_or, after_switch}
 use Rattle.mctower.specs.Turns.{HasCount, MayTurn}
 use Rattle.mctower.specs.Guards.{MayGoOn}
-use Rattle.mctower.specs.Claims.{traces_of, of_thread, Follows, FollowPrograms, homes_of, IsOfHome, StayHome, standing_at, times, due_at, StandOnce, HasOneOrder}
+use Rattle.mctower.specs.Claims.{traces_of, of_thread, Follows, FollowPrograms, homes_of, IsOfHome, StayHome, standing_at, times, due_at, StandsOnce, HasOneOrder}
 use Rattle.mctower.specs.Sound.{IsSound, IsOrdered, IsCounted, IsUnderWay, has_begun_on}
 use Rattle.mctower.proofs.ListLemmas.{get_set, map_set_same, get_within, within_get}
 use Rattle.mctower.proofs.TurnLemmas.{due_home, stands_running}
@@ -45,7 +45,7 @@ standing_switched : (p : CpuState) (ready : List Tid) → p.current ≡ None →
 standing_switched p [] free same = refl
 standing_switched p (t ∷ rest) free same = sym (ap (λ o. option_to_list o ++ p.ready) free ∙ same)
 
-once_switch : (s : Shown) (c : CpuId) (p : CpuState) → slice_get s.cpus c.0 ≡ Some p → p.current ≡ None → StandOnce s → StandOnce (after_switch s c p)
+once_switch : (s : Shown) (c : CpuId) (p : CpuState) → slice_get s.cpus c.0 ≡ Some p → p.current ≡ None → StandsOnce s → StandsOnce (after_switch s c p)
 once_switch s c p at_cpu free once d q u at =
     elim (get_set s.cpus c.0 d (switched_to p p.ready) q at) [
       | inl here ↦ ap (λ x. times u (standing_at x)) (sym here.1) ∙ (ap (times u) (standing_switched p p.ready free refl) ∙ (once c.0 p u at_cpu ∙ ap (λ n. due_at n (slice_get s.guests u)) (sym here.0)))

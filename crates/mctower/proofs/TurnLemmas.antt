@@ -16,7 +16,7 @@ use Rattle.mctower.specs.declared.kernel.guests.Stage.TheVariants.{Begun}
 use Rattle.mctower.specs.State.{CpuState, Shown}
 use Rattle.mctower.specs.GuestView.{todo_of, is_ended, is_begun}
 use Rattle.mctower.specs.Steps.{Turn, after_turn}
-use Rattle.mctower.specs.Claims.{traces_of, of_thread, entries_of, Follows, FollowPrograms, homes_of, IsOfHome, StayHome, standing_at, times, due_at, StandOnce}
+use Rattle.mctower.specs.Claims.{traces_of, of_thread, entries_of, Follows, FollowPrograms, homes_of, IsOfHome, StayHome, standing_at, times, due_at, StandsOnce}
 use Rattle.mctower.specs.Sound.{IsOrdered, IsCounted, IsUnderWay, IsCall, CallsKnown, has_begun_on, IsSound}
 use Rattle.mctower.proofs.ListLemmas.{get_set, get_set_same, get_set_other, within_get, map_set_same}
 use Rattle.mctower.proofs.OrderSteps.{eq_or_not}
@@ -99,7 +99,7 @@ module _ (s : Shown) (c : CpuId) (p : CpuState) (t : Tid) (program : List Instru
     | inr other ↦ sound.once d q u at ∙ sym (due_others d u other)
   ]
 
-  once_after : StandOnce (after_turn s c t turn)
+  once_after : StandsOnce (after_turn s c t turn)
   once_after d q u at = elim (get_set s.cpus c.0 d turn.cpu q at) [
     | inl same ↦ subst (λ r. times u (standing_at r) ≡ due_at d (slice_get (set s.guests t.0 turn.guest) u)) same.1 (rw same.0 (once_here u))
     | inr other ↦ once_there d q u other.0 other.1

@@ -75,8 +75,8 @@ due_at c None = 0
 due_at c (Some g) = if g.home.0 == c then (if is_ended g.stage then 0 else 1) else 0
 
 -- each live thread stands exactly once, at its home CPU, where it runs or is ready; no ended thread stands anywhere
-abbrev pub StandOnce : Shown → Type 0
-StandOnce s = (c : ℕ) (p : CpuState) (t : ℕ) → slice_get s.cpus c ≡ Some p → times t (standing_at p) ≡ due_at c (slice_get s.guests t)
+abbrev pub StandsOnce : Shown → Type 0
+StandsOnce s = (c : ℕ) (p : CpuState) (t : ℕ) → slice_get s.cpus c ≡ Some p → times t (standing_at p) ≡ due_at c (slice_get s.guests t)
 
 -- where a thread is: it runs on its home CPU, or is among the ready ones there, or has ended
 abbrev pub IsAt : Shown → Tid → Guest → Place → Type 0

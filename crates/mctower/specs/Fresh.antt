@@ -8,7 +8,7 @@ use Rattle.mctower.specs.declared.kernel.guests.Guest.{Guest}
 use Rattle.mctower.specs.declared.kernel.guests.Stage.TheVariants.{Between}
 use Rattle.mctower.specs.Buffer.{Buffer, new_buffer}
 use Rattle.mctower.specs.State.{CpuState, Shown}
-use Rattle.mctower.specs.Claims.{StandOnce}
+use Rattle.mctower.specs.Claims.{StandsOnce}
 use Rattle.mctower.specs.Sound.{CallsKnown}
 
 -- nobody runs on the CPU, its trace is empty, and no call has begun
@@ -29,7 +29,7 @@ pub record IsFresh (s : Shown) : Type 0 where
   pub guests : (t : ℕ) (g : Guest) → slice_get s.guests t ≡ Some g → IsFreshGuest (length s.cpus) g
   pub buffers : (k : ℕ) (x : Buffer) → slice_get s.guarded.buffers k ≡ Some x → x ≡ new_buffer x.capacity
   pub under : (c : ℕ) (u : Option (Section BufferEdit)) → slice_get s.guarded.under c ≡ Some u → u ≡ None
-  pub once : StandOnce s
+  pub once : StandsOnce s
   pub known : (t : ℕ) (program : List Instruction) → slice_get s.programs t ≡ Some program → CallsKnown (length s.guarded.buffers) program
   pub threads : length s.programs ≡ length s.guests
   pub sections : length s.guarded.under ≡ length s.cpus

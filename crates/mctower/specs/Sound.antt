@@ -20,7 +20,7 @@ use Rattle.mctower.specs.Buffer.{Buffer}
 use Rattle.mctower.specs.State.{CpuState, Shown}
 use Rattle.mctower.specs.GuestView.{todo_at, todo_of, is_begun}
 use Rattle.mctower.specs.Steps.{section_of}
-use Rattle.mctower.specs.Claims.{traces_of, caps_of, contents_of, FollowPrograms, StayHome, StandOnce}
+use Rattle.mctower.specs.Claims.{traces_of, caps_of, contents_of, FollowPrograms, StayHome, StandsOnce}
 
 -- the counters of buffer k count its entries in the order
 pub record Counts (order : List Entry) (k : ℕ) (x : Buffer) : Type 0 where
@@ -75,7 +75,7 @@ pub record IsSound (s : Shown) : Type 0 where
   pub ordered : IsOrdered s
   pub follow : FollowPrograms s
   pub stay : StayHome s
-  pub once : StandOnce s
+  pub once : StandsOnce s
   pub counted : (c : ℕ) (p : CpuState) → slice_get s.cpus c ≡ Some p → IsCounted s.guests c p
   pub calling : (t : ℕ) (program : List Instruction) (g : Guest) → slice_get s.programs t ≡ Some program → slice_get s.guests t ≡ Some g → g.stage ≡ Begun → IsCall (todo_of program g)
   pub under_way : (c : CpuId) (p : CpuState) (u : Section BufferEdit) → slice_get s.cpus c.0 ≡ Some p → slice_get s.guarded.under c.0 ≡ Some (Some u) → IsUnderWay s c p u

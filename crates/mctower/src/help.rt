@@ -9,12 +9,16 @@ mctower: a verified thread tower, from ticket locks to kernel threads
 
 usage: mctower COMMAND [OPTIONS]
 
-  count     adds up one number in critical sections of several CPUs
-  run       runs a plan's threads, step by step, by a schedule
-  threads   runs a plan's threads, with one worker thread for each CPU (not served yet)
-  check     says whether a trace text is the trace of a run
+  count --cpus N --times K   nothing in; out comes the number that N CPUs count to in critical
+                             sections, K each: 'plain T' and 'table T'
+  run [--schedule S]         in goes a plan, out comes the trace text of its run by the schedule
+  threads --turns N          the same with one worker thread for each CPU (not served yet)
+  check                      in goes a trace text, out comes 'yes', or 'no L Name(N)'
 
-mctower COMMAND --help says what goes in and what comes out, with an example.
+mctower COMMAND --help says more of a command.
+
+example: mctower run --schedule '0*6' < plan.toml | mctower check
+prints:  yes
 
 exit status: 0 a good run or a yes, 1 a refusal (one line 'error: Name(N)'),
 2 a bad command line, 3 a no of check
@@ -47,6 +51,13 @@ where plan.toml is:
   [[thread]]
   cpu = 0
   program = [\"set r0 7\", \"send 0 r0\", \"exit\"]
+prints:
+  mctower-trace 1
+  buffers 1
+  cap 0 1
+  e 0 0 send 0 7 0 0
+  left 0 7
+  end
 ";
 
 const THREADS: &str = "\

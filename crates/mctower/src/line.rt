@@ -21,13 +21,13 @@ pub const MOST_TIMES: u64 = 1000;
 /// The most turns that `threads` gives each CPU.
 pub const MOST_TURNS: u64 = 1_000_000_000;
 
-/// The commands that a server stands for; each other one is refused.
+/// Whether `count` is served; a command that is not is refused.
 pub const SERVES_COUNT: bool = true;
-
+/// Whether `run` is served.
 pub const SERVES_RUN: bool = true;
-
+/// Whether `threads` is served.
 pub const SERVES_THREADS: bool = false;
-
+/// Whether `check` is served.
 pub const SERVES_CHECK: bool = true;
 
 /// What the program is asked to do.

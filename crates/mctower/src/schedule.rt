@@ -30,7 +30,7 @@ impl From<AllocError> for StepsError {
     }
 }
 
-// An item of a schedule: so many steps of one CPU, one after another.
+/// An item of a schedule: so many steps of one CPU, one after another.
 #[derive(Debug, Clone, Copy)]
 pub struct Item {
     cpu: CpuId,

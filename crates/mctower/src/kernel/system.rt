@@ -42,7 +42,7 @@ impl Model for System {
 
 impl System {
     ghost use Rattle.mctower.specs.Steps.{step_of, steps_of, own_reason, reason_of, moved};
-    ghost use Rattle.mctower.specs.Claims.{HasOneOrder, FollowPrograms, StayHome, StandOnce, IsPlaceOf, traces_of, contents_of};
+    ghost use Rattle.mctower.specs.Claims.{HasOneOrder, FollowPrograms, StayHome, StandsOnce, IsPlaceOf, traces_of, contents_of};
     ghost use Rattle.mctower.specs.Sound.{IsSound};
 
     /// Takes one step of `cpu`, which must exist: one local action or one atomic action.
@@ -59,7 +59,7 @@ impl System {
         ensures one_order { HasOneOrder self.new }
         ensures follow { FollowPrograms self.new }
         ensures stay { StayHome self.new }
-        ensures once { StandOnce self.new }
+        ensures once { StandsOnce self.new }
     {
         if let Some(reason) = self.reason(cpu) {
             self.holds();
@@ -136,7 +136,7 @@ impl System {
         ensures one_order { HasOneOrder self.new }
         ensures follow { FollowPrograms self.new }
         ensures stay { StayHome self.new }
-        ensures once { StandOnce self.new }
+        ensures once { StandsOnce self.new }
     {
         let count = self.cpus.len();
         if !steps.iter().all(|cpu| usize::from(cpu.0) < count) {
@@ -191,7 +191,7 @@ impl System {
         ensures one_order { HasOneOrder self.now }
         ensures follow { FollowPrograms self.now }
         ensures stay { StayHome self.now }
-        ensures once { StandOnce self.now }
+        ensures once { StandsOnce self.now }
         ensures sound { IsSound self.now }
     {
         let _ = &self.room;

@@ -54,7 +54,7 @@ fn admit_all(cpus: &mut Vec<Cpu>, boot: &Boot)
 
 impl System {
     ghost use Rattle.mctower.specs.Boots.{booted};
-    ghost use Rattle.mctower.specs.Claims.{HasOneOrder, FollowPrograms, StayHome, StandOnce};
+    ghost use Rattle.mctower.specs.Claims.{HasOneOrder, FollowPrograms, StayHome, StandsOnce};
 
     /// The system of a plan before its first step, with room for `room` steps: each CPU's threads
     /// are ready by rising number, and every buffer is empty. All memory is taken here.
@@ -65,7 +65,7 @@ impl System {
         ensures one_order { IfOk result HasOneOrder }
         ensures follow { IfOk result FollowPrograms }
         ensures stay { IfOk result StayHome }
-        ensures once { IfOk result StandOnce }
+        ensures once { IfOk result StandsOnce }
     {
         let guarded = Guarded::open(alloc, boot.caps().as_slice(), boot.cpus(), room)?;
         let guests = fresh_guests(alloc, &boot)?;
