@@ -1,5 +1,5 @@
 -- Facts on what workers did.
-use Rattle.std.proofs.Common.{◌≡◌, ◌≢◌, ℕ, zero, suc, ◌+◌, ◌*◌, ◌<◌, ◌≤◌, Bool, true, false, if◌then◌else◌, List, [], ◌∷◌, ◌++◌, length, Option, None, Some, is_some, refl, ap, sym, ◌∙◌, subst, get_or, All, ◌%◌, ◌^◌, length-append, ne_eqb, zero-add, mul-le-mul, mod-eq_of_lt, lt_of_not-le, arith}
+use Rattle.std.proofs.Common.{◌≡◌, ◌≢◌, ℕ, zero, suc, ◌+◌, ◌*◌, ◌<◌, ◌≤◌, Bool, true, false, if◌then◌else◌, List, [], ◌∷◌, ◌++◌, length, Option, None, Some, Result, Ok, Err, IfOk, is_some, refl, ap, sym, ◌∙◌, subst, get_or, All, ◌%◌, ◌^◌, length-append, ne_eqb, zero-add, mul-le-mul, mod-eq_of_lt, lt_of_not-le, arith}
 use mathlib.Core.Logic.{dite}
 use native.Mathlib.Decide.{ℕ_discrete, dec_le}
 use mathlib.Core.Option.{some, some-injective, some-ne-none}
@@ -83,6 +83,10 @@ room_for ys xs rest all zs x n cap whole is room same count =
     let long : length ys + length xs ≡ length all = sym (length-append ys xs) ∙ ap length whole in
     let more : length xs ≡ suc (length rest) = ap length is in
     omega arith
+
+pub if_ok_then : {X Y : Type 0} (r : Result X Y) (P Q : X → Type 0) → ((x : X) → P x → Q x) → IfOk r P → IfOk r Q
+if_ok_then (Ok x) P Q step holds = step x holds
+if_ok_then (Err e) P Q step holds = tt
 
 -- what the promise of a worker says of its key
 pub kept_for : {E B : Type 0} (lock : LockId) (d e r : Desk E B) (times turns : ℕ) → e ≡ d → turns ≡ times → HasMade lock e r turns → HasMade lock d r times

@@ -1,12 +1,12 @@
 //! Counting in threads.
 
-ghost use Rattle.std.specs.Prelude.{◌≡◌, ℕ, ◌+◌, ◌*◌, ◌<◌, ◌≤◌, [], ◌∷◌, None, IsSome, IfOk, All};
+ghost use Rattle.std.specs.Prelude.{◌≡◌, ℕ, ◌+◌, ◌*◌, ◌<◌, ◌≤◌, [], ◌∷◌, None, IsSome, IfOk, All, length, vec_capacity};
 ghost use Rattle.event_log.specs.declared.ids.CpuId.{CpuId};
 ghost use Rattle.event_log.specs.WordsLog.{standing, Outside};
 ghost use Rattle.layer_traits.specs.OneLock.{opened};
 ghost use Rattle.table_machine.specs.Desks.{IsOf, new_desks};
 ghost use Rattle.mctower.specs.Count.{counting};
-ghost use Rattle.mctower.specs.Workers.{made, HasMade, MayHaveMade, AllHaveMade, IsAtRest, IsNumberOfFrees};
+ghost use Rattle.mctower.specs.Workers.{made, Both, HasMade, MayHaveMade, AllHaveMade, IsAtRest, IsNumberOfFrees};
 
 use crate::count::{AddOne, NUMBER};
 use crate::line::MOST_TIMES;
@@ -19,7 +19,7 @@ use std::snapshot::Snapshot;
 use std::sync::Wait;
 use std::sync::atomic::{AtomicBool, Ordering};
 use std::thread;
-use std::thread::{Promise, Threads};
+use std::thread::{Promise, PromisedHandle, Threads};
 use table_machine::{Key, Seat, Shared};
 use thiserror::Error;
 
@@ -136,6 +136,26 @@ fn worker<R: Wait>(
     Some(work(rt, shared, key, times))
 }
 
+// Joins the workers, and puts their keys into the list, which has room for them.
+fn join_all<R: Threads>(
+    rt: &R,
+    children: Vec<PromisedHandle<Option<Key<AddOne>>, MadeBy>>,
+    mut done: Vec<Key<AddOne>>,
+) -> Result<Vec<Key<AddOne>>, CountFault>
+    requires empty { done.items ≡ [] }
+    requires room { length children.items ≤ vec_capacity done }
+    ensures { IfOk result (λ came. Both (λ child key. HasMade NUMBER child.promise.key.value key child.promise.times)
+        children.items came.items) }
+{
+    for child in children {
+        let Some(key) = child.join(rt) else {
+            return Err(CountFault::NoThread);
+        };
+        done.push_reserved(key);
+    }
+    Ok(done)
+}
+
 // A worker for each key, all started before the first section and all joined.
 fn work_all<R: Threads + Wait + Sync>(
     rt: &R,
@@ -159,7 +179,7 @@ fn work_all<R: Threads + Wait + Sync>(
         {
             let group = WaitGroup::new(alloc)?;
             let mut children = Vec::with_capacity(alloc, keys.len())?;
-            let mut done = Vec::with_capacity(alloc, keys.len())?;
+            let done = Vec::with_capacity(alloc, keys.len())?;
             for key in keys {
                 let start = group.clone()?;
                 let promise = MadeBy {
@@ -180,13 +200,7 @@ fn work_all<R: Threads + Wait + Sync>(
             }
             go.store(true, Ordering::SeqCst);
             group.wait(rt);
-            for child in children {
-                let Some(key) = child.join(rt) else {
-                    return Err(CountFault::NoThread);
-                };
-                done.push_reserved(key);
-            }
-            Ok(done)
+            join_all(rt, children, done)
         },
     )
 }

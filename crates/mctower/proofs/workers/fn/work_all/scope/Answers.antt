@@ -1,8 +1,8 @@
-use Rattle.std.proofs.Common.{◌≡◌, ◌≤◌, ◌++◌, [], ◌∷◌, length, sym, ap, subst, refl, ◌∙◌, rules, vec_capacity, vec_len}
+use Rattle.std.proofs.Common.{◌≡◌, ◌≤◌, ◌++◌, [], ◌∷◌, length, sym, ap, subst, ◌∙◌, rules, vec_capacity, vec_len}
 use Rattle.table_machine.proofs.Returning.{yield_more, no_more, all_tail}
 use Rattle.mctower.specs.declared.count.TheConstants.{NUMBER}
 use Rattle.mctower.specs.Workers.{IsAtRest, Both, HasMade}
-use Rattle.mctower.proofs.WorkersLemmas.{both_more, both_length, both_then, room_for, kept_for, within_room}
+use Rattle.mctower.proofs.WorkersLemmas.{both_more, both_length, both_then, if_ok_then, room_for, kept_for, within_room}
 use Rattle.mctower.proofs.workers.fn.work_all.scope.Goals as goal
 
 pub push_reserved-requires : goal.push_reserved-requires
@@ -19,39 +19,24 @@ loop-key-preserved g c = record {
   room = subst (λ n. length c.into_iter-key-iterator.result.rest.items ≤ n) (sym c.push_reserved.ensures.capacity) c.loop-key.invariant.room;
 }
 
-pub loop-child-init : goal.loop-child-init
-loop-child-init g c =
+pub join_all-requires : goal.join_all-requires
+join_all-requires g c =
     let keys_are : c.into_iter-key-iterator.result.rest.items ≡ c.captures.keys.items = first_of (cc, search rules) in
-    let children_are : c.into_iter-child-iterator.result.rest.items ≡ c.loop-key.children.items = first_of (cc, search rules) in
     let all : c.loop-key.yielded ≡ c.captures.keys.items = no_more c.loop-key.yielded c.loop-key.key-iterator.rest.items c.captures.keys.items c.loop-key.key-iterator.rest.len (c.loop-key.invariant.all ∙ keys_are) c.loop-key.key-iterator.rest.ok.0 c.in-None.ensures.steps.0 in
     record {
-      all = refl;
-      came = rw c.in_ok-done.ensures.items tt;
-      room = within_room c.captures.keys.items c.into_iter-child-iterator.result.rest.items (vec_len c.captures.keys) (vec_capacity c.in_ok-done.done)
-          (ap length children_are ∙ (both_length _ c.loop-key.yielded c.loop-key.children.items c.loop-key.invariant.promised ∙ ap length all)) c.captures.keys.ok.0 (search rules);
+      empty = c.in_ok-done.ensures.items;
+      room = within_room c.captures.keys.items c.loop-key.children.items (vec_len c.captures.keys) (vec_capacity c.in_ok-done.done)
+          (both_length _ c.loop-key.yielded c.loop-key.children.items c.loop-key.invariant.promised ∙ ap length all) c.captures.keys.ok.0 (search rules);
     }
-
-pub push_reserved-requires-in-loop-child : goal.push_reserved-requires-in-loop-child
-push_reserved-requires-in-loop-child g c = room_for c.loop-child.yielded c.loop-child.child-iterator.rest.items c.next-in-loop-child.new.self.rest.items c.into_iter-child-iterator.result.rest.items c.loop-child.done.items c.in-Some-child.child (vec_len c.loop-child.done) (vec_capacity c.loop-child.done)
-    c.loop-child.invariant.all c.in-Some-child.ensures.steps.0 c.loop-child.invariant.room (both_length _ c.loop-child.yielded c.loop-child.done.items c.loop-child.invariant.came) c.loop-child.done.ok.0
-
-pub loop-child-preserved : goal.loop-child-preserved
-loop-child-preserved g c = record {
-  all = yield_more c.loop-child.yielded c.loop-child.child-iterator.rest.items c.next-in-loop-child.new.self.rest.items c.into_iter-child-iterator.result.rest.items c.in-Some-child.child c.loop-child.invariant.all c.in-Some-child.ensures.steps.0;
-  came = subst (λ rs. Both (λ h r. HasMade NUMBER h.promise.key.value r h.promise.times) (c.loop-child.yielded ++ c.in-Some-child.child ∷ []) rs)
-      (sym c.push_reserved-in-loop-child.ensures.items)
-      (both_more (λ h r. HasMade NUMBER h.promise.key.value r h.promise.times) c.loop-child.yielded c.loop-child.done.items c.in-Some-child.child c.in-Some-join.key c.loop-child.invariant.came c.in-Some-join.ensures);
-  room = subst (λ n. length c.into_iter-child-iterator.result.rest.items ≤ n) (sym c.push_reserved-in-loop-child.ensures.capacity) c.loop-child.invariant.room;
-}
 
 pub returns : goal.returns
 returns g c =
     let keys_are : c.into_iter-key-iterator.result.rest.items ≡ c.captures.keys.items = first_of (cc, search rules) in
-    let children_are : c.into_iter-child-iterator.result.rest.items ≡ c.loop-key.children.items = first_of (cc, search rules) in
     let all : c.loop-key.yielded ≡ c.captures.keys.items = no_more c.loop-key.yielded c.loop-key.key-iterator.rest.items c.captures.keys.items c.loop-key.key-iterator.rest.len (c.loop-key.invariant.all ∙ keys_are) c.loop-key.key-iterator.rest.ok.0 c.in-None.ensures.steps.0 in
-    let came : c.loop-child.yielded ≡ c.loop-key.children.items = no_more c.loop-child.yielded c.loop-child.child-iterator.rest.items c.loop-key.children.items c.loop-child.child-iterator.rest.len (c.loop-child.invariant.all ∙ children_are) c.loop-child.child-iterator.rest.ok.0 c.in-None-child.ensures.steps.0 in
-    both_then (λ d h. (h.promise.key.value ≡ d) × (h.promise.times ≡ c.captures.times)) (λ h r. HasMade NUMBER h.promise.key.value r h.promise.times) (λ d r. HasMade NUMBER d r c.captures.times)
-    (λ d h r p q. kept_for NUMBER d h.promise.key.value r c.captures.times h.promise.times p.0 p.1 q)
-    c.captures.keys.items c.loop-key.children.items c.loop-child.done.items
+    if_ok_then c.join_all.result (λ r. Both (λ h k. HasMade NUMBER h.promise.key.value k h.promise.times) c.loop-key.children.items r.items) (λ r. Both (λ d k. HasMade NUMBER d k c.captures.times) c.captures.keys.items r.items)
+    (λ r came. both_then (λ d h. (h.promise.key.value ≡ d) × (h.promise.times ≡ c.captures.times)) (λ h k. HasMade NUMBER h.promise.key.value k h.promise.times) (λ d k. HasMade NUMBER d k c.captures.times)
+    (λ d h k p q. kept_for NUMBER d h.promise.key.value k c.captures.times h.promise.times p.0 p.1 q)
+    c.captures.keys.items c.loop-key.children.items r.items
     (subst (λ l. Both (λ d h. (h.promise.key.value ≡ d) × (h.promise.times ≡ c.captures.times)) l c.loop-key.children.items) all c.loop-key.invariant.promised)
-    (subst (λ l. Both (λ h r. HasMade NUMBER h.promise.key.value r h.promise.times) l c.loop-child.done.items) came c.loop-child.invariant.came)
+    came)
+    c.join_all.ensures

@@ -1,6 +1,5 @@
 use Rattle.std.proofs.Common.{◌≡◌, ◌≤◌, ◌++◌, length, All, vec_capacity}
-use Rattle.mctower.specs.declared.count.TheConstants.{NUMBER}
-use Rattle.mctower.specs.Workers.{IsAtRest, Both, HasMade}
+use Rattle.mctower.specs.Workers.{IsAtRest, Both}
 use Rattle.mctower.proofs.workers.fn.work_all.scope.Given as goal
 
 abbrev pub invariant-loop-key : goal.invariant-loop-key
@@ -9,11 +8,4 @@ invariant-loop-key g l = record {
   ready : All (IsAtRest l.shared.now) l.key-iterator.rest.items;
   promised : Both (λ d h. (h.promise.key.value ≡ d) × (h.promise.times ≡ l.times)) l.yielded l.children.items;
   room : length l.initial.key-iterator.rest.items ≤ vec_capacity l.children;
-}
-
-abbrev pub invariant-loop-child : goal.invariant-loop-child
-invariant-loop-child g l = record {
-  all : l.yielded ++ l.child-iterator.rest.items ≡ l.initial.child-iterator.rest.items;
-  came : Both (λ h r. HasMade NUMBER h.promise.key.value r h.promise.times) l.yielded l.done.items;
-  room : length l.initial.child-iterator.rest.items ≤ vec_capacity l.done;
 }
