@@ -8,6 +8,7 @@
 set -eu
 cd "$(dirname "$0")/.."
 tests=crates/$1/out/$1_tests
+[ -x "$tests" ] || { echo "build the tests first: (cd crates/$1 && rt test)"; exit 1; }
 room=$(mktemp -d)
 trap 'rm -rf "$room"' EXIT
 rustc --edition 2024 -O -C panic=abort --crate-type cdylib -o "$room/librefuse.so" bench/refuse.rs
