@@ -6,6 +6,7 @@ pub mod Actions
 pub mod Sections
 pub mod Laws
 pub mod Grants
+pub mod Messages
 pub mod Buffers
 pub mod Runs
 pub mod Traces

@@ -1,24 +1,34 @@
-//! The names of the machine's parts. Each is a number with a type of its own, so that a CPU is
-//! never taken for a thread.
+//! The names of the machine's parts, and how many of each a machine may have. Each name is a
+//! number with a type of its own, so that a CPU is never taken for a thread.
 
 /// How many CPUs a machine may have: they are numbered from 0 to `CPUS - 1`. A table indexed by
 /// CPU has this size.
-pub const CPUS: u8 = 8;
+pub const CPUS: usize = 8;
 
 /// How many threads a machine may have: they are numbered from 0 to `THREADS - 1`. A table indexed
 /// by thread has this size.
-pub const THREADS: u8 = 64;
+pub const THREADS: usize = 64;
 
 /// How many buffers a machine may have: they are numbered from 0 to `BUFFERS - 1`. A table indexed
 /// by buffer has this size.
-pub const BUFFERS: u8 = 16;
+pub const BUFFERS: usize = 16;
+
+/// How many messages a buffer may hold: its capacity is from 1 to `CAPACITY`.
+pub const CAPACITY: usize = 32;
+
+/// How many entries the trace of one CPU may have.
+pub const TRACE: usize = 65_536;
+
+/// How many entries the traces of all CPUs may have together, `CPUS` times `TRACE`. The op and the
+/// pos of an entry are less.
+pub const ENTRIES: usize = 524_288;
 
 /// A CPU by its number, from 0.
-#[derive(Clone, Copy, Debug, PartialEq, Eq)]
+#[derive(Clone, Copy, Debug, Default, PartialEq, Eq)]
 pub struct CpuId(pub u8);
 
 /// A thread by its number, from 0.
-#[derive(Clone, Copy, Debug, PartialEq, Eq)]
+#[derive(Clone, Copy, Debug, Default, PartialEq, Eq)]
 pub struct Tid(pub u8);
 
 /// A buffer by its number, from 0.

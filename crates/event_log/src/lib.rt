@@ -9,6 +9,7 @@ mod grants;
 mod ids;
 mod laws;
 mod logs;
+mod messages;
 mod refusals;
 mod runs;
 
@@ -16,13 +17,16 @@ pub use digits::{is_number, number_has_one_spelling, number_to};
 pub use entries::{Entry, Kind};
 pub use events::Event;
 pub use grants::GrantEvent;
-pub use ids::{BUFFERS, BufId, CPUS, CpuId, LockId, THREADS, Tid};
+pub use ids::{
+    BUFFERS, BufId, CAPACITY, CPUS, CpuId, ENTRIES, LockId, THREADS, TRACE, Tid,
+};
 pub use laws::{
     both_forms_agree, free_where_all_rest, freed_once_meanwhile, given_once_meanwhile,
     grants_tell_places, legal_logs_grow, one_holds, one_inside, one_inside_grants,
     three_are_one_section, tickets_tell_places,
 };
 pub use logs::EventLog;
+pub use messages::Msg;
 pub use refusals::{LogFull, NoMemory};
 pub use runs::{run_by_index, run_grows, run_has_op_order};
 
