@@ -8,6 +8,7 @@ use Rattle.std.proofs.lemmas.List.Elements.{All-nil, All-cons, All-from_get_or}
 use Rattle.std.proofs.lemmas.Str.Parse.{digit_at}
 use Rattle.std.proofs.lemmas.Fmt.{digits_decimal}
 use Rattle.event_log.specs.declared.ids.BufId.{BufId}
+use Rattle.event_log.specs.declared.ids.TheConstants.{BUFFERS}
 use Rattle.event_log.specs.Digits.{is_number, number_to}
 use Rattle.event_log.specs.Reading.{◌>>=◌}
 use Rattle.event_log.proofs.DigitsLemmas.{ascii_digits, number_to-decimal, number_to-spelling, number_to-Some, decimal-spelled, is_number-spelled}
@@ -67,17 +68,17 @@ word_spelled piece n h =
 number_spelled : (most : ℕ) (piece : List ℕ) (n : ℕ) → most < 2 ^ 64 → number_to most piece ≡ Some n → (piece ≡ decimal n) × (n ≤ most)
 number_spelled most piece n small read = (number_to-spelling most piece n small read, (number_to-Some most piece n read).within)
 
-buffer_cases : (piece : List ℕ) (o : Option ℕ) (b : BufId) → number_to 15 piece ≡ o → (or_fault BadNumber o >>= λ n. Ok (record { 0 = n })) ≡ Ok b → (piece ≡ decimal b.0) × (b.0 < 16)
+buffer_cases : (piece : List ℕ) (o : Option ℕ) (b : BufId) → number_to (BUFFERS - 1) piece ≡ o → (or_fault BadNumber o >>= λ n. Ok (record { 0 = n })) ≡ Ok b → (piece ≡ decimal b.0) × (b.0 < BUFFERS)
 buffer_cases piece None b e h = absurd (cc)
 buffer_cases piece (Some n) b e h =
-    let spelled = number_spelled 15 piece n (lit< tt) e in
-    let small : n < 16 = (let fits = spelled.1 in omega arith) in
+    let spelled = number_spelled (BUFFERS - 1) piece n (lit< tt) e in
+    let small : n < BUFFERS = (let fits = spelled.1 in omega arith) in
     let same : record { 0 = n } ≡ b = cc in
-    subst (λ (x : BufId). (piece ≡ decimal x.0) × (x.0 < 16)) same (spelled.0, small)
+    subst (λ (x : BufId). (piece ≡ decimal x.0) × (x.0 < BUFFERS)) same (spelled.0, small)
 
-buffer_spelled : (piece : List ℕ) (b : BufId) → buffer_in piece ≡ Ok b → (piece ≡ decimal b.0) × (b.0 < 16)
+buffer_spelled : (piece : List ℕ) (b : BufId) → buffer_in piece ≡ Ok b → (piece ≡ decimal b.0) × (b.0 < BUFFERS)
 unfolding buffer_in
-buffer_spelled piece b h = buffer_cases piece (number_to 15 piece) b refl h
+buffer_spelled piece b h = buffer_cases piece (number_to (BUFFERS - 1) piece) b refl h
 
 target_spelled : (count : ℕ) (piece : List ℕ) (k : ℕ) → 0 < count → count ≤ 2 ^ 64 → target_in count piece ≡ Ok k → (piece ≡ decimal k) × (k < count)
 unfolding target_in
@@ -234,9 +235,9 @@ word_again : (n : ℕ) → n < 2 ^ 64 → word_in (decimal n) ≡ Ok n
 unfolding word_in
 word_again n small = ap (or_fault BadNumber) (number_to-decimal 18446744073709551615 n small (omega arith))
 
-buffer_again : (b : BufId) → b.0 < 16 → buffer_in (decimal b.0) ≡ Ok b
+buffer_again : (b : BufId) → b.0 < BUFFERS → buffer_in (decimal b.0) ≡ Ok b
 unfolding buffer_in
-buffer_again b small = ap (λ o. or_fault BadNumber o >>= λ n. Ok (record { 0 = n })) (number_to-decimal 15 b.0 (omega arith) (omega arith))
+buffer_again b small = ap (λ o. or_fault BadNumber o >>= λ n. Ok (record { 0 = n })) (number_to-decimal (BUFFERS - 1) b.0 (omega arith) (omega arith))
 
 target_again : (count k : ℕ) → count ≤ 2 ^ 64 → k < count → target_in count (decimal k) ≡ Ok k
 unfolding target_in

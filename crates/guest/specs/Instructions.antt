@@ -1,5 +1,6 @@
 -- Registers by their numbers, and the instruction of a line.
 use Rattle.std.specs.Prelude.{ℕ, Bool, true, nat_lt, ◌<◌, ◌≤◌, ◌^◌, List, length, All, slice_get, unwrap_or}
+use Rattle.event_log.specs.declared.ids.TheConstants.{BUFFERS}
 use Rattle.guest.specs.declared.instructions.Register.{Register}
 use Rattle.guest.specs.declared.instructions.Register.TheVariants.{Reg0, Reg1, Reg2, Reg3}
 use Rattle.guest.specs.declared.instructions.Instruction.{Instruction}
@@ -16,14 +17,14 @@ number_of Reg3 = 3
 abbrev pub instruction_at : List Instruction → ℕ → Instruction
 instruction_at program line = unwrap_or (slice_get program line) Exit
 
--- an instruction of a program of so many lines: it sets a number of 64 bits, jumps to one of them, or calls one of the buffers 0 to 15
+-- an instruction of a program of so many lines: it sets a number of 64 bits, jumps to one of them, or calls one of the buffers
 abbrev pub IsWithin : ℕ → Instruction → Type 0
 IsWithin lines (Set r n) = n < 2 ^ 64
 IsWithin lines (Add r q) = Unit {0}
 IsWithin lines (Sub r q) = Unit {0}
 IsWithin lines (Jnz r k) = k < lines
-IsWithin lines (Send b r) = b.0 < 16
-IsWithin lines (Recv b r) = b.0 < 16
+IsWithin lines (Send b r) = b.0 < BUFFERS
+IsWithin lines (Recv b r) = b.0 < BUFFERS
 IsWithin lines Yield = Unit {0}
 IsWithin lines Exit = Unit {0}
 

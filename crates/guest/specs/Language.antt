@@ -2,6 +2,7 @@
 use Rattle.std.specs.Prelude.{◌≡◌, ℕ, ◌==◌, ◌-◌, List, [], ◌∷◌, length, codes, bytes_eq, nat_lt, Option, Some, None, Result, Ok, Err, if◌then◌else◌}
 use Rattle.std.specs.List.{slice_split}
 use Rattle.event_log.specs.declared.ids.BufId.{BufId}
+use Rattle.event_log.specs.declared.ids.TheConstants.{BUFFERS}
 use Rattle.event_log.specs.Digits.{is_number, number_to}
 use Rattle.event_log.specs.Reading.{◌>>=◌, read_from}
 use Rattle.guest.specs.declared.instructions.Register.{Register}
@@ -33,7 +34,7 @@ word_in piece = or_fault BadNumber (number_to 18446744073709551615 piece)
 
 -- the buffer that a piece spells
 unfoldable pub buffer_in : List ℕ → Result BufId GuestFault
-buffer_in piece = or_fault BadNumber (number_to 15 piece) >>= λ b. Ok (record { 0 = b })
+buffer_in piece = or_fault BadNumber (number_to (BUFFERS - 1) piece) >>= λ b. Ok (record { 0 = b })
 
 -- the line that a piece spells, of so many
 unfoldable pub target_in : ℕ → List ℕ → Result ℕ GuestFault

@@ -83,7 +83,7 @@ impl Instruction {
 }
 
 /// A program: 1 to 256 instructions, each jump to one of its lines, each call of one of the
-/// buffers 0 to 15.
+/// buffers 0 to `BUFFERS - 1`.
 #[derive(Drop)]
 pub struct Program {
     lines: Vec<Instruction>,

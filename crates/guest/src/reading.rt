@@ -2,6 +2,7 @@
 //! space each.
 
 ghost use Rattle.std.specs.Prelude.{◌≡◌, ◌<◌, ◌≤◌, ◌^◌, ℕ, List, Ok, map, length, All, IfOk};
+ghost use Rattle.event_log.specs.declared.ids.TheConstants.{BUFFERS};
 ghost use Rattle.guest.specs.Instructions.{IsWithin};
 ghost use Rattle.event_log.specs.Reading.{read_from};
 ghost use Rattle.guest.specs.Language.{register_in, word_in, buffer_in, target_in, one_piece, three_pieces, pieces_in, line_in, at_line, program_lines, Gives};
@@ -33,13 +34,13 @@ fn word(piece: &str) -> Result<u64, GuestFault>
     event_log::number_to(piece.as_bytes(), u64::MAX).ok_or(GuestFault::BadNumber)
 }
 
-/// The buffer that a piece spells, from 0 to 15.
+/// The buffer that a piece spells, from 0 to `BUFFERS - 1`.
 #[tactic(auto, unfolding(crate::specs::Language::buffer_in))]
 fn buffer(piece: &str) -> Result<BufId, GuestFault>
     ensures buffer { result ≡ buffer_in piece.now }
-    ensures within { IfOk result (λ buffer. buffer.0 < 16) }
+    ensures within { IfOk result (λ buffer. buffer.0 < BUFFERS) }
 {
-    match event_log::number_to(piece.as_bytes(), u64::from(BUFFERS) - 1) {
+    match event_log::number_to(piece.as_bytes(), BUFFERS as u64 - 1) {
         Some(number) => Ok(BufId(number as u8)),
         None => Err(GuestFault::BadNumber),
     }
