@@ -3,6 +3,7 @@ use Rattle.std.specs.Prelude.{◌≡◌, ℕ, ◌-◌, ◌<◌, ◌≤◌, Bool,
 use Rattle.std.specs.List.{list_all}
 use Rattle.toml.specs.Data.{Data, Items, no_items, item, Members, as_integer, as_array, as_str, as_table, get_member}
 use Rattle.toml.specs.Parse.{parse_document}
+use Rattle.event_log.specs.declared.ids.TheConstants.{CPUS, THREADS, BUFFERS, CAPACITY, TRACE}
 use Rattle.event_log.specs.Reading.{◌>>=◌, read_from, all_as}
 use Rattle.guest.specs.declared.instructions.Instruction.{Instruction}
 use Rattle.guest.specs.declared.refusals.GuestError.{GuestError}
@@ -63,11 +64,11 @@ some_to most xs = kept (nat_le 1 (length xs) && nat_le (length xs) most) xs
 
 -- the capacities
 unfoldable pub caps_at : Option Data → Result (List ℕ) BootError
-caps_at d = wanted Buffers (list_at as_integer d) >>= λ zs. ranged Buffers (some_to 16 zs) >>= λ zs. ranged Buffers (all_as (number_within 1 32) zs)
+caps_at d = wanted Buffers (list_at as_integer d) >>= λ zs. ranged Buffers (some_to BUFFERS zs) >>= λ zs. ranged Buffers (all_as (number_within 1 CAPACITY) zs)
 
 -- the threads' tables
 unfoldable pub tables_at : Option Data → Result (List Members) BootError
-tables_at d = wanted Threads (list_at as_table d) >>= λ tables. ranged Threads (some_to 64 tables)
+tables_at d = wanted Threads (list_at as_table d) >>= λ tables. ranged Threads (some_to THREADS tables)
 
 -- a program's fault in the words of the plan
 abbrev pub of_thread : {A : Type 0} → ℕ → Result A GuestError → Result A BootError
@@ -92,8 +93,8 @@ task_at cpus buffers t table =
 -- a document's plan
 unfoldable pub plan_in : Members → Result Plan BootError
 plan_in document =
-    number_at Cpus 1 8 (get_member (codes "cpus") document)
-    >>= λ cpus. number_at Trace 1 65536 (get_member (codes "trace") document)
+    number_at Cpus 1 CPUS (get_member (codes "cpus") document)
+    >>= λ cpus. number_at Trace 1 TRACE (get_member (codes "trace") document)
     >>= λ trace. caps_at (get_member (codes "buffers") document)
     >>= λ caps. tables_at (get_member (codes "thread") document)
     >>= λ tables. read_from (task_at cpus (length caps)) 0 tables
@@ -134,23 +135,23 @@ pub record IsTask (cpus buffers : ℕ) (task : Task) : Type 0 where
   pub program : IsProgram task.program
   pub known : All (λ i. IsTrue (names_below buffers i)) task.program
 
--- the capacities of 1 to 16 buffers, each of 1 to 32 messages
+-- the capacities of the buffers, at least one and at most BUFFERS, each from one message to CAPACITY
 pub record AreCaps (caps : List ℕ) : Type 0 where
   pub some : 1 ≤ length caps
-  pub most : length caps ≤ 16
-  pub each : All (λ capacity. (1 ≤ capacity) × (capacity ≤ 32)) caps
+  pub most : length caps ≤ BUFFERS
+  pub each : All (λ capacity. (1 ≤ capacity) × (capacity ≤ CAPACITY)) caps
 
--- 1 to 64 threads
+-- at least one thread, and at most THREADS
 pub record AreTasks (cpus buffers : ℕ) (tasks : List Task) : Type 0 where
   pub some : 1 ≤ length tasks
-  pub most : length tasks ≤ 64
+  pub most : length tasks ≤ THREADS
   pub each : All (IsTask cpus buffers) tasks
 
 -- a plan is within all limits
 pub record IsPlan (plan : Plan) : Type 0 where
   pub some_cpus : 1 ≤ plan.cpus
-  pub most_cpus : plan.cpus ≤ 8
+  pub most_cpus : plan.cpus ≤ CPUS
   pub some_trace : 1 ≤ plan.trace
-  pub most_trace : plan.trace ≤ 65536
+  pub most_trace : plan.trace ≤ TRACE
   pub caps : AreCaps plan.caps
   pub tasks : AreTasks plan.cpus (length plan.caps) plan.tasks

@@ -12,5 +12,5 @@ mod tasks;
 #[cfg(test)]
 mod tests;
 
-pub use plans::{Boot, TRACE};
+pub use plans::Boot;
 pub use refusals::{BootError, PlanKey};

@@ -1,6 +1,7 @@
 //! Reads the numbers of a plan.
 
 ghost use Rattle.std.specs.Prelude.{◌≡◌, ◌<◌, ◌≤◌, length, codes, option_map, All, IfOk, IfSome};
+ghost use Rattle.event_log.specs.declared.ids.TheConstants.{BUFFERS, CAPACITY};
 ghost use Rattle.event_log.specs.Reading.{all_as};
 ghost use Rattle.toml.specs.Data.{get_member};
 ghost use Rattle.toml.specs.View.{table_view};
@@ -9,12 +10,9 @@ ghost use Rattle.boot.specs.Plan.{number_within, number_at, caps_at, AreCaps, Gi
 use crate::refusals::{BootError, PlanKey};
 use crate::tables::{array_at, integers, value_at};
 use arrayvec::ArrayVec;
-use event_log::BUFFERS;
+use event_log::{BUFFERS, CAPACITY};
 use std::alloc::Global;
 use toml::Table;
-
-/// How many messages a buffer may hold at most.
-const CAPACITY: u64 = 32;
 
 /// The integer, if it is from `least` to `most`.
 fn number_within(integer: i64, least: u64, most: u64) -> Option<u64>
@@ -58,15 +56,15 @@ pub fn number_at(
 }
 
 /// The capacities that some integers are, or `None` where one is out of range.
-fn caps_of(integers: &[i64]) -> Option<ArrayVec<u8, 16>>
-    requires { length integers.now ≤ 16 }
-    ensures caps { option_map (λ caps. caps.items) result ≡ all_as (number_within 1 32) integers.now }
+fn caps_of(integers: &[i64]) -> Option<ArrayVec<u8, BUFFERS>>
+    requires { length integers.now ≤ BUFFERS }
+    ensures caps { option_map (λ caps. caps.items) result ≡ all_as (number_within 1 CAPACITY) integers.now }
     ensures len { IfSome result (λ caps. length caps.items ≡ length integers.now) }
-    ensures within { IfSome result (λ caps. All (λ capacity. (1 ≤ capacity) × (capacity ≤ 32)) caps.items) }
+    ensures within { IfSome result (λ caps. All (λ capacity. (1 ≤ capacity) × (capacity ≤ CAPACITY)) caps.items) }
 {
     let mut caps = ArrayVec::new();
     for integer in integers {
-        let Some(capacity) = number_within(*integer, 1, CAPACITY) else {
+        let Some(capacity) = number_within(*integer, 1, CAPACITY as u64) else {
             return None;
         };
         caps.push(capacity as u8);
@@ -76,7 +74,7 @@ fn caps_of(integers: &[i64]) -> Option<ArrayVec<u8, 16>>
 
 /// The capacities of a plan's buffers.
 #[tactic(auto, unfolding(crate::specs::Plan::caps_at))]
-pub fn caps_at(alloc: Global, table: &Table) -> Result<ArrayVec<u8, 16>, BootError>
+pub fn caps_at(alloc: Global, table: &Table) -> Result<ArrayVec<u8, BUFFERS>, BootError>
     ensures caps { Gives (λ caps. caps.items) result (caps_at (get_member (codes "buffers") (table_view table.now))) }
     ensures within { IfOk result (λ caps. AreCaps caps.items) }
 {
@@ -89,7 +87,7 @@ pub fn caps_at(alloc: Global, table: &Table) -> Result<ArrayVec<u8, 16>, BootErr
     if integers.is_empty() {
         return Err(BootError::OutOfRange(PlanKey::Buffers));
     }
-    if integers.len() > usize::from(BUFFERS) {
+    if integers.len() > BUFFERS {
         return Err(BootError::OutOfRange(PlanKey::Buffers));
     }
     match caps_of(&integers) {

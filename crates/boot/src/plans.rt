@@ -4,21 +4,18 @@ use crate::numbers::{caps_at, number_at};
 use crate::refusals::{BootError, PlanKey};
 use crate::tasks::{Task, tables_at, tasks_of};
 use arrayvec::ArrayVec;
-use event_log::{CPUS, CpuId, Tid};
+use event_log::{BUFFERS, CPUS, CpuId, TRACE, Tid};
 use guest::Program;
 use std::alloc::Global;
 use std::marker::Model;
 use toml::Table;
-
-/// How many entries a CPU may trace at most.
-pub const TRACE: u32 = 65_536;
 
 /// A plan that was read: it is within all limits.
 #[derive(Drop)]
 pub struct Boot {
     cpus: u8,
     trace: u32,
-    caps: ArrayVec<u8, 16>,
+    caps: ArrayVec<u8, BUFFERS>,
     tasks: Vec<Task>,
 }
 
@@ -69,8 +66,8 @@ impl Boot {
         ensures plan { Gives (λ boot. boot) result (plan_in (table_view document.now)) }
         ensures within { IfOk result IsPlan }
     {
-        let cpus = number_at(document, "cpus", PlanKey::Cpus, 1, u64::from(CPUS))? as u8;
-        let trace = number_at(document, "trace", PlanKey::Trace, 1, u64::from(TRACE))? as u32;
+        let cpus = number_at(document, "cpus", PlanKey::Cpus, 1, CPUS as u64)? as u8;
+        let trace = number_at(document, "trace", PlanKey::Trace, 1, TRACE as u64)? as u32;
         let caps = caps_at(alloc, document)?;
         let tables = tables_at(alloc, document)?;
         let tasks = tasks_of(alloc, &tables, cpus, caps.len())?;
@@ -82,7 +79,7 @@ impl Boot {
         })
     }
 
-    /// How many CPUs the system has, from 1 to 8. They are numbered from 0.
+    /// How many CPUs the system has, from 1 to `CPUS`. They are numbered from 0.
     pub fn cpus(&self) -> u8
         ensures cpus { result ≡ self.now.cpus }
         ensures within { IsPlan self.now }
@@ -90,7 +87,7 @@ impl Boot {
         self.cpus
     }
 
-    /// How many entries each CPU may trace, from 1 to 65,536.
+    /// How many entries each CPU may trace, from 1 to `TRACE`.
     pub fn trace(&self) -> u32
         ensures trace { result ≡ self.now.trace }
         ensures within { IsPlan self.now }
@@ -98,8 +95,9 @@ impl Boot {
         self.trace
     }
 
-    /// The capacity of each buffer by its number: 1 to 16 buffers, each of 1 to 32 messages.
-    pub fn caps(&self) -> ArrayVec<u8, 16>
+    /// The capacity of each buffer by its number: 1 to `BUFFERS` buffers, each of 1 to `CAPACITY`
+    /// messages.
+    pub fn caps(&self) -> ArrayVec<u8, BUFFERS>
         ensures caps { result.items ≡ self.now.caps }
         ensures within { IsPlan self.now }
     {
@@ -108,7 +106,7 @@ impl Boot {
         caps
     }
 
-    /// How many threads the system has, from 1 to 64. They are numbered from 0.
+    /// How many threads the system has, from 1 to `THREADS`. They are numbered from 0.
     pub fn threads(&self) -> usize
         ensures threads { result ≡ length self.now.tasks }
         ensures within { IsPlan self.now }

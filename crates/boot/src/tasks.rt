@@ -1,6 +1,7 @@
 //! Reads the threads of a plan.
 
 ghost use Rattle.std.specs.Prelude.{◌≡◌, ◌<◌, ◌≤◌, map, length, codes, All, IfOk, IsTrue};
+ghost use Rattle.event_log.specs.declared.ids.TheConstants.{THREADS};
 ghost use Rattle.event_log.specs.Reading.{read_from};
 ghost use Rattle.toml.specs.Data.{get_member};
 ghost use Rattle.toml.specs.View.{table_view};
@@ -82,7 +83,7 @@ fn task_at(
 pub fn tables_at<'a>(alloc: Global, document: &'a Table) -> Result<Vec<&'a Table>, BootError>
     ensures tables { Gives (λ found. map (λ table. table_view table.now) found.items) result (tables_at (get_member (codes "thread") (table_view document.now))) }
     ensures some { IfOk result (λ found. 1 ≤ length found.items) }
-    ensures most { IfOk result (λ found. length found.items ≤ 64) }
+    ensures most { IfOk result (λ found. length found.items ≤ THREADS) }
 {
     let Some(array) = array_at(document, "thread") else {
         return Err(BootError::MissingKey(PlanKey::Threads));
@@ -93,7 +94,7 @@ pub fn tables_at<'a>(alloc: Global, document: &'a Table) -> Result<Vec<&'a Table
     if found.is_empty() {
         return Err(BootError::OutOfRange(PlanKey::Threads));
     }
-    if found.len() > usize::from(THREADS) {
+    if found.len() > THREADS {
         return Err(BootError::OutOfRange(PlanKey::Threads));
     }
     Ok(found)
@@ -107,7 +108,7 @@ pub fn tasks_of(
     buffers: usize,
 ) -> Result<Vec<Task>, BootError>
     requires cpus { 1 ≤ cpus }
-    requires most { length tables.now ≤ 64 }
+    requires most { length tables.now ≤ THREADS }
     ensures tasks { Gives (λ tasks. tasks_of tasks.items) result (read_from (task_at cpus buffers) 0 (map (λ table. table_view table.now) tables.now)) }
     ensures len { IfOk result (λ tasks. length tasks.items ≡ length tables.now) }
     ensures within { IfOk result (λ tasks. All (IsTask cpus buffers) (tasks_of tasks.items)) }
