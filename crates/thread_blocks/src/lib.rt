@@ -1,0 +1,6 @@
+//! Queues of threads.
+#![tactic(auto)]
+
+mod queues;
+
+pub use queues::ThreadQueue;
