@@ -3,6 +3,7 @@ use Rattle.std.proofs.Common.{◌≡◌, ℕ, ◌+◌, ◌<◌, ◌≤◌, ◌^�
 use Rattle.std.specs.Prelude.{codes, nat_lt}
 use Rattle.std.specs.List.{AllByRecursion, flat_map, join_with_byte}
 use Rattle.std.proofs.lemmas.List.{length_push, length-drop, length-set, length-map, get_or-drop, drop-drop}
+use Rattle.event_log.specs.declared.ids.TheConstants.{BUFFERS, ENTRIES}
 use Rattle.event_log.specs.declared.entries.Entry.{Entry}
 use Rattle.event_log.specs.Buffers.{items_of, empty_buffers, after_effect}
 use Rattle.event_log.specs.Runs.{after_entry, IsRunFrom, IsRun}
@@ -35,7 +36,7 @@ first_of contents b x xs e =
 behind_first : (contents : List (List ℕ)) (b : ℕ) (x : List ℕ) (xs : List (List ℕ)) → drop b contents ≡ x ∷ xs → drop (b + 1) contents ≡ xs
 behind_first contents b x xs e = sym (drop-drop 1 b contents) ∙ ap (λ (t : List (List ℕ)). drop 1 t) e
 
-complete_left : (caps : List ℕ) (earlier : List Entry) (contents : List (List ℕ)) (s : Progress) (b n : ℕ) (x : List ℕ) (xs : List (List ℕ)) → length contents ≡ length caps → length caps ≤ 16 → b < length caps → drop b contents ≡ x ∷ xs → AllByRecursion AreSmall (x ∷ xs) → step s (join_with_byte 32 (left_pieces b (items_of contents b))) ≡ Ok (progress (behind_left b caps) caps earlier contents) → verdict_from s n (lines_in (flat_map line_of (numbered left_pieces b (x ∷ xs) ++ end_pieces ∷ []))) ≡ Yes
+complete_left : (caps : List ℕ) (earlier : List Entry) (contents : List (List ℕ)) (s : Progress) (b n : ℕ) (x : List ℕ) (xs : List (List ℕ)) → length contents ≡ length caps → length caps ≤ BUFFERS → b < length caps → drop b contents ≡ x ∷ xs → AllByRecursion AreSmall (x ∷ xs) → step s (join_with_byte 32 (left_pieces b (items_of contents b))) ≡ Ok (progress (behind_left b caps) caps earlier contents) → verdict_from s n (lines_in (flat_map line_of (numbered left_pieces b (x ∷ xs) ++ end_pieces ∷ []))) ≡ Yes
 complete_left caps earlier contents s b n x [] long few inside rest small taken =
     let here = first_of contents b x [] rest in
     let last : (b + 1 ≡ length caps) = omega (arith, ap length rest, length-drop b contents) in
@@ -55,25 +56,25 @@ complete_left caps earlier contents s b n x (y ∷ ys) long few inside rest smal
     line_read s s' n (codes "left") _ (flat_map line_of (numbered left_pieces (b + 1) (y ∷ ys) ++ end_pieces ∷ [])) (left_is_line b x fits small.0) next ∙ complete_left caps earlier contents s' (b + 1) (n + 1) y ys long few more behind small.1 (step_left (b + 1) caps earlier contents more few following)
 
 -- the entries
-complete_first : (caps : List ℕ) (earlier : List Entry) (contents left : List (List ℕ)) (n : ℕ) → contents ≡ left → length contents ≡ length caps → 1 ≤ length caps → length caps ≤ 16 → AllByRecursion AreSmall left → verdict_from (progress stage.Entries caps earlier contents) n (lines_in (flat_map line_of (numbered left_pieces 0 left ++ end_pieces ∷ []))) ≡ Yes
+complete_first : (caps : List ℕ) (earlier : List Entry) (contents left : List (List ℕ)) (n : ℕ) → contents ≡ left → length contents ≡ length caps → 1 ≤ length caps → length caps ≤ BUFFERS → AllByRecursion AreSmall left → verdict_from (progress stage.Entries caps earlier contents) n (lines_in (flat_map line_of (numbered left_pieces 0 left ++ end_pieces ∷ []))) ≡ Yes
 complete_first caps earlier contents [] n same long some few small = absurd (omega (arith, ap length same))
 complete_first caps earlier contents (x ∷ xs) n same long some few small =
     let inside : 0 < length caps = omega arith in
     let first : AreSmall (items_of contents 0) = subst AreSmall (sym (first_of contents 0 x xs same)) small.0 in
     complete_left caps earlier contents (progress stage.Entries caps earlier contents) 0 n x xs long few inside same small (step_first_left caps earlier contents inside first)
 
-pub complete_entries : (caps : List ℕ) (earlier : List Entry) (contents : List (List ℕ)) (es : List Entry) (left : List (List ℕ)) (n : ℕ) → IsRunFrom caps earlier contents es left → AllByRecursion (IsEntryOf (length caps)) es → length earlier + length es ≤ 524288 → length contents ≡ length caps → 1 ≤ length caps → length caps ≤ 16 → AllByRecursion AreSmall left → verdict_from (progress stage.Entries caps earlier contents) n (lines_in (flat_map line_of (map entry_pieces es ++ (numbered left_pieces 0 left ++ end_pieces ∷ [])))) ≡ Yes
+pub complete_entries : (caps : List ℕ) (earlier : List Entry) (contents : List (List ℕ)) (es : List Entry) (left : List (List ℕ)) (n : ℕ) → IsRunFrom caps earlier contents es left → AllByRecursion (IsEntryOf (length caps)) es → length earlier + length es ≤ ENTRIES → length contents ≡ length caps → 1 ≤ length caps → length caps ≤ BUFFERS → AllByRecursion AreSmall left → verdict_from (progress stage.Entries caps earlier contents) n (lines_in (flat_map line_of (map entry_pieces es ++ (numbered left_pieces 0 left ++ end_pieces ∷ [])))) ≡ Yes
 complete_entries caps earlier contents [] left n run each room long some few small = complete_first caps earlier contents left n run long some few small
 complete_entries caps earlier contents (e ∷ es) left n run each room long some few small =
-    let here : length earlier < 524288 = omega arith in
+    let here : length earlier < ENTRIES = omega arith in
     let after = after_entry contents e in
     let after_long : length after ≡ length caps = length-set contents e.buffer.0 (after_effect e.kind (items_of contents e.buffer.0) e.value) ∙ long in
-    let less : length (earlier ++ e ∷ []) + length es ≤ 524288 = omega (arith, length_push earlier e) in
+    let less : length (earlier ++ e ∷ []) + length es ≤ ENTRIES = omega (arith, length_push earlier e) in
     line_read (progress stage.Entries caps earlier contents) (progress stage.Entries caps (earlier ++ e ∷ []) after) n (codes "e") (behind_e e) (flat_map line_of (map entry_pieces es ++ (numbered left_pieces 0 left ++ end_pieces ∷ []))) (entry_is_line (length caps) e few each.0) (step_entry caps earlier contents e few here long each.0 run.0)
     ∙ complete_entries caps (earlier ++ e ∷ []) after es left (n + 1) run.1 each.1 less after_long some few small
 
 -- the capacities
-complete_caps : (count : ℕ) (caps more : List ℕ) (tail : List (List (List ℕ))) (n : ℕ) → 0 < length more → length caps + length more ≡ count → count ≤ 16 → AllByRecursion IsCapacity more → ((m : ℕ) → verdict_from (opened stage.Entries (caps ++ more)) m (lines_in (flat_map line_of tail)) ≡ Yes) → verdict_from (opened (stage.Capacities count) caps) n (lines_in (flat_map line_of (numbered cap_pieces (length caps) more ++ tail))) ≡ Yes
+complete_caps : (count : ℕ) (caps more : List ℕ) (tail : List (List (List ℕ))) (n : ℕ) → 0 < length more → length caps + length more ≡ count → count ≤ BUFFERS → AllByRecursion IsCapacity more → ((m : ℕ) → verdict_from (opened stage.Entries (caps ++ more)) m (lines_in (flat_map line_of tail)) ≡ Yes) → verdict_from (opened (stage.Capacities count) caps) n (lines_in (flat_map line_of (numbered cap_pieces (length caps) more ++ tail))) ≡ Yes
 complete_caps count caps [] tail n some all few small behind = absurd (let z : 0 < 0 = some in omega arith)
 complete_caps count caps (k ∷ []) tail n some all few small behind =
     let stops : nat_lt (length caps + 1) count ≡ false = le-ltb (length caps + 1) count (omega arith) in
@@ -100,7 +101,7 @@ unfolding spelling lines_of
 complete_lines caps es left fits run =
     let tail = map entry_pieces es ++ (numbered left_pieces 0 left ++ end_pieces ∷ []) in
     let long : length (empty_buffers caps) ≡ length caps = length-map caps (λ (k : ℕ). []) in
-    let room : length {A = Entry} [] + length es ≤ 524288 = (let h = fits.few_entries in omega arith) in
+    let room : length {A = Entry} [] + length es ≤ ENTRIES = (let h = fits.few_entries in omega arith) in
     let entries : (m : ℕ) → verdict_from (opened stage.Entries caps) m (lines_in (flat_map line_of tail)) ≡ Yes = λ m.
     subst (λ (s : Progress). verdict_from s m (lines_in (flat_map line_of tail)) ≡ Yes) (ap (λ buffers. record { at = stage.Entries; buffers = buffers; entries = 0 }) (known_fresh_from 0 caps caps))
     (complete_entries caps [] (empty_buffers caps) es left m run fits.entries room long fits.some_buffer fits.few_buffers fits.values) in

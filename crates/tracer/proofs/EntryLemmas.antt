@@ -1,8 +1,9 @@
 -- Each line of a trace text is taken where it may stand, and a line that is taken is spelled so.
-use Rattle.std.proofs.Common.{◌≡◌, ℕ, ◌<◌, ◌≤◌, ◌^◌, Bool, true, false, cond, List, [], ◌∷◌, length, Result, Ok, Err, refl, ap, subst, lit<, arith}
+use Rattle.std.proofs.Common.{◌-◌, ◌≡◌, ℕ, ◌<◌, ◌≤◌, ◌^◌, Bool, true, false, cond, List, [], ◌∷◌, length, Result, Ok, Err, refl, ap, subst, lit<, arith}
 use Rattle.std.specs.Prelude.{decimal, codes}
 use Rattle.std.specs.Str.{bytes_eq}
 use Rattle.std.proofs.lemmas.Slice.Eq.{bytes_eq-Decides}
+use Rattle.event_log.specs.declared.ids.TheConstants.{CPUS, THREADS, BUFFERS, ENTRIES}
 use Rattle.event_log.specs.declared.entries.Kind.{Kind}
 use Rattle.event_log.specs.declared.entries.Kind.TheVariants.{Send, Recv}
 use Rattle.event_log.specs.declared.entries.Entry.{Entry}
@@ -104,32 +105,32 @@ entry_digits_again e cpu thread buffer value op pos =
 -- the numbers of an entry, where there may be so many buffers as there can be
 pub record IsSmall (digits : Digits) (e : Entry) : Type 0 where
   pub spelled : digits ≡ digits_in e
-  pub cpu : e.cpu.0 ≤ 7
-  pub thread : e.thread.0 ≤ 63
+  pub cpu : e.cpu.0 ≤ CPUS - 1
+  pub thread : e.thread.0 ≤ THREADS - 1
   pub value : e.value ≤ 18446744073709551615
-  pub op : e.op ≤ 524287
-  pub pos : e.pos ≤ 524287
+  pub op : e.op ≤ ENTRIES - 1
+  pub pos : e.pos ≤ ENTRIES - 1
 
 pub entry_in_taken : (digits : Digits) (e : Entry) → entry_in digits ≡ Ok e → IsSmall digits e
 unfolding entry_in
 entry_in_taken digits e taken =
-    let a0 = bind_ok (in_range 7 digits.cpu) (λ cpu. in_range 63 digits.thread >>= λ thread. in_range 15 digits.buffer >>= λ buffer. in_range 18446744073709551615 digits.value >>= λ value. in_range 524287 digits.op >>= λ op. in_range 524287 digits.pos >>= λ pos. Ok (record { cpu = record { 0 = cpu }; thread = record { 0 = thread }; kind = digits.kind; buffer = record { 0 = buffer }; value = value; op = op; pos = pos })) e taken in
-    let a1 = bind_ok (in_range 63 digits.thread) (λ thread. in_range 15 digits.buffer >>= λ buffer. in_range 18446744073709551615 digits.value >>= λ value. in_range 524287 digits.op >>= λ op. in_range 524287 digits.pos >>= λ pos. Ok (record { cpu = record { 0 = a0.0 }; thread = record { 0 = thread }; kind = digits.kind; buffer = record { 0 = buffer }; value = value; op = op; pos = pos })) e a0.2 in
-    let a2 = bind_ok (in_range 15 digits.buffer) (λ buffer. in_range 18446744073709551615 digits.value >>= λ value. in_range 524287 digits.op >>= λ op. in_range 524287 digits.pos >>= λ pos. Ok (record { cpu = record { 0 = a0.0 }; thread = record { 0 = a1.0 }; kind = digits.kind; buffer = record { 0 = buffer }; value = value; op = op; pos = pos })) e a1.2 in
-    let a3 = bind_ok (in_range 18446744073709551615 digits.value) (λ value. in_range 524287 digits.op >>= λ op. in_range 524287 digits.pos >>= λ pos. Ok (record { cpu = record { 0 = a0.0 }; thread = record { 0 = a1.0 }; kind = digits.kind; buffer = record { 0 = a2.0 }; value = value; op = op; pos = pos })) e a2.2 in
-    let a4 = bind_ok (in_range 524287 digits.op) (λ op. in_range 524287 digits.pos >>= λ pos. Ok (record { cpu = record { 0 = a0.0 }; thread = record { 0 = a1.0 }; kind = digits.kind; buffer = record { 0 = a2.0 }; value = a3.0; op = op; pos = pos })) e a3.2 in
-    let a5 = bind_ok (in_range 524287 digits.pos) (λ pos. Ok (record { cpu = record { 0 = a0.0 }; thread = record { 0 = a1.0 }; kind = digits.kind; buffer = record { 0 = a2.0 }; value = a3.0; op = a4.0; pos = pos })) e a4.2 in
-    let r0 = in_range_taken 7 digits.cpu a0.0 (lit< tt) a0.1 in
-    let r1 = in_range_taken 63 digits.thread a1.0 (lit< tt) a1.1 in
-    let r2 = in_range_taken 15 digits.buffer a2.0 (lit< tt) a2.1 in
+    let a0 = bind_ok (in_range (CPUS - 1) digits.cpu) (λ cpu. in_range (THREADS - 1) digits.thread >>= λ thread. in_range (BUFFERS - 1) digits.buffer >>= λ buffer. in_range 18446744073709551615 digits.value >>= λ value. in_range (ENTRIES - 1) digits.op >>= λ op. in_range (ENTRIES - 1) digits.pos >>= λ pos. Ok (record { cpu = record { 0 = cpu }; thread = record { 0 = thread }; kind = digits.kind; buffer = record { 0 = buffer }; value = value; op = op; pos = pos })) e taken in
+    let a1 = bind_ok (in_range (THREADS - 1) digits.thread) (λ thread. in_range (BUFFERS - 1) digits.buffer >>= λ buffer. in_range 18446744073709551615 digits.value >>= λ value. in_range (ENTRIES - 1) digits.op >>= λ op. in_range (ENTRIES - 1) digits.pos >>= λ pos. Ok (record { cpu = record { 0 = a0.0 }; thread = record { 0 = thread }; kind = digits.kind; buffer = record { 0 = buffer }; value = value; op = op; pos = pos })) e a0.2 in
+    let a2 = bind_ok (in_range (BUFFERS - 1) digits.buffer) (λ buffer. in_range 18446744073709551615 digits.value >>= λ value. in_range (ENTRIES - 1) digits.op >>= λ op. in_range (ENTRIES - 1) digits.pos >>= λ pos. Ok (record { cpu = record { 0 = a0.0 }; thread = record { 0 = a1.0 }; kind = digits.kind; buffer = record { 0 = buffer }; value = value; op = op; pos = pos })) e a1.2 in
+    let a3 = bind_ok (in_range 18446744073709551615 digits.value) (λ value. in_range (ENTRIES - 1) digits.op >>= λ op. in_range (ENTRIES - 1) digits.pos >>= λ pos. Ok (record { cpu = record { 0 = a0.0 }; thread = record { 0 = a1.0 }; kind = digits.kind; buffer = record { 0 = a2.0 }; value = value; op = op; pos = pos })) e a2.2 in
+    let a4 = bind_ok (in_range (ENTRIES - 1) digits.op) (λ op. in_range (ENTRIES - 1) digits.pos >>= λ pos. Ok (record { cpu = record { 0 = a0.0 }; thread = record { 0 = a1.0 }; kind = digits.kind; buffer = record { 0 = a2.0 }; value = a3.0; op = op; pos = pos })) e a3.2 in
+    let a5 = bind_ok (in_range (ENTRIES - 1) digits.pos) (λ pos. Ok (record { cpu = record { 0 = a0.0 }; thread = record { 0 = a1.0 }; kind = digits.kind; buffer = record { 0 = a2.0 }; value = a3.0; op = a4.0; pos = pos })) e a4.2 in
+    let r0 = in_range_taken (CPUS - 1) digits.cpu a0.0 (lit< tt) a0.1 in
+    let r1 = in_range_taken (THREADS - 1) digits.thread a1.0 (lit< tt) a1.1 in
+    let r2 = in_range_taken (BUFFERS - 1) digits.buffer a2.0 (lit< tt) a2.1 in
     let r3 = in_range_taken 18446744073709551615 digits.value a3.0 (lit< tt) a3.1 in
-    let r4 = in_range_taken 524287 digits.op a4.0 (lit< tt) a4.1 in
-    let r5 = in_range_taken 524287 digits.pos a5.0 (lit< tt) a5.1 in
+    let r4 = in_range_taken (ENTRIES - 1) digits.op a4.0 (lit< tt) a4.1 in
+    let r5 = in_range_taken (ENTRIES - 1) digits.pos a5.0 (lit< tt) a5.1 in
     let made : Entry = record { cpu = record { 0 = a0.0 }; thread = record { 0 = a1.0 }; kind = digits.kind; buffer = record { 0 = a2.0 }; value = a3.0; op = a4.0; pos = a5.0 } in
     let shape : digits ≡ digits_in made = six digits.cpu digits.thread digits.buffer digits.value digits.op digits.pos (decimal a0.0) (decimal a1.0) (decimal a2.0) (decimal a3.0) (decimal a4.0) (decimal a5.0) digits.kind r0.spelled r1.spelled r2.spelled r3.spelled r4.spelled r5.spelled in
     subst (λ (x : Entry). IsSmall digits x) (same_ok made e a5.2) (record { spelled = shape; cpu = r0.within; thread = r1.within; value = r3.within; op = r4.within; pos = r5.within })
 
-pub entry_in_again : (e : Entry) → e.cpu.0 ≤ 7 → e.thread.0 ≤ 63 → e.buffer.0 ≤ 15 → e.value ≤ 18446744073709551615 → e.op ≤ 524287 → e.pos ≤ 524287 → entry_in (digits_in e) ≡ Ok e
+pub entry_in_again : (e : Entry) → e.cpu.0 ≤ CPUS - 1 → e.thread.0 ≤ THREADS - 1 → e.buffer.0 ≤ BUFFERS - 1 → e.value ≤ 18446744073709551615 → e.op ≤ ENTRIES - 1 → e.pos ≤ ENTRIES - 1 → entry_in (digits_in e) ≡ Ok e
 unfolding entry_in
 entry_in_again e cpu thread buffer value op pos =
-    rw (number_to-decimal 7 e.cpu.0 (omega arith) cpu, number_to-decimal 63 e.thread.0 (omega arith) thread, number_to-decimal 15 e.buffer.0 (omega arith) buffer, number_to-decimal 18446744073709551615 e.value (omega arith) value, number_to-decimal 524287 e.op (omega arith) op, number_to-decimal 524287 e.pos (omega arith) pos) refl
+    rw (number_to-decimal (CPUS - 1) e.cpu.0 (omega arith) cpu, number_to-decimal (THREADS - 1) e.thread.0 (omega arith) thread, number_to-decimal (BUFFERS - 1) e.buffer.0 (omega arith) buffer, number_to-decimal 18446744073709551615 e.value (omega arith) value, number_to-decimal (ENTRIES - 1) e.op (omega arith) op, number_to-decimal (ENTRIES - 1) e.pos (omega arith) pos) refl

@@ -5,6 +5,7 @@ use Rattle.std.specs.Str.{bytes_eq}
 use Rattle.std.specs.List.{join_with_byte}
 use Rattle.std.proofs.lemmas.List.{length-map, map_push}
 use Rattle.std.proofs.lemmas.Slice.Eq.{bytes_eq-Decides}
+use Rattle.event_log.specs.declared.ids.TheConstants.{BUFFERS, CAPACITY}
 use Rattle.event_log.specs.Reading.{◌>>=◌}
 use Rattle.event_log.proofs.DigitsLemmas.{number_to-decimal}
 use Rattle.tracer.specs.declared.verdicts.Reason.TheVariants.{Spelling, Range}
@@ -37,9 +38,9 @@ count_digits_again : (n : ℕ) → n < 2 ^ 64 → count_digits (count_pieces n) 
 unfolding count_digits
 count_digits_again n small = rw (decimal_is_number n small) refl
 
-pub count_line_again : (n : ℕ) (s : Progress) → 1 ≤ n → n ≤ 16 → count_line (count_pieces n) s ≡ Ok (record s { at = stage.Capacities n; buffers = [] })
+pub count_line_again : (n : ℕ) (s : Progress) → 1 ≤ n → n ≤ BUFFERS → count_line (count_pieces n) s ≡ Ok (record s { at = stage.Capacities n; buffers = [] })
 unfolding count_line
-count_line_again n s some few = rw (count_digits_again n (omega arith), number_to-decimal 16 n (omega arith) few, lt-ltb 0 n (omega arith)) refl
+count_line_again n s some few = rw (count_digits_again n (omega arith), number_to-decimal BUFFERS n (omega arith) few, lt-ltb 0 n (omega arith)) refl
 
 two_shape : (word : List ℕ) (ps rest : List (List ℕ)) (p q : List ℕ) (behind : List (List ℕ)) → ps ≡ word ∷ rest → rest ≡ p ∷ behind → behind ≡ [] → p ≡ q → ps ≡ word ∷ q ∷ []
 two_shape word ps rest p q behind e1 e2 e3 e4 = e1 ∙ ap (λ (t : List (List ℕ)). word ∷ t) (e2 ∙ rw (e3, e4) refl)
@@ -56,19 +57,19 @@ count_digits_taken ps digits taken =
 pub record CountTaken (ps : List (List ℕ)) (s after : Progress) (n : ℕ) : Type 0 where
   pub spelled : ps ≡ count_pieces n
   pub some : 1 ≤ n
-  pub few : n ≤ 16
+  pub few : n ≤ BUFFERS
   pub is : after ≡ record s { at = stage.Capacities n; buffers = [] }
 
-count_found : (ps : List (List ℕ)) (digits : List ℕ) (n : ℕ) (s after : Progress) → ps ≡ codes "buffers" ∷ digits ∷ [] → IsInRange 16 digits n → 0 < n → record s { at = stage.Capacities n; buffers = [] } ≡ after → CountTaken ps s after n
+count_found : (ps : List (List ℕ)) (digits : List ℕ) (n : ℕ) (s after : Progress) → ps ≡ codes "buffers" ∷ digits ∷ [] → IsInRange BUFFERS digits n → 0 < n → record s { at = stage.Capacities n; buffers = [] } ≡ after → CountTaken ps s after n
 count_found ps digits n s after shape range some is = record { spelled = shape ∙ ap (λ (d : List ℕ). codes "buffers" ∷ d ∷ []) range.spelled; some = omega arith; few = range.within; is = sym is }
 
 pub count_line_taken : (ps : List (List ℕ)) (s after : Progress) → count_line ps s ≡ Ok after → (n : ℕ) × CountTaken ps s after n
 unfolding count_line
 count_line_taken ps s after taken =
-    let digits = bind_ok (count_digits ps) (λ digits. in_range 16 digits >>= λ count. wanted (nat_lt 0 count) Range (Ok (record s { at = stage.Capacities count; buffers = [] }))) after taken in
-    let count = bind_ok (in_range 16 digits.0) (λ count. wanted (nat_lt 0 count) Range (Ok (record s { at = stage.Capacities count; buffers = [] }))) after digits.2 in
+    let digits = bind_ok (count_digits ps) (λ digits. in_range BUFFERS digits >>= λ count. wanted (nat_lt 0 count) Range (Ok (record s { at = stage.Capacities count; buffers = [] }))) after taken in
+    let count = bind_ok (in_range BUFFERS digits.0) (λ count. wanted (nat_lt 0 count) Range (Ok (record s { at = stage.Capacities count; buffers = [] }))) after digits.2 in
     let some = wanted_ok (nat_lt 0 count.0) Range (Ok (record s { at = stage.Capacities count.0; buffers = [] })) after count.2 in
-    (count.0, count_found ps digits.0 count.0 s after (count_digits_taken ps digits.0 digits.1) (in_range_taken 16 digits.0 count.0 (lit< tt) count.1) (ltb-true 0 count.0 some.0) (same_ok _ after some.1))
+    (count.0, count_found ps digits.0 count.0 s after (count_digits_taken ps digits.0 digits.1) (in_range_taken BUFFERS digits.0 count.0 (lit< tt) count.1) (ltb-true 0 count.0 some.0) (same_ok _ after some.1))
 
 count_is_line : (n : ℕ) → n < 2 ^ 64 → IsLine (count_pieces n)
 count_is_line n small = record {
@@ -76,10 +77,10 @@ count_is_line n small = record {
   feeds = ((refl, (refl, (refl, (refl, (refl, (refl, (refl, tt))))))), (decimal_lacks 10 n (lit< tt) small, tt));
 }
 
-pub count_is_line_of : (n : ℕ) → n ≤ 16 → IsLine (count_pieces n)
+pub count_is_line_of : (n : ℕ) → n ≤ BUFFERS → IsLine (count_pieces n)
 count_is_line_of n few = count_is_line n (omega arith)
 
-pub step_count : (n : ℕ) (s : Progress) → s.at ≡ stage.Count → 1 ≤ n → n ≤ 16 → step s (join_with_byte 32 (count_pieces n)) ≡ Ok (record s { at = stage.Capacities n; buffers = [] })
+pub step_count : (n : ℕ) (s : Progress) → s.at ≡ stage.Count → 1 ≤ n → n ≤ BUFFERS → step s (join_with_byte 32 (count_pieces n)) ≡ Ok (record s { at = stage.Capacities n; buffers = [] })
 unfolding step count_line
 step_count n s at some few =
     rw at (ap (λ (ps : List (List ℕ)). count_line ps s) (pieces_again (codes "buffers") (decimal n ∷ []) (count_is_line_of n few)) ∙ count_line_again n s some few)
@@ -98,12 +99,12 @@ capacity_digits_again : (b capacity : ℕ) → b < 2 ^ 64 → capacity < 2 ^ 64 
 unfolding capacity_digits
 capacity_digits_again b capacity fits small = rw (is_value_again b fits, decimal_is_number capacity small) refl
 
-pub capacity_line_again : (at : Stage) (count : ℕ) (caps : List ℕ) (capacity : ℕ) → IsCapacity capacity → length caps ≤ 16 → capacity_line count (cap_pieces (length caps) capacity) (opened at caps) ≡ Ok (opened (behind_cap (length caps + 1) count) (caps ++ capacity ∷ []))
+pub capacity_line_again : (at : Stage) (count : ℕ) (caps : List ℕ) (capacity : ℕ) → IsCapacity capacity → length caps ≤ BUFFERS → capacity_line count (cap_pieces (length caps) capacity) (opened at caps) ≡ Ok (opened (behind_cap (length caps + 1) count) (caps ++ capacity ∷ []))
 unfolding capacity_line
 capacity_line_again at count caps capacity small few =
     let below : capacity < 2 ^ 64 = (let h = small.1 in omega arith) in
     let some : 0 < capacity = (let h = small.0 in omega arith) in
-    rw (length-map caps fresh, capacity_digits_again (length caps) capacity (omega arith) below, number_to-decimal 32 capacity below small.1, lt-ltb 0 capacity some, map_push fresh caps capacity) refl
+    rw (length-map caps fresh, capacity_digits_again (length caps) capacity (omega arith) below, number_to-decimal CAPACITY capacity below small.1, lt-ltb 0 capacity some, map_push fresh caps capacity) refl
 
 three_shape : (word : List ℕ) (ps rest behind last : List (List ℕ)) (p p' q q' : List ℕ) → ps ≡ word ∷ rest → rest ≡ p ∷ behind → p ≡ p' → behind ≡ q ∷ last → last ≡ [] → q ≡ q' → ps ≡ word ∷ p' ∷ q' ∷ []
 three_shape word ps rest behind last p p' q q' e1 e2 e3 e4 e5 e6 = e1 ∙ ap (λ (t : List (List ℕ)). word ∷ t) (e2 ∙ rw (e3, e4, e5, e6) refl)
@@ -124,7 +125,7 @@ pub record CapacityTaken (count : ℕ) (caps : List ℕ) (ps : List (List ℕ)) 
   pub small : IsCapacity capacity
   pub is : after ≡ opened (behind_cap (length caps + 1) count) (caps ++ capacity ∷ [])
 
-capacity_found : (count : ℕ) (caps : List ℕ) (ps : List (List ℕ)) (digits : List ℕ) (capacity : ℕ) (after : Progress) → ps ≡ codes "cap" ∷ decimal (length (map fresh caps)) ∷ digits ∷ [] → IsInRange 32 digits capacity → 0 < capacity → record { at = behind_cap (length (map fresh caps) + 1) count; buffers = map fresh caps ++ fresh capacity ∷ []; entries = 0 } ≡ after → CapacityTaken count caps ps after capacity
+capacity_found : (count : ℕ) (caps : List ℕ) (ps : List (List ℕ)) (digits : List ℕ) (capacity : ℕ) (after : Progress) → ps ≡ codes "cap" ∷ decimal (length (map fresh caps)) ∷ digits ∷ [] → IsInRange CAPACITY digits capacity → 0 < capacity → record { at = behind_cap (length (map fresh caps) + 1) count; buffers = map fresh caps ++ fresh capacity ∷ []; entries = 0 } ≡ after → CapacityTaken count caps ps after capacity
 capacity_found count caps ps digits capacity after shape range some is = record {
   spelled = shape ∙ rw (length-map caps fresh, range.spelled) refl;
   small = (omega arith, range.within);
@@ -135,12 +136,12 @@ pub capacity_line_taken : (at : Stage) (count : ℕ) (caps : List ℕ) (ps : Lis
 unfolding capacity_line
 capacity_line_taken at count caps ps after taken =
     let s = opened at caps in
-    let digits = bind_ok (capacity_digits (length s.buffers) ps) (λ digits. in_range 32 digits >>= λ capacity. wanted (nat_lt 0 capacity) Range (Ok (record s { at = behind_cap (length s.buffers + 1) count; buffers = s.buffers ++ fresh capacity ∷ [] }))) after taken in
-    let capacity = bind_ok (in_range 32 digits.0) (λ capacity. wanted (nat_lt 0 capacity) Range (Ok (record s { at = behind_cap (length s.buffers + 1) count; buffers = s.buffers ++ fresh capacity ∷ [] }))) after digits.2 in
+    let digits = bind_ok (capacity_digits (length s.buffers) ps) (λ digits. in_range CAPACITY digits >>= λ capacity. wanted (nat_lt 0 capacity) Range (Ok (record s { at = behind_cap (length s.buffers + 1) count; buffers = s.buffers ++ fresh capacity ∷ [] }))) after taken in
+    let capacity = bind_ok (in_range CAPACITY digits.0) (λ capacity. wanted (nat_lt 0 capacity) Range (Ok (record s { at = behind_cap (length s.buffers + 1) count; buffers = s.buffers ++ fresh capacity ∷ [] }))) after digits.2 in
     let some = wanted_ok (nat_lt 0 capacity.0) Range (Ok (record s { at = behind_cap (length s.buffers + 1) count; buffers = s.buffers ++ fresh capacity.0 ∷ [] })) after capacity.2 in
-    (capacity.0, capacity_found count caps ps digits.0 capacity.0 after (capacity_digits_taken (length s.buffers) ps digits.0 digits.1) (in_range_taken 32 digits.0 capacity.0 (lit< tt) capacity.1) (ltb-true 0 capacity.0 some.0) (same_ok _ after some.1))
+    (capacity.0, capacity_found count caps ps digits.0 capacity.0 after (capacity_digits_taken (length s.buffers) ps digits.0 digits.1) (in_range_taken CAPACITY digits.0 capacity.0 (lit< tt) capacity.1) (ltb-true 0 capacity.0 some.0) (same_ok _ after some.1))
 
-pub cap_is_line : (b capacity : ℕ) → b ≤ 16 → IsCapacity capacity → IsLine (cap_pieces b capacity)
+pub cap_is_line : (b capacity : ℕ) → b ≤ BUFFERS → IsCapacity capacity → IsLine (cap_pieces b capacity)
 cap_is_line b capacity few small =
     let below : capacity < 2 ^ 64 = (let h = small.1 in omega arith) in
     let fits : b < 2 ^ 64 = omega arith in
@@ -149,7 +150,7 @@ cap_is_line b capacity few small =
       feeds = ((refl, (refl, (refl, tt))), (decimal_lacks 10 b (lit< tt) fits, (decimal_lacks 10 capacity (lit< tt) below, tt)));
     }
 
-pub step_cap : (count : ℕ) (caps : List ℕ) (capacity : ℕ) → IsCapacity capacity → length caps ≤ 16 → step (opened (stage.Capacities count) caps) (join_with_byte 32 (cap_pieces (length caps) capacity)) ≡ Ok (opened (behind_cap (length caps + 1) count) (caps ++ capacity ∷ []))
+pub step_cap : (count : ℕ) (caps : List ℕ) (capacity : ℕ) → IsCapacity capacity → length caps ≤ BUFFERS → step (opened (stage.Capacities count) caps) (join_with_byte 32 (cap_pieces (length caps) capacity)) ≡ Ok (opened (behind_cap (length caps + 1) count) (caps ++ capacity ∷ []))
 unfolding step
 step_cap count caps capacity small few =
     let s = opened (stage.Capacities count) caps in

@@ -5,6 +5,7 @@ use Rattle.std.specs.List.{AllByRecursion, flat_map, join_with_byte}
 use Rattle.std.proofs.lemmas.List.{append-nil, length_push, length-set, length-map, drop_more, drop_all, nil_from_length}
 use Rattle.std.proofs.lemmas.List.Concat.{flat_map-append}
 use Rattle.std.proofs.lemmas.List.Splits.{join_with_byte-slice_split}
+use Rattle.event_log.specs.declared.ids.TheConstants.{BUFFERS, ENTRIES}
 use Rattle.event_log.specs.declared.entries.Entry.{Entry}
 use Rattle.event_log.specs.Buffers.{items_of, empty_buffers}
 use Rattle.event_log.specs.Runs.{IsNext, after_entry, IsRunFrom, IsRun}
@@ -94,7 +95,7 @@ sound_left b caps earlier contents n (line ∷ next ∷ more) long e =
 pub record Judged (caps : List ℕ) (earlier : List Entry) (contents : List (List ℕ)) (lines : List (List ℕ)) (es : List Entry) (left : List (List ℕ)) : Type 0 where
   pub run : IsRunFrom caps earlier contents es left
   pub small : AllByRecursion (IsEntryOf (length caps)) es
-  pub few : length earlier + length es ≤ 524288
+  pub few : length earlier + length es ≤ ENTRIES
   pub each : length left ≡ length caps
   pub values : AllByRecursion (AllByRecursion (λ v. v < 2 ^ 64)) left
   pub text : join_with_byte 10 lines ≡ flat_map line_of (map entry_pieces es ++ (numbered left_pieces 0 left ++ end_pieces ∷ []))
@@ -118,10 +119,10 @@ judged_more caps earlier contents line next more e spelled small can behind =
       },
     )
 
-judged_left : (caps : List ℕ) (earlier : List Entry) (contents : List (List ℕ)) (lines : List (List ℕ)) → length earlier ≤ 524288 → length contents ≡ length caps → LeftText 0 contents lines → IsJudged caps earlier contents lines
+judged_left : (caps : List ℕ) (earlier : List Entry) (contents : List (List ℕ)) (lines : List (List ℕ)) → length earlier ≤ ENTRIES → length contents ≡ length caps → LeftText 0 contents lines → IsJudged caps earlier contents lines
 judged_left caps earlier contents lines few long left = ([], contents, record { run = refl; small = tt; few = omega arith; each = long; values = left.1; text = left.0 })
 
-sound_entries : (caps : List ℕ) (earlier : List Entry) (contents : List (List ℕ)) (n : ℕ) (lines : List (List ℕ)) → length earlier ≤ 524288 → length contents ≡ length caps → verdict_from (progress stage.Entries caps earlier contents) n lines ≡ Yes → IsJudged caps earlier contents lines
+sound_entries : (caps : List ℕ) (earlier : List Entry) (contents : List (List ℕ)) (n : ℕ) (lines : List (List ℕ)) → length earlier ≤ ENTRIES → length contents ≡ length caps → verdict_from (progress stage.Entries caps earlier contents) n lines ≡ Yes → IsJudged caps earlier contents lines
 unfolding step
 sound_entries caps earlier contents n [] few long e = absurd (cc)
 sound_entries caps earlier contents n (rest ∷ []) few long e = absurd (cc)
@@ -192,7 +193,7 @@ sound_caps count caps n (line ∷ next ∷ more) lt e =
 abbrev IsTail : List ℕ → Type 0
 IsTail text = (caps : List ℕ) × (es : List Entry) × (left : List (List ℕ)) × IsSpellable caps es left × IsRun caps es left × (text ≡ line_of (count_pieces (length caps)) ++ flat_map line_of (numbered cap_pieces 0 caps ++ (map entry_pieces es ++ (numbered left_pieces 0 left ++ end_pieces ∷ []))))
 
-tail_of : (line next : List ℕ) (more : List (List ℕ)) (n : ℕ) (caps : List ℕ) (rest : List (List ℕ)) (es : List Entry) (left : List (List ℕ)) → pieces_of line ≡ count_pieces n → 1 ≤ n → n ≤ 16 → length caps ≡ n → AllByRecursion IsCapacity caps → join_with_byte 10 (next ∷ more) ≡ flat_map line_of (numbered cap_pieces 0 caps) ++ join_with_byte 10 rest → Judged caps [] (empty_buffers caps) rest es left → IsTail (join_with_byte 10 (line ∷ next ∷ more))
+tail_of : (line next : List ℕ) (more : List (List ℕ)) (n : ℕ) (caps : List ℕ) (rest : List (List ℕ)) (es : List Entry) (left : List (List ℕ)) → pieces_of line ≡ count_pieces n → 1 ≤ n → n ≤ BUFFERS → length caps ≡ n → AllByRecursion IsCapacity caps → join_with_byte 10 (next ∷ more) ≡ flat_map line_of (numbered cap_pieces 0 caps) ++ join_with_byte 10 rest → Judged caps [] (empty_buffers caps) rest es left → IsTail (join_with_byte 10 (line ∷ next ∷ more))
 tail_of line next more n caps rest es left spelled some few counted small text judged = (
   caps,
   es,

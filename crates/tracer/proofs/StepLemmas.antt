@@ -1,10 +1,11 @@
 -- Each line behind the capacities is taken where it may stand, and a line that is taken is spelled so.
-use Rattle.std.proofs.Common.{◌≡◌, ℕ, ◌+◌, ◌<◌, ◌≤◌, ◌^◌, ◌&&◌, Bool, true, false, cond, List, [], ◌∷◌, ◌++◌, length, get_or, map, Option, Some, None, Ok, refl, sym, ap, ◌∙◌, eqb-true, inl, inr, ◌⊎◌, lt-ltb, ltb-true, lit<, arith}
+use Rattle.std.proofs.Common.{◌-◌, ◌≡◌, ℕ, ◌+◌, ◌<◌, ◌≤◌, ◌^◌, ◌&&◌, Bool, true, false, cond, List, [], ◌∷◌, ◌++◌, length, get_or, map, Option, Some, None, Ok, refl, sym, ap, ◌∙◌, eqb-true, inl, inr, ◌⊎◌, lt-ltb, ltb-true, lit<, arith}
 use Rattle.std.specs.Prelude.{decimal, codes, nat_lt, slice_get}
 use Rattle.std.specs.Str.{bytes_eq}
 use Rattle.std.specs.List.{AllByRecursion, list_all, join_with_byte}
 use Rattle.std.proofs.lemmas.List.{length_push}
 use Rattle.std.proofs.lemmas.Slice.Eq.{bytes_eq-Decides}
+use Rattle.event_log.specs.declared.ids.TheConstants.{CPUS, THREADS, BUFFERS, ENTRIES}
 use Rattle.event_log.specs.declared.entries.Kind.{Kind}
 use Rattle.event_log.specs.declared.entries.Kind.TheVariants.{Send, Recv}
 use Rattle.event_log.specs.declared.entries.Entry.{Entry}
@@ -34,7 +35,7 @@ kind_feeds : (kind : Kind) → Lacks 10 (kind_word kind)
 kind_feeds Send = (refl, (refl, (refl, (refl, tt))))
 kind_feeds Recv = (refl, (refl, (refl, (refl, tt))))
 
-pub entry_is_line : (n : ℕ) (e : Entry) → n ≤ 16 → IsEntryOf n e → IsLine (entry_pieces e)
+pub entry_is_line : (n : ℕ) (e : Entry) → n ≤ BUFFERS → IsEntryOf n e → IsLine (entry_pieces e)
 entry_is_line n e few small =
     let cpu : e.cpu.0 < 2 ^ 64 = (let h = small.cpu in omega arith) in
     let thread : e.thread.0 < 2 ^ 64 = (let h = small.thread in omega arith) in
@@ -46,23 +47,23 @@ entry_is_line n e few small =
       feeds = ((refl, tt), (decimal_lacks 10 e.cpu.0 (lit< tt) cpu, (decimal_lacks 10 e.thread.0 (lit< tt) thread, (kind_feeds e.kind, (decimal_lacks 10 e.buffer.0 (lit< tt) buffer, (decimal_lacks 10 e.value (lit< tt) small.value, (decimal_lacks 10 e.op (lit< tt) op, (decimal_lacks 10 e.pos (lit< tt) pos, tt))))))));
     }
 
-entry_line_again : (at : Stage) (caps : List ℕ) (earlier : List Entry) (contents : List (List ℕ)) (e : Entry) → length caps ≤ 16 → length earlier < 524288 → length contents ≡ length caps → IsEntryOf (length caps) e → IsNext caps earlier contents e → entry_line (behind_e e) (progress at caps earlier contents) ≡ Ok (progress at caps (earlier ++ e ∷ []) (after_entry contents e))
+entry_line_again : (at : Stage) (caps : List ℕ) (earlier : List Entry) (contents : List (List ℕ)) (e : Entry) → length caps ≤ BUFFERS → length earlier < ENTRIES → length contents ≡ length caps → IsEntryOf (length caps) e → IsNext caps earlier contents e → entry_line (behind_e e) (progress at caps earlier contents) ≡ Ok (progress at caps (earlier ++ e ∷ []) (after_entry contents e))
 unfolding entry_line
 entry_line_again at caps earlier contents e few room long small next =
-    let cpu : e.cpu.0 ≤ 7 = (let h = small.cpu in omega arith) in
-    let thread : e.thread.0 ≤ 63 = (let h = small.thread in omega arith) in
-    let buffer : e.buffer.0 ≤ 15 = (let h = small.buffer in omega arith) in
+    let cpu : e.cpu.0 ≤ CPUS - 1 = (let h = small.cpu in omega arith) in
+    let thread : e.thread.0 ≤ THREADS - 1 = (let h = small.thread in omega arith) in
+    let buffer : e.buffer.0 ≤ BUFFERS - 1 = (let h = small.buffer in omega arith) in
     let value : e.value ≤ 18446744073709551615 = (let h = small.value in omega arith) in
-    let op : e.op ≤ 524287 = (let h = small.op in omega arith) in
-    let pos : e.pos ≤ 524287 = (let h = small.pos in omega arith) in
+    let op : e.op ≤ ENTRIES - 1 = (let h = small.op in omega arith) in
+    let pos : e.pos ≤ ENTRIES - 1 = (let h = small.pos in omega arith) in
     let digits = entry_digits_again e (omega arith) (omega arith) (omega arith) (omega arith) (omega arith) (omega arith) in
-    rw (digits, entry_in_again e cpu thread buffer value op pos, lt-ltb (length earlier) 524288 room, among_again caps earlier contents e long next, length_push earlier e) refl
+    rw (digits, entry_in_again e cpu thread buffer value op pos, lt-ltb (length earlier) ENTRIES room, among_again caps earlier contents e long next, length_push earlier e) refl
 
 entries_e : (ps : List (List ℕ)) (s : Progress) → entries_line (codes "e" ∷ ps) s ≡ entry_line ps s
 unfolding entries_line
 entries_e ps s = refl
 
-pub step_entry : (caps : List ℕ) (earlier : List Entry) (contents : List (List ℕ)) (e : Entry) → length caps ≤ 16 → length earlier < 524288 → length contents ≡ length caps → IsEntryOf (length caps) e → IsNext caps earlier contents e → step (progress stage.Entries caps earlier contents) (join_with_byte 32 (entry_pieces e)) ≡ Ok (progress stage.Entries caps (earlier ++ e ∷ []) (after_entry contents e))
+pub step_entry : (caps : List ℕ) (earlier : List Entry) (contents : List (List ℕ)) (e : Entry) → length caps ≤ BUFFERS → length earlier < ENTRIES → length contents ≡ length caps → IsEntryOf (length caps) e → IsNext caps earlier contents e → step (progress stage.Entries caps earlier contents) (join_with_byte 32 (entry_pieces e)) ≡ Ok (progress stage.Entries caps (earlier ++ e ∷ []) (after_entry contents e))
 unfolding step
 step_entry caps earlier contents e few room long small next =
     let s = progress stage.Entries caps earlier contents in
@@ -73,10 +74,10 @@ pub record EntryTaken (at : Stage) (caps : List ℕ) (earlier : List Entry) (con
   pub spelled : ps ≡ behind_e e
   pub small : IsEntryOf (length caps) e
   pub next : IsNext caps earlier contents e
-  pub room : length earlier < 524288
+  pub room : length earlier < ENTRIES
   pub is : after ≡ progress at caps (earlier ++ e ∷ []) (after_entry contents e)
 
-entry_found : (at : Stage) (caps : List ℕ) (earlier : List Entry) (contents : List (List ℕ)) (ps : List (List ℕ)) (digits : Digits) (e : Entry) (buffers : List Seen) (after : Progress) → length contents ≡ length caps → ps ≡ shape_of digits → IsSmall digits e → length earlier < 524288 → entry_among e (known_from earlier contents 0 caps) ≡ Ok buffers → record { at = at; buffers = buffers; entries = length earlier + 1 } ≡ after → EntryTaken at caps earlier contents ps after e
+entry_found : (at : Stage) (caps : List ℕ) (earlier : List Entry) (contents : List (List ℕ)) (ps : List (List ℕ)) (digits : Digits) (e : Entry) (buffers : List Seen) (after : Progress) → length contents ≡ length caps → ps ≡ shape_of digits → IsSmall digits e → length earlier < ENTRIES → entry_among e (known_from earlier contents 0 caps) ≡ Ok buffers → record { at = at; buffers = buffers; entries = length earlier + 1 } ≡ after → EntryTaken at caps earlier contents ps after e
 entry_found at caps earlier contents ps digits e buffers after long shape small room among is =
     let taken = among_taken caps earlier contents e buffers long among in
     record {
@@ -91,11 +92,11 @@ entry_line_taken : (at : Stage) (caps : List ℕ) (earlier : List Entry) (conten
 unfolding entry_line
 entry_line_taken at caps earlier contents ps after long taken =
     let s = progress at caps earlier contents in
-    let digits = bind_ok (entry_digits ps) (λ digits. entry_in digits >>= λ e. wanted (nat_lt (length earlier) 524288) Range (entry_among e s.buffers) >>= λ buffers. Ok (record s { buffers = buffers; entries = length earlier + 1 })) after taken in
-    let entry = bind_ok (entry_in digits.0) (λ e. wanted (nat_lt (length earlier) 524288) Range (entry_among e s.buffers) >>= λ buffers. Ok (record s { buffers = buffers; entries = length earlier + 1 })) after digits.2 in
-    let among = bind_ok (wanted (nat_lt (length earlier) 524288) Range (entry_among entry.0 s.buffers)) (λ buffers. Ok (record s { buffers = buffers; entries = length earlier + 1 })) after entry.2 in
-    let room = wanted_ok (nat_lt (length earlier) 524288) Range (entry_among entry.0 s.buffers) among.0 among.1 in
-    (entry.0, entry_found at caps earlier contents ps digits.0 entry.0 among.0 after long (entry_digits_taken ps digits.0 digits.1) (entry_in_taken digits.0 entry.0 entry.1) (ltb-true (length earlier) 524288 room.0) room.1 (same_ok _ after among.2))
+    let digits = bind_ok (entry_digits ps) (λ digits. entry_in digits >>= λ e. wanted (nat_lt (length earlier) ENTRIES) Range (entry_among e s.buffers) >>= λ buffers. Ok (record s { buffers = buffers; entries = length earlier + 1 })) after taken in
+    let entry = bind_ok (entry_in digits.0) (λ e. wanted (nat_lt (length earlier) ENTRIES) Range (entry_among e s.buffers) >>= λ buffers. Ok (record s { buffers = buffers; entries = length earlier + 1 })) after digits.2 in
+    let among = bind_ok (wanted (nat_lt (length earlier) ENTRIES) Range (entry_among entry.0 s.buffers)) (λ buffers. Ok (record s { buffers = buffers; entries = length earlier + 1 })) after entry.2 in
+    let room = wanted_ok (nat_lt (length earlier) ENTRIES) Range (entry_among entry.0 s.buffers) among.0 among.1 in
+    (entry.0, entry_found at caps earlier contents ps digits.0 entry.0 among.0 after long (entry_digits_taken ps digits.0 digits.1) (entry_in_taken digits.0 entry.0 entry.1) (ltb-true (length earlier) ENTRIES room.0) room.1 (same_ok _ after among.2))
 
 -- ---- what is left
 
@@ -222,7 +223,7 @@ step_first_left caps earlier contents lt small =
     let s = progress stage.Entries caps earlier contents in
     ap (λ (ps : List (List ℕ)). entries_line ps s) (pieces_again (codes "left") (decimal 0 ∷ map decimal (items_of contents 0)) (left_is_line 0 (items_of contents 0) (lit< tt) small)) ∙ entries_left (decimal 0 ∷ map decimal (items_of contents 0)) s ∙ left_line_again stage.Entries 0 caps earlier contents lt (lit< tt) small
 
-pub step_left : (b : ℕ) (caps : List ℕ) (earlier : List Entry) (contents : List (List ℕ)) → b < length caps → length caps ≤ 16 → AreSmall (items_of contents b) → step (progress (stage.Contents b) caps earlier contents) (join_with_byte 32 (left_pieces b (items_of contents b))) ≡ Ok (progress (behind_left b caps) caps earlier contents)
+pub step_left : (b : ℕ) (caps : List ℕ) (earlier : List Entry) (contents : List (List ℕ)) → b < length caps → length caps ≤ BUFFERS → AreSmall (items_of contents b) → step (progress (stage.Contents b) caps earlier contents) (join_with_byte 32 (left_pieces b (items_of contents b))) ≡ Ok (progress (behind_left b caps) caps earlier contents)
 unfolding step
 step_left b caps earlier contents lt few small =
     let s = progress (stage.Contents b) caps earlier contents in
@@ -232,7 +233,7 @@ step_left b caps earlier contents lt few small =
 same_pieces : (p w : List ℕ) (ps qs : List (List ℕ)) → p ≡ w → ps ≡ qs → p ∷ ps ≡ w ∷ qs
 same_pieces p w ps qs e1 e2 = rw (e1, e2) refl
 
-entries_cases : (caps : List ℕ) (earlier : List Entry) (contents : List (List ℕ)) (p : List ℕ) (ps : List (List ℕ)) (after : Progress) → length contents ≡ length caps → (first : Bool) → bytes_eq p (codes "e") ≡ first → cond first (entry_line ps (progress stage.Entries caps earlier contents)) (left_line 0 (p ∷ ps) (progress stage.Entries caps earlier contents)) ≡ Ok after → ((e : Entry) × (p ∷ ps ≡ entry_pieces e) × IsEntryOf (length caps) e × IsNext caps earlier contents e × (length earlier < 524288) × (after ≡ progress stage.Entries caps (earlier ++ e ∷ []) (after_entry contents e))) ⊎ LeftTaken 0 caps earlier contents (p ∷ ps) after
+entries_cases : (caps : List ℕ) (earlier : List Entry) (contents : List (List ℕ)) (p : List ℕ) (ps : List (List ℕ)) (after : Progress) → length contents ≡ length caps → (first : Bool) → bytes_eq p (codes "e") ≡ first → cond first (entry_line ps (progress stage.Entries caps earlier contents)) (left_line 0 (p ∷ ps) (progress stage.Entries caps earlier contents)) ≡ Ok after → ((e : Entry) × (p ∷ ps ≡ entry_pieces e) × IsEntryOf (length caps) e × IsNext caps earlier contents e × (length earlier < ENTRIES) × (after ≡ progress stage.Entries caps (earlier ++ e ∷ []) (after_entry contents e))) ⊎ LeftTaken 0 caps earlier contents (p ∷ ps) after
 entries_cases caps earlier contents p ps after long true first taken =
     let found = entry_line_taken stage.Entries caps earlier contents ps after long taken in
     let word : p ≡ codes "e" = (bytes_eq-Decides p (codes "e")).0 first in
@@ -240,7 +241,7 @@ entries_cases caps earlier contents p ps after long true first taken =
 entries_cases caps earlier contents p ps after long false first taken = inr (left_line_taken stage.Entries 0 caps earlier contents (p ∷ ps) after taken)
 
 -- a line behind the entries is an entry, or what is left of the first buffer
-pub entries_taken : (caps : List ℕ) (earlier : List Entry) (contents : List (List ℕ)) (ps : List (List ℕ)) (after : Progress) → length contents ≡ length caps → entries_line ps (progress stage.Entries caps earlier contents) ≡ Ok after → ((e : Entry) × (ps ≡ entry_pieces e) × IsEntryOf (length caps) e × IsNext caps earlier contents e × (length earlier < 524288) × (after ≡ progress stage.Entries caps (earlier ++ e ∷ []) (after_entry contents e))) ⊎ LeftTaken 0 caps earlier contents ps after
+pub entries_taken : (caps : List ℕ) (earlier : List Entry) (contents : List (List ℕ)) (ps : List (List ℕ)) (after : Progress) → length contents ≡ length caps → entries_line ps (progress stage.Entries caps earlier contents) ≡ Ok after → ((e : Entry) × (ps ≡ entry_pieces e) × IsEntryOf (length caps) e × IsNext caps earlier contents e × (length earlier < ENTRIES) × (after ≡ progress stage.Entries caps (earlier ++ e ∷ []) (after_entry contents e))) ⊎ LeftTaken 0 caps earlier contents ps after
 unfolding entries_line
 entries_taken caps earlier contents [] after long taken = absurd (cc)
 entries_taken caps earlier contents (p ∷ ps) after long taken = entries_cases caps earlier contents p ps after long (bytes_eq p (codes "e")) refl taken

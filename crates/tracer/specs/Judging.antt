@@ -1,7 +1,8 @@
 -- How a trace text is judged: line by line, up to the first fault.
-use Rattle.std.specs.Prelude.{◌≡◌, ℕ, ◌+◌, Bool, true, false, ◌&&◌, ◌==◌, nat_lt, List, [], ◌∷◌, ◌++◌, length, codes, is_some, Option, Some, None, Result, Ok, Err, slice_get, slice_set, if◌then◌else◌}
+use Rattle.std.specs.Prelude.{◌-◌, ◌≡◌, ℕ, ◌+◌, Bool, true, false, ◌&&◌, ◌==◌, nat_lt, List, [], ◌∷◌, ◌++◌, length, codes, is_some, Option, Some, None, Result, Ok, Err, slice_get, slice_set, if◌then◌else◌}
 use Rattle.std.specs.List.{list_all, slice_split}
 use Rattle.std.specs.Str.{bytes_eq}
+use Rattle.event_log.specs.declared.ids.TheConstants.{CPUS, THREADS, BUFFERS, CAPACITY, ENTRIES}
 use Rattle.event_log.specs.declared.entries.Kind.{Kind}
 use Rattle.event_log.specs.declared.entries.Kind.TheVariants.{Send, Recv}
 use Rattle.event_log.specs.declared.entries.Entry.{Entry}
@@ -138,12 +139,12 @@ entry_digits pieces = digits_at pieces
 
 -- its numbers, where each is in its range
 unfoldable pub entry_in : Digits → Result Entry Reason
-entry_in digits = in_range 7 digits.cpu
-    >>= λ cpu. in_range 63 digits.thread
-    >>= λ thread. in_range 15 digits.buffer
+entry_in digits = in_range (CPUS - 1) digits.cpu
+    >>= λ cpu. in_range (THREADS - 1) digits.thread
+    >>= λ thread. in_range (BUFFERS - 1) digits.buffer
     >>= λ buffer. in_range 18446744073709551615 digits.value
-    >>= λ value. in_range 524287 digits.op
-    >>= λ op. in_range 524287 digits.pos
+    >>= λ value. in_range (ENTRIES - 1) digits.op
+    >>= λ op. in_range (ENTRIES - 1) digits.pos
     >>= λ pos. Ok (record { cpu = record { 0 = cpu }; thread = record { 0 = thread }; kind = digits.kind; buffer = record { 0 = buffer }; value = value; op = op; pos = pos })
 
 -- the buffers after an entry of one of them
@@ -155,7 +156,7 @@ entry_among e buffers = or_range (slice_get buffers e.buffer.0)
 unfoldable pub entry_line : List (List ℕ) → Progress → Result Progress Reason
 entry_line pieces s = entry_digits pieces
     >>= λ digits. entry_in digits
-    >>= λ e. wanted (nat_lt s.entries 524288) Range (entry_among e s.buffers)
+    >>= λ e. wanted (nat_lt s.entries ENTRIES) Range (entry_among e s.buffers)
     >>= λ buffers. Ok (record s { buffers = buffers; entries = s.entries + 1 })
 
 -- the digits of the number of buffers
@@ -167,7 +168,7 @@ count_digits pieces = word_at (codes "buffers") pieces
 
 unfoldable pub count_line : List (List ℕ) → Progress → Result Progress Reason
 count_line pieces s = count_digits pieces
-    >>= λ digits. in_range 16 digits
+    >>= λ digits. in_range BUFFERS digits
     >>= λ count. wanted (nat_lt 0 count) Range (Ok (record s { at = stage.Capacities count; buffers = [] }))
 
 -- the digits of the capacity of buffer b
@@ -180,7 +181,7 @@ capacity_digits b pieces = word_at (codes "cap") pieces
 
 unfoldable pub capacity_line : ℕ → List (List ℕ) → Progress → Result Progress Reason
 capacity_line count pieces s = capacity_digits (length s.buffers) pieces
-    >>= λ digits. in_range 32 digits
+    >>= λ digits. in_range CAPACITY digits
     >>= λ capacity. wanted (nat_lt 0 capacity) Range (Ok (record s { at = if nat_lt (length s.buffers + 1) count then stage.Capacities count else stage.Entries; buffers = s.buffers ++ fresh capacity ∷ [] }))
 
 -- the pieces of the items of buffer b

@@ -2,6 +2,7 @@
 -- The capacities are a list by buffer number; what is left is a list by buffer number of the buffer's items, front first.
 use Rattle.std.specs.Prelude.{◌≡◌, ℕ, ◌+◌, ◌<◌, ◌≤◌, ◌^◌, List, [], ◌∷◌, ◌++◌, length, map, codes, decimal, flat_map}
 use Rattle.std.specs.List.{AllByRecursion, join_with_byte}
+use Rattle.event_log.specs.declared.ids.TheConstants.{CPUS, THREADS, BUFFERS, CAPACITY, ENTRIES}
 use Rattle.event_log.specs.declared.entries.Kind.{Kind}
 use Rattle.event_log.specs.declared.entries.Kind.TheVariants.{Send, Recv}
 use Rattle.event_log.specs.declared.entries.Entry.{Entry}
@@ -51,23 +52,23 @@ unfoldable pub spelling : List ℕ → List Entry → List (List ℕ) → List �
 spelling caps es left = flat_map line_of (lines_of caps es left)
 
 abbrev pub IsCapacity : ℕ → Type 0
-IsCapacity capacity = (1 ≤ capacity) × (capacity ≤ 32)
+IsCapacity capacity = (1 ≤ capacity) × (capacity ≤ CAPACITY)
 
 -- the numbers of an entry are in range, where there are n buffers
 pub record IsEntryOf (n : ℕ) (e : Entry) : Type 0 where
-  pub cpu : e.cpu.0 < 8
-  pub thread : e.thread.0 < 64
+  pub cpu : e.cpu.0 < CPUS
+  pub thread : e.thread.0 < THREADS
   pub buffer : e.buffer.0 < n
   pub value : e.value < 2 ^ 64
-  pub op : e.op < 524288
-  pub pos : e.pos < 524288
+  pub op : e.op < ENTRIES
+  pub pos : e.pos < ENTRIES
 
 -- what has a spelling
 pub record IsSpellable (caps : List ℕ) (es : List Entry) (left : List (List ℕ)) : Type 0 where
   pub some_buffer : 1 ≤ length caps
-  pub few_buffers : length caps ≤ 16
+  pub few_buffers : length caps ≤ BUFFERS
   pub capacities : AllByRecursion IsCapacity caps
-  pub few_entries : length es ≤ 524288
+  pub few_entries : length es ≤ ENTRIES
   pub entries : AllByRecursion (IsEntryOf (length caps)) es
   pub each_left : length left ≡ length caps
   pub values : AllByRecursion (AllByRecursion (λ v. v < 2 ^ 64)) left

@@ -1,6 +1,7 @@
 //! An entry among the buffers.
 
 ghost use Rattle.std.specs.Prelude.{◌≡◌, ◌<◌, map};
+ghost use Rattle.event_log.specs.declared.ids.TheConstants.{ENTRIES};
 ghost use Rattle.tracer.specs.Judging.{entry_among};
 ghost use Rattle.tracer.specs.Tallies.{seen_in, StepsTo};
 
@@ -13,7 +14,7 @@ use event_log::Entry;
 /// Errors: `Range` where there is no such buffer, else the first reason against the entry; then
 /// nothing changed.
 pub fn enter_among(buffers: &mut [Tally], entry: Entry) -> Result<(), Reason>
-    requires { (entry.op < 524288) × (entry.pos < 524288) }
+    requires { (entry.op < ENTRIES) × (entry.pos < ENTRIES) }
     ensures { StepsTo (entry_among entry (map seen_in buffers.old)) result (map seen_in buffers.new) }
 {
     let b = usize::from(entry.buffer.0);

@@ -1,6 +1,7 @@
 //! The judge of a trace text.
 
 ghost use Rattle.std.specs.Prelude.{◌≡◌, ◌+◌, ◌≤◌, ◌<◌, ◌==◌, ◌&&◌, ℕ, length, map, codes, nat_lt, slice_get, true};
+ghost use Rattle.event_log.specs.declared.ids.TheConstants.{BUFFERS};
 ghost use Rattle.tracer.specs.Judging.{opening, whole_line, count_line, capacity_line, entry_line, entries_line, left_line, is_left, step, is_done};
 ghost use Rattle.tracer.specs.Lines.{left_of};
 ghost use Rattle.tracer.specs.declared.stages.Stage.TheVariants.{Count as TheCount, Capacities as WantsCapacities, Done as NoLine};
@@ -12,15 +13,16 @@ use crate::stages::Stage;
 use crate::tally::Tally;
 use crate::verdicts::Reason;
 use arrayvec::ArrayVec;
+use event_log::{BUFFERS, CAPACITY, ENTRIES};
 
 /// The judge of a text, as far as it has come: which line may come, what is known of the buffers,
 /// and how many entries there were.
 #[derive(Drop)]
 pub struct Judge {
     at: Stage,
-    buffers: ArrayVec<Tally, 16>,
+    buffers: ArrayVec<Tally, BUFFERS>,
     entries: u64,
-    ghost room: { (count : ℕ) → at ≡ WantsCapacities count → (length buffers.items < count) × (count ≤ 16) },
+    ghost room: { (count : ℕ) → at ≡ WantsCapacities count → (length buffers.items < count) × (count ≤ BUFFERS) },
 }
 
 impl Judge {
@@ -92,7 +94,7 @@ impl Judge {
         ensures { StepsTo (count_line (left_of pieces.entry) (progress_of self.old)) result (progress_of self.new) }
     {
         let digits = count_digits(pieces)?;
-        let count = in_range(16, digits)?;
+        let count = in_range(BUFFERS as u64, digits)?;
         if count == 0 {
             return Err(Reason::Range);
         }
@@ -108,7 +110,7 @@ impl Judge {
         ensures { StepsTo (capacity_line count (left_of pieces.entry) (progress_of self.old)) result (progress_of self.new) }
     {
         let digits = capacity_digits(self.buffers.len() as u64, pieces)?;
-        let capacity = in_range(32, digits)?;
+        let capacity = in_range(CAPACITY as u64, digits)?;
         if capacity == 0 {
             return Err(Reason::Range);
         }
@@ -126,7 +128,7 @@ impl Judge {
     {
         let digits = entry_digits(pieces)?;
         let entry = entry_in(digits)?;
-        if self.entries >= 524_288 {
+        if self.entries >= ENTRIES as u64 {
             return Err(Reason::Range);
         }
         enter_among(self.buffers.as_mut_slice(), entry)?;

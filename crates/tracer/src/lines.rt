@@ -1,12 +1,13 @@
 //! The lines of a trace text, read from their pieces.
 
 ghost use Rattle.std.specs.Prelude.{◌≡◌, ◌≤◌, ◌<◌, IfOk, codes};
+ghost use Rattle.event_log.specs.declared.ids.TheConstants.{ENTRIES};
 ghost use Rattle.tracer.specs.Judging.{Gives, kind_in, entry_digits, entry_in, capacity_digits, left_digits, count_digits};
 ghost use Rattle.tracer.specs.Lines.{left_of, digits_of};
 
 use crate::pieces::{Pieces, are_numbers, digits, ended, in_range, is_value, piece, word};
 use crate::verdicts::Reason;
-use event_log::{BufId, CpuId, Entry, Kind, Tid};
+use event_log::{BUFFERS, BufId, CPUS, CpuId, ENTRIES, Entry, Kind, THREADS, Tid};
 
 /// The digits of an entry, of any size.
 #[derive(Clone, Copy)]
@@ -64,15 +65,15 @@ pub fn entry_digits(pieces: Pieces<'_>) -> Result<EntryDigits<'_>, Reason>
 #[inline]
 pub fn entry_in(digits: EntryDigits<'_>) -> Result<Entry, Reason>
     ensures exact { result ≡ entry_in (digits_of digits.entry) }
-    ensures op { IfOk result (λ e. e.op < 524288) }
-    ensures pos { IfOk result (λ e. e.pos < 524288) }
+    ensures op { IfOk result (λ e. e.op < ENTRIES) }
+    ensures pos { IfOk result (λ e. e.pos < ENTRIES) }
 {
-    let cpu = in_range(7, digits.cpu)?;
-    let thread = in_range(63, digits.thread)?;
-    let buffer = in_range(15, digits.buffer)?;
+    let cpu = in_range(CPUS as u64 - 1, digits.cpu)?;
+    let thread = in_range(THREADS as u64 - 1, digits.thread)?;
+    let buffer = in_range(BUFFERS as u64 - 1, digits.buffer)?;
     let value = in_range(u64::MAX, digits.value)?;
-    let op = in_range(524_287, digits.op)?;
-    let pos = in_range(524_287, digits.pos)?;
+    let op = in_range(ENTRIES as u64 - 1, digits.op)?;
+    let pos = in_range(ENTRIES as u64 - 1, digits.pos)?;
     Ok(Entry {
         cpu: CpuId(cpu as u8),
         thread: Tid(thread as u8),

@@ -1,23 +1,24 @@
 //! What is known of a buffer while the entries are judged.
 
 ghost use Rattle.std.specs.Prelude.{◌≡◌, ◌+◌, ◌≤◌, ◌<◌};
+ghost use Rattle.event_log.specs.declared.ids.TheConstants.{CAPACITY, ENTRIES};
 ghost use Rattle.tracer.specs.Judging.{fresh, put_in, take_first, entry_on, are_values};
 ghost use Rattle.tracer.specs.Lines.{left_of};
 
 use crate::pieces::{Pieces, are_values};
 use crate::verdicts::Reason;
 use arrayvec::ArrayVec;
-use event_log::{Entry, Kind};
+use event_log::{CAPACITY, Entry, Kind};
 
 /// One buffer: its capacity, its items, front first, and how many effects it had.
 #[derive(Drop)]
 pub struct Tally {
     capacity: usize,
-    items: ArrayVec<u64, 32>,
+    items: ArrayVec<u64, CAPACITY>,
     ops: u64,
     sends: u64,
     recvs: u64,
-    ghost small: { capacity ≤ 32 },
+    ghost small: { capacity ≤ CAPACITY },
 }
 
 impl Tally {
@@ -25,7 +26,7 @@ impl Tally {
 
     /// A buffer that had no effect.
     pub fn new(capacity: usize) -> Tally
-        requires { capacity ≤ 32 }
+        requires { capacity ≤ CAPACITY }
         ensures { seen_in result ≡ fresh capacity }
     {
         Tally {
@@ -41,7 +42,7 @@ impl Tally {
     ///
     /// Errors: `Full` where the buffer holds as many items as its capacity; then nothing changed.
     fn put(&mut self, value: u64) -> Result<(), Reason>
-        requires { (self.old.ops < 524288) × (self.old.sends < 524288) }
+        requires { (self.old.ops < ENTRIES) × (self.old.sends < ENTRIES) }
         ensures { StepsTo (put_in value (seen_in self.old)) result (seen_in self.new) }
     {
         if self.items.len() >= self.capacity {
@@ -58,7 +59,7 @@ impl Tally {
     /// Errors: `EmptyTake` where there is none, `WrongValue` where it is another; then nothing
     /// changed.
     fn take(&mut self, value: u64) -> Result<(), Reason>
-        requires { (self.old.ops < 524288) × (self.old.recvs < 524288) }
+        requires { (self.old.ops < ENTRIES) × (self.old.recvs < ENTRIES) }
         ensures { StepsTo (take_first value (seen_in self.old).items (seen_in self.old)) result (seen_in self.new) }
     {
         if self.items.is_empty() {
@@ -78,7 +79,7 @@ impl Tally {
     /// Errors: the first reason against the entry here; then nothing changed.
     #[tactic(auto, unfolding(crate::specs::Judging::entry_on))]
     pub fn enter(&mut self, entry: Entry) -> Result<(), Reason>
-        requires { (entry.op < 524288) × (entry.pos < 524288) }
+        requires { (entry.op < ENTRIES) × (entry.pos < ENTRIES) }
         ensures { StepsTo (entry_on entry (seen_in self.old)) result (seen_in self.new) }
     {
         if entry.op != self.ops {

@@ -7,7 +7,7 @@ ghost use Rattle.tracer.specs.Pieces.{text_of, spaced};
 
 use crate::sinks::{Sink, WriteFault};
 use arrayvec::ArrayVec;
-use event_log::{Entry, Kind};
+use event_log::{CAPACITY, Entry, Kind};
 use itoa::Buffer;
 use std::io::Write;
 
@@ -129,7 +129,10 @@ fn put_entries<W: Write>(sink: &mut Sink<W>, entries: &[Entry]) -> Result<(), Wr
 }
 
 /// The lines of what is left.
-fn put_left<W: Write>(sink: &mut Sink<W>, left: &[ArrayVec<u64, 32>]) -> Result<(), WriteFault>
+fn put_left<W: Write>(
+    sink: &mut Sink<W>,
+    left: &[ArrayVec<u64, CAPACITY>],
+) -> Result<(), WriteFault>
     requires { has_failed sink.old ≡ false }
     ensures failed { is_err result ≡ has_failed sink.new }
     ensures out { Outs (has_failed sink.new) (W.contents (writer_of sink.old)) (W.contents (writer_of sink.new)) (flat_map line_of (numbered (λ b v. left_pieces b v.items) 0 left.now)) }
@@ -143,8 +146,9 @@ fn put_left<W: Write>(sink: &mut Sink<W>, left: &[ArrayVec<u64, 32>]) -> Result<
 /// Writes the text of a trace: the capacities, the entries in their order, and what is left in
 /// each buffer, front first. By as many writes as the writer needs; it takes no memory.
 ///
-/// The sink must not have failed, and there must be such a text: 1 to 16 buffers of capacity 1 to
-/// 32, at most 524,288 entries whose numbers are in range, and what is left of each buffer.
+/// The sink must not have failed, and there must be such a text: 1 to `BUFFERS` buffers of capacity
+/// 1 to `CAPACITY`, at most `ENTRIES` entries whose numbers are in range, and what is left of each
+/// buffer.
 ///
 /// Errors: `WriteFault` exactly where the sink failed in this call; then a beginning of the text is
 /// out.
@@ -152,7 +156,7 @@ pub fn write_trace<W: Write>(
     sink: &mut Sink<W>,
     caps: &[u8],
     entries: &[Entry],
-    left: &[ArrayVec<u64, 32>],
+    left: &[ArrayVec<u64, CAPACITY>],
 ) -> Result<(), WriteFault>
     requires live { has_failed sink.old ≡ false }
     requires spellable { IsSpellable caps.now entries.now (map (λ v. v.items) left.now) }
