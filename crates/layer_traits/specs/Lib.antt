@@ -2,3 +2,4 @@ pub mod Protocol
 pub mod Turns
 pub mod OneLock
 pub mod Plans
+pub mod Along

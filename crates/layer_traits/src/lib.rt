@@ -4,8 +4,10 @@
 
 mod edits;
 mod locks;
+mod steps;
 mod words;
 
 pub use edits::{Edit, Mark};
 pub use locks::LockLayer;
+pub use steps::{Reason, Step};
 pub use words::Words;
