@@ -1,5 +1,6 @@
 -- A thread's private state, and what each instruction makes of it.
 use Rattle.std.specs.Prelude.{ℕ, ◌+◌, ◌-◌, ◌^◌, ◌%◌, ◌==◌, List, [], ◌∷◌, slice_index, slice_set, if◌then◌else◌}
+use Rattle.event_log.specs.Messages.{Message}
 use Rattle.guest.specs.declared.instructions.Register.{Register}
 use Rattle.guest.specs.declared.instructions.Instruction.{Instruction}
 use Rattle.guest.specs.declared.instructions.Instruction.TheVariants.{Set, Add, Sub, Jnz, Send, Recv, Yield, Exit}
@@ -21,6 +22,10 @@ next_of program s = instruction_at program s.line
 -- what a register holds
 abbrev pub value_in : State → Register → ℕ
 value_in s r = slice_index s.registers (number_of r)
+
+-- the message that a thread sends which stands at a send of this register
+abbrev pub sent_from : State → Register → Message
+sent_from s r = value_in s r
 
 -- at the following line
 abbrev pub moved_on : State → State
