@@ -4,6 +4,7 @@ use mathlib.Core.Option.{some, some-injective, some-ne-none}
 use lib.ListN.{get_elem?}
 use Rattle.atomic_table.specs.Table.{Splits, opening}
 use Rattle.atomic_table.proofs.Lists.{at_set}
+use Rattle.event_log.specs.declared.ids.TheConstants.{CPUS}
 use Rattle.event_log.specs.declared.ids.CpuId.{CpuId}
 use Rattle.event_log.specs.declared.ids.LockId.{LockId}
 use Rattle.event_log.specs.declared.events.Event.{Event}
@@ -66,7 +67,7 @@ module _ {E B O : Type 0} (R : Rules E B O) (n : ℕ) (start : List (LockId × B
       }
 
   -- the table that `open` makes
-  pub kept_opening : (words : List ℕ) (homes : List (Home E B)) → n ≤ 8 → words ≡ replicate (word_count (length start)) 0 → homes ≡ map (λ (o : LockId × B). fresh_home o.1) start
+  pub kept_opening : (words : List ℕ) (homes : List (Home E B)) → n ≤ CPUS → words ≡ replicate (word_count (length start)) 0 → homes ≡ map (λ (o : LockId × B). fresh_home o.1) start
       → Kept R n start (opening words homes (viewed start (cpus_from 0 n) []))
   kept_opening words homes few zeros are =
       let v : View E B = viewed start (cpus_from 0 n) [] in

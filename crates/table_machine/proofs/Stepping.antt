@@ -5,6 +5,7 @@ use lib.ListN.{get_elem?}
 use lib.Seq.{set-get_or}
 use Rattle.atomic_table.specs.Table.{State, Me, Step, step, Act, keeps, takes, gives, stepped, Allows, Splits, Joins, Enters}
 use Rattle.atomic_table.proofs.Lists.{set_here, set_else}
+use Rattle.event_log.specs.declared.ids.TheConstants.{CPUS}
 use Rattle.event_log.specs.declared.ids.CpuId.{CpuId}
 use Rattle.event_log.specs.declared.ids.LockId.{LockId}
 use Rattle.event_log.specs.declared.events.Event.{Event}
@@ -82,7 +83,7 @@ module _ {E B O : Type 0} (R : Rules E B O) (n : ℕ) (start : List (LockId × B
       let now = turn s kept id cpu seen at in
       let outside : standing cpu kept.log ≡ Outside = standing_since cpu kept.log seen now.since ∙ out in
       let old = kept.shows.stand lock exists in
-      let few : cpu.0 < 8 = lt_of_lt_of_le now.below kept.few in
+      let few : cpu.0 < CPUS = lt_of_lt_of_le now.below kept.few in
       let may : MayCome (R.allowed (opened start)) kept.log e = ((few, outside, old.is.next_is), tt) in
       let within : i < length s.words = subst (λ m. i < m) (sym kept.shows.word_length) (next_within R.edited start lock exists) in
       let here : Stands R.edited start (set s.words i x) s.homes (e ∷ kept.log) lock = record {

@@ -2,6 +2,7 @@
 
 ghost use Rattle.std.specs.Prelude.{◌≡◌, ◌+◌, ◌-◌, ◌<◌, ◌≤◌, ◌^◌, [], length, map, replicate, vec_len, vec_capacity, IfOk};
 ghost use Rattle.event_log.specs.declared.ids.LockId.{LockId};
+ghost use Rattle.event_log.specs.declared.ids.TheConstants.{CPUS};
 ghost use Rattle.layer_traits.specs.OneLock.{AreDistinct};
 ghost use Rattle.table_machine.specs.Places.{word_count, TellsPlaces, IsLaidOut};
 ghost use Rattle.table_machine.specs.Rule.{fresh_home};
