@@ -4,10 +4,14 @@
 
 mod edits;
 mod locks;
+mod moves;
+mod passes;
 mod steps;
 mod words;
 
 pub use edits::{Edit, Mark};
 pub use locks::LockLayer;
+pub use moves::{Line, Moves};
+pub use passes::Pass;
 pub use steps::{Reason, Step};
 pub use words::Words;

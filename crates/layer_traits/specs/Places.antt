@@ -1,0 +1,197 @@
+-- Places: where each thread stands, as a function of neutral moves, newest first. A thread exists exactly if it has a home; no
+-- edit, no block and no lock word is named here. What a CPU has of its own agrees with the places by count.
+use Rattle.std.specs.Prelude.{◌≡◌, ◌≢◌, ℕ, ◌+◌, Bool, true, false, ◌&&◌, List, [], ◌∷◌, ◌++◌, Option, Some, None, MatchOption, if◌then◌else◌}
+use Rattle.std.specs.List.{slice_get}
+use Rattle.event_log.specs.declared.ids.CpuId.{CpuId}
+use Rattle.event_log.specs.declared.ids.LockId.{LockId}
+use Rattle.event_log.specs.declared.ids.Tid.{Tid}
+use Rattle.event_log.specs.History.{same_cpu, IsLawful}
+use Rattle.thread_blocks.specs.Queues.{same_tid}
+use Rattle.layer_traits.specs.declared.moves.Line.{Line}
+
+-- the home of a thread, in the list of the homes of all threads; a thread without one does not exist
+abbrev pub home_of : List CpuId → Tid → Option CpuId
+home_of homes t = slice_get homes t.0
+
+-- whether it is this CPU
+abbrev pub is_cpu : CpuId → Option CpuId → Bool
+is_cpu c None = false
+is_cpu c (Some d) = same_cpu c d
+
+-- whether it is this thread
+abbrev pub is_thread : Tid → Option Tid → Bool
+is_thread t None = false
+is_thread t (Some u) = same_tid u t
+
+-- where a sleeping thread stands: in one line of what a lock guards
+pub data Place : Type 0 where
+  At : (lock : LockId) (line : Line) → Place
+
+-- where a thread stands: with the CPU that is its home, in the hand of a CPU that woke it, in a CPU's pending queue, or asleep
+pub data Where : Type 0 where
+  Home : Where
+  Hand : (cpu : CpuId) → Where
+  Pend : (queue : CpuId) → Where
+  Asleep : (place : Place) → Where
+
+-- what an event may do to places: push a thread into a pending queue, take all of one, edit what a lock guards, where the caller
+-- may go to sleep in a line and a sleeper may be woken, or nothing
+pub data Move : Type 0 where
+  Pushed : (queue : CpuId) (thread : Tid) → Move
+  Took : (queue : CpuId) → Move
+  Moved : (lock : LockId) (caller : Tid) (slept : Option Line) (woke : Option Tid) → Move
+  Still : Move
+
+-- a move, and the CPU that made it
+pub record Step : Type 0 where
+  pub cpu : CpuId
+  pub move : Move
+
+-- the step of this CPU with this move
+abbrev pub step : CpuId → Move → Step
+step cpu move = record { cpu = cpu; move = move }
+
+-- the CPU that made a step
+abbrev pub stepper : Step → CpuId
+stepper s = s.cpu
+
+-- where a woken thread stands: at home if the waker is its home, else in the waker's hand
+abbrev pub where_woken : CpuId → Option CpuId → Where
+where_woken c home = if is_cpu c home then Home else Hand c
+
+-- where a thread stands after all of a pending queue was taken: who was pending there is at home
+abbrev pub where_taken : CpuId → Where → Where
+where_taken d Home = Home
+where_taken d (Hand c) = Hand c
+where_taken d (Pend c) = if same_cpu d c then Home else Pend c
+where_taken d (Asleep p) = Asleep p
+
+-- where the caller of an edit stands after it: asleep in the line that it joined, if it joined one
+abbrev pub where_slept : LockId → Option Line → Where → Where
+where_slept lock None w = w
+where_slept lock (Some line) w = Asleep (At lock line)
+
+-- where a thread stands after a move of this CPU
+abbrev pub where_after : List CpuId → CpuId → Move → Tid → Where → Where
+where_after homes c (Pushed d u) t w = if same_tid u t then Pend d else w
+where_after homes c (Took d) t w = where_taken d w
+where_after homes c (Moved lock caller slept woke) t w =
+    if is_thread t woke then where_woken c (home_of homes t) else (if same_tid caller t then where_slept lock slept w else w)
+where_after homes c Still t w = w
+
+-- where a thread stands after these steps; at boot each stands at home
+abbrev pub where_is : List CpuId → List Step → Tid → Where
+where_is homes [] t = Home
+where_is homes (s ∷ past) t = where_after homes s.cpu s.move t (where_is homes past t)
+
+-- the line in which a thread sleeps, if it does
+abbrev pub place_of : Where → Option Place
+place_of Home = None
+place_of (Hand c) = None
+place_of (Pend c) = None
+place_of (Asleep p) = Some p
+
+-- whether there is a place
+abbrev pub is_place : Option Place → Bool
+is_place None = false
+is_place (Some p) = true
+
+-- whether it is asleep
+abbrev pub is_asleep : Where → Bool
+is_asleep w = is_place (place_of w)
+
+-- whether it is at home
+abbrev pub is_home : Where → Bool
+is_home Home = true
+is_home (Hand c) = false
+is_home (Pend c) = false
+is_home (Asleep p) = false
+
+-- whether it is in the hand of this CPU
+abbrev pub is_hand : CpuId → Where → Bool
+is_hand c Home = false
+is_hand c (Hand d) = same_cpu d c
+is_hand c (Pend d) = false
+is_hand c (Asleep p) = false
+
+-- whether it is in the pending queue of this CPU
+abbrev pub is_pend : CpuId → Where → Bool
+is_pend c Home = false
+is_pend c (Hand d) = false
+is_pend c (Pend d) = same_cpu d c
+is_pend c (Asleep p) = false
+
+-- the pending queue of a CPU after a move
+abbrev pub pending_after : Move → CpuId → List Tid → List Tid
+pending_after (Pushed d t) c queue = if same_cpu d c then queue ++ t ∷ [] else queue
+pending_after (Took d) c queue = if same_cpu d c then [] else queue
+pending_after (Moved lock caller slept woke) c queue = queue
+pending_after Still c queue = queue
+
+-- the pending queue of a CPU after these steps, front first; at boot it is empty
+abbrev pub pending_by : List Step → CpuId → List Tid
+pending_by [] c = []
+pending_by (s ∷ past) c = pending_after s.move c (pending_by past c)
+
+-- a CPU may edit for a caller: the caller stands at home with it, and nobody is in its hand
+pub record MayEdit (homes : List CpuId) (past : List Step) (c : CpuId) (caller : Tid) : Type 0 where
+  pub at_home : where_is homes past caller ≡ Home
+  pub home : home_of homes caller ≡ Some c
+  pub empty : (t : Tid) → where_is homes past t ≢ Hand c
+
+-- a CPU may push a thread into a pending queue: the thread is in its hand, and the queue is that of the thread's home
+pub record MayPush (homes : List CpuId) (past : List Step) (c d : CpuId) (t : Tid) : Type 0 where
+  pub held : where_is homes past t ≡ Hand c
+  pub home : home_of homes t ≡ Some d
+
+-- a CPU may make a move after these steps: it takes its own queue alone, and whom it wakes sleeps
+abbrev pub MayMove : List CpuId → List Step → CpuId → Move → Type 0
+MayMove homes past c (Pushed d t) = MayPush homes past c d t
+MayMove homes past c (Took d) = d ≡ c
+MayMove homes past c (Moved lock caller slept woke) =
+    MayEdit homes past c caller × MatchOption woke (Unit {0}) (λ u. is_asleep (where_is homes past u) ≡ true)
+MayMove homes past c Still = Unit {0}
+
+-- each of these steps may follow those before it
+abbrev pub AreMoves : List CpuId → List Step → Type 0
+AreMoves homes moves = IsLawful (λ past s. MayMove homes past s.cpu s.move) moves
+
+-- what a CPU has of its own: the thread that runs, a woken thread whose home is elsewhere, who is ready, front first, and who has ended
+pub record Threads : Type 0 where
+  pub current : Option Tid
+  pub hand : Option Tid
+  pub ready : List Tid
+  pub ended : List Tid
+
+-- 1 where the test holds
+abbrev pub one_if : Bool → ℕ
+one_if true = 1
+one_if false = 0
+
+-- how often a thread stands in a list
+abbrev pub count_in : Tid → List Tid → ℕ
+count_in t [] = 0
+count_in t (x ∷ queue) = one_if (same_tid t x) + count_in t queue
+
+-- how often a CPU has a thread at home with it: running, ready or ended
+abbrev pub copies : Threads → Tid → ℕ
+copies own t = one_if (is_thread t own.current) + count_in t own.ready + count_in t own.ended
+
+-- whether a thread stands at home and this CPU is its home
+abbrev pub is_here : List CpuId → CpuId → List Step → Tid → Bool
+is_here homes c moves t = is_cpu c (home_of homes t) && is_home (where_is homes moves t)
+
+-- what a CPU has of its own agrees with the places: it has each thread that stands at home with it once and no other, and in its
+-- hand exactly who stands there
+pub record Stands (homes : List CpuId) (c : CpuId) (moves : List Step) (own : Threads) : Type 0 where
+  pub places : (t : Tid) → copies own t ≡ one_if (is_here homes c moves t)
+  pub hand : (t : Tid) → is_thread t own.hand ≡ is_hand c (where_is homes moves t)
+
+-- the threads whose home this CPU is, in the order of their numbers, where the list of homes begins at thread n
+abbrev pub homed : CpuId → ℕ → List CpuId → List Tid
+homed c n [] = []
+homed c n (home ∷ homes) = if same_cpu c home then record { 0 = n } ∷ homed c (n + 1) homes else homed c (n + 1) homes
+
+-- what a CPU has of its own at boot: all its threads are ready
+abbrev pub at_boot : List CpuId → CpuId → Threads
+at_boot homes c = record { current = None; hand = None; ready = homed c 0 homes; ended = [] }

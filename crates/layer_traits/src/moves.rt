@@ -1,0 +1,37 @@
+//! What edits do to the places of threads: a caller may go to sleep, and a sleeper may be woken.
+
+ghost use Rattle.std.specs.Prelude.{◌≡◌};
+
+use crate::edits::Edit;
+use event_log::Tid;
+
+/// The lines in which a thread may sleep at what a lock guards.
+#[derive(Clone, Copy, Debug, PartialEq, Eq)]
+pub enum Line {
+    /// Those who wait for the block itself.
+    Sleepers,
+    /// Those who wait in a buffer for a message.
+    Receivers,
+    /// Those who wait at a buffer for room.
+    Senders,
+}
+
+/// Edits that move threads: the answer of each tells whether its caller went to sleep, and whom it
+/// woke.
+pub trait Moves: Edit {
+    ghost use Rattle.layer_traits.specs.MoveRules.{MoveRules, WakesSleepers};
+
+    /// Who calls an edit, and what its answer tells of places.
+    ghost moves: { MoveRules Self Self.Out };
+
+    /// The line in which the caller went to sleep; None where it stays awake.
+    fn slept(out: &Self::Out) -> Option<Line>
+        ensures { result ≡ moves.slept out.now };
+
+    /// The thread that was woken; None where nobody was.
+    fn woke(out: &Self::Out) -> Option<Tid>
+        ensures { result ≡ moves.woke out.now };
+
+    /// Law: whom an allowed edit wakes sleeps.
+    ghost wakes_sleepers: { WakesSleepers Self.rules moves };
+}
