@@ -3,3 +3,4 @@ pub mod OneLockLemmas
 pub mod PlanLemmas
 pub mod Alone
 pub mod PlanRenaming
+pub mod LookLemmas

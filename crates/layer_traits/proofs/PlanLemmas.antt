@@ -11,6 +11,7 @@ use Rattle.event_log.specs.Sections.{block_after, sections_in}
 use Rattle.event_log.proofs.Foreign.{acts_of-append, sections_acts as acts_sections, others_acts as acts_others}
 use Rattle.event_log.proofs.Tickets.{phase_of, phase_acts, legal_acts}
 use Rattle.layer_traits.specs.declared.edits.Mark.{Mark}
+use Rattle.layer_traits.specs.Looks.{Tries}
 use Rattle.layer_traits.specs.Plans.{Follows, table_of, at_give, section_plan, answered}
 use Rattle.layer_traits.specs.Protocol.{Rules, edit_of, sections}
 
@@ -67,3 +68,19 @@ module _ {E B O : Type 0} (rules : Rules E B O) (opening : LockId → Option B) 
       → option_map (rules.answer edit) (block_after rules.edited opening lock (sections (adds.others ++ old))) ≡ Some out
       → Follows ActsFor (table_of rules) opening cpu (section_plan lock edit) (acts_of edit_of old) (acts_of edit_of new) (answered (Some out))
   free_follows ticket adds inside out answers = event_follows (Free cpu lock (record { edit = edit })) adds (Inside lock ticket) inside refl (Some out) (sym answers)
+
+-- a look in a legal words log is one more try of a CPU that waits at its lock
+pub look_tries : {E : Type 0} (ActsFor : CpuId → Type 0) (cpu : CpuId) (lock : LockId) (old new : List (Event (Mark E))) (ticket read : ℕ)
+    → Adds ActsFor actor (Look cpu lock ticket read) old new → IsLegalWords new → Tries ActsFor cpu (acts_of edit_of old) (acts_of edit_of new)
+look_tries ActsFor cpu lock old new ticket read adds legal =
+    let here : IsLegalWords (Look cpu lock ticket read ∷ (adds.others ++ old)) = subst (λ l. IsLegalWords l) adds.is legal in
+    let acts = legal_acts edit_of (Look cpu lock ticket read ∷ (adds.others ++ old)) here in
+    record {
+      others = acts_of edit_of adds.others;
+      foreign = λ c acts_c. others_acts c adds.others (adds.foreign c acts_c);
+      past = acts_of edit_of (adds.others ++ old);
+      joined = acts-append adds.others old;
+      lock = lock;
+      waits = acts.0.0;
+      grows = ap (acts_of edit_of) adds.is ∙ ap (λ hit. Try cpu lock hit ∷ acts_of edit_of (adds.others ++ old)) acts.0.1;
+    }

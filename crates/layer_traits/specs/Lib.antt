@@ -6,3 +6,4 @@ pub mod Along
 pub mod Places
 pub mod MoveRules
 pub mod Passes
+pub mod Looks

@@ -1,6 +1,6 @@
 //! The layer of critical sections.
 
-ghost use Rattle.std.specs.Prelude.{◌≡◌, ◌≢◌, ℕ, ◌+◌, ◌<◌, ◌≤◌, List, [], Option, IsSome, OnSome, is_some, if◌then◌else◌};
+ghost use Rattle.std.specs.Prelude.{◌≡◌, ◌≢◌, ℕ, ◌+◌, ◌<◌, ◌≤◌, true, false, List, [], Option, IsSome, OnSome, is_some, if◌then◌else◌};
 
 use crate::edits::Edit;
 use event_log::{CpuId, LockId};
@@ -13,12 +13,13 @@ use event_log::{CpuId, LockId};
 pub trait LockLayer<E: Edit> {
     ghost use Rattle.event_log.specs.declared.ids.CpuId.{CpuId};
     ghost use Rattle.event_log.specs.declared.ids.LockId.{LockId};
-    ghost use Rattle.event_log.specs.History.{IsLawful};
+    ghost use Rattle.event_log.specs.History.{IsLawful, Grows};
     ghost use Rattle.event_log.specs.Actions.{Action, AreLegal, phase};
-    ghost use Rattle.event_log.specs.Sections.{Section, sections_in};
+    ghost use Rattle.event_log.specs.Sections.{Section, section_actor, sections_in};
+    ghost use Rattle.layer_traits.specs.Looks.{Tries};
     ghost use Rattle.layer_traits.specs.Protocol.{IsKnown, section};
     ghost use Rattle.layer_traits.specs.Turns.{MayPoll, Polled};
-    ghost use Rattle.layer_traits.specs.Plans.{Follows, table_of, section_plan, answered, is_in_section};
+    ghost use Rattle.layer_traits.specs.Plans.{Follows, IsWhole, table_of, section_plan, answered, is_in_section};
 
     /// What lies beneath.
     type Machine;
@@ -69,6 +70,26 @@ pub trait LockLayer<E: Edit> {
     fn is_busy(&self) -> bool
         ensures { result ≡ is_some (under_way self.now) };
 
+    /// Looks again for a section that waits at its lock, and tells whether it did: a poll that ends
+    /// nothing, so it needs no call and has no answer. Where it tells `false` nothing has changed,
+    /// and the call is to be polled; a layer may always tell that.
+    fn look(&mut self, m: &mut Self::Machine) -> bool
+        requires fits { Fits self.old m.old }
+        requires room { 0 < room m.old }
+        ensures still { result ≡ false → (self.new ≡ self.old) × (m.new ≡ m.old) }
+        ensures waits { result ≡ true → is_some (under_way self.old) ≡ true }
+        ensures fits { Fits self.new m.new }
+        ensures cpu { cpu_of self.new ≡ cpu_of self.old }
+        ensures call { under_way self.new ≡ under_way self.old }
+        ensures seen { Grows (ActsFor m.old) section_actor (seen m.old) (seen m.new) }
+        ensures opening { opening m.new ≡ opening m.old }
+        ensures site { site m.new ≡ site m.old }
+        ensures room { room m.old ≤ room m.new + 1 }
+        ensures acts { (c : CpuId) → ActsFor m.old c → ActsFor m.new c }
+        ensures others { (p : Self) → cpu_of p ≢ cpu_of self.old → Fits p m.old → Fits p m.new }
+        ensures tries { IsStepwise → result ≡ true
+            → Tries (ActsFor m.old) (cpu_of self.old) (acts m.old) (acts m.new) };
+
     /// Does at most one action of the section of `edit` at `lock`. Gives the edit's answer once
     /// the section has ended, and `None` while the same call is to be polled again.
     fn poll(&mut self, m: &mut Self::Machine, lock: LockId, edit: E) -> Option<E::Out>
@@ -81,6 +102,7 @@ pub trait LockLayer<E: Edit> {
         ensures cpu { cpu_of self.new ≡ cpu_of self.old }
         ensures call { under_way self.new
             ≡ (if is_some result then None else Some (section (cpu_of self.old) lock edit)) }
+        ensures prompt { IsWhole IsStepwise → IsSome result }
         ensures seen { Polled E.rules (opening m.old) (ActsFor m.old)
             (section (cpu_of self.old) lock edit) result (seen m.old) (seen m.new) }
         ensures opening { opening m.new ≡ opening m.old }

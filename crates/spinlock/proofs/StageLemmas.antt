@@ -1,12 +1,12 @@
 -- What one event of a machine does to the stages of sections and to the history of sections.
-use Rattle.std.proofs.Common.{◌≡◌, ◌≢◌, ℕ, Bool, true, false, List, ◌∷◌, ◌++◌, Option, Some, None, MatchOption, option_map, refl, ap, sym, ◌∙◌, subst}
+use Rattle.std.proofs.Common.{◌≡◌, ◌≢◌, ℕ, Bool, true, false, List, [], ◌∷◌, ◌++◌, Option, Some, None, IsSome, MatchOption, option_map, refl, ap, sym, ◌∙◌, subst}
 use Rattle.event_log.specs.declared.ids.CpuId.{CpuId}
 use Rattle.event_log.specs.declared.ids.LockId.{LockId}
 use Rattle.event_log.specs.declared.events.Event.{Event}
 use Rattle.event_log.specs.declared.events.Event.TheVariants.{Draw, Look, Free}
-use Rattle.event_log.specs.History.{Adds, AreOthers, IsLawful, same_cpu}
+use Rattle.event_log.specs.History.{Adds, Grows, AreOthers, IsLawful, same_cpu}
 use Rattle.event_log.specs.WordsLog.{IsLegalWords, Waiting, Inside, actor, standing}
-use Rattle.event_log.specs.Sections.{block_after}
+use Rattle.event_log.specs.Sections.{section_actor, block_after}
 use Rattle.event_log.proofs.Same.{same_cpu_true}
 use Rattle.layer_traits.proofs.OneLockLemmas.{standing_own}
 use Rattle.layer_traits.proofs.PlanLemmas.{draw_follows, look_follows, free_follows}
@@ -18,7 +18,7 @@ use Rattle.layer_traits.specs.Turns.{Polled}
 use Rattle.event_log.specs.Actions.{acts_of}
 use Rattle.spinlock.specs.declared.stages.Stage.{Stage}
 use Rattle.spinlock.specs.declared.stages.Stage.TheVariants.{Out, Drawn, Held}
-use Rattle.spinlock.specs.Stages.{StageFits}
+use Rattle.spinlock.specs.Stages.{StageFits, hit_by}
 
 cpu_differs : (a b : CpuId) → b ≢ a → same_cpu a b ≡ false
 cpu_differs a b other = go (same_cpu a b) refl
@@ -40,12 +40,22 @@ module _ {E B O : Type 0} (rules : Rules E B O) (opening : LockId → Option B) 
       → StageFits rules opening log cpu stage → StageFits rules opening (more ++ log) cpu stage
   stage_stays cpu Out more log others legal fits = standing_others cpu more log others ∙ fits
   stage_stays cpu (Drawn lock edit ticket) more log others legal fits =
-      (standing_others cpu more log others ∙ fits.0, allowed_stays cpu lock edit more log others fits.1)
+      (standing_others cpu more log others ∙ fits.0, allowed_stays cpu lock edit more log others fits.1, fits.2)
   stage_stays cpu (Held lock edit block) more log others legal fits = (
     (fits.0.0, standing_others cpu more log others ∙ fits.0.1),
     allowed_stays cpu lock edit more log others fits.1,
     block_stays rules.edited opening cpu lock fits.0.0 more log legal others fits.0.1 ∙ fits.2,
   )
+
+-- what a CPU that waits makes of another look is what it makes of the look of its poll
+pub hit_found : {E B : Type 0} (lock : LockId) (edit : E) (ticket : ℕ) (found : Option B) (stage : Stage E B) → stage ≡ hit_by found (Drawn lock edit ticket)
+    → MatchOption found (stage ≡ Drawn lock edit ticket) (λ block. stage ≡ Held lock edit block)
+hit_found lock edit ticket None stage is = is
+hit_found lock edit ticket (Some block) stage is = is
+
+-- a history that stays as it is has grown by nothing
+pub grown_by_none : {E : Type 0} (ActsFor : CpuId → Type 0) (by : E → CpuId) (past : List E) → Grows ActsFor by past past
+grown_by_none ActsFor by past = record { others = []; foreign = λ c acts. tt; is = refl }
 
 -- one event of a CPU came after foreign ones, and left the opening blocks as they were
 module _ {E B O : Type 0} (rules : Rules E B O) (opening opening' : LockId → Option B) (same : opening' ≡ opening) (ActsFor : CpuId → Type 0) (cpu : CpuId)
@@ -66,31 +76,31 @@ module _ {E B O : Type 0} (rules : Rules E B O) (opening opening' : LockId → O
 
   -- a CPU that drew waits with its ticket
   pub drawn_fits : (lock : LockId) (edit : E) (ticket : ℕ) → Adds ActsFor actor (Draw cpu lock ticket) old new → ActsFor cpu
-      → StaysAllowed (rules.allowed opening) (sections old) (section cpu lock edit) → StageFits rules opening' new cpu (Drawn lock edit ticket)
-  drawn_fits lock edit ticket adds acts stays =
+      → StaysAllowed (rules.allowed opening) (sections old) (section cpu lock edit) → IsSome (opening lock) → StageFits rules opening' new cpu (Drawn lock edit ticket)
+  drawn_fits lock edit ticket adds acts stays there =
       subst (λ o. StageFits rules o new cpu (Drawn lock edit ticket)) (sym same)
       (subst (λ l. StageFits rules opening l cpu (Drawn lock edit ticket)) (sym adds.is)
-      (standing_own (Draw cpu lock ticket) (adds.others ++ old), allowed_stays rules opening cpu lock edit adds.others old (adds.foreign cpu acts) stays))
+      (standing_own (Draw cpu lock ticket) (adds.others ++ old), allowed_stays rules opening cpu lock edit adds.others old (adds.foreign cpu acts) stays, there))
 
   -- a CPU that looked waits on, or is inside with the block
   pub looked_fits : (lock : LockId) (edit : E) (ticket read : ℕ) → Adds ActsFor actor (Look cpu lock ticket read) old new → ActsFor cpu
-      → StaysAllowed (rules.allowed opening) (sections old) (section cpu lock edit) → (found : Option B)
+      → StaysAllowed (rules.allowed opening) (sections old) (section cpu lock edit) → IsSome (opening lock) → (found : Option B)
       → MatchOption found (standing cpu new ≡ Waiting lock ticket)
       (λ block. (standing cpu new ≡ Inside lock ticket) × (block_after rules.edited opening' lock (sections new) ≡ Some block))
       → (stage : Stage E B) → MatchOption found (stage ≡ Drawn lock edit ticket) (λ block. stage ≡ Held lock edit block) → StageFits rules opening' new cpu stage
-  looked_fits lock edit ticket read adds acts stays found hits stage is =
+  looked_fits lock edit ticket read adds acts stays there found hits stage is =
       let still : StaysAllowed (rules.allowed opening) (sections new) (section cpu lock edit)
       = subst (λ l. StaysAllowed (rules.allowed opening) (sections l) (section cpu lock edit)) (sym adds.is)
       (allowed_stays rules opening cpu lock edit adds.others old (adds.foreign cpu acts) stays) in
-      by_find found hits is (subst (λ o. StaysAllowed (rules.allowed o) (sections new) (section cpu lock edit)) (sym same) still)
+      by_find found hits is (subst (λ o. StaysAllowed (rules.allowed o) (sections new) (section cpu lock edit)) (sym same) still) (subst (λ o. IsSome (o lock)) (sym same) there)
     where
       by_find : (f : Option B)
           → MatchOption f (standing cpu new ≡ Waiting lock ticket)
           (λ block. (standing cpu new ≡ Inside lock ticket) × (block_after rules.edited opening' lock (sections new) ≡ Some block))
           → MatchOption f (stage ≡ Drawn lock edit ticket) (λ block. stage ≡ Held lock edit block)
-          → StaysAllowed (rules.allowed opening') (sections new) (section cpu lock edit) → StageFits rules opening' new cpu stage
-      by_find None waits at still = subst (λ s. StageFits rules opening' new cpu s) (sym at) (waits, still)
-      by_find (Some block) hit at still = subst (λ s. StageFits rules opening' new cpu s) (sym at) ((ticket, hit.0), still, hit.1)
+          → StaysAllowed (rules.allowed opening') (sections new) (section cpu lock edit) → IsSome (opening' lock) → StageFits rules opening' new cpu stage
+      by_find None waits at still there' = subst (λ s. StageFits rules opening' new cpu s) (sym at) (waits, still, there')
+      by_find (Some block) hit at still there' = subst (λ s. StageFits rules opening' new cpu s) (sym at) ((ticket, hit.0), still, hit.1)
 
   -- a draw ends no section
   pub draw_polled : (lock : LockId) (edit : E) (ticket : ℕ) → Adds ActsFor actor (Draw cpu lock ticket) old new
@@ -110,6 +120,14 @@ module _ {E B O : Type 0} (rules : Rules E B O) (opening opening' : LockId → O
     foreign = foreign_sections ActsFor adds.others adds.foreign;
     is = ap sections adds.is ∙ sections-append adds.others old;
     answers = tt;
+  }
+
+  -- a look of a section that waits brings foreign sections alone
+  pub look_grows : (lock : LockId) (ticket read : ℕ) → Adds ActsFor actor (Look cpu lock ticket read) old new → Grows ActsFor section_actor (sections old) (sections new)
+  look_grows lock ticket read adds = record {
+    others = sections adds.others;
+    foreign = foreign_sections ActsFor adds.others adds.foreign;
+    is = ap sections adds.is ∙ sections-append adds.others old;
   }
 
   -- while a CPU is inside, foreign events leave its block as it was

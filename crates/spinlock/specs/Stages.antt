@@ -1,5 +1,5 @@
 -- How far a section of a ticket lock has come, read against the words log.
-use Rattle.std.specs.Prelude.{◌≡◌, ℕ, List, Option, Some, None}
+use Rattle.std.specs.Prelude.{◌≡◌, ℕ, List, Option, Some, None, IsSome}
 use Rattle.event_log.specs.declared.ids.CpuId.{CpuId}
 use Rattle.event_log.specs.declared.ids.LockId.{LockId}
 use Rattle.event_log.specs.declared.events.Event.{Event}
@@ -16,12 +16,19 @@ stage_section cpu Out = None
 stage_section cpu (Drawn lock edit ticket) = Some (section cpu lock edit)
 stage_section cpu (Held lock edit block) = Some (section cpu lock edit)
 
--- the stage is where the log leaves the CPU: outside, waiting with its ticket, or inside with the lock's block in its hands; and the
--- section under way stays allowed
+-- the stage after another look of a CPU that waits with a ticket: a look that found this block hits
+abbrev pub hit_by : {E B : Type 0} → Option B → Stage E B → Stage E B
+hit_by None stage = stage
+hit_by (Some block) Out = Out
+hit_by (Some block) (Drawn lock edit ticket) = Held lock edit block
+hit_by (Some block) (Held lock edit old) = Held lock edit old
+
+-- the stage is where the log leaves the CPU: outside, waiting with its ticket, or inside with the lock's block in its hands; the
+-- lock that waits is there, and the section under way stays allowed
 abbrev pub StageFits : {E B O : Type 0} → Rules E B O → (LockId → Option B) → List (Event (Mark E)) → CpuId → Stage E B → Type 0
 StageFits rules opening log cpu Out = standing cpu log ≡ Outside
 StageFits rules opening log cpu (Drawn lock edit ticket) =
-    (standing cpu log ≡ Waiting lock ticket) × StaysAllowed (rules.allowed opening) (sections log) (section cpu lock edit)
+    (standing cpu log ≡ Waiting lock ticket) × StaysAllowed (rules.allowed opening) (sections log) (section cpu lock edit) × IsSome (opening lock)
 StageFits rules opening log cpu (Held lock edit block) =
     ((ticket : ℕ) × (standing cpu log ≡ Inside lock ticket))
     × StaysAllowed (rules.allowed opening) (sections log) (section cpu lock edit)

@@ -40,3 +40,23 @@ impl<E: Drop, B: Drop> Stage<E, B> {
         }
     }
 }
+
+impl<E: Copy + Drop, B: Drop> Stage<E, B> {
+    ghost use Rattle.spinlock.specs.Stages.{hit_by};
+
+    /// Goes on after another look of a CPU that waits: as after a look, with the edit that the
+    /// stage keeps.
+    pub fn hit(&mut self, found: Option<B>)
+        ensures { self.new ≡ hit_by found self.old }
+    {
+        if let Some(block) = found {
+            if let Stage::Drawn { lock, edit, .. } = self {
+                *self = Stage::Held {
+                    lock: *lock,
+                    edit: *edit,
+                    block,
+                };
+            }
+        }
+    }
+}

@@ -63,6 +63,18 @@ impl<W: Words> LockLayer<W::Edit> for Ticket<W> {
         !matches!(self.stage, Stage::Out)
     }
 
+    fn look(&mut self, m: &mut W) -> bool {
+        match self.stage {
+            Stage::Drawn { lock, ticket, .. } => {
+                let found = m.look(self.cpu, lock, ticket);
+                self.stage.hit(found);
+                true
+            }
+            Stage::Out => false,
+            Stage::Held { .. } => false,
+        }
+    }
+
     fn poll(&mut self, m: &mut W, lock: LockId, edit: W::Edit) -> Option<<W::Edit as Edit>::Out> {
         match self.stage {
             Stage::Out => {

@@ -25,7 +25,7 @@ returns-in-Out-clause-fits g c =
     = subst (λ s. MayPoll (rules.allowed (W.opening m)) (sections (W.seen m)) (stage_section cpu s) (section cpu c.args.lock c.args.edit)) c.in-Out.is c.requires.call in (
       acts,
       drawn_fits rules (W.opening m) (W.opening n) said.opening (W.ActsFor m) cpu (W.seen m) (W.seen n) (g.met.W.Words.legal n cpu acts)
-          c.args.lock c.args.edit c.draw-ticket.result said.adds c.requires.fits.0 stays,
+          c.args.lock c.args.edit c.draw-ticket.result said.adds c.requires.fits.0 stays c.requires.lock,
     )
 
 pub returns-in-Out-clause-seen : goal.returns-in-Out-clause-seen
@@ -74,7 +74,7 @@ returns-in-Drawn-clause-fits g c =
     let fits = subst (λ s. StageFits rules (W.opening m) (W.seen m) cpu s) c.in-Drawn.is c.requires.fits.1 in (
       acts,
       looked_fits rules (W.opening m) (W.opening n) said.opening (W.ActsFor m) cpu (W.seen m) (W.seen n) (g.met.W.Words.legal n cpu acts)
-          c.in-Drawn.lock c.in-Drawn.edit c.in-Drawn.ticket said.adds.0 said.adds.1 c.requires.fits.0 fits.1 c.look-found.result said.hits
+          c.in-Drawn.lock c.in-Drawn.edit c.in-Drawn.ticket said.adds.0 said.adds.1 c.requires.fits.0 fits.1 fits.2 c.look-found.result said.hits
           c.after_look.new.self (subst (λ s. MatchOption c.look-found.result (c.after_look.new.self ≡ s) (λ block. c.after_look.new.self ≡ Held c.in-Drawn.lock c.in-Drawn.edit block)) c.in-Drawn.is c.after_look.ensures),
     )
 

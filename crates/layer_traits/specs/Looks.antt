@@ -1,0 +1,16 @@
+-- What one more look of a section that waits at its lock adds to the actions: the same at every height, since it names no edit, no answer and no table.
+use Rattle.std.specs.Prelude.{◌≡◌, List, ◌∷◌, ◌++◌, ◌==◌}
+use Rattle.event_log.specs.declared.ids.CpuId.{CpuId}
+use Rattle.event_log.specs.declared.ids.LockId.{LockId}
+use Rattle.event_log.specs.History.{AreForeign}
+use Rattle.event_log.specs.Actions.{Action, Try, Waits, doer, gives, phase, place}
+
+-- foreign actions came first, and then this CPU, which waits at a lock, tried to enter it
+pub record Tries {N : Type 0} (ActsFor : CpuId → Type 0) (cpu : CpuId) (old new : List (Action N)) : Type 0 where
+  pub others : List (Action N)
+  pub foreign : AreForeign ActsFor doer others
+  pub past : List (Action N)
+  pub joined : past ≡ others ++ old
+  pub lock : LockId
+  pub waits : phase cpu past ≡ Waits lock
+  pub grows : new ≡ Try cpu lock (gives lock past == place cpu past) ∷ past
