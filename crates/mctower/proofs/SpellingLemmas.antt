@@ -5,6 +5,7 @@ use Rattle.std.specs.List.{AllByRecursion, sum_by}
 use Rattle.std.proofs.lemmas.List.{length-map}
 use Rattle.std.proofs.lemmas.List.Sums.{sum_by-cons}
 use Rattle.std.proofs.lemmas.Option.{slice_get_within}
+use Rattle.event_log.specs.declared.ids.TheConstants.{CPUS, THREADS, TRACE, ENTRIES}
 use Rattle.event_log.specs.declared.entries.Entry.{Entry}
 use Rattle.event_log.specs.Runs.{IsRun}
 use Rattle.event_log.specs.Buffers.{empty_buffers}
@@ -34,17 +35,17 @@ map_get f [] k y at = absurd (cc)
 map_get f (x ∷ xs) zero y at = (x, refl, cc)
 map_get f (x ∷ xs) (suc k) y at = map_get f xs k y at
 
-few_together : (traces : List (List Entry)) → ((k : ℕ) (trace : List Entry) → slice_get traces k ≡ Some trace → length trace ≤ 65536) → sum_by length traces ≤ length traces * 65536
+few_together : (traces : List (List Entry)) → ((k : ℕ) (trace : List Entry) → slice_get traces k ≡ Some trace → length trace ≤ TRACE) → sum_by length traces ≤ length traces * TRACE
 few_together [] each = omega arith
 few_together (trace ∷ traces) each = omega (arith, sum_by-cons length trace traces, each 0 trace refl, few_together traces (λ k other at. each (suc k) other at))
 
-own_range : (threads c : ℕ) → threads ≤ 64 → c < 8 → (es : List Entry) → AllByRecursion (IsEntryAt threads c) es → AllByRecursion (λ e. (e.cpu.0 < 8) × (e.thread.0 < 64)) es
+own_range : (threads c : ℕ) → threads ≤ THREADS → c < CPUS → (es : List Entry) → AllByRecursion (IsEntryAt threads c) es → AllByRecursion (λ e. (e.cpu.0 < CPUS) × (e.thread.0 < THREADS)) es
 own_range threads c few lt [] all = tt
 own_range threads c few lt (e ∷ es) all =
     let is : IsEntryAt threads c e = all.0 in
-    ((subst (λ n. n < 8) (sym is.cpu) lt, (let t = is.thread in omega arith)), own_range threads c few lt es all.1)
+    ((subst (λ n. n < CPUS) (sym is.cpu) lt, (let t = is.thread in omega arith)), own_range threads c few lt es all.1)
 
-in_range : (buffers : ℕ) (es : List Entry) → AllByRecursion (λ e. (e.cpu.0 < 8) × (e.thread.0 < 64)) es → AllByRecursion (λ e. (e.buffer.0 < buffers) × (e.op < 524288) × (e.pos < 524288)) es → AllByRecursion (λ e. e.value < 2 ^ 64) es → AllByRecursion (IsEntryOf buffers) es
+in_range : (buffers : ℕ) (es : List Entry) → AllByRecursion (λ e. (e.cpu.0 < CPUS) × (e.thread.0 < THREADS)) es → AllByRecursion (λ e. (e.buffer.0 < buffers) × (e.op < ENTRIES) × (e.pos < ENTRIES)) es → AllByRecursion (λ e. e.value < 2 ^ 64) es → AllByRecursion (IsEntryOf buffers) es
 in_range buffers [] own numbers values = tt
 in_range buffers (e ∷ es) own numbers values =
     (record { cpu = own.0.0; thread = own.0.1; buffer = numbers.0.0; value = values.0; op = numbers.0.1; pos = numbers.0.2 }, in_range buffers es own.1 numbers.1 values.1)
@@ -54,20 +55,20 @@ pub has_spelling : (plan : Plan) (s : Shown) (order : List Entry) → IsPlan pla
     → AllByRecursion (λ e. e.value < 2 ^ 64) order → AllByRecursion (λ items. AllByRecursion (λ v. v < 2 ^ 64) items) (contents_of s) → IsSpellable plan.caps order (contents_of s)
 has_spelling plan s order within of sound keeps run values left =
     let count : length (traces_of s) ≡ length s.cpus = length-map s.cpus (λ (p : CpuState). p.trace) in
-    let small : (k : ℕ) (trace : List Entry) → slice_get (traces_of s) k ≡ Some trace → length trace ≤ 65536 = λ k trace at.
+    let small : (k : ℕ) (trace : List Entry) → slice_get (traces_of s) k ≡ Some trace → length trace ≤ TRACE = λ k trace at.
     (let at_cpu = map_get (λ (p : CpuState). p.trace) s.cpus k trace at in
     let fits : length at_cpu.0.trace + at_cpu.0.begun ≤ at_cpu.0.limit = (sound.counted k at_cpu.0 at_cpu.1).fits in
     let limit : at_cpu.0.limit ≡ plan.trace = (of.each k at_cpu.0 at_cpu.1).limit in
-    let most : plan.trace ≤ 65536 = within.most_trace in
+    let most : plan.trace ≤ TRACE = within.most_trace in
     let same : length at_cpu.0.trace ≡ length trace = ap length at_cpu.2 in
     omega arith) in
-    let few : length order ≤ 524288 = (let total = few_together (traces_of s) small in let long = order_length (traces_of s) order keeps in let cpus = of.cpus in let most = within.most_cpus in omega arith) in
-    let own : AllByRecursion (λ (e : Entry). (e.cpu.0 < 8) × (e.thread.0 < 64)) order = order_all (λ e. (e.cpu.0 < 8) × (e.thread.0 < 64)) (traces_of s) order
+    let few : length order ≤ ENTRIES = (let total = few_together (traces_of s) small in let long = order_length (traces_of s) order keeps in let cpus = of.cpus in let most = within.most_cpus in omega arith) in
+    let own : AllByRecursion (λ (e : Entry). (e.cpu.0 < CPUS) × (e.thread.0 < THREADS)) order = order_all (λ e. (e.cpu.0 < CPUS) × (e.thread.0 < THREADS)) (traces_of s) order
     (λ k trace at.
     let at_cpu = map_get (λ (p : CpuState). p.trace) s.cpus k trace at in
-    let here : k < 8 = (let lt = slice_get_within s.cpus k at_cpu.0 at_cpu.1 in let cpus = of.cpus in let most = within.most_cpus in omega arith) in
+    let here : k < CPUS = (let lt = slice_get_within s.cpus k at_cpu.0 at_cpu.1 in let cpus = of.cpus in let most = within.most_cpus in omega arith) in
     own_range (length plan.tasks) k within.tasks.most here trace (subst (λ (l : List Entry). AllByRecursion (IsEntryAt (length plan.tasks) k) l) at_cpu.2 (of.each k at_cpu.0 at_cpu.1).entries)) keeps in
-    let numbers : AllByRecursion (λ (e : Entry). (e.buffer.0 < length plan.caps) × (e.op < 524288) × (e.pos < 524288)) order = run_numbers 524288 plan.caps [] (empty_buffers plan.caps) order (contents_of s) (omega arith) run in
+    let numbers : AllByRecursion (λ (e : Entry). (e.buffer.0 < length plan.caps) × (e.op < ENTRIES) × (e.pos < ENTRIES)) order = run_numbers ENTRIES plan.caps [] (empty_buffers plan.caps) order (contents_of s) (omega arith) run in
     record {
       some_buffer = within.caps.some;
       few_buffers = within.caps.most;

@@ -5,6 +5,7 @@ use native.Mathlib.Decide.{ℕ_discrete, dec_le}
 use mathlib.Core.Option.{some, some-injective, some-ne-none}
 use lib.ListN.{get_elem?, get_or-append}
 use Rattle.table_machine.proofs.Seeing.{at_longer}
+use Rattle.event_log.specs.declared.ids.TheConstants.{CPUS}
 use Rattle.event_log.specs.declared.ids.CpuId.{CpuId}
 use Rattle.event_log.specs.declared.ids.LockId.{LockId}
 use Rattle.event_log.specs.History.{own, same_cpu, same_lock, AreOthers}
@@ -255,7 +256,7 @@ module _ (times : ℕ) (board : Board ℕ) (came : List (Desk AddOne ℕ)) (bloc
   left_by_frees number is = record { log = closes.log; legal = closes.legal; keys = closes.keys; rest = closes.rest; is = is ∙ sym frees_are }
 
   -- the number that the workers left
-  pub number_is_left : board.start ≡ (NUMBER, 0) ∷ [] → board.cpus ≤ 8 → times ≤ 1000 → (get_elem? blocks 0 ≡ some (NUMBER, times * board.cpus)) × (0 < length blocks)
+  pub number_is_left : board.start ≡ (NUMBER, 0) ∷ [] → board.cpus ≤ CPUS → times ≤ 1000 → (get_elem? blocks 0 ≡ some (NUMBER, times * board.cpus)) × (0 < length blocks)
   number_is_left start few most =
       let secs = sections closes.log in
       let first : get_elem? board.start 0 ≡ some (NUMBER, 0) = ap (λ l. get_elem? l 0) start in
@@ -269,8 +270,8 @@ module _ (times : ℕ) (board : Board ℕ) (came : List (Desk AddOne ℕ)) (bloc
       let count : length blocks ≡ 1 = closes.count ∙ ap length start in
       (there.1 ∙ ap (λ (b : ℕ). some (NUMBER, b)) number_is_that, omega arith)
     where
-      small_product : (a b : ℕ) → a ≤ 1000 → b ≤ 8 → a * b < 2 ^ 64
-      small_product a b p q = let bound : a * b ≤ 1000 * 8 = mul-le-mul p q in omega arith
+      small_product : (a b : ℕ) → a ≤ 1000 → b ≤ CPUS → a * b < 2 ^ 64
+      small_product a b p q = let bound : a * b ≤ 1000 * CPUS = mul-le-mul p q in omega arith
 
 pub number_read : (blocks : List (LockId × ℕ)) (n : ℕ) (o : LockId × ℕ) → get_elem? blocks 0 ≡ some (NUMBER, n) → o ≡ get_or blocks 0 o → o.1 ≡ n
 number_read blocks n o at is = ap (λ (p : LockId × ℕ). p.1) (is ∙ read_at blocks 0 o (NUMBER, n) at)

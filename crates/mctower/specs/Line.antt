@@ -11,6 +11,7 @@ use Rattle.clap.specs.Simple.{with_rule, with_subcommand, subcommand_rows_of}
 use Rattle.clap.specs.declared.parser.matches.ArgMatches.{ArgMatches}
 use Rattle.clap.specs.Faults.{fault_of}
 use Rattle.clap.specs.Kinds.{Kinds}
+use Rattle.event_log.specs.declared.ids.TheConstants.{CPUS}
 use Rattle.mctower.specs.declared.line.Order.{Order}
 use Rattle.mctower.specs.declared.line.Order.TheVariants.{Count, Run, Threads, Check}
 use Rattle.mctower.specs.declared.line.LineError.{LineError}
@@ -71,9 +72,9 @@ number_in least most text = if is_unsigned_in least most text then Some (digits_
 abbrev pub number_at : ℕ → ℕ → Text → List Row → Option ℕ
 number_at least most name rows = option_and_then (number_in least most) (first_of name rows)
 
--- the order of the command `count` with these values: 1 to 8 CPUs, 1 to 1000 sections for each
+-- the order of the command `count` with these values: 1 to CPUS CPUs, 1 to 1000 sections for each
 abbrev pub count_in : List Row → Option Meant
-count_in rows = option_and_then (λ cpus. option_map (λ times. count cpus times) (number_at 1 1000 (codes "times") rows)) (number_at 1 8 (codes "cpus") rows)
+count_in rows = option_and_then (λ cpus. option_map (λ times. count cpus times) (number_at 1 1000 (codes "times") rows)) (number_at 1 CPUS (codes "cpus") rows)
 
 -- the order of the command `run` with these values
 abbrev pub run_in : List Row → Option Meant

@@ -27,7 +27,8 @@ exit status: 0 a good run or a yes, 1 a refusal (one line 'error: Name(N)'),
 const COUNT: &str = "\
 mctower count --cpus N --times K
 
-Each of N CPUs (1 to 8) does K critical sections (1 to 1000); each section adds 1 to one number.
+Each of N CPUs (1 or more) does K critical sections (1 to 1000); each section adds 1 to one
+number. More CPUs than the tower can have are refused.
 Input: none. Output: the number, twice: 'plain T' from the machine that one thread steps, and
 'table T' from the one that N worker threads share.
 

@@ -11,11 +11,12 @@ ghost use Rattle.mctower.specs.Line.{threads_in, run_in, order_in, is_served, me
 
 use clap::error::ErrorKind;
 use clap::{Arg, ArgMatches, Command};
+use event_log::CPUS;
 use std::alloc::{AllocError, AllocFailed, Global};
 use thiserror::Error;
 
 /// The most CPUs that `count` takes.
-pub const MOST_CPUS: u64 = 8;
+pub const MOST_CPUS: u64 = CPUS as u64;
 /// The most sections that `count` does for each CPU.
 pub const MOST_TIMES: u64 = 1000;
 /// The most turns that `threads` gives each CPU.
@@ -33,8 +34,8 @@ pub const SERVES_CHECK: bool = true;
 /// What the program is asked to do.
 #[derive(Debug, Drop)]
 pub enum Order {
-    /// Adds 1 to one number in sections of several CPUs: how many CPUs (1 to 8), and how many
-    /// sections for each (1 to 1000).
+    /// Adds 1 to one number in sections of several CPUs: how many CPUs (1 to `MOST_CPUS`), and how
+    /// many sections for each (1 to 1000).
     Count(u8, u64),
     /// Runs the plan on standard input under this schedule; without one no step is taken.
     Run(Option<String>),

@@ -1,6 +1,7 @@
 //! A run of a plan: from the plan's text and a schedule to the trace text.
 
 ghost use Rattle.std.specs.Prelude.{◌≡◌, ◌<◌, ◌≤◌, ◌^◌, ℕ, List, false, length, map, slice_index_or, IfOk};
+ghost use Rattle.event_log.specs.declared.ids.TheConstants.{BUFFERS};
 ghost use Rattle.boot.specs.Plan.{plan_of};
 ghost use Rattle.event_log.specs.declared.entries.Entry.{Entry as AnEntry};
 ghost use Rattle.tracer.specs.Gather.{traces_in};
@@ -16,7 +17,7 @@ ghost use Rattle.mctower.specs.declared.run.Fault.TheVariants.{NoMemory, NoOrder
 use crate::kernel::{BadCpu, System};
 use arrayvec::ArrayVec;
 use boot::{Boot, BootError};
-use event_log::{BufId, CpuId, Entry, NoMemory};
+use event_log::{BUFFERS, BufId, CAPACITY, CpuId, Entry, NoMemory};
 use std::alloc::{AllocError, AllocFailed, Global};
 use std::io::Write;
 use thiserror::Error;
@@ -193,10 +194,10 @@ fn traces(alloc: Global, cpus: u8, system: &System) -> Result<Vec<Vec<Entry>>, A
     Ok(all)
 }
 
-/// What the buffers hold, which are so many, at most 16.
-fn contents(buffers: usize, system: &System) -> ArrayVec<ArrayVec<u64, 32>, 16>
+/// What the buffers hold, which are so many, at most `BUFFERS`.
+fn contents(buffers: usize, system: &System) -> ArrayVec<ArrayVec<u64, CAPACITY>, BUFFERS>
     requires all { length system.now.guarded.buffers ≡ buffers }
-    requires few { buffers ≤ 16 }
+    requires few { buffers ≤ BUFFERS }
     ensures { map (λ items. items.items) result.items ≡ contents_of system.now }
 {
     let mut left = ArrayVec::new();

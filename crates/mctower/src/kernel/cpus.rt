@@ -2,7 +2,7 @@
 
 ghost use Rattle.std.specs.Prelude.{◌≡◌, ◌+◌, ◌<◌, ◌≤◌, ◌==◌, ◌∷◌, ◌++◌, [], Some, None, IfOk, IsTrue, ◌↔◌, length, option_to_list};
 
-use event_log::{Entry, NoMemory, Tid};
+use event_log::{Entry, NoMemory, THREADS, Tid};
 use std::alloc::Global;
 use std::collections::VecDeque;
 use std::marker::Model;
@@ -22,6 +22,7 @@ pub struct Cpu {
 impl Model for Cpu {
     ghost use Rattle.std.specs.Prelude.{◌≡◌, ◌+◌, ◌≤◌, length, option_to_list, vec_capacity};
     ghost use Rattle.std.specs.VecDeque.{deque_capacity};
+    ghost use Rattle.event_log.specs.declared.ids.TheConstants.{THREADS};
     ghost use Rattle.mctower.specs.State.{CpuState};
 
     ghost Value = { CpuState };
@@ -31,10 +32,11 @@ impl Model for Cpu {
     ghost invariant = { λ p. (p.limit ≤ vec_capacity p.trace)
         × (length p.trace.items + p.begun ≤ p.limit)
         × (length (option_to_list p.current) + length p.ready.items ≤ deque_capacity p.ready)
-        × (deque_capacity p.ready ≡ 64) };
+        × (deque_capacity p.ready ≡ THREADS) };
 }
 
 impl Cpu {
+    ghost use Rattle.event_log.specs.declared.ids.TheConstants.{THREADS};
     ghost use Rattle.mctower.specs.Steps.{switched_to, let_go, put_behind, noted, begun_once};
     ghost use Rattle.mctower.specs.Boots.{idle_cpu, admitted};
     ghost use Rattle.mctower.specs.Claims.{standing_at};
@@ -45,7 +47,7 @@ impl Cpu {
     pub fn open(alloc: Global, limit: usize) -> Result<Cpu, NoMemory>
         ensures { IfOk result (λ p. p ≡ idle_cpu limit) }
     {
-        let Ok(ready) = VecDeque::with_capacity(alloc, 64) else {
+        let Ok(ready) = VecDeque::with_capacity(alloc, THREADS) else {
             return Err(NoMemory);
         };
         let Ok(trace) = Vec::with_capacity(alloc, limit) else {
@@ -60,9 +62,9 @@ impl Cpu {
         })
     }
 
-    /// Puts `thread` behind the ready threads, of which there are fewer than 64.
+    /// Puts `thread` behind the ready threads, of which there are fewer than `THREADS`.
     pub fn admit(&mut self, thread: Tid)
-        requires { length (standing_at self.old) < 64 }
+        requires { length (standing_at self.old) < THREADS }
         ensures { self.new ≡ admitted self.old thread }
     {
         self.ready.push_back_reserved(thread);

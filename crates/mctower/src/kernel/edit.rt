@@ -3,14 +3,11 @@
 ghost use Rattle.std.specs.Prelude.{◌≡◌, ◌≤◌, ◌<◌, IfOk};
 
 use arrayvec::ArrayVec;
-use event_log::{NoMemory, Tid};
+use event_log::{CAPACITY, NoMemory, Tid};
 use layer_traits::Edit;
 use std::alloc::Global;
 use std::collections::VecDeque;
 use std::marker::Model;
-
-/// How many messages the largest buffer holds.
-pub const MOST_ITEMS: usize = 32;
 
 /// A message call, as the section that tries it names it.
 #[derive(Clone, Copy, Debug, PartialEq, Eq)]
@@ -53,6 +50,7 @@ struct Held {
 
 impl Model for Held {
     ghost use Rattle.std.specs.Prelude.{◌≤◌, length};
+    ghost use Rattle.event_log.specs.declared.ids.TheConstants.{CAPACITY};
     ghost use Rattle.std.specs.VecDeque.{deque_capacity};
     ghost use Rattle.mctower.specs.Buffer.{Buffer};
 
@@ -60,14 +58,14 @@ impl Model for Held {
 
     ghost view = { λ b. record { capacity = b.capacity; items = b.items.items; effects = b.effects; sends = b.sends; receives = b.receives } };
 
-    ghost invariant = { λ b. (b.capacity ≤ 32) × (length b.items.items ≤ b.capacity) × (b.capacity ≤ deque_capacity b.items) };
+    ghost invariant = { λ b. (b.capacity ≤ CAPACITY) × (length b.items.items ≤ b.capacity) × (b.capacity ≤ deque_capacity b.items) };
 }
 
 impl Held {
     ghost use Rattle.mctower.specs.Effects.{effect_on, edited_by};
     ghost use Rattle.mctower.specs.declared.kernel.edit.Call.TheVariants.{Send, Recv};
 
-    fn items(&self) -> ArrayVec<u64, 32>
+    fn items(&self) -> ArrayVec<u64, CAPACITY>
         ensures { result.items ≡ self.now.items }
     {
         let (first, second) = self.items.as_slices();
@@ -127,14 +125,15 @@ impl Model for BufferBlock {
 }
 
 impl BufferBlock {
+    ghost use Rattle.event_log.specs.declared.ids.TheConstants.{CAPACITY};
     ghost use Rattle.mctower.specs.Buffer.{new_buffer};
     ghost use Rattle.mctower.specs.Effects.{effect_on, edited_by};
 
-    /// An empty buffer with room for `capacity` messages, at most 32. No later call takes memory.
+    /// An empty buffer with room for `capacity` messages, at most `CAPACITY`. No later call takes memory.
     ///
     /// Errors: `NoMemory` where the room could not be had; nothing was made.
     pub fn new(alloc: Global, capacity: usize) -> Result<BufferBlock, NoMemory>
-        requires { capacity ≤ 32 }
+        requires { capacity ≤ CAPACITY }
         ensures { IfOk result (λ b. b ≡ new_buffer capacity) }
     {
         let Ok(items) = VecDeque::with_capacity(alloc, capacity) else {
@@ -154,7 +153,7 @@ impl BufferBlock {
     }
 
     /// Its messages, front first.
-    pub fn items(&self) -> ArrayVec<u64, 32>
+    pub fn items(&self) -> ArrayVec<u64, CAPACITY>
         ensures { result.items ≡ self.now.items }
     {
         self.held.items()

@@ -12,7 +12,7 @@ use crate::kernel::guests::{Guest, Stage};
 use crate::kernel::turns::{lacks_room, take_turn};
 use arrayvec::ArrayVec;
 use boot::Boot;
-use event_log::{BufId, CpuId, Entry, Tid};
+use event_log::{BufId, CAPACITY, CpuId, Entry, Tid};
 use plain_machine::Plain;
 use spinlock::Ticket;
 use std::marker::Model;
@@ -161,7 +161,7 @@ impl System {
 
     /// What `buffer`, which must exist, holds, front first. A block that a CPU has in its hands
     /// counts as it was when its lock was freed last.
-    pub fn buffer(&self, buffer: BufId) -> ArrayVec<u64, 32>
+    pub fn buffer(&self, buffer: BufId) -> ArrayVec<u64, CAPACITY>
         requires { buffer.0 < length self.now.guarded.buffers }
         ensures { result.items ≡ slice_index_or (contents_of self.now) buffer.0 [] }
     {

@@ -1,6 +1,7 @@
 //! The buffers behind their locks at boot.
 
 ghost use Rattle.std.specs.Prelude.{◌≡◌, ◌+◌, ◌≤◌, ◌<◌, ℕ, All, IfOk, Some, map, length, slice_get};
+ghost use Rattle.event_log.specs.declared.ids.TheConstants.{CPUS, BUFFERS, CAPACITY};
 ghost use Rattle.mctower.specs.Buffer.{new_buffer};
 ghost use Rattle.mctower.specs.Opening.{locks_from, IsFreshPart};
 
@@ -14,7 +15,7 @@ use std::alloc::Global;
 
 /// An empty buffer for each capacity.
 fn fresh_buffers(alloc: Global, caps: &[u8]) -> Result<Vec<BufferBlock>, NoMemory>
-    requires { All (λ capacity. capacity ≤ 32) caps.now }
+    requires { All (λ capacity. capacity ≤ CAPACITY) caps.now }
     ensures { IfOk result (λ buffers. buffers.items ≡ map new_buffer caps.now) }
 {
     let Ok(mut buffers) = Vec::with_capacity(alloc, caps.len()) else {
@@ -29,8 +30,8 @@ fn fresh_buffers(alloc: Global, caps: &[u8]) -> Result<Vec<BufferBlock>, NoMemor
 
 /// The lock of each buffer, with an empty buffer.
 fn fresh_locks(alloc: Global, caps: &[u8]) -> Result<Vec<(LockId, BufferBlock)>, NoMemory>
-    requires most { length caps.now ≤ 16 }
-    requires small { All (λ capacity. capacity ≤ 32) caps.now }
+    requires most { length caps.now ≤ BUFFERS }
+    requires small { All (λ capacity. capacity ≤ CAPACITY) caps.now }
     ensures { IfOk result (λ locks. locks.items ≡ locks_from 0 caps.now) }
 {
     let Ok(mut locks) = Vec::with_capacity(alloc, caps.len()) else {
@@ -72,9 +73,9 @@ impl Guarded<Ticket<Plain<BufferEdit>>> {
         cpus: u8,
         room: usize,
     ) -> Result<Guarded<Ticket<Plain<BufferEdit>>>, NoMemory>
-        requires most { length caps.now ≤ 16 }
-        requires small { All (λ capacity. capacity ≤ 32) caps.now }
-        requires cpus { cpus ≤ 8 }
+        requires most { length caps.now ≤ BUFFERS }
+        requires small { All (λ capacity. capacity ≤ CAPACITY) caps.now }
+        requires cpus { cpus ≤ CPUS }
         ensures { IfOk result (λ s. s ≡ fresh_guarded caps.now cpus room) }
     {
         let locks = fresh_locks(alloc, caps)?;

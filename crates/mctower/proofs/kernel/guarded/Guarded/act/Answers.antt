@@ -1,5 +1,6 @@
 use Rattle.std.proofs.Common.{◌-◌, ◌≡◌, ◌<◌, length, slice_get, subst, sym, refl, Some, arith, map, set, List, ◌∷◌}
 use Rattle.std.specs.Prelude.{is_some, if◌then◌else◌}
+use Rattle.event_log.specs.declared.ids.TheConstants.{CPUS}
 use Rattle.event_log.specs.declared.ids.CpuId.{CpuId}
 use Rattle.event_log.specs.declared.ids.LockId.TheVariants as lock
 use Rattle.event_log.specs.Actions.{next_action}
@@ -31,7 +32,7 @@ block g c =
     get_within c.self.inside.buffers.items c.args.buffer.0 within
 
 -- whoever acts for every CPU before the poll does so after it
-all_acted : (g : _) (c : After-poll-answer g) → (d : CpuId) → d.0 < 8 → g.L.LockLayer.ActsFor c.poll-answer.new.m d
+all_acted : (g : _) (c : After-poll-answer g) → (d : CpuId) → d.0 < CPUS → g.L.LockLayer.ActsFor c.poll-answer.new.m d
 all_acted g c d lt = c.poll-answer.ensures.acts d (c.self.invariant.owned d lt)
 
 -- the CPU's number
