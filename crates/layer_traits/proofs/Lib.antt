@@ -4,3 +4,5 @@ pub mod PlanLemmas
 pub mod Alone
 pub mod PlanRenaming
 pub mod LookLemmas
+pub mod CountLemmas
+pub mod PlaceLemmas

@@ -90,7 +90,8 @@ IsLocalPass End = Unit {0}
 
 -- a poll of a pass: foreign steps come first, then the pass's own exactly where the poll answers; the CPU's own threads change with
 -- it and only then; and a pass that touches nothing shared answers at once
-pub record PassPolled (homes : List CpuId) (ActsFor : CpuId → Type 0) (c : CpuId) (call : Pass) {A : Type 0} (result : Option A) (old new : List Step) (own own' : Threads) : Type 0 where
+pub record PassPolled (homes : List CpuId) (ActsFor : CpuId → Type 0) (c : CpuId) (call : Pass) {A : Type 0} (result : Option A) (old new : List Step)
+    (own own' : Threads) : Type 0 where
   pub others : List Step
   pub foreign : AreForeign ActsFor stepper others
   pub is : new ≡ (if is_some result then pass_steps homes c call ++ (others ++ old) else others ++ old)

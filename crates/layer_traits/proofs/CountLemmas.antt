@@ -1,0 +1,82 @@
+-- Threads in lists, by count.
+use Rattle.std.proofs.Common.{◌≡◌, ◌+◌, ◌<◌, Bool, true, false, ◌||◌, List, [], ◌∷◌, ◌++◌, Option, Some, None, refl, ap, sym, ◌∙◌, subst, arith, add_assoc, zero-add}
+use Rattle.std.proofs.lemmas.Bool.{eq-eqb, eqb-true, eqb-false, ne_eqb}
+use Rattle.event_log.specs.declared.ids.CpuId.{CpuId}
+use Rattle.event_log.specs.declared.ids.Tid.{Tid}
+use Rattle.event_log.specs.History.{same_cpu}
+use Rattle.event_log.proofs.Same.{same_cpu_self, same_cpu_true}
+use Rattle.thread_blocks.specs.Queues.{same_tid, is_in, first, rest}
+use Rattle.thread_blocks.proofs.Members.{same_tid_self}
+use Rattle.layer_traits.specs.Passes.{as_list}
+use Rattle.layer_traits.specs.Places.{is_cpu, is_thread, one_if, count_in}
+
+pub same_tid_sym : (t u : Tid) → same_tid t u ≡ same_tid u t
+same_tid_sym t u = go (same_tid u t) refl
+  where
+    go : (b : Bool) → same_tid u t ≡ b → same_tid t u ≡ b
+    go true same = eq-eqb t.0 u.0 (sym (eqb-true u.0 t.0 same))
+    go false other = ne_eqb t.0 u.0 (λ e. eqb-false u.0 t.0 other (sym e))
+
+pub same_cpu_sym : (c d : CpuId) → same_cpu c d ≡ same_cpu d c
+same_cpu_sym c d = go (same_cpu d c) refl
+  where
+    go : (b : Bool) → same_cpu d c ≡ b → same_cpu c d ≡ b
+    go true same = eq-eqb c.0 d.0 (sym (eqb-true d.0 c.0 same))
+    go false other = ne_eqb c.0 d.0 (λ e. eqb-false d.0 c.0 other (sym e))
+
+pub is_cpu_true : (c : CpuId) (home : Option CpuId) → is_cpu c home ≡ true → home ≡ Some c
+is_cpu_true c None is = absurd cc
+is_cpu_true c (Some d) is = ap Some (sym (same_cpu_true c d is))
+
+pub is_cpu_of : (c : CpuId) (home : Option CpuId) → home ≡ Some c → is_cpu c home ≡ true
+is_cpu_of c home is = ap (is_cpu c) is ∙ same_cpu_self c
+
+-- a thread's home is one CPU alone
+pub is_cpu_other : (c d : CpuId) (home : Option CpuId) → same_cpu c d ≡ false → is_cpu c home ≡ true → is_cpu d home ≡ false
+is_cpu_other c d home other is = ap (is_cpu d) (is_cpu_true c home is) ∙ (same_cpu_sym d c ∙ other)
+
+pub is_thread_self : (t : Tid) (o : Option Tid) → o ≡ Some t → is_thread t o ≡ true
+is_thread_self t o is = ap (is_thread t) is ∙ same_tid_self t
+
+pub count_append : (t : Tid) (p q : List Tid) → count_in t (p ++ q) ≡ count_in t p + count_in t q
+count_append t [] q = sym (zero-add (count_in t q))
+count_append t (x ∷ p) q = ap (λ n. one_if (same_tid t x) + n) (count_append t p q) ∙ sym (add_assoc (one_if (same_tid t x)) (count_in t p) (count_in t q))
+
+pub count_as_list : (t : Tid) (o : Option Tid) → count_in t (as_list o) ≡ one_if (is_thread t o)
+count_as_list t None = refl
+count_as_list t (Some u) = let turned : one_if (same_tid t u) ≡ one_if (same_tid u t) = ap one_if (same_tid_sym t u) in omega (arith, turned)
+
+-- the front and the rest are the whole
+pub count_front : (t : Tid) (q : List Tid) → one_if (is_thread t (first q)) + count_in t (rest q) ≡ count_in t q
+count_front t [] = refl
+count_front t (x ∷ q) = ap (λ b. one_if b + count_in t q) (same_tid_sym x t)
+
+pub one_if_true : (b : Bool) → one_if b ≡ 1 → b ≡ true
+one_if_true true one = refl
+one_if_true false one = absurd (omega (arith, one))
+
+pub one_if_false : (b : Bool) → one_if b ≡ 0 → b ≡ false
+one_if_false true one = absurd (omega (arith, one))
+one_if_false false one = refl
+
+pub one_if_most : (b : Bool) → one_if b < 2
+one_if_most true = omega arith
+one_if_most false = omega arith
+
+-- who stands in a list is counted, and the other way round
+pub in_counted : (t : Tid) (q : List Tid) → is_in t q ≡ true → 0 < count_in t q
+in_counted t [] is = absurd cc
+in_counted t (x ∷ q) is = go (same_tid t x) refl is (in_counted t q)
+  where
+    go : (b : Bool) → same_tid t x ≡ b → (same_tid t x || is_in t q) ≡ true → (is_in t q ≡ true → 0 < count_in t q) → 0 < one_if (same_tid t x) + count_in t q
+    go true same found more = let one : one_if (same_tid t x) ≡ 1 = ap one_if same in omega (arith, one)
+    go false other found more =
+        let behind : 0 < count_in t q = more (subst (λ b. (b || is_in t q) ≡ true) other found) in
+        omega (arith, behind)
+
+pub not_counted : (t : Tid) (q : List Tid) → count_in t q ≡ 0 → is_in t q ≡ false
+not_counted t q none = go (is_in t q) refl
+  where
+    go : (b : Bool) → is_in t q ≡ b → b ≡ false
+    go true is = let some : 0 < count_in t q = in_counted t q is in absurd (omega (arith, some, none))
+    go false is = refl
