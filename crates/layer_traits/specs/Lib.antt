@@ -7,3 +7,7 @@ pub mod Places
 pub mod MoveRules
 pub mod Passes
 pub mod Looks
+pub mod QueueBlocks
+pub mod Queues
+pub mod QueueRules
+pub mod Scheds

@@ -1,0 +1,50 @@
+-- What the edits of shared queues mean as edits of locks' blocks, and which sections of them are allowed.
+use Rattle.std.specs.Prelude.{◌≡◌, ◌&&◌, not, nat_lt, List, [], ◌∷◌, ◌++◌, Option, map, if◌then◌else◌}
+use Rattle.event_log.specs.declared.ids.LockId.{LockId}
+use Rattle.event_log.specs.declared.ids.Tid.{Tid}
+use Rattle.event_log.specs.declared.ids.TheConstants.{THREADS}
+use Rattle.event_log.specs.Sections.{Section}
+use Rattle.thread_blocks.specs.Queues.{is_in}
+use Rattle.layer_traits.specs.declared.queue_edits.QueueBlock.{QueueBlock}
+use Rattle.layer_traits.specs.declared.queue_edits.QueueBlock.TheVariants as block
+use Rattle.layer_traits.specs.declared.queue_edits.QueueEdit.{QueueEdit}
+use Rattle.layer_traits.specs.declared.queue_edits.QueueEdit.TheVariants.{Push, TakeAll, Above}
+use Rattle.layer_traits.specs.declared.queues.QueueAnswer.{QueueAnswer}
+use Rattle.layer_traits.specs.declared.queues.QueueAnswer.TheVariants.{Done, Taken, Answer}
+use Rattle.layer_traits.specs.MoveRules.{MoveRules}
+use Rattle.layer_traits.specs.Protocol.{Rules}
+use Rattle.layer_traits.specs.Queues.{kernel, QueueAllowed, event_of, lock_of, call_at}
+
+-- the queue with this thread behind the others; a thread that stands in it already, or that no machine has, changes nothing
+abbrev pub pushed : Tid → List Tid → List Tid
+pushed t queue = if nat_lt t.0 THREADS && not (is_in t queue) then queue ++ t ∷ [] else queue
+
+-- the block that an edit leaves; an edit of the other kind of block changes nothing
+abbrev pub queue_edited : {E B : Type 0} → (E → B → B) → QueueEdit E → QueueBlock B → QueueBlock B
+queue_edited edited (Push t) (block.Queue queue homes) = block.Queue (pushed t queue) homes
+queue_edited edited (Push t) (block.Above b) = block.Above b
+queue_edited edited TakeAll (block.Queue queue homes) = block.Queue [] homes
+queue_edited edited TakeAll (block.Above b) = block.Above b
+queue_edited edited (Above e) (block.Queue queue homes) = block.Queue queue homes
+queue_edited edited (Above e) (block.Above b) = block.Above (edited e b)
+
+-- what an edit answers
+abbrev pub queue_answer : {E B O : Type 0} → (E → B → O) → QueueEdit E → QueueBlock B → QueueAnswer O
+queue_answer answer (Push t) b = Done
+queue_answer answer TakeAll (block.Queue queue homes) = Taken queue
+queue_answer answer TakeAll (block.Above b) = Done
+queue_answer answer (Above e) (block.Queue queue homes) = Done
+queue_answer answer (Above e) (block.Above b) = Answer (answer e b)
+
+-- the edit is of the kind of the lock's block
+abbrev pub IsProper : {E : Type 0} → LockId → QueueEdit E → Type 0
+IsProper lock edit = lock_of (call_at lock edit) ≡ lock
+
+-- a section may come after these: it edits a block of its kind, and its call is allowed
+pub record SectionAllowed {E B O : Type 0} (rules : Rules E B O) (mv : MoveRules E O) (opening : LockId → Option (QueueBlock B)) (past : List (Section (QueueEdit E))) (s : Section (QueueEdit E)) : Type 0 where
+  pub proper : IsProper s.lock s.edit
+  pub call : QueueAllowed (kernel rules mv opening) (map event_of past) (event_of s)
+
+-- the edits of shared queues over those of the layer above
+abbrev pub queue_rules : {E B O : Type 0} → Rules E B O → MoveRules E O → Rules (QueueEdit E) (QueueBlock B) (QueueAnswer O)
+queue_rules rules mv = record { edited = queue_edited rules.edited; answer = queue_answer rules.answer; allowed = SectionAllowed rules mv }
