@@ -6,3 +6,4 @@ pub mod PlanRenaming
 pub mod LookLemmas
 pub mod CountLemmas
 pub mod PlaceLemmas
+pub mod OnePlaceLemmas

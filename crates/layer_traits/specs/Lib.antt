@@ -11,3 +11,4 @@ pub mod QueueBlocks
 pub mod Queues
 pub mod QueueRules
 pub mod Scheds
+pub mod OnePlace

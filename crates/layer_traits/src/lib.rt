@@ -3,6 +3,7 @@
 #![tactic(auto)]
 
 mod edits;
+mod laws;
 mod locks;
 mod moves;
 mod passes;
@@ -14,6 +15,7 @@ mod steps;
 mod words;
 
 pub use edits::{Edit, Mark};
+pub use laws::one_place;
 pub use locks::LockLayer;
 pub use moves::{Line, Moves};
 pub use passes::Pass;
