@@ -7,3 +7,4 @@ pub mod LookLemmas
 pub mod CountLemmas
 pub mod PlaceLemmas
 pub mod OnePlaceLemmas
+pub mod ListsLemmas

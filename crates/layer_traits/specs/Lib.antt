@@ -12,3 +12,9 @@ pub mod Queues
 pub mod QueueRules
 pub mod Scheds
 pub mod OnePlace
+pub mod Sleeping
+pub mod SleepLaw
+pub mod ListsAgree
+pub mod Renaming
+pub mod Locking
+pub mod LockLaw

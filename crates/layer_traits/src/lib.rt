@@ -4,24 +4,32 @@
 
 mod edits;
 mod laws;
+mod locked;
 mod locks;
 mod moves;
 mod passes;
+mod qlock_layers;
 mod queue_edits;
 mod queues;
 mod room;
 mod scheds;
+mod sleep_layers;
+mod sleeps;
 mod steps;
 mod words;
 
 pub use edits::{Edit, Mark};
 pub use laws::one_place;
+pub use locked::{Locked, QEdit, QOut, Side, Signal};
 pub use locks::LockLayer;
 pub use moves::{Line, Moves};
 pub use passes::Pass;
+pub use qlock_layers::QLockLayer;
 pub use queue_edits::{QueueBlock, QueueEdit};
 pub use queues::{QueueAnswer, QueueCall, QueueEvent, QueueLayer};
 pub use room::Room;
 pub use scheds::{SchedAnswer, SchedCall, SchedLayer};
+pub use sleep_layers::SleepLayer;
+pub use sleeps::{Leave, Outcome, Sleeps};
 pub use steps::{Reason, Step};
 pub use words::Words;

@@ -1,0 +1,65 @@
+//! Edits that put threads to sleep and wake them: what a section of a sleeping layer does.
+
+ghost use Rattle.std.specs.Prelude.{◌≡◌};
+
+use crate::moves::Line;
+use event_log::Tid;
+
+/// Who leaves the waiting lists of a lock in a section.
+#[derive(Clone, Copy, Debug, PartialEq, Eq)]
+pub enum Leave {
+    /// Nobody.
+    Nobody,
+    /// The first of those that sleep for the lock itself.
+    First,
+    /// This thread, if it waits among the receivers.
+    Receiver(Tid),
+    /// This thread, if it waits among the senders.
+    Sender(Tid),
+}
+
+/// What a section of a sleeping layer answers.
+#[derive(Drop)]
+pub struct Outcome<O> {
+    /// What the edit answered.
+    pub out: O,
+    /// Whether the caller sleeps now.
+    pub slept: bool,
+    /// Whom the section woke.
+    pub woke: Option<Tid>,
+}
+
+/// An edit of a sleeping layer. It says which waiting list of its lock its caller joins, if any,
+/// and who leaves one; the layer keeps the lists.
+pub trait Sleeps: Copy + Drop {
+    ghost use Rattle.layer_traits.specs.Sleeping.{SleepRules};
+
+    /// What the lock guards besides its waiting lists.
+    type Block: Drop;
+
+    /// What an edit answers.
+    type Out: Drop;
+
+    /// What an edit means: its caller, the block that it leaves and its answer, as functions of the
+    /// lock's first sleeper and of the block that it finds; which list the caller joins and who
+    /// leaves one, as the answer tells; and after which sections which CPU may do it.
+    ghost rules: { SleepRules Self Self.Block Self.Out };
+
+    /// The thread that calls.
+    fn caller(self) -> Tid
+        ensures { result ≡ rules.caller self };
+
+    /// Edits `block`, where `first` is the first of those that sleep for the lock, and gives the
+    /// edit's answer. Takes no memory.
+    fn apply(self, first: Option<Tid>, block: &mut Self::Block) -> Self::Out
+        ensures block { block.new ≡ rules.edited self first block.old }
+        ensures answer { result ≡ rules.answer self first block.old };
+
+    /// Which waiting list the caller joins; `None` where it does not fall asleep.
+    fn joins(out: &Self::Out) -> Option<Line>
+        ensures { result ≡ rules.joins out.now };
+
+    /// Who leaves the lock's waiting lists.
+    fn leaves(out: &Self::Out) -> Leave
+        ensures { result ≡ rules.leaves out.now };
+}
