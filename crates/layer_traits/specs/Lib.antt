@@ -18,3 +18,10 @@ pub mod ListsAgree
 pub mod Renaming
 pub mod Locking
 pub mod LockLaw
+pub mod Conditions
+pub mod CvLaw
+pub mod BufferBlocks
+pub mod BufferProtocol
+pub mod BufferEffects
+pub mod BufferLaw
+pub mod IpcLaw

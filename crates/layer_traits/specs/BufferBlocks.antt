@@ -1,0 +1,118 @@
+-- A buffer's block: its two lines, its items and its counters, and what the edits make of it.
+use Rattle.std.specs.Prelude.{ℕ, ◌+◌, ◌%◌, ◌^◌, Bool, false, not, ◌&&◌, List, [], ◌∷◌, ◌++◌, length, nat_lt, Option, None, if◌then◌else◌}
+use Rattle.event_log.specs.declared.entries.Kind.{Kind}
+use Rattle.event_log.specs.declared.entries.Kind.TheVariants.{Send, Recv}
+use Rattle.event_log.specs.declared.ids.Tid.{Tid}
+use Rattle.event_log.specs.declared.ids.TheConstants.{THREADS}
+use Rattle.event_log.specs.Messages.{Message, no_message}
+use Rattle.layer_traits.specs.declared.locked.Side.{Side}
+use Rattle.layer_traits.specs.declared.locked.Side.TheVariants.{Receivers, Senders}
+use Rattle.layer_traits.specs.declared.buffer_edits.BufferEdit.{BufferEdit}
+use Rattle.layer_traits.specs.declared.buffer_edits.BufferEdit.TheVariants.{Enter, TryPut, TryTake}
+use Rattle.layer_traits.specs.declared.buffer_edits.BufferOut.{BufferOut}
+use Rattle.layer_traits.specs.declared.buffer_edits.BufferOut.TheVariants.{Entered, NotYet, Done}
+use Rattle.thread_blocks.specs.Queues.{same_tid, is_in, first, rest}
+
+-- what a buffer's block holds: who stands in line, first in front, on either side; the items, first in front; how many there is
+-- room for; and, modulo 2^64, how many effects it had and how many threads entered the send line and the receive line
+pub record BufferState : Type 0 where
+  pub receive_line : List Tid
+  pub send_line : List Tid
+  pub items : List Message
+  pub capacity : ℕ
+  pub effects : ℕ
+  pub sends : ℕ
+  pub receives : ℕ
+
+-- a counter of 64 bits, one further
+abbrev pub counted : ℕ → ℕ
+counted n = (n + 1) % 2 ^ 64
+
+-- the line of a side
+abbrev pub line_of : Side → BufferState → List Tid
+line_of Receivers x = x.receive_line
+line_of Senders x = x.send_line
+
+-- how many threads entered it, modulo 2^64: the position of the next one
+abbrev pub places_of : Side → BufferState → ℕ
+places_of Receivers x = x.receives
+places_of Senders x = x.sends
+
+-- whether the thread stands first
+abbrev pub is_first : Tid → List Tid → Bool
+is_first t [] = false
+is_first t (u ∷ queue) = same_tid t u
+
+-- whether the thread may enter this line: it is one that a machine may have, and does not stand there
+abbrev pub may_join : Tid → List Tid → Bool
+may_join t queue = nat_lt t.0 THREADS && not (is_in t queue)
+
+-- whether the first of a side's line may go on: a sender where there is room, a receiver where there is a message
+abbrev pub may_go : Side → BufferState → Bool
+may_go Receivers x = nat_lt 0 (length x.items)
+may_go Senders x = nat_lt (length x.items) x.capacity
+
+-- the kind of the effect that the first of a side has where it goes on
+abbrev pub effect_kind : Side → BufferState → Kind
+effect_kind Receivers x = Recv
+effect_kind Senders x = Send
+
+-- whether it is this thread's turn: it stands first in the line of its side, and may go on
+abbrev pub is_turn : Side → Tid → BufferState → Bool
+is_turn side t x = is_first t (line_of side x) && may_go side x
+
+-- the front of a side's line, where it may go on
+abbrev pub front_ready : Side → BufferState → Option Tid
+front_ready side x = if may_go side x then first (line_of side x) else None
+
+-- the message in front, and those behind it
+abbrev pub first_item : List Message → Message
+first_item [] = no_message
+first_item (m ∷ items) = m
+
+abbrev pub other_items : List Message → List Message
+other_items [] = []
+other_items (m ∷ items) = items
+
+-- the thread has entered the line of a side
+abbrev pub entered : Side → Tid → BufferState → BufferState
+entered Receivers t x = record x { receive_line = x.receive_line ++ t ∷ []; receives = counted x.receives }
+entered Senders t x = record x { send_line = x.send_line ++ t ∷ []; sends = counted x.sends }
+
+-- the first of the send line has put this message
+abbrev pub put_in : Message → BufferState → BufferState
+put_in m x = record x { send_line = rest x.send_line; items = x.items ++ m ∷ []; effects = counted x.effects }
+
+-- the first of the receive line has taken the first message
+abbrev pub taken_out : BufferState → BufferState
+taken_out x = record x { receive_line = rest x.receive_line; items = other_items x.items; effects = counted x.effects }
+
+-- the thread that edits
+abbrev pub editor : BufferEdit → Tid
+editor (Enter t side) = t
+editor (TryPut t m) = t
+editor (TryTake t) = t
+
+-- the block after an edit: a try whose turn it is not leaves it as it was
+abbrev pub buffer_edited : BufferEdit → BufferState → BufferState
+buffer_edited (Enter t side) x = if may_join t (line_of side x) then entered side t x else x
+buffer_edited (TryPut t m) x = if is_turn Senders t x then put_in m x else x
+buffer_edited (TryTake t) x = if is_turn Receivers t x then taken_out x else x
+
+-- the answer of an edit: the position drawn; the effect; or that it is not the thread's turn yet
+abbrev pub buffer_answer : BufferEdit → BufferState → BufferOut
+buffer_answer (Enter t side) x = Entered (places_of side x)
+buffer_answer (TryPut t m) x = if is_turn Senders t x then Done (effect_kind Senders x) x.effects m else NotYet
+buffer_answer (TryTake t) x = if is_turn Receivers t x then Done (effect_kind Receivers x) x.effects (first_item x.items) else NotYet
+
+-- a buffer at the start
+abbrev pub empty_block : ℕ → BufferState
+empty_block capacity = record {
+  receive_line = [];
+  send_line = [];
+  items = [];
+  capacity = capacity;
+  effects = 0;
+  sends = 0;
+  receives = 0;
+}

@@ -1,0 +1,344 @@
+-- The law of the layer of buffers: the stages of a message call, what one poll of a call does to the effects, to the moves and to
+-- the part's own state, and the plan of a poll.
+use Rattle.std.specs.Prelude.{◌≡◌, ◌≢◌, ◌⊎◌, ℕ, List, ◌++◌, Option, Some, None, option_map, option_to_list, replicate, slice_index, slice_index_or, slice_set}
+use Rattle.std.specs.List.{AllByRecursion}
+use Rattle.event_log.specs.declared.entries.Entry.{Entry}
+use Rattle.event_log.specs.declared.entries.Kind.{Kind}
+use Rattle.event_log.specs.declared.entries.Kind.TheVariants as kind
+use Rattle.event_log.specs.declared.ids.BufId.{BufId}
+use Rattle.event_log.specs.declared.ids.CpuId.{CpuId}
+use Rattle.event_log.specs.declared.ids.Tid.{Tid}
+use Rattle.event_log.specs.declared.ids.TheConstants.{THREADS}
+use Rattle.event_log.specs.Buffers.{IsAllowedEffect, items_of}
+use Rattle.event_log.specs.History.{AreForeign}
+use Rattle.event_log.specs.Messages.{Message}
+use Rattle.layer_traits.specs.declared.locked.QEdit.TheVariants.{Acquire, Inside, Release}
+use Rattle.layer_traits.specs.declared.locked.QOut.{QOut}
+use Rattle.layer_traits.specs.declared.locked.QOut.TheVariants as out
+use Rattle.layer_traits.specs.declared.locked.Side.{Side}
+use Rattle.layer_traits.specs.declared.locked.Side.TheVariants.{Receivers, Senders}
+use Rattle.layer_traits.specs.declared.conditions.CvEdit.TheVariants.{Edit, SignalFront}
+use Rattle.layer_traits.specs.declared.conditions.CvLeave.TheVariants.{Leave, Wait}
+use Rattle.layer_traits.specs.declared.conditions.CvOut.{CvOut}
+use Rattle.layer_traits.specs.declared.conditions.CvOut.TheVariants as answer
+use Rattle.layer_traits.specs.declared.buffer_edits.BufferEdit.{BufferEdit}
+use Rattle.layer_traits.specs.declared.buffer_edits.BufferEdit.TheVariants.{Enter, TryPut, TryTake}
+use Rattle.layer_traits.specs.declared.buffer_edits.BufferOut.{BufferOut}
+use Rattle.layer_traits.specs.declared.buffer_edits.BufferOut.TheVariants.{Entered, NotYet, Done}
+use Rattle.layer_traits.specs.declared.calls.Call.{Call}
+use Rattle.layer_traits.specs.declared.calls.Call.TheVariants.{Send, Recv}
+use Rattle.layer_traits.specs.declared.calls.Effect.{Effect}
+use Rattle.layer_traits.specs.declared.calls.Reply.{Reply}
+use Rattle.layer_traits.specs.declared.calls.Reply.TheVariants.{Sent, Got}
+use Rattle.layer_traits.specs.declared.queue_edits.QueueEdit.{QueueEdit}
+use Rattle.layer_traits.specs.declared.queues.QueueAnswer.{QueueAnswer}
+use Rattle.layer_traits.specs.declared.passes.Pass.{Pass}
+use Rattle.layer_traits.specs.declared.sleeps.Outcome.{Outcome}
+use Rattle.layer_traits.specs.declared.talks.Stage.{Stage}
+use Rattle.layer_traits.specs.declared.talks.Stage.TheVariants.{Between, Acquires, Enters, Tries, Waits, AcquiresAgain, Signals, SignalsOwn, Releases}
+use Rattle.layer_traits.specs.declared.talks.Talk.{Talk}
+use Rattle.layer_traits.specs.Conditions.{CvCall}
+use Rattle.layer_traits.specs.CvLaw.{Waiting, cv_pass_plan, cv_plan, waiting_at_start}
+use Rattle.layer_traits.specs.Locking.{lock_moves}
+use Rattle.layer_traits.specs.BufferProtocol.{buffer_rules}
+use Rattle.layer_traits.specs.BufferEffects.{contents_of, entry}
+use Rattle.layer_traits.specs.Places.{Step, Threads, stepper}
+use Rattle.layer_traits.specs.Plans.{Left, Plan, Now, Act, raised}
+
+-- the buffer of a call
+abbrev pub buffer_of : Call → BufId
+buffer_of (Send b m) = b
+buffer_of (Recv b) = b
+
+-- its own side, and the far one
+abbrev pub side_of : Call → Side
+side_of (Send b m) = Senders
+side_of (Recv b) = Receivers
+
+abbrev pub other_side : Call → Side
+other_side (Send b m) = Receivers
+other_side (Recv b) = Senders
+
+-- its first edit once it owns the lock, and the edit that it tries
+abbrev pub first_of : Tid → Call → BufferEdit
+first_of t (Send b m) = Enter t Senders
+first_of t (Recv b) = Enter t Receivers
+
+abbrev pub try_of : Tid → Call → BufferEdit
+try_of t (Send b m) = TryPut t m
+try_of t (Recv b) = TryTake t
+
+-- whether an effect is one of this call
+abbrev pub IsEffectOf : Call → Effect → Type 0
+IsEffectOf (Send b m) f = (f.kind ≡ kind.Send) × (f.value ≡ m)
+IsEffectOf (Recv b) f = f.kind ≡ kind.Recv
+
+-- the reply of a call after an effect of this kind with this message
+abbrev pub reply_by : Call → Kind → Message → Reply
+reply_by (Send b m) kind value = Sent
+reply_by (Recv b) kind value = Got value
+
+abbrev pub reply_of : Call → Effect → Reply
+reply_of call f = reply_by call f.kind f.value
+
+-- the entry of an effect on a buffer, by a thread of a CPU
+abbrev pub entry_of : CpuId → Tid → BufId → Effect → Entry
+entry_of cpu t b f = entry cpu t f.kind b f.value f.op f.pos
+
+-- a thread that never called
+abbrev pub quiet : Talk
+quiet = record { stage = Between; call = None; position = 0; effect = None }
+
+-- a thread that begins a call
+abbrev pub begun : Call → Talk
+begun call = record { stage = Acquires; call = Some call; position = 0; effect = None }
+
+-- what its thread's talk is to a poll of a call: between calls a new one begins
+abbrev pub going_at : Stage → Talk → Call → Talk
+going_at Between talk call = begun call
+going_at Acquires talk call = talk
+going_at Enters talk call = talk
+going_at Tries talk call = talk
+going_at Waits talk call = talk
+going_at AcquiresAgain talk call = talk
+going_at Signals talk call = talk
+going_at SignalsOwn talk call = talk
+going_at Releases talk call = talk
+
+abbrev pub going : Talk → Call → Talk
+going talk call = going_at talk.stage talk call
+
+-- a thread may poll this call: it is between calls, or this is the one that it has begun
+abbrev pub MayTalk : Talk → Call → Type 0
+MayTalk talk call = (going talk call).call ≡ Some call
+
+-- the call that a thread has begun, if it is in one
+abbrev pub begun_at : Stage → Option Call → Option Call
+begun_at Between call = None
+begun_at Acquires call = call
+begun_at Enters call = call
+begun_at Tries call = call
+begun_at Waits call = call
+begun_at AcquiresAgain call = call
+begun_at Signals call = call
+begun_at SignalsOwn call = call
+begun_at Releases call = call
+
+abbrev pub begun_of : Talk → Option Call
+begun_of talk = begun_at talk.stage talk.call
+
+-- the talk of a thread, in a list by thread
+abbrev pub talk_of : List Talk → Tid → Talk
+talk_of talks t = slice_index_or talks t.0 quiet
+
+-- an answer agrees with the talk: the call goes on, or it is over and the answer is its effect's
+abbrev pub Answered : Call → Talk → Option Reply → Type 0
+Answered call talk None = begun_of talk ≡ Some call
+Answered call talk (Some reply) = (talk.stage ≡ Between) × ((f : Effect) × (talk.effect ≡ Some f) × (reply ≡ reply_of call f))
+
+-- the CPU of an entry
+abbrev pub entry_cpu : Entry → CpuId
+entry_cpu e = e.cpu
+
+-- a poll of a call: foreign effects come first, then at most the call's own one, of which it has one in all; the talks of other
+-- threads stay
+pub record Called (ActsFor : CpuId → Type 0) (cpu : CpuId) (t : Tid) (call : Call) (talks left : List Talk) (old new : List Entry) (answer : Option Reply) : Type 0 where
+  pub others : List Entry
+  pub mine : Option Effect
+  pub foreign : AreForeign ActsFor entry_cpu others
+  pub is : new ≡ option_to_list (option_map (entry_of cpu t (buffer_of call)) mine) ++ (others ++ old)
+  pub fresh : (f : Effect) → mine ≡ Some f → ((going (talk_of talks t) call).effect ≡ None) × ((talk_of left t).effect ≡ Some f) × IsEffectOf call f
+  pub stays : mine ≡ None → (talk_of left t).effect ≡ (going (talk_of talks t) call).effect
+  pub answers : Answered call (talk_of left t) answer
+  pub apart : (u : Tid) → u.0 ≢ t.0 → talk_of left u ≡ talk_of talks u
+
+-- effects of other CPUs alone
+pub record OthersSeen (ActsFor : CpuId → Type 0) (old new : List Entry) : Type 0 where
+  pub others : List Entry
+  pub foreign : AreForeign ActsFor entry_cpu others
+  pub is : new ≡ others ++ old
+
+-- the moves grow by foreign ones and then by this CPU's own
+pub record MovesGrow (ActsFor : CpuId → Type 0) (cpu : CpuId) (old new : List Step) : Type 0 where
+  pub others : List Step
+  pub mine : List Step
+  pub foreign : AreForeign ActsFor stepper others
+  pub own : AllByRecursion (λ s. s.cpu ≡ cpu) mine
+  pub is : new ≡ mine ++ (others ++ old)
+
+-- what a CPU does that has not ended: a call of its current thread, or a call of the scheduler
+pub data Doing : Type 0 where
+  Calling : (thread : Tid) → Doing
+  Passing : (pass : Pass) → Doing
+
+-- what has begun goes on
+abbrev pub MayGoOn : Option Doing → Doing → Type 0
+MayGoOn None next = Unit {0}
+MayGoOn (Some doing) next = doing ≡ next
+
+-- after a poll of a call the CPU is still at it exactly where the thread still runs and there is no answer
+abbrev pub still_calling : Tid → Option Tid → Option Reply → Option Doing
+still_calling t None None = None
+still_calling t None (Some reply) = None
+still_calling t (Some u) None = Some (Calling t)
+still_calling t (Some u) (Some reply) = None
+
+-- after a poll of a scheduler's call, where there is no answer
+abbrev pub still_passing : {A : Type 0} → Pass → Option A → Option Doing
+still_passing pass None = Some (Passing pass)
+still_passing pass (Some answer) = None
+
+-- the thread runs on, or it sleeps and its call goes on; a call that answers leaves the hand empty; no thread ends
+pub record RunsOn {A : Type 0} (t : Tid) (own left : Threads) (answer : Option A) : Type 0 where
+  pub current : (left.current ≡ Some t) ⊎ ((left.current ≡ None) × (answer ≡ None))
+  pub hand : (a : A) → answer ≡ Some a → left.hand ≡ None
+  pub ended : left.ended ≡ own.ended
+
+-- why a machine that does a whole call in one poll answers nothing: the buffer allows the call no effect
+abbrev pub IsRefused : Call → List ℕ → List Entry → Type 0
+IsRefused (Send b m) caps past = IsAllowedEffect kind.Send (slice_index caps b.0) (items_of (contents_of caps past) b.0) m → ⊥
+IsRefused (Recv b) caps past =
+    (m : Message) → IsAllowedEffect kind.Recv (slice_index caps b.0) (items_of (contents_of caps past) b.0) m → ⊥
+
+-- a CPU's own state: that of its conditions, and the talk of each thread
+pub record Buffering : Type 0 where
+  pub cv : Waiting BufferOut
+  pub talks : List Talk
+
+abbrev pub buffering : Waiting BufferOut → List Talk → Buffering
+buffering cv talks = record { cv = cv; talks = talks }
+
+-- at the start no thread ever called
+abbrev pub buffering_at_start : List CpuId → CpuId → Buffering
+buffering_at_start homes c = buffering (waiting_at_start homes c) (replicate THREADS quiet)
+
+-- the section of a call at a stage
+abbrev pub section_at : Tid → Call → Stage → CvCall BufferEdit
+section_at t call Between = Acquire t
+section_at t call Acquires = Acquire t
+section_at t call Enters = Inside (Edit (first_of t call))
+section_at t call Tries = Inside (Edit (try_of t call))
+section_at t call Waits = Release (Wait t (side_of call))
+section_at t call AcquiresAgain = Acquire t
+section_at t call Signals = Inside (SignalFront t (other_side call))
+section_at t call SignalsOwn = Inside (SignalFront t (side_of call))
+section_at t call Releases = Release (Leave t)
+
+-- what an edit of the buffer answered, in a lock's answer
+abbrev pub told_in : CvOut BufferOut → BufferOut
+told_in (answer.Did out) = out
+told_in (answer.Signalled side front) = NotYet
+told_in answer.Left = NotYet
+told_in (answer.Waited side) = NotYet
+
+abbrev pub told_by : QOut (CvOut BufferOut) → BufferOut
+told_by out.Acquired = NotYet
+told_by out.Queued = NotYet
+told_by (out.Did cv) = told_in cv
+told_by (out.Released cv) = NotYet
+
+-- the thread has entered its line: it keeps its position, and tries next
+abbrev pub placed : Talk → BufferOut → Talk
+placed talk (Entered position) = record { stage = Tries; call = talk.call; position = position; effect = talk.effect }
+placed talk NotYet = talk
+placed talk (Done kind op value) = talk
+
+-- the thread has tried: after its effect it signals, else it waits
+abbrev pub tried : Talk → BufferOut → Talk
+tried talk (Entered position) = record { stage = Waits; call = talk.call; position = talk.position; effect = talk.effect }
+tried talk NotYet = record { stage = Waits; call = talk.call; position = talk.position; effect = talk.effect }
+tried talk (Done kind op value) = record {
+  stage = Signals;
+  call = talk.call;
+  position = talk.position;
+  effect = Some (record { kind = kind; value = value; op = op; pos = talk.position });
+}
+
+-- the talk at another stage
+abbrev pub at_stage : Stage → Talk → Talk
+at_stage stage talk = record { stage = stage; call = talk.call; position = talk.position; effect = talk.effect }
+
+-- the talk after the section of a stage, which was told this
+abbrev pub heard : Talk → Stage → QOut (CvOut BufferOut) → Talk
+heard talk Between out = talk
+heard talk Acquires out = at_stage Enters talk
+heard talk Enters out = placed talk (told_by out)
+heard talk Tries out = tried talk (told_by out)
+heard talk Waits out = at_stage AcquiresAgain talk
+heard talk AcquiresAgain out = at_stage Tries talk
+heard talk Signals out = at_stage SignalsOwn talk
+heard talk SignalsOwn out = at_stage Releases talk
+heard talk Releases out = record { stage = Between; call = None; position = talk.position; effect = talk.effect }
+
+-- the reply of a call at a stage: the last section's answer is the effect's
+abbrev pub replied : Call → Talk → Stage → Option Reply
+replied call talk Between = None
+replied call talk Acquires = None
+replied call talk Enters = None
+replied call talk Tries = None
+replied call talk Waits = None
+replied call talk AcquiresAgain = None
+replied call talk Signals = None
+replied call talk SignalsOwn = None
+replied call talk Releases = option_map (reply_of call) talk.effect
+
+-- what a poll leaves, from what the poll of its section left
+abbrev pub left_heard_with : Tid → Call → Talk → List Talk → Stage → Waiting BufferOut → Option (Outcome (QOut (CvOut BufferOut))) → Left Buffering Reply
+left_heard_with t call talk talks stage cv None = record { own = buffering cv (slice_set talks t.0 talk); answer = None }
+left_heard_with t call talk talks stage cv (Some outcome) =
+    record { own = buffering cv (slice_set talks t.0 (heard talk stage outcome.out)); answer = replied call talk stage }
+
+abbrev pub left_heard : Tid → Call → Talk → List Talk → Stage → Left (Waiting BufferOut) (Outcome (QOut (CvOut BufferOut))) → Left Buffering Reply
+left_heard t call talk talks stage left = left_heard_with t call talk talks stage left.own left.answer
+
+-- the names, answers and states of the plans of buffers
+abbrev pub BufferPlan : Type 0 → Type 0
+BufferPlan A = Plan (QueueEdit (CvCall BufferEdit)) (QueueAnswer (Outcome (QOut (CvOut BufferOut)))) Buffering A
+
+-- a plan that goes on in the same poll where the section beneath answers without an action
+abbrev pub chained_now : {N R S T A B : Type 0} → (T → Plan N R T B) → (Left S A → Left T B) → Left S A → Option A → Plan N R T B
+chained_now next f left None = Now (f left)
+chained_now next f left (Some answer) = next (f left).own
+
+abbrev pub chained : {N R S T A B : Type 0} → (T → Plan N R T B) → (Left S A → Left T B) → Plan N R S A → Plan N R T B
+chained next f (Now left) = chained_now next f left left.answer
+chained next f (Act lock name react) = Act lock name (λ reply. f (react reply))
+
+module _ (homes : List CpuId) (c : CpuId) (t : Tid) (call : Call) where
+  -- the plan of a stage's section, beneath
+  abbrev pub plan_beneath : Stage → Waiting BufferOut
+      → Plan (QueueEdit (CvCall BufferEdit)) (QueueAnswer (Outcome (QOut (CvOut BufferOut)))) (Waiting BufferOut) (Outcome (QOut (CvOut BufferOut)))
+  plan_beneath stage cv = cv_plan (lock_moves buffer_rules) homes c (buffer_of call) (section_at t call stage) cv
+
+  -- the plan of one section of a call, at a stage
+  abbrev pub plan_of : Stage → Talk → Buffering → BufferPlan Reply
+  plan_of stage talk own = raised (left_heard t call talk own.talks stage) (plan_beneath stage own.cv)
+
+  -- the plan of a stage whose section may be over without an action, where the next stage's section follows in the same poll
+  abbrev pub plan_on : Stage → (Talk → Buffering → BufferPlan Reply) → Talk → Buffering → BufferPlan Reply
+  plan_on stage next talk own =
+      chained (λ left. next (talk_of left.talks t) left) (left_heard t call talk own.talks stage) (plan_beneath stage own.cv)
+
+  -- the plan of a call at a stage
+  abbrev pub plan_at : Stage → Talk → Buffering → BufferPlan Reply
+  plan_at Between talk own = plan_on Acquires (plan_of Enters) talk own
+  plan_at Acquires talk own = plan_on Acquires (plan_of Enters) talk own
+  plan_at Enters talk own = plan_of Enters talk own
+  plan_at Tries talk own = plan_of Tries talk own
+  plan_at Waits talk own = plan_on Waits (plan_on AcquiresAgain (plan_of Tries)) talk own
+  plan_at AcquiresAgain talk own = plan_on AcquiresAgain (plan_of Tries) talk own
+  plan_at Signals talk own = plan_of Signals talk own
+  plan_at SignalsOwn talk own = plan_of SignalsOwn talk own
+  plan_at Releases talk own = plan_of Releases talk own
+
+  -- the plan of a poll of a call
+  abbrev pub fifo_plan : Buffering → BufferPlan Reply
+  fifo_plan own = plan_at (going (talk_of own.talks t) call).stage (going (talk_of own.talks t) call) own
+
+-- a pass leaves the talks as they are
+abbrev pub talks_passed : {A : Type 0} → List Talk → Left (Waiting BufferOut) A → Left Buffering A
+talks_passed talks left = record { own = buffering left.own talks; answer = left.answer }
+
+-- the plan of a pass
+abbrev pub fifo_pass_plan : List CpuId → CpuId → Pass → Buffering → BufferPlan (Unit {0})
+fifo_pass_plan homes c p own = raised (talks_passed own.talks) (cv_pass_plan (lock_moves buffer_rules) homes c p own.cv)

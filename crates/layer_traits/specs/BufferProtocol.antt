@@ -1,0 +1,110 @@
+-- Which section of a buffer which CPU may do after which sections: whoever enters stands in no line of the buffer, whoever tries
+-- stands in the line of its side, and whoever waits tried in vain in its section before.
+use Rattle.std.specs.Prelude.{◌≡◌, Bool, true, false, not, ◌&&◌, List, [], ◌∷◌, Option, Some, None, if◌then◌else◌}
+use Rattle.event_log.specs.declared.ids.CpuId.{CpuId}
+use Rattle.event_log.specs.declared.ids.LockId.{LockId}
+use Rattle.event_log.specs.declared.ids.Tid.{Tid}
+use Rattle.event_log.specs.History.{same_lock}
+use Rattle.event_log.specs.Sections.{Section}
+use Rattle.layer_traits.specs.declared.locked.QEdit.TheVariants.{Acquire, Inside, Release}
+use Rattle.layer_traits.specs.declared.locked.Side.{Side}
+use Rattle.layer_traits.specs.declared.locked.Side.TheVariants.{Receivers, Senders}
+use Rattle.layer_traits.specs.declared.conditions.CvEdit.TheVariants.{Edit, SignalFront}
+use Rattle.layer_traits.specs.declared.conditions.CvLeave.{CvLeave}
+use Rattle.layer_traits.specs.declared.conditions.CvLeave.TheVariants.{Leave, Wait}
+use Rattle.layer_traits.specs.declared.conditions.CvEdit.{CvEdit}
+use Rattle.layer_traits.specs.declared.conditions.CvOut.{CvOut}
+use Rattle.layer_traits.specs.declared.buffer_edits.BufferEdit.{BufferEdit}
+use Rattle.layer_traits.specs.declared.buffer_edits.BufferEdit.TheVariants.{Enter, TryPut, TryTake}
+use Rattle.layer_traits.specs.declared.buffer_edits.BufferOut.{BufferOut}
+use Rattle.layer_traits.specs.Conditions.{CvCall, Deeds, cv_rules}
+use Rattle.layer_traits.specs.Locking.{LockRules, LockState, IsOwners, lock_after, lock_caller, owner_in}
+use Rattle.layer_traits.specs.BufferBlocks.{BufferState, buffer_answer, buffer_edited, editor, front_ready, is_turn, line_of}
+use Rattle.thread_blocks.specs.Queues.{same_tid, is_in}
+
+-- a section of a buffer
+abbrev pub BufferSection : Type 0
+BufferSection = Section (CvCall BufferEdit)
+
+-- a buffer's lock, with its owner and who sleeps there, round the block
+abbrev pub BufferLock : Type 0
+BufferLock = LockState BufferState
+
+-- what the edits mean, without a protocol
+abbrev pub plain_deeds : Deeds BufferEdit BufferState BufferOut
+plain_deeds = record {
+  caller = editor;
+  edited = buffer_edited;
+  answer = buffer_answer;
+  ready = front_ready;
+  allowed = λ opening past s. Unit {0};
+}
+
+-- the sections of buffers, by the same rules with or without a protocol
+abbrev pub buffer_rules : LockRules (CvEdit BufferEdit) CvLeave BufferState (CvOut BufferOut)
+buffer_rules = cv_rules plain_deeds
+
+-- a lock after these sections
+abbrev pub buffer_at : (LockId → Option BufferLock) → List BufferSection → LockId → Option BufferLock
+buffer_at opening past lock = lock_after buffer_rules opening lock past
+
+-- whether a thread stands in the line of this side of a buffer
+abbrev pub is_in_line : Side → Tid → Option BufferLock → Bool
+is_in_line side t None = false
+is_in_line side t (Some lock) = is_in t (line_of side lock.above)
+
+-- whether it is its turn there
+abbrev pub is_turn_at : Side → Tid → Option BufferLock → Bool
+is_turn_at side t None = false
+is_turn_at side t (Some lock) = is_turn side t lock.above
+
+-- whether a call is a try of this side
+abbrev pub is_try : Side → CvCall BufferEdit → Bool
+is_try side (Acquire t) = false
+is_try Receivers (Inside (Edit (Enter t at))) = false
+is_try Receivers (Inside (Edit (TryPut t m))) = false
+is_try Receivers (Inside (Edit (TryTake t))) = true
+is_try Senders (Inside (Edit (Enter t at))) = false
+is_try Senders (Inside (Edit (TryPut t m))) = true
+is_try Senders (Inside (Edit (TryTake t))) = false
+is_try side (Inside (SignalFront t at)) = false
+is_try side (Release leave) = false
+
+-- whether the thread's newest section is a try of this side at this lock, and was in vain
+abbrev pub has_tried_in_vain : (LockId → Option BufferLock) → LockId → Side → Tid → List BufferSection → Bool
+has_tried_in_vain opening lock side t [] = false
+has_tried_in_vain opening lock side t (s ∷ past) =
+    if same_tid (lock_caller buffer_rules s.edit) t
+    then is_try side s.edit && same_lock lock s.lock && not (is_turn_at side t (buffer_at opening past lock))
+    else has_tried_in_vain opening lock side t past
+
+-- a call is due: what its caller must have done before
+abbrev pub IsDue : (LockId → Option BufferLock) → List BufferSection → LockId → CvCall BufferEdit → Type 0
+IsDue opening past lock (Acquire t) = Unit {0}
+IsDue opening past lock (Inside (Edit (Enter t side))) =
+    (is_in_line Senders t (buffer_at opening past lock) ≡ false) × (is_in_line Receivers t (buffer_at opening past lock) ≡ false)
+IsDue opening past lock (Inside (Edit (TryPut t m))) = is_in_line Senders t (buffer_at opening past lock) ≡ true
+IsDue opening past lock (Inside (Edit (TryTake t))) = is_in_line Receivers t (buffer_at opening past lock) ≡ true
+IsDue opening past lock (Inside (SignalFront t side)) = Unit {0}
+IsDue opening past lock (Release (Leave t)) = Unit {0}
+IsDue opening past lock (Release (Wait t side)) = has_tried_in_vain opening lock side t past ≡ true
+
+-- a section keeps the protocol of buffers
+abbrev pub buffer_allowed : (LockId → Option BufferLock) → List BufferSection → BufferSection → Type 0
+buffer_allowed opening past s = IsDue opening past s.lock s.edit
+
+-- what the edits of buffers mean
+abbrev pub buffer_deeds : Deeds BufferEdit BufferState BufferOut
+buffer_deeds = record {
+  caller = editor;
+  edited = buffer_edited;
+  answer = buffer_answer;
+  ready = front_ready;
+  allowed = buffer_allowed;
+}
+
+-- a section may be done: by a CPU at which its caller is at home; by the lock's owner, or for an Acquire by one who is not; and it is due
+pub record MaySection (home : Tid → Option CpuId) (opening : LockId → Option BufferLock) (past : List BufferSection) (s : BufferSection) : Type 0 where
+  pub at : home (lock_caller buffer_rules s.edit) ≡ Some s.cpu
+  pub owner : IsOwners buffer_rules s.edit (owner_in (buffer_at opening past s.lock))
+  pub above : buffer_allowed opening past s

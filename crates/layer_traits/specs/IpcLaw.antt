@@ -1,0 +1,46 @@
+-- The law of the layer of message calls: what it adds to that of the buffers.
+use Rattle.std.specs.Prelude.{◌≡◌, ◌⊎◌, ℕ, ◌<◌, List, [], Option, Some, nat_lt, option_map, slice_get, if◌then◌else◌}
+use Rattle.event_log.specs.declared.ids.BufId.{BufId}
+use Rattle.event_log.specs.declared.ids.CpuId.{CpuId}
+use Rattle.event_log.specs.declared.ids.LockId.{LockId}
+use Rattle.event_log.specs.declared.ids.LockId.TheVariants.{Pending, Buffer}
+use Rattle.event_log.specs.declared.ids.Tid.{Tid}
+use Rattle.layer_traits.specs.declared.moves.Line.{Line}
+use Rattle.layer_traits.specs.Places.{Asleep, At, Step, count_in, one_if, place_of, where_is}
+use Rattle.layer_traits.specs.ListsAgree.{is_at}
+use Rattle.layer_traits.specs.declared.calls.Call.{Call}
+use Rattle.layer_traits.specs.declared.calls.Reply.{Reply}
+use Rattle.layer_traits.specs.declared.calls.Reply.TheVariants.{NoBuffer}
+use Rattle.layer_traits.specs.declared.queue_edits.QueueBlock.{QueueBlock}
+use Rattle.layer_traits.specs.declared.queue_edits.QueueBlock.TheVariants.{Queue, Above}
+use Rattle.layer_traits.specs.Plans.{Now}
+use Rattle.layer_traits.specs.BufferProtocol.{BufferLock}
+use Rattle.layer_traits.specs.BufferEffects.{fresh_lock}
+use Rattle.layer_traits.specs.BufferLaw.{BufferPlan, Buffering, buffer_of, fifo_plan}
+
+-- the waiting lists of the buffers and the threads' places agree by count: who sleeps stands once on the list of its place, and on no
+-- other list; nobody sleeps but at a buffer
+pub record LinesAgree (buffers : ℕ) (homes : List CpuId) (moves : List Step) (lines : BufId → Line → List Tid) : Type 0 where
+  pub once : (b : BufId) (line : Line) (t : Tid) → b.0 < buffers
+      → count_in t (lines b line) ≡ one_if (is_at (Buffer b) line (place_of (where_is homes moves t)))
+  pub known : (t : Tid) (lock : LockId) (line : Line) → where_is homes moves t ≡ Asleep (At lock line)
+      → (b : BufId) × (lock ≡ Buffer b) × (b.0 < buffers)
+
+-- a call on a number that is no buffer's: nothing is done
+pub record NothingDone {M P : Type 0} (old new : M) (before after : P) (answer : Option Reply) : Type 0 where
+  pub machine : new ≡ old
+  pub part : after ≡ before
+  pub answers : answer ≡ Some NoBuffer
+
+-- the plan of a call, with so many buffers
+abbrev pub ipc_plan : ℕ → List CpuId → CpuId → Tid → Call → Buffering → BufferPlan Reply
+ipc_plan buffers homes c t call own =
+    if nat_lt (buffer_of call).0 buffers
+    then fifo_plan homes c t call own
+    else Now (record { own = own; answer = Some NoBuffer })
+
+-- the opening blocks, as far as a machine shows them: a fresh lock round an empty buffer of each capacity; an empty queue for this CPU
+-- and for each thread's home
+pub record OpensSo (caps : List ℕ) (homes : List CpuId) (c : CpuId) (opening : LockId → Option (QueueBlock BufferLock)) : Type 0 where
+  pub buffers : (b : BufId) → opening (Buffer b) ≡ option_map (λ capacity. Above (fresh_lock capacity)) (slice_get caps b.0)
+  pub queues : (d : CpuId) → (d ≡ c) ⊎ ((u : Tid) × (slice_get homes u.0 ≡ Some d)) → (kept : _) × (opening (Pending d) ≡ Some (Queue [] kept))

@@ -1,0 +1,28 @@
+//! The edits of a first-in first-out buffer that is guarded by a lock with conditions.
+
+use crate::locked::Side;
+use event_log::{Kind, Msg, Tid};
+
+/// An edit of a buffer.
+#[derive(Clone, Copy, Debug, PartialEq, Eq)]
+pub enum BufferEdit {
+    /// This thread enters the line of this side and draws its position in it.
+    Enter(Tid, Side),
+    /// This thread puts this message, where it stands first in the send line and there is room.
+    TryPut(Tid, Msg),
+    /// This thread takes the first message, where it stands first in the receive line and there is
+    /// one.
+    TryTake(Tid),
+}
+
+/// What an edit of a buffer answers.
+#[derive(Clone, Copy, Debug, PartialEq, Eq)]
+pub enum BufferOut {
+    /// The thread has this position: how many had entered this line before it, modulo 2^64.
+    Entered(u64),
+    /// It was not the thread's turn, or the buffer had no room or no message: nothing was done.
+    NotYet,
+    /// An effect of this kind was done, behind this many others on the buffer, modulo 2^64, with
+    /// this message.
+    Done(Kind, u64, Msg),
+}

@@ -1,0 +1,246 @@
+//! The layer of buffers.
+
+ghost use Rattle.std.specs.Prelude.{◌≡◌, ◌≢◌, ℕ, ◌+◌, ◌<◌, ◌≤◌, Bool, true, false, List, [], Option, Some, None, IsSome, length, map};
+
+use crate::calls::{Call, Effect, Reply};
+use crate::passes::Pass;
+use event_log::{CpuId, Tid};
+
+/// One CPU's part of a layer of first-in first-out blocking bounded buffers (Anderson and Dahlin):
+/// whoever calls enters the line of its side, and the first of a line goes on once the buffer
+/// allows it. To the layers above a message call is one event, its effect. A poll does at most one
+/// atomic action; where it gives `None` the same call is polled again, once its thread runs.
+///
+/// No call takes memory.
+pub trait BufferLayer {
+    ghost use Rattle.event_log.specs.declared.entries.Entry.{Entry};
+    ghost use Rattle.event_log.specs.declared.ids.BufId.{BufId};
+    ghost use Rattle.event_log.specs.declared.ids.CpuId.{CpuId};
+    ghost use Rattle.event_log.specs.declared.ids.LockId.{LockId};
+    ghost use Rattle.event_log.specs.declared.ids.LockId.TheVariants.{Pending};
+    ghost use Rattle.event_log.specs.declared.ids.Tid.{Tid};
+    ghost use Rattle.event_log.specs.declared.ids.TheConstants.{THREADS};
+    ghost use Rattle.event_log.specs.History.{IsLawful};
+    ghost use Rattle.event_log.specs.Actions.{Action, AreLegal, phase};
+    ghost use Rattle.event_log.specs.Sections.{sections_in};
+    ghost use Rattle.layer_traits.specs.declared.buffer_edits.BufferEdit.{BufferEdit};
+    ghost use Rattle.layer_traits.specs.declared.moves.Line.{Line};
+    ghost use Rattle.layer_traits.specs.declared.queue_edits.QueueEdit.{QueueEdit};
+    ghost use Rattle.layer_traits.specs.declared.queue_edits.QueueBlock.{QueueBlock};
+    ghost use Rattle.layer_traits.specs.Conditions.{CvCall};
+    ghost use Rattle.layer_traits.specs.Places.{Step, Stands, AreMoves};
+    ghost use Rattle.layer_traits.specs.Plans.{Follows, table_of, is_in_section};
+    ghost use Rattle.layer_traits.specs.Looks.{Tries};
+    ghost use Rattle.layer_traits.specs.QueueBlocks.{StartsWell, homes_in, inner};
+    ghost use Rattle.layer_traits.specs.Queues.{buffer_sections, event_of};
+    ghost use Rattle.layer_traits.specs.QueueRules.{queue_rules};
+    ghost use Rattle.layer_traits.specs.Passes.{MayPass, IsLocalPass, PassPolled};
+    ghost use Rattle.layer_traits.specs.Locking.{lock_moves, lock_rules};
+    ghost use Rattle.layer_traits.specs.BufferProtocol.{BufferLock, buffer_rules};
+    ghost use Rattle.layer_traits.specs.BufferEffects.{MayTakeEffect, effects_in, opening_locks};
+    ghost use Rattle.layer_traits.specs.BufferLaw.{Buffering, Called, Calling, Doing, IsRefused, MayGoOn, MayTalk, MovesGrow, OthersSeen, Passing, RunsOn, buffer_of, buffering_at_start, fifo_pass_plan, fifo_plan, still_calling, still_passing, talk_of};
+    ghost use Rattle.layer_traits.specs.IpcLaw.{LinesAgree};
+
+    /// What lies beneath.
+    type Machine;
+
+    /// The opening block of each lock; None where there is no such lock.
+    ghost opening: { Self.Machine → LockId → Option (QueueBlock BufferLock) };
+
+    /// The capacities of the buffers.
+    ghost caps: { Self.Machine → List ℕ };
+
+    /// The effects that the holder of the machine has seen, newest first.
+    ghost seen: { Self.Machine → List Entry };
+
+    /// The moves of threads that it has seen, newest first.
+    ghost moves: { Self.Machine → List Step };
+
+    /// Who sleeps at a buffer, as its last section left it.
+    ghost lines: { Self.Machine → BufId → Line → List Tid };
+
+    /// For which CPUs the holder of the machine acts. It carries that the machine is sound.
+    ghost ActsFor: { Self.Machine → CpuId → Type 0 };
+
+    /// For how many more events there is room.
+    ghost room: { Self.Machine → ℕ };
+
+    /// Which machine it is, as numbers; a machine that nobody has to know again needs none. No poll
+    /// changes it.
+    ghost site: { Self.Machine → List ℕ } = { λ _. [] };
+
+    /// No section of this CPU is under way.
+    ghost IsOutside: { Self.Machine → CpuId → Type 0 };
+
+    /// Whose part it is.
+    ghost cpu_of: { Self → CpuId };
+
+    /// The CPU's own state.
+    ghost own: { Self → Buffering };
+
+    /// Whether a section is under way.
+    ghost is_inside: { Self → Bool };
+
+    /// What the CPU does that has not ended.
+    ghost doing: { Self → Option Doing };
+
+    /// The part and the machine agree.
+    ghost Fits: { Self → Self.Machine → Type 0 };
+
+    /// Whether one poll is one call: it takes effect at the first poll at which its buffer allows
+    /// it.
+    ghost IsWhole: { Type 0 };
+
+    /// Whether one poll is one action, as in the tower.
+    ghost IsStepwise: { Type 0 };
+
+    /// The actions on the locks, newest first, each Give under its section's edit.
+    ghost acts: { Self.Machine → List (Action (QueueEdit (CvCall BufferEdit))) };
+
+    /// The part of `cpu` at boot: its threads are ready, and none has called.
+    fn part(cpu: CpuId, homes: &[CpuId], buffers: u8) -> Self
+        requires { length homes.now ≤ THREADS }
+        ensures cpu { cpu_of result ≡ cpu }
+        ensures own { own result ≡ buffering_at_start homes.now cpu }
+        ensures doing { doing result ≡ None }
+        ensures fits { (m : Self.Machine) → ActsFor m cpu → IsOutside m cpu → seen m ≡ [] → moves m ≡ []
+            → homes_in (opening m) ≡ homes.now → IsSome (opening m (Pending cpu)) → inner (opening m) ≡ opening_locks (caps m)
+            → Fits result m };
+
+    /// Whether a section is under way.
+    fn is_busy(&self) -> bool
+        ensures { result ≡ is_inside self.now };
+
+    /// The thread that runs.
+    fn current(&self) -> Option<Tid>
+        ensures { result ≡ (own self.now).cv.lock.sleep.threads.current };
+
+    /// The thread that this CPU woke and has yet to send home.
+    fn hand(&self) -> Option<Tid>
+        ensures { result ≡ (own self.now).cv.lock.sleep.threads.hand };
+
+    /// Whether a thread is ready.
+    fn has_ready(&self) -> bool
+        ensures some { result ≡ true → (own self.now).cv.lock.sleep.threads.ready ≢ [] }
+        ensures none { result ≡ false → (own self.now).cv.lock.sleep.threads.ready ≡ [] };
+
+    /// The effect of this thread's newest call, from the poll in which it came until the thread's
+    /// next call begins.
+    fn effect(&self, t: Tid) -> Option<Effect>
+        requires { t.0 < THREADS }
+        ensures { result ≡ (talk_of (own self.now).talks t).effect };
+
+    /// Looks again for a section that waits at its lock, and tells whether it did: a poll that ends
+    /// nothing, so it needs no call and has no answer. Where it tells `false` nothing has changed,
+    /// and the call is to be polled; a layer may always tell that.
+    fn look(&mut self, m: &mut Self::Machine) -> bool
+        requires fits { Fits self.old m.old }
+        requires room { 0 < room m.old }
+        ensures still { result ≡ false → (self.new ≡ self.old) × (m.new ≡ m.old) }
+        ensures waits { result ≡ true → is_inside self.old ≡ true }
+        ensures fits { Fits self.new m.new }
+        ensures cpu { cpu_of self.new ≡ cpu_of self.old }
+        ensures own { own self.new ≡ own self.old }
+        ensures inside { is_inside self.new ≡ is_inside self.old }
+        ensures doing { doing self.new ≡ doing self.old }
+        ensures seen { OthersSeen (ActsFor m.old) (seen m.old) (seen m.new) }
+        ensures moves { MovesGrow (ActsFor m.old) (cpu_of self.old) (moves m.old) (moves m.new) }
+        ensures opening { opening m.new ≡ opening m.old }
+        ensures caps { caps m.new ≡ caps m.old }
+        ensures site { site m.new ≡ site m.old }
+        ensures room { room m.old ≤ room m.new + 1 }
+        ensures acts { (c : CpuId) → ActsFor m.old c → ActsFor m.new c }
+        ensures others { (p : Self) → cpu_of p ≢ cpu_of self.old → Fits p m.old → Fits p m.new }
+        ensures tries { IsStepwise → result ≡ true → Tries (ActsFor m.old) (cpu_of self.old) (acts m.old) (acts m.new) };
+
+    /// Does at most one action of the call of `t`, which runs. Gives the reply once the call has
+    /// ended, and `None` while the same call is to be polled again.
+    fn poll(&mut self, m: &mut Self::Machine, t: Tid, call: &Call) -> Option<Reply>
+        requires fits { Fits self.old m.old }
+        requires buffer { (buffer_of call.now).0 < length (caps m.old) }
+        requires room { 0 < room m.old }
+        requires runs { (own self.old).cv.lock.sleep.threads.current ≡ Some t }
+        requires hand { doing self.old ≡ None → (own self.old).cv.lock.sleep.threads.hand ≡ None }
+        requires same { MayTalk (talk_of (own self.old).talks t) call.now }
+        requires goes_on { MayGoOn (doing self.old) (Calling t) }
+        ensures called { Called (ActsFor m.old) (cpu_of self.old) t call.now (own self.old).talks (own self.new).talks
+            (seen m.old) (seen m.new) result }
+        ensures runs { RunsOn t (own self.old).cv.lock.sleep.threads (own self.new).cv.lock.sleep.threads result }
+        ensures doing { doing self.new ≡ still_calling t (own self.new).cv.lock.sleep.threads.current result }
+        ensures moves { MovesGrow (ActsFor m.old) (cpu_of self.old) (moves m.old) (moves m.new) }
+        ensures prompt { IsWhole → result ≡ None
+            → IsRefused call.now (caps m.old) (seen m.new) × ((own self.new).cv.lock.sleep.threads.current ≡ None) }
+        ensures fits { Fits self.new m.new }
+        ensures cpu { cpu_of self.new ≡ cpu_of self.old }
+        ensures opening { opening m.new ≡ opening m.old }
+        ensures caps { caps m.new ≡ caps m.old }
+        ensures site { site m.new ≡ site m.old }
+        ensures room { room m.old ≤ room m.new + 1 }
+        ensures acts { (c : CpuId) → ActsFor m.old c → ActsFor m.new c }
+        ensures others { (p : Self) → cpu_of p ≢ cpu_of self.old → Fits p m.old → Fits p m.new }
+        ensures follows { IsStepwise
+            → Follows (ActsFor m.old) (table_of (queue_rules (lock_rules buffer_rules) (lock_moves buffer_rules)))
+            (opening m.old) (cpu_of self.old) (fifo_plan (homes_in (opening m.old)) (cpu_of self.old) t call.now (own self.old))
+            (acts m.old) (acts m.new) (record { own = own self.new; answer = result }) };
+
+    /// Passes a call on to the scheduler. The talks stay.
+    fn pass(&mut self, m: &mut Self::Machine, call: Pass) -> Option<()>
+        requires fits { Fits self.old m.old }
+        requires room { 0 < room m.old }
+        requires may { MayPass call (own self.old).cv.lock.sleep.threads }
+        requires goes_on { MayGoOn (doing self.old) (Passing call) }
+        ensures seen { OthersSeen (ActsFor m.old) (seen m.old) (seen m.new) }
+        ensures passed { PassPolled (homes_in (opening m.old)) (ActsFor m.old) (cpu_of self.old) call result (moves m.old) (moves m.new)
+            (own self.old).cv.lock.sleep.threads (own self.new).cv.lock.sleep.threads }
+        ensures doing { doing self.new ≡ still_passing call result }
+        ensures talks { (own self.new).talks ≡ (own self.old).talks }
+        ensures still { IsLocalPass call → m.new ≡ m.old }
+        ensures prompt { IsWhole → IsSome result }
+        ensures fits { Fits self.new m.new }
+        ensures cpu { cpu_of self.new ≡ cpu_of self.old }
+        ensures opening { opening m.new ≡ opening m.old }
+        ensures caps { caps m.new ≡ caps m.old }
+        ensures site { site m.new ≡ site m.old }
+        ensures room { room m.old ≤ room m.new + 1 }
+        ensures acts { (c : CpuId) → ActsFor m.old c → ActsFor m.new c }
+        ensures others { (p : Self) → cpu_of p ≢ cpu_of self.old → Fits p m.old → Fits p m.new }
+        ensures follows { IsStepwise
+            → Follows (ActsFor m.old) (table_of (queue_rules (lock_rules buffer_rules) (lock_moves buffer_rules)))
+            (opening m.old) (cpu_of self.old) (fifo_pass_plan (homes_in (opening m.old)) (cpu_of self.old) call (own self.old))
+            (acts m.old) (acts m.new) (record { own = own self.new; answer = result }) };
+
+    /// Law: a part that agrees with a machine is of a CPU for which the machine's holder acts.
+    ghost own_cpu: { (p : Self) (m : Self.Machine) → Fits p m → ActsFor m (cpu_of p) };
+
+    /// Law: each effect that was seen may come after those before it.
+    ghost lawful: { (m : Self.Machine) (c : CpuId) → ActsFor m c → IsLawful (MayTakeEffect (caps m)) (seen m) };
+
+    /// Law: a CPU's threads stand where the moves say.
+    ghost stands: { (p : Self) (m : Self.Machine) → Fits p m
+        → Stands (homes_in (opening m)) (cpu_of p) (moves m) (own p).cv.lock.sleep.threads };
+
+    /// Law: each move that was seen may follow those before it.
+    ghost moved: { (m : Self.Machine) (c : CpuId) → ActsFor m c → AreMoves (homes_in (opening m)) (moves m) };
+
+    /// Law: the waiting lists of the buffers and the threads' places agree.
+    ghost lists: { (p : Self) (m : Self.Machine) → Fits p m
+        → LinesAgree (length (caps m)) (homes_in (opening m)) (moves m) (lines m) };
+
+    /// Law: the opening blocks are those of a machine that may start.
+    ghost opens: { (m : Self.Machine) (c : CpuId) → ActsFor m c → StartsWell (opening m) };
+
+    /// Law: the actions are legal.
+    ghost legal: { (m : Self.Machine) (c : CpuId) → ActsFor m c → AreLegal (acts m) };
+
+    /// Law: where a poll is one action, the effects are those of the sections of the actions, so
+    /// each has the position that its thread drew.
+    ghost seen_is: { IsStepwise → (m : Self.Machine)
+        → seen m ≡ effects_in (inner (opening m)) (buffer_sections (map event_of (sections_in (acts m)))) };
+
+    /// Law: where a poll is one action, a part has a section under way exactly while its CPU waits
+    /// at a lock or holds one.
+    ghost busy: { (p : Self) (m : Self.Machine) → Fits p m → IsStepwise → is_inside p ≡ is_in_section (phase (cpu_of p) (acts m)) };
+
+    /// Law: where the CPU has nothing begun, no section is under way.
+    ghost rests: { (p : Self) (m : Self.Machine) → Fits p m → doing p ≡ None → is_inside p ≡ false };
+}

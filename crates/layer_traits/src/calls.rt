@@ -1,0 +1,58 @@
+//! Message calls, what they answer, what they leave behind, and where a thread stands.
+
+use event_log::{BufId, CpuId, Kind, Msg};
+
+/// A message call of a thread.
+#[derive(Clone, Copy, Debug, PartialEq, Eq)]
+pub enum Call {
+    /// Puts this message at the end of the buffer, once there is room and it is the thread's turn.
+    Send(BufId, Msg),
+    /// Takes the first message of the buffer, once there is one and it is the thread's turn.
+    Recv(BufId),
+}
+
+/// What a message call answers.
+#[derive(Clone, Copy, Debug, PartialEq, Eq)]
+pub enum Reply {
+    /// The message was put.
+    Sent,
+    /// This message was taken.
+    Got(Msg),
+    /// There is no buffer of this number (error 3): nothing was done.
+    NoBuffer,
+}
+
+/// The effect of a message call: the one step in which its message was put or taken.
+#[derive(Clone, Copy, Debug, PartialEq, Eq)]
+pub struct Effect {
+    /// Whether a message was put or taken.
+    pub kind: Kind,
+    /// The message.
+    pub value: Msg,
+    /// How many effects, of both kinds together, the buffer had before this one, modulo 2^64.
+    pub op: u64,
+    /// The position that the thread drew when it entered the line: how many threads had entered
+    /// that line of the buffer before it, modulo 2^64.
+    pub pos: u64,
+}
+
+/// Where a thread stands.
+#[derive(Clone, Copy, Debug, PartialEq, Eq)]
+pub enum Place {
+    /// It runs on this CPU.
+    Running(CpuId),
+    /// It is ready on this CPU.
+    Ready(CpuId),
+    /// It was sent to this CPU, which has not taken it yet.
+    Pending(CpuId),
+    /// This CPU woke it and has yet to send it home.
+    Hand(CpuId),
+    /// It sleeps for this buffer's lock.
+    LockSleeper(BufId),
+    /// It waits to receive from this buffer.
+    WaitRecv(BufId),
+    /// It waits to send to this buffer.
+    WaitSend(BufId),
+    /// It has ended.
+    Ended,
+}

@@ -1,0 +1,257 @@
+//! The layer of conditions.
+
+ghost use Rattle.std.specs.Prelude.{◌≡◌, ◌≢◌, ℕ, ◌+◌, ◌<◌, ◌≤◌, Bool, true, false, List, [], Option, Some, None, IsSome, OnSome, is_some, length, map, if◌then◌else◌};
+
+use crate::conditions::{CvEdit, CvLeave, CvOut, Guarded};
+use crate::locked::{QEdit, QOut};
+use crate::passes::Pass;
+use crate::sleeps::Outcome;
+use event_log::{BufId, CpuId, Tid};
+
+/// One CPU's part of a layer of queuing locks with Mesa conditions (Anderson and Dahlin): the
+/// owner of a lock may give it on and wait in one event; a signal wakes the front of a line, and
+/// the woken thread takes the lock again by a call of its own. A poll does at most one atomic
+/// action; where it gives `None` the same call is polled again, once its thread runs.
+///
+/// No call takes memory.
+pub trait CvLayer<G: Guarded> {
+    ghost use Rattle.event_log.specs.declared.ids.BufId.{BufId};
+    ghost use Rattle.event_log.specs.declared.ids.CpuId.{CpuId};
+    ghost use Rattle.event_log.specs.declared.ids.LockId.{LockId};
+    ghost use Rattle.event_log.specs.declared.ids.LockId.TheVariants.{Pending, Buffer};
+    ghost use Rattle.event_log.specs.declared.ids.Tid.{Tid};
+    ghost use Rattle.event_log.specs.declared.ids.TheConstants.{THREADS};
+    ghost use Rattle.event_log.specs.History.{IsLawful, Grows};
+    ghost use Rattle.event_log.specs.Actions.{Action, AreLegal, phase};
+    ghost use Rattle.event_log.specs.Sections.{sections_in};
+    ghost use Rattle.layer_traits.specs.declared.queues.QueueEvent.{QueueEvent};
+    ghost use Rattle.layer_traits.specs.declared.queue_edits.QueueEdit.{QueueEdit};
+    ghost use Rattle.layer_traits.specs.declared.queue_edits.QueueBlock.{QueueBlock};
+    ghost use Rattle.layer_traits.specs.declared.scheds.SchedCall.{SchedCall};
+    ghost use Rattle.layer_traits.specs.declared.scheds.SchedCall.TheVariants as sched;
+    ghost use Rattle.layer_traits.specs.Places.{Stands, AreMoves};
+    ghost use Rattle.thread_blocks.specs.Queues.{is_in};
+    ghost use Rattle.layer_traits.specs.Plans.{Follows, IsWhole, table_of, is_in_section};
+    ghost use Rattle.layer_traits.specs.Looks.{Tries};
+    ghost use Rattle.layer_traits.specs.QueueBlocks.{StartsWell, homes_in, inner};
+    ghost use Rattle.layer_traits.specs.Queues.{QueueAllowed, IsKnownEvent, buffer_sections, event_actor, event_of, moves_in};
+    ghost use Rattle.layer_traits.specs.QueueRules.{queue_rules};
+    ghost use Rattle.layer_traits.specs.Passes.{MayPass, IsLocalPass};
+    ghost use Rattle.layer_traits.specs.Scheds.{SchedPolled};
+    ghost use Rattle.layer_traits.specs.SleepLaw.{MayCall, done_if};
+    ghost use Rattle.layer_traits.specs.Locking.{LockState, AreAtRest, lock_after, lock_caller, lock_moves, lock_rules};
+    ghost use Rattle.layer_traits.specs.LockLaw.{HasOrAwaits, LocksAgree, MayGo, MayLock, is_handed, lock_kernel, slept_for};
+    ghost use Rattle.layer_traits.specs.Conditions.{CvCall, cv_rules};
+    ghost use Rattle.layer_traits.specs.CvLaw.{CvPolled, MayWait, MustStay, Waiting, cv_pass_plan, cv_plan, waiting_at_start};
+
+    /// What lies beneath.
+    type Machine;
+
+    /// The opening block of each lock; None where there is no such lock.
+    ghost opening: { Self.Machine → LockId → Option (QueueBlock (LockState G.Block)) };
+
+    /// The events that the holder of the machine has seen, newest first.
+    ghost seen: { Self.Machine → List (QueueEvent (CvCall G)) };
+
+    /// For which CPUs the holder of the machine acts. It carries that the machine is sound.
+    ghost ActsFor: { Self.Machine → CpuId → Type 0 };
+
+    /// For how many more events there is room.
+    ghost room: { Self.Machine → ℕ };
+
+    /// Which machine it is, as numbers; a machine that nobody has to know again needs none. No poll
+    /// changes it.
+    ghost site: { Self.Machine → List ℕ } = { λ _. [] };
+
+    /// No section of this CPU is under way.
+    ghost IsOutside: { Self.Machine → CpuId → Type 0 };
+
+    /// Whose part it is.
+    ghost cpu_of: { Self → CpuId };
+
+    /// The CPU's own state.
+    ghost own: { Self → Waiting G.Out };
+
+    /// The call that has begun and has not ended.
+    ghost under_way: { Self → Option (SchedCall (CvCall G)) };
+
+    /// Whether a section is under way.
+    ghost is_inside: { Self → Bool };
+
+    /// The part and the machine agree.
+    ghost Fits: { Self → Self.Machine → Type 0 };
+
+    /// Whether one poll is one action, as in the tower; false of a machine that does a whole
+    /// section in one step.
+    ghost IsStepwise: { Type 0 };
+
+    /// The actions on the locks, newest first, each Give under its section's edit.
+    ghost acts: { Self.Machine → List (Action (QueueEdit (CvCall G))) };
+
+    /// The part of `cpu` at boot, with no call under way: its threads are ready, and nobody waits.
+    fn part(cpu: CpuId, homes: &[CpuId], buffers: u8) -> Self
+        requires { length homes.now ≤ THREADS }
+        ensures cpu { cpu_of result ≡ cpu }
+        ensures own { own result ≡ waiting_at_start homes.now cpu }
+        ensures call { under_way result ≡ None }
+        ensures fits { (m : Self.Machine) → ActsFor m cpu → IsOutside m cpu → seen m ≡ [] → homes_in (opening m) ≡ homes.now
+            → IsSome (opening m (Pending cpu)) → AreAtRest (inner (opening m)) → Fits result m };
+
+    /// Whether a section is under way.
+    fn is_busy(&self) -> bool
+        ensures { result ≡ is_inside self.now };
+
+    /// The thread that runs.
+    fn current(&self) -> Option<Tid>
+        ensures { result ≡ (own self.now).lock.sleep.threads.current };
+
+    /// The thread that this CPU woke and has yet to send home.
+    fn hand(&self) -> Option<Tid>
+        ensures { result ≡ (own self.now).lock.sleep.threads.hand };
+
+    /// Whether a thread is ready.
+    fn has_ready(&self) -> bool
+        ensures some { result ≡ true → (own self.now).lock.sleep.threads.ready ≢ [] }
+        ensures none { result ≡ false → (own self.now).lock.sleep.threads.ready ≡ [] };
+
+    /// Whether this thread is ready here.
+    fn is_ready(&self, t: Tid) -> bool
+        ensures { result ≡ is_in t (own self.now).lock.sleep.threads.ready };
+
+    /// Whether this thread has ended here.
+    fn has_ended(&self, t: Tid) -> bool
+        ensures { result ≡ is_in t (own self.now).lock.sleep.threads.ended };
+
+    /// Whether the thread that runs was handed the lock that it slept for: the poll of its call
+    /// will answer without an action.
+    fn at_once(&self) -> bool
+        ensures { result ≡ is_handed (own self.now).lock.slept (own self.now).lock.sleep.threads.current };
+
+    /// Looks again for a section that waits at its lock, and tells whether it did: a poll that ends
+    /// nothing, so it needs no call and has no answer. Where it tells `false` nothing has changed,
+    /// and the call is to be polled; a layer may always tell that.
+    fn look(&mut self, m: &mut Self::Machine) -> bool
+        requires fits { Fits self.old m.old }
+        requires room { 0 < room m.old }
+        ensures still { result ≡ false → (self.new ≡ self.old) × (m.new ≡ m.old) }
+        ensures waits { result ≡ true → is_inside self.old ≡ true }
+        ensures fits { Fits self.new m.new }
+        ensures cpu { cpu_of self.new ≡ cpu_of self.old }
+        ensures call { under_way self.new ≡ under_way self.old }
+        ensures own { own self.new ≡ own self.old }
+        ensures inside { is_inside self.new ≡ is_inside self.old }
+        ensures seen { Grows (ActsFor m.old) event_actor (seen m.old) (seen m.new) }
+        ensures opening { opening m.new ≡ opening m.old }
+        ensures site { site m.new ≡ site m.old }
+        ensures room { room m.old ≤ room m.new + 1 }
+        ensures acts { (c : CpuId) → ActsFor m.old c → ActsFor m.new c }
+        ensures others { (p : Self) → cpu_of p ≢ cpu_of self.old → Fits p m.old → Fits p m.new }
+        ensures tries { IsStepwise → result ≡ true → Tries (ActsFor m.old) (cpu_of self.old) (acts m.old) (acts m.new) };
+
+    /// Does at most one action of the call. Gives its outcome once it has ended, and `None` while
+    /// the same call is to be polled again. A wait answers once its thread was woken and runs again.
+    fn poll(
+        &mut self,
+        m: &mut Self::Machine,
+        buffer: BufId,
+        call: &QEdit<CvEdit<G>, CvLeave>,
+    ) -> Option<Outcome<QOut<CvOut<G::Out>>>>
+        requires fits { Fits self.old m.old }
+        requires buffer { IsSome (opening m.old (Buffer buffer)) }
+        requires room { 0 < room m.old }
+        requires caller { (own self.old).lock.sleep.threads.current ≡ Some (lock_caller (cv_rules G.deeds) call.now) }
+        requires call { MayWait (slept_for (own self.old).waits (lock_caller (cv_rules G.deeds) call.now)) (under_way self.old) buffer
+            call.now (lock_caller (cv_rules G.deeds) call.now)
+            (MayGo (slept_for (own self.old).lock.slept (lock_caller (cv_rules G.deeds) call.now)) (under_way self.old) buffer call.now
+            (lock_caller (cv_rules G.deeds) call.now)
+            (MayLock (cv_rules G.deeds) (lock_kernel (cv_rules G.deeds) (opening m.old)) (cpu_of self.old) (seen m.old)
+            (own self.old).lock.sleep.threads.hand buffer call.now)) }
+        ensures seen { CvPolled G.deeds (lock_kernel (cv_rules G.deeds) (opening m.old)) (ActsFor m.old) (cpu_of self.old) buffer call.now
+            (slept_for (own self.old).waits (lock_caller (cv_rules G.deeds) call.now)) (seen m.old) (seen m.new) (own self.old)
+            (under_way self.new) (record { own = own self.new; answer = result }) }
+        ensures woken { IsSome (slept_for (own self.old).waits (lock_caller (cv_rules G.deeds) call.now)) → m.new ≡ m.old }
+        ensures handed { IsSome (slept_for (own self.old).lock.slept (lock_caller (cv_rules G.deeds) call.now)) → m.new ≡ m.old }
+        ensures fits { Fits self.new m.new }
+        ensures cpu { cpu_of self.new ≡ cpu_of self.old }
+        ensures opening { opening m.new ≡ opening m.old }
+        ensures site { site m.new ≡ site m.old }
+        ensures room { room m.old ≤ room m.new + 1 }
+        ensures acts { (c : CpuId) → ActsFor m.old c → ActsFor m.new c }
+        ensures others { (p : Self) → cpu_of p ≢ cpu_of self.old → Fits p m.old → Fits p m.new }
+        ensures prompt { IsWhole IsStepwise → result ≡ None
+            → MustStay (lock_caller (cv_rules G.deeds) call.now) buffer (own self.old) (own self.new) }
+        ensures follows { IsStepwise
+            → Follows (ActsFor m.old) (table_of (queue_rules (lock_rules (cv_rules G.deeds)) (lock_moves (cv_rules G.deeds))))
+            (opening m.old) (cpu_of self.old)
+            (cv_plan (lock_moves (cv_rules G.deeds)) (homes_in (opening m.old)) (cpu_of self.old) buffer call.now (own self.old))
+            (acts m.old) (acts m.new) (record { own = own self.new; answer = result }) };
+
+    /// Passes a call on to the scheduler. Who sleeps and who waits stay.
+    fn pass(&mut self, m: &mut Self::Machine, call: Pass) -> Option<()>
+        requires fits { Fits self.old m.old }
+        requires room { 0 < room m.old }
+        requires call { MayCall (under_way self.old) (sched.Pass call) (MayPass call (own self.old).lock.sleep.threads) }
+        ensures seen { SchedPolled (lock_kernel (cv_rules G.deeds) (opening m.old)) (ActsFor m.old) (cpu_of self.old) (sched.Pass call)
+            (done_if result) (seen m.old) (seen m.new) (own self.old).lock.sleep.threads (own self.new).lock.sleep.threads }
+        ensures kept { (own self.new).lock.sleep.kept ≡ (own self.old).lock.sleep.kept }
+        ensures slept { (own self.new).lock.slept ≡ (own self.old).lock.slept }
+        ensures waits { (own self.new).waits ≡ (own self.old).waits }
+        ensures call { under_way self.new ≡ (if is_some result then None else Some (sched.Pass call)) }
+        ensures still { IsLocalPass call → m.new ≡ m.old }
+        ensures fits { Fits self.new m.new }
+        ensures cpu { cpu_of self.new ≡ cpu_of self.old }
+        ensures opening { opening m.new ≡ opening m.old }
+        ensures site { site m.new ≡ site m.old }
+        ensures room { room m.old ≤ room m.new + 1 }
+        ensures acts { (c : CpuId) → ActsFor m.old c → ActsFor m.new c }
+        ensures outside { OnSome result ((IsLocalPass call → ⊥) → IsOutside m.new (cpu_of self.old)) }
+        ensures others { (p : Self) → cpu_of p ≢ cpu_of self.old → Fits p m.old → Fits p m.new }
+        ensures prompt { IsWhole IsStepwise → IsSome result }
+        ensures follows { IsStepwise
+            → Follows (ActsFor m.old) (table_of (queue_rules (lock_rules (cv_rules G.deeds)) (lock_moves (cv_rules G.deeds))))
+            (opening m.old) (cpu_of self.old)
+            (cv_pass_plan (lock_moves (cv_rules G.deeds)) (homes_in (opening m.old)) (cpu_of self.old) call (own self.old))
+            (acts m.old) (acts m.new) (record { own = own self.new; answer = result }) };
+
+    /// Law: a part that agrees with a machine is of a CPU for which the machine's holder acts.
+    ghost own_cpu: { (p : Self) (m : Self.Machine) → Fits p m → ActsFor m (cpu_of p) };
+
+    /// Law: a CPU's threads stand where the moves say.
+    ghost stands: { (p : Self) (m : Self.Machine) → Fits p m
+        → Stands (homes_in (opening m)) (cpu_of p) (moves_in (lock_kernel (cv_rules G.deeds) (opening m)) (seen m))
+        (own p).lock.sleep.threads };
+
+    /// Law: the waiting lists of each lock and the threads' places agree.
+    ghost lists: { (p : Self) (m : Self.Machine) → Fits p m → LocksAgree (cv_rules G.deeds) (opening m) (seen m) };
+
+    /// Law: a thread that slept for a lock owns it or sleeps for it still.
+    ghost awaits: { (p : Self) (m : Self.Machine) → Fits p m → (t : Tid) (b : BufId) → slept_for (own p).lock.slept t ≡ Some b
+        → HasOrAwaits t (lock_after (cv_rules G.deeds) (inner (opening m)) (Buffer b) (buffer_sections (seen m))) };
+
+    /// Law: the opening blocks are those of a machine that may start.
+    ghost opens: { (m : Self.Machine) (c : CpuId) → ActsFor m c → StartsWell (opening m) };
+
+    /// Law: each event that was seen keeps the protocol.
+    ghost lawful: { (m : Self.Machine) (c : CpuId) → ActsFor m c
+        → IsLawful (QueueAllowed (lock_kernel (cv_rules G.deeds) (opening m))) (seen m) };
+
+    /// Law: each move that was seen may follow those before it.
+    ghost moving: { (m : Self.Machine) (c : CpuId) → ActsFor m c
+        → AreMoves (homes_in (opening m)) (moves_in (lock_kernel (cv_rules G.deeds) (opening m)) (seen m)) };
+
+    /// Law: each event that was seen is of a CPU that a machine may have.
+    ghost known: { (m : Self.Machine) (c : CpuId) → ActsFor m c → IsLawful IsKnownEvent (seen m) };
+
+    /// Law: the actions are legal.
+    ghost legal: { (m : Self.Machine) (c : CpuId) → ActsFor m c → AreLegal (acts m) };
+
+    /// Law: where a poll is one action, the events that were seen are the sections of the actions.
+    ghost seen_is: { IsStepwise → (m : Self.Machine) → seen m ≡ map event_of (sections_in (acts m)) };
+
+    /// Law: where a poll is one action, a part has a section under way exactly while its CPU waits
+    /// at a lock or holds one.
+    ghost busy: { (p : Self) (m : Self.Machine) → Fits p m → IsStepwise → is_inside p ≡ is_in_section (phase (cpu_of p) (acts m)) };
+
+    /// Law: where no call is under way, no section is.
+    ghost idle: { (p : Self) (m : Self.Machine) → Fits p m → under_way p ≡ None → is_inside p ≡ false };
+}
