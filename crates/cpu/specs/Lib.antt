@@ -1,0 +1,3 @@
+pub mod Standin
+pub mod Table
+pub mod Wakeups

@@ -1,0 +1,6 @@
+pub mod Blocks
+pub mod Edits
+pub mod Setups
+pub mod Choice
+pub mod Steps
+pub mod Worked

@@ -1,0 +1,93 @@
+-- What the step table speaks of: the blocks of the locks, the names of the sections, and what a section answers.
+use Rattle.std.specs.Prelude.{ℕ, Bool, false, ◌==◌, List, [], ◌∷◌, Option}
+use Rattle.event_log.specs.declared.ids.Tid.{Tid}
+use Rattle.event_log.specs.declared.entries.Kind.{Kind}
+use Rattle.event_log.specs.declared.entries.Kind.TheVariants.{Send as SendKind, Recv as RecvKind}
+use Rattle.event_log.specs.Messages.{Message}
+use Rattle.thread_blocks.specs.Queues.{is_in, first, rest}
+use Rattle.cpu.specs.Standin.{Side}
+use Rattle.cpu.specs.Standin.{Receivers, Senders}
+
+-- whether two threads are one
+abbrev pub same_thread : Tid → Tid → Bool
+same_thread a b = a.0 == b.0
+
+-- what the lock of a buffer guards. The busy word names the thread that owns the lock, the sleepers wait for it; the waiting threads
+-- gave it up until they are woken; the two lines hold the threads inside a call that has not taken effect, first in front; then the
+-- items, front first, how many there may be, and three counters: effects, and the positions drawn in each line.
+pub record Buffer : Type 0 where
+  pub busy : Option Tid
+  pub sleepers : List Tid
+  pub waiting_receivers : List Tid
+  pub waiting_senders : List Tid
+  pub receive_line : List Tid
+  pub send_line : List Tid
+  pub items : List Message
+  pub capacity : ℕ
+  pub effects : ℕ
+  pub send_positions : ℕ
+  pub receive_positions : ℕ
+
+-- what a lock guards: a buffer, or the queue of a CPU's pending threads
+pub data Block : Type 0 where
+  OfBuffer : (buffer : Buffer) → Block
+  OfPending : (threads : List Tid) → Block
+
+-- the sections. A caller t asks for the lock of a buffer, enters a line of it, tries to put or to take, waits, signals the receivers or
+-- the senders, or releases the lock. A thread s that was woken is put among the pending; all that are pending are taken.
+pub data Name : Type 0 where
+  AcqQ : (t : Tid) → Name
+  Enter : (t : Tid) (side : Side) → Name
+  TryPut : (t : Tid) (message : Message) → Name
+  TryTake : (t : Tid) → Name
+  WaitOn : (t : Tid) (side : Side) → Name
+  SigRecv : (t : Tid) → Name
+  SigSend : (t : Tid) → Name
+  RelQ : (t : Tid) → Name
+  Pend : (s : Tid) → Name
+  TakeAll : Name
+
+-- what a call asks of its buffer: to send or to receive
+pub data Asks : Type 0 where
+  Sends : Asks
+  Receives : Asks
+
+-- the side of the buffer on which a call stands
+abbrev pub side_of : Asks → Side
+side_of Sends = Senders
+side_of Receives = Receivers
+
+-- the kind of the entry that a call writes
+abbrev pub effect_of : Asks → Kind
+effect_of Sends = SendKind
+effect_of Receives = RecvKind
+
+-- what a section tells its caller: nothing, its position in a line, its effect's number and message, that it has to wait, or who was pending
+pub data Told : Type 0 where
+  Nothing : Told
+  Position : (pos : ℕ) → Told
+  Done : (op : ℕ) (message : Message) → Told
+  NotYet : Told
+  Drained : (threads : List Tid) → Told
+
+-- the answer of a section: what it tells, whether its caller sleeps now, and whom it woke
+pub record Answer : Type 0 where
+  pub told : Told
+  pub slept : Bool
+  pub woke : Option Tid
+
+-- the first of a list of threads, and the others
+abbrev pub front : List Tid → Option Tid
+front list = first list
+
+abbrev pub behind : List Tid → List Tid
+behind list = rest list
+
+-- whether a thread stands in a list
+abbrev pub stands_in : Tid → List Tid → Bool
+stands_in t list = is_in t list
+
+-- whether the first of a line stands in a list
+abbrev pub front_stands_in : List Tid → List Tid → Bool
+front_stands_in [] list = false
+front_stands_in (t ∷ line) list = stands_in t list

@@ -1,0 +1,259 @@
+-- What a CPU does next, and what a section's answer makes of its private state.
+use Rattle.std.specs.Prelude.{ℕ, ◌+◌, Bool, true, false, ◌==◌, List, [], ◌∷◌, ◌++◌, length, Option, Some, None, if◌then◌else◌}
+use Rattle.event_log.specs.declared.ids.CpuId.{CpuId}
+use Rattle.event_log.specs.declared.ids.Tid.{Tid}
+use Rattle.event_log.specs.declared.ids.BufId.{BufId}
+use Rattle.event_log.specs.declared.ids.LockId.{LockId}
+use Rattle.event_log.specs.declared.ids.LockId.TheVariants.{Pending, Buffer as AtBuffer}
+use Rattle.event_log.specs.declared.entries.Entry.{Entry}
+use Rattle.event_log.specs.History.{same_cpu}
+use Rattle.event_log.specs.Messages.{Message, no_message}
+use Rattle.cpu.specs.Standin.{Side}
+use Rattle.cpu.specs.Standin.{Receivers, Senders}
+use Rattle.layer_traits.specs.declared.steps.Reason.{Reason}
+use Rattle.layer_traits.specs.declared.steps.Reason.TheVariants.{AllEnded, TraceFull}
+use Rattle.guest.specs.declared.instructions.Instruction.{Instruction}
+use Rattle.guest.specs.declared.instructions.Instruction.TheVariants.{Set, Add, Sub, Jnz, Send, Recv, Yield as YieldLine, Exit}
+use Rattle.guest.specs.State.{State, sent_from, after_local, after_send, after_recv, after_yield}
+use Rattle.cpu.specs.Table.Blocks.{Name, AcqQ, Enter, TryPut, TryTake, WaitOn, SigRecv, SigSend, RelQ, Pend, TakeAll, Asks, Sends, Receives, side_of, effect_of}
+use Rattle.cpu.specs.Table.Blocks.{Told, Nothing, Position, Done, NotYet, Drained, Answer}
+use Rattle.cpu.specs.Table.Setups.{Setup, Stage, Acquires, Enters, Tries, Waits, AcquiresAgain, Signals, SignalsOwn, Releases, Returns, Call, Thread, Private}
+use Rattle.cpu.specs.Table.Setups.{thread_at, with_thread, home_of, stands_at, home_threads, open_calls, have_ended}
+
+-- The section that is asked.
+
+-- a section: at which lock, and which
+pub record Ask : Type 0 where
+  pub lock : LockId
+  pub name : Name
+
+abbrev pub at_pending : CpuId → Name → Ask
+at_pending c name = record { lock = Pending c; name = name }
+
+abbrev pub at_buffer : BufId → Name → Ask
+at_buffer b name = record { lock = AtBuffer b; name = name }
+
+-- the try of a call, by its side
+abbrev pub try_of : Tid → Call → Side → Name
+try_of t call Senders = TryPut t call.message
+try_of t call Receivers = TryTake t
+
+-- after its effect a call signals the other side first, and then its own
+abbrev pub first_signal : Tid → Side → Name
+first_signal t Senders = SigRecv t
+first_signal t Receivers = SigSend t
+
+abbrev pub second_signal : Tid → Side → Name
+second_signal t Senders = SigSend t
+second_signal t Receivers = SigRecv t
+
+-- the section by which a call that has got the lock enters
+abbrev pub first_section : Tid → Asks → Name
+first_section t Sends = Enter t Senders
+first_section t Receives = Enter t Receivers
+
+-- the section of a call at each stage; at Returns none is due
+abbrev pub section_at : Tid → Call → Stage → Name
+section_at t call Acquires = AcqQ t
+section_at t call Enters = first_section t call.asks
+section_at t call Tries = try_of t call (side_of call.asks)
+section_at t call Waits = WaitOn t (side_of call.asks)
+section_at t call AcquiresAgain = AcqQ t
+section_at t call Signals = first_signal t (side_of call.asks)
+section_at t call SignalsOwn = second_signal t (side_of call.asks)
+section_at t call Releases = RelQ t
+section_at t call Returns = RelQ t
+
+-- outside a call a section is the taking of all that are pending: by a yield, or by a CPU that has nobody to run
+abbrev pub asked_by : CpuId → Tid → Option Call → Ask
+asked_by c t None = at_pending c TakeAll
+asked_by c t (Some call) = at_buffer call.buffer (section_at t call call.stage)
+
+abbrev pub asked_at : CpuId → Private → Option Tid → Ask
+asked_at c p None = at_pending c TakeAll
+asked_at c p (Some t) = asked_by c t (thread_at p t).call
+
+-- while there is a thread in the hand, it is put among the pending threads of its home first
+abbrev pub asked_in : Setup → CpuId → Private → Option Tid → Ask
+asked_in setup c p None = asked_at c p p.current
+asked_in setup c p (Some s) = at_pending (home_of setup s) (Pend s)
+
+-- the section that is asked of a CPU
+abbrev pub asked : Setup → CpuId → Private → Ask
+asked setup c p = asked_in setup c p p.hand
+
+-- The choice of a step, where no section is under way.
+
+-- a CPU is halted, does something alone, or begins a section, with the private state that it then has
+pub data Choice : Type 0 where
+  Halts : (reason : Reason) → Choice
+  Alone : (next : Private) → Choice
+  Goes : (next : Private) → Choice
+
+-- a call that begins
+abbrev pub new_call : Asks → BufId → Message → Call
+new_call asks b m = record { asks = asks; buffer = b; message = m; position = 0; effect = None; stage = Acquires }
+
+abbrev pub with_call : Private → Tid → Option Call → Private
+with_call p t call = with_thread p t (record (thread_at p t) { call = call })
+
+abbrev pub with_guest : Private → Tid → State → Private
+with_guest p t guest = with_thread p t (record (thread_at p t) { guest = guest })
+
+-- a call begins, unless the trace has room for no more entries than its CPU's calls under way will leave
+abbrev pub begins : Setup → CpuId → Private → Tid → Call → Choice
+begins setup c p t call =
+    if (length p.trace + open_calls p (home_threads setup c)) == setup.trace_room
+    then Halts TraceFull
+    else Goes (with_call p t (Some call))
+
+-- a thread ends
+abbrev pub ends : Private → Tid → Private
+ends p t = record (with_thread p t (record (thread_at p t) { ended = true })) { current = None }
+
+-- the current thread stands at an instruction
+abbrev pub at_instruction : Setup → CpuId → Private → Tid → Instruction → Choice
+at_instruction setup c p t (Send b r) = begins setup c p t (new_call Sends b (sent_from (thread_at p t).guest r))
+at_instruction setup c p t (Recv b r) = begins setup c p t (new_call Receives b no_message)
+at_instruction setup c p t YieldLine = Goes p
+at_instruction setup c p t Exit = Alone (ends p t)
+at_instruction setup c p t (Set r n) = Alone (with_guest p t (after_local (Set r n) (thread_at p t).guest))
+at_instruction setup c p t (Add r q) = Alone (with_guest p t (after_local (Add r q) (thread_at p t).guest))
+at_instruction setup c p t (Sub r q) = Alone (with_guest p t (after_local (Sub r q) (thread_at p t).guest))
+at_instruction setup c p t (Jnz r k) = Alone (with_guest p t (after_local (Jnz r k) (thread_at p t).guest))
+
+-- the current thread goes on with its call, or with its instruction
+abbrev pub at_call : Setup → CpuId → Private → Tid → Option Call → Choice
+at_call setup c p t (Some call) = Goes p
+at_call setup c p t None = at_instruction setup c p t (stands_at setup p t)
+
+-- nobody runs: the first that is ready does; where nobody is ready, all that are pending are taken
+abbrev pub at_ready : Private → List Tid → Choice
+at_ready p [] = Goes p
+at_ready p (t ∷ rest) = Alone (record p { current = Some t; ready = rest })
+
+abbrev pub at_current : Setup → CpuId → Private → Option Tid → Choice
+at_current setup c p None = at_ready p p.ready
+at_current setup c p (Some t) = at_call setup c p t (thread_at p t).call
+
+-- a thread in the hand comes before all else; a CPU of which each thread has ended is halted
+abbrev pub at_hand : Setup → CpuId → Private → Option Tid → Choice
+at_hand setup c p (Some s) = Goes p
+at_hand setup c p None = if have_ended p (home_threads setup c) then Halts AllEnded else at_current setup c p p.current
+
+-- what a CPU does that has no section under way
+abbrev pub choice : Setup → CpuId → Private → Choice
+choice setup c p = at_hand setup c p p.hand
+
+-- What an answer makes of the private state.
+
+-- the entry of an effect
+abbrev pub entry_of : CpuId → Tid → Call → ℕ → Message → Entry
+entry_of c t call op m = record { cpu = c; thread = t; kind = effect_of call.asks; buffer = call.buffer; value = m; op = op; pos = call.position }
+
+-- the call goes on to this stage
+abbrev pub goes_to : Private → Tid → Call → Stage → Private
+goes_to p t call stage = with_call p t (Some (record call { stage = stage }))
+
+-- the call has its effect, and its entry is written
+abbrev pub effected : CpuId → Private → Tid → Call → ℕ → Private
+effected c p t call op = record (with_call p t (Some (record call { effect = Some op; stage = Signals }))) { trace = p.trace ++ entry_of c t call op call.message ∷ [] }
+
+-- the position that the call drew
+abbrev pub heard_position : Private → Tid → Call → Told → Private
+heard_position p t call (Position pos) = with_call p t (Some (record call { position = pos; stage = Tries }))
+heard_position p t call _ = p
+
+-- what entering told, by what the call asks
+abbrev pub heard_entry : CpuId → Private → Tid → Call → Asks → Told → Private
+heard_entry c p t call Sends told = heard_position p t call told
+heard_entry c p t call Receives told = heard_position p t call told
+
+-- what the try told: its effect, or that the call has to wait
+abbrev pub heard_try : CpuId → Private → Tid → Call → Told → Private
+heard_try c p t call (Done op m) = effected c p t (record call { message = m }) op
+heard_try c p t call NotYet = goes_to p t call Waits
+heard_try c p t call _ = p
+
+-- what the section of a stage told
+abbrev pub heard : CpuId → Private → Tid → Call → Stage → Told → Private
+heard c p t call Acquires told = goes_to p t call Enters
+heard c p t call Enters told = heard_entry c p t call call.asks told
+heard c p t call Tries told = heard_try c p t call told
+heard c p t call Waits told = goes_to p t call AcquiresAgain
+heard c p t call AcquiresAgain told = goes_to p t call Tries
+heard c p t call Signals told = goes_to p t call SignalsOwn
+heard c p t call SignalsOwn told = goes_to p t call Releases
+heard c p t call Releases told = goes_to p t call Returns
+heard c p t call Returns told = p
+
+-- a caller that sleeps runs no longer
+abbrev pub slept_if : Bool → Private → Private
+slept_if false p = p
+slept_if true p = record p { current = None }
+
+-- a woken thread is ready if it is at home here; else it is in the hand
+abbrev pub woken : Setup → CpuId → Option Tid → Private → Private
+woken setup c None p = p
+woken setup c (Some s) p = if same_cpu (home_of setup s) c then record p { ready = p.ready ++ s ∷ [] } else record p { hand = Some s }
+
+-- the thread's state once its call has returned
+abbrev pub guest_after : Asks → Instruction → Message → State → State
+guest_after Sends line m guest = after_send line guest
+guest_after Receives line m guest = after_recv line m guest
+
+-- the call has returned
+abbrev pub returned : Setup → Private → Tid → Call → Private
+returned setup p t call =
+    with_thread p t (record (thread_at p t) { guest = guest_after call.asks (stands_at setup p t) call.message (thread_at p t).guest; call = None })
+
+abbrev pub returned_at : Setup → Private → Tid → Call → Stage → Private
+returned_at setup p t call Returns = returned setup p t call
+returned_at setup p t call _ = p
+
+abbrev pub returned_by : Setup → Private → Tid → Option Call → Private
+returned_by setup p t None = p
+returned_by setup p t (Some call) = returned_at setup p t call call.stage
+
+abbrev pub returned_in : Setup → Private → Option Tid → Option Tid → Private
+returned_in setup p (Some s) current = p
+returned_in setup p None None = p
+returned_in setup p None (Some t) = returned_by setup p t (thread_at p t).call
+
+-- a call that has done its last section returns once the hand is empty
+abbrev pub settled : Setup → Private → Private
+settled setup p = returned_in setup p p.hand p.current
+
+abbrev pub drained : Told → List Tid
+drained (Drained threads) = threads
+drained _ = []
+
+-- after a section of a call
+abbrev pub after_call : Setup → CpuId → Private → Tid → Call → Answer → Private
+after_call setup c p t call a = settled setup (woken setup c a.woke (slept_if a.slept (heard c p t call call.stage a.told)))
+
+-- after a yield: those that were pending are ready, then the thread that yielded; nobody runs
+abbrev pub after_yielding : Setup → Private → Tid → Answer → Private
+after_yielding setup p t a =
+    record (with_guest p t (after_yield (stands_at setup p t) (thread_at p t).guest)) { current = None; ready = (p.ready ++ drained a.told) ++ t ∷ [] }
+
+-- after a drain: those that were pending are ready
+abbrev pub after_drain : Private → Answer → Private
+after_drain p a = record p { ready = p.ready ++ drained a.told }
+
+abbrev pub after_by : Setup → CpuId → Private → Tid → Option Call → Answer → Private
+after_by setup c p t None a = after_yielding setup p t a
+after_by setup c p t (Some call) a = after_call setup c p t call a
+
+abbrev pub after_at : Setup → CpuId → Private → Option Tid → Answer → Private
+after_at setup c p None a = after_drain p a
+after_at setup c p (Some t) a = after_by setup c p t (thread_at p t).call a
+
+-- after the section that put the thread in the hand among the pending, the hand is empty
+abbrev pub after_in : Setup → CpuId → Private → Option Tid → Answer → Private
+after_in setup c p None a = after_at setup c p p.current a
+after_in setup c p (Some s) a = settled setup (record p { hand = None })
+
+-- the private state after a section
+abbrev pub after_section : Setup → CpuId → Private → Answer → Private
+after_section setup c p a = after_in setup c p p.hand a

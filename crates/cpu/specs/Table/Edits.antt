@@ -1,0 +1,171 @@
+-- What each section makes of the block that it finds, and what it answers.
+use Rattle.std.specs.Prelude.{ℕ, Bool, true, false, ◌&&◌, nat_lt, List, [], ◌∷◌, ◌++◌, length, Option, Some, None, if◌then◌else◌}
+use Rattle.event_log.specs.declared.ids.Tid.{Tid}
+use Rattle.event_log.specs.Messages.{Message}
+use Rattle.thread_blocks.specs.Queues.{without}
+use Rattle.cpu.specs.Standin.{Side}
+use Rattle.cpu.specs.Standin.{Receivers, Senders}
+use Rattle.layer_traits.specs.Plans.{Table}
+use Rattle.cpu.specs.Standin.{joined, may_join, is_first, counted, first_item, other_items}
+use Rattle.cpu.specs.Table.Blocks.{Buffer, Block, OfBuffer, OfPending, Name, AcqQ, Enter, TryPut, TryTake, WaitOn, SigRecv, SigSend, RelQ, Pend, TakeAll, Told, Nothing, Position, Done, NotYet, Drained, Answer, front, behind, front_stands_in}
+
+-- there is room for one item more
+abbrev pub has_room : Buffer → Bool
+has_room k = nat_lt (length k.items) k.capacity
+
+-- there is an item
+abbrev pub has_items : Buffer → Bool
+has_items k = nat_lt 0 (length k.items)
+
+-- the first of the send line has something to do, and so the first of the receive line
+abbrev pub can_put : Buffer → Bool
+can_put k = has_room k
+
+abbrev pub can_take : Buffer → Bool
+can_take k = has_items k
+
+-- whether a try of this thread has its effect: it is first in its line and has something to do
+abbrev pub may_put : Tid → Buffer → Bool
+may_put t k = is_first t k.send_line && can_put k
+
+abbrev pub may_take : Tid → Buffer → Bool
+may_take t k = is_first t k.receive_line && can_take k
+
+-- the first of a line waits and has something to do: whoever signals its side wakes it
+abbrev pub sender_is_due : Buffer → Bool
+sender_is_due k = front_stands_in k.send_line k.waiting_senders && can_put k
+
+abbrev pub receiver_is_due : Buffer → Bool
+receiver_is_due k = front_stands_in k.receive_line k.waiting_receivers && can_take k
+
+-- whom a signal wakes
+abbrev pub due_sender : Buffer → Option Tid
+due_sender k = if sender_is_due k then front k.send_line else None
+
+abbrev pub due_receiver : Buffer → Option Tid
+due_receiver k = if receiver_is_due k then front k.receive_line else None
+
+-- the list without this thread, if there is one
+abbrev pub without_any : Option Tid → List Tid → List Tid
+without_any None list = list
+without_any (Some t) list = without t list
+
+-- t asks for the lock: where nobody owns it t owns it now; else t sleeps among the sleepers
+abbrev pub acquired : Tid → Option Tid → Buffer → Buffer
+acquired t None k = record k { busy = Some t }
+acquired t (Some owner) k = record k { sleepers = joined t k.sleepers }
+
+-- the line of a side
+abbrev pub line_of : Side → Buffer → List Tid
+line_of Senders k = k.send_line
+line_of Receivers k = k.receive_line
+
+-- t stands at the end of a line, and its position is drawn
+abbrev pub entered : Tid → Side → Buffer → Buffer
+entered t Senders k = record k { send_line = k.send_line ++ t ∷ []; send_positions = counted k.send_positions }
+entered t Receivers k = record k { receive_line = k.receive_line ++ t ∷ []; receive_positions = counted k.receive_positions }
+
+-- the position that is drawn next in a line
+abbrev pub drawn_position : Side → Buffer → ℕ
+drawn_position Senders k = k.send_positions
+drawn_position Receivers k = k.receive_positions
+
+-- the first of the send line has put its message behind the items and left the line
+abbrev pub put : Message → Buffer → Buffer
+put m k = record k { items = k.items ++ m ∷ []; send_line = behind k.send_line; effects = counted k.effects }
+
+-- the first of the receive line has taken the first item and left the line
+abbrev pub taken : Buffer → Buffer
+taken k = record k { items = other_items k.items; receive_line = behind k.receive_line; effects = counted k.effects }
+
+-- t waits among those of its side
+abbrev pub waiting : Tid → Side → Buffer → Buffer
+waiting t Senders k = record k { waiting_senders = joined t k.waiting_senders }
+waiting t Receivers k = record k { waiting_receivers = joined t k.waiting_receivers }
+
+-- the lock passes to its first sleeper, or nobody owns it
+abbrev pub released : Buffer → Buffer
+released k = record k { busy = front k.sleepers; sleepers = behind k.sleepers }
+
+-- what a section makes of a buffer
+abbrev pub edited_buffer : Name → Buffer → Buffer
+edited_buffer (AcqQ t) k = acquired t k.busy k
+edited_buffer (Enter t side) k = if may_join t (line_of side k) then entered t side k else k
+edited_buffer (TryPut t m) k = if may_put t k then put m k else k
+edited_buffer (TryTake t) k = if may_take t k then taken k else k
+edited_buffer (WaitOn t side) k = released (waiting t side k)
+edited_buffer (SigRecv t) k = record k { waiting_receivers = without_any (due_receiver k) k.waiting_receivers }
+edited_buffer (SigSend t) k = record k { waiting_senders = without_any (due_sender k) k.waiting_senders }
+edited_buffer (RelQ t) k = released k
+edited_buffer (Pend s) k = k
+edited_buffer TakeAll k = k
+
+-- what a section makes of a queue of pending threads
+abbrev pub edited_pending : Name → List Tid → List Tid
+edited_pending (Pend s) threads = joined s threads
+edited_pending TakeAll threads = []
+edited_pending (AcqQ t) threads = threads
+edited_pending (Enter t side) threads = threads
+edited_pending (TryPut t m) threads = threads
+edited_pending (TryTake t) threads = threads
+edited_pending (WaitOn t side) threads = threads
+edited_pending (SigRecv t) threads = threads
+edited_pending (SigSend t) threads = threads
+edited_pending (RelQ t) threads = threads
+
+-- what a section makes of a block
+abbrev pub edited : Name → Block → Block
+edited name (OfBuffer k) = OfBuffer (edited_buffer name k)
+edited name (OfPending threads) = OfPending (edited_pending name threads)
+
+-- an answer that tells something, of a caller that goes on
+abbrev pub tells : Told → Answer
+tells told = record { told = told; slept = false; woke = None }
+
+-- the answer of a section whose caller sleeps now
+abbrev pub sleeps : Option Tid → Answer
+sleeps woke = record { told = Nothing; slept = true; woke = woke }
+
+-- the answer of a section that may wake a thread, of a caller that goes on
+abbrev pub wakes : Option Tid → Answer
+wakes woke = record { told = Nothing; slept = false; woke = woke }
+
+-- whoever asks for a lock that is owned sleeps
+abbrev pub answer_of_acquire : Option Tid → Answer
+answer_of_acquire None = tells Nothing
+answer_of_acquire (Some owner) = sleeps None
+
+-- what a section on a buffer answers
+abbrev pub answer_of_buffer : Name → Buffer → Answer
+answer_of_buffer (AcqQ t) k = answer_of_acquire k.busy
+answer_of_buffer (Enter t side) k = tells (Position (drawn_position side k))
+answer_of_buffer (TryPut t m) k = tells (if may_put t k then Done k.effects m else NotYet)
+answer_of_buffer (TryTake t) k = tells (if may_take t k then Done k.effects (first_item k.items) else NotYet)
+answer_of_buffer (WaitOn t side) k = sleeps (front k.sleepers)
+answer_of_buffer (SigRecv t) k = wakes (due_receiver k)
+answer_of_buffer (SigSend t) k = wakes (due_sender k)
+answer_of_buffer (RelQ t) k = wakes (front k.sleepers)
+answer_of_buffer (Pend s) k = tells Nothing
+answer_of_buffer TakeAll k = tells Nothing
+
+-- what a section on a queue of pending threads answers
+abbrev pub answer_of_pending : Name → List Tid → Answer
+answer_of_pending TakeAll threads = tells (Drained threads)
+answer_of_pending (Pend s) threads = tells Nothing
+answer_of_pending (AcqQ t) threads = tells Nothing
+answer_of_pending (Enter t side) threads = tells Nothing
+answer_of_pending (TryPut t m) threads = tells Nothing
+answer_of_pending (TryTake t) threads = tells Nothing
+answer_of_pending (WaitOn t side) threads = tells Nothing
+answer_of_pending (SigRecv t) threads = tells Nothing
+answer_of_pending (SigSend t) threads = tells Nothing
+answer_of_pending (RelQ t) threads = tells Nothing
+
+-- what a section answers
+abbrev pub answer : Name → Block → Answer
+answer name (OfBuffer k) = answer_of_buffer name k
+answer name (OfPending threads) = answer_of_pending name threads
+
+-- the edits and the answers of the sections
+abbrev pub kernel : Table Name Block Answer
+kernel = record { edited = edited; answer = answer }

@@ -1,0 +1,149 @@
+-- A machine's setup, a CPU's private state, the state at boot and the opening blocks.
+use Rattle.std.specs.Prelude.{ℕ, ◌+◌, Bool, true, false, ◌&&◌, List, [], ◌∷◌, map, Option, Some, None, slice_get, slice_index_or, slice_set, if◌then◌else◌}
+use Rattle.event_log.specs.declared.ids.CpuId.{CpuId}
+use Rattle.event_log.specs.declared.ids.Tid.{Tid}
+use Rattle.event_log.specs.declared.ids.BufId.{BufId}
+use Rattle.event_log.specs.declared.ids.LockId.{LockId}
+use Rattle.event_log.specs.declared.ids.LockId.TheVariants.{Pending, Buffer as AtBuffer}
+use Rattle.event_log.specs.declared.entries.Entry.{Entry}
+use Rattle.event_log.specs.History.{same_cpu}
+use Rattle.event_log.specs.Messages.{Message}
+use Rattle.guest.specs.declared.instructions.Instruction.{Instruction}
+use Rattle.guest.specs.State.{State, at_start, next_of}
+use Rattle.cpu.specs.Table.Blocks.{Buffer, Block, OfBuffer, OfPending, Asks}
+
+-- how many CPUs there are, the home of each thread, its program, the capacity of each buffer, and for how many entries a CPU's trace has room
+pub record Setup : Type 0 where
+  pub cpus : ℕ
+  pub homes : List CpuId
+  pub programs : List (List Instruction)
+  pub caps : List ℕ
+  pub trace_room : ℕ
+
+-- where a call stands: the section that is due to it. One that has been woken asks for the lock again; one at Returns has done its last
+-- section and returns once the thread that this woke is put among its home's pending threads.
+pub data Stage : Type 0 where
+  Acquires : Stage
+  Enters : Stage
+  Tries : Stage
+  Waits : Stage
+  AcquiresAgain : Stage
+  Signals : Stage
+  SignalsOwn : Stage
+  Releases : Stage
+  Returns : Stage
+
+-- a call under way: what it asks of which buffer, its message (what it sends, or has received), its position in its line, the number
+-- of its effect once it has come, and its stage
+pub record Call : Type 0 where
+  pub asks : Asks
+  pub buffer : BufId
+  pub message : Message
+  pub position : ℕ
+  pub effect : Option ℕ
+  pub stage : Stage
+
+-- a thread: its line and registers, its call under way, and whether it has ended
+pub record Thread : Type 0 where
+  pub guest : State
+  pub call : Option Call
+  pub ended : Bool
+
+-- a CPU's private state: the thread that runs, those that are ready, first in front, the woken thread in its hand that it has yet to
+-- put among another CPU's pending threads, all threads by number (those of other homes stay as at boot), and its trace, oldest first
+pub record Private : Type 0 where
+  pub current : Option Tid
+  pub ready : List Tid
+  pub hand : Option Tid
+  pub threads : List Thread
+  pub trace : List Entry
+
+-- a thread at boot
+abbrev pub new_thread : Thread
+new_thread = record { guest = at_start; call = None; ended = false }
+
+-- a thread by its number
+abbrev pub thread_at : Private → Tid → Thread
+thread_at p t = slice_index_or p.threads t.0 new_thread
+
+-- the same private state, but for one thread
+abbrev pub with_thread : Private → Tid → Thread → Private
+with_thread p t x = record p { threads = slice_set p.threads t.0 x }
+
+abbrev pub cpu_or : CpuId → Option CpuId → CpuId
+cpu_or c None = c
+cpu_or c (Some home) = home
+
+-- the CPU on which a thread runs
+abbrev pub home_of : Setup → Tid → CpuId
+home_of setup t = cpu_or (record { 0 = 0 }) (slice_get setup.homes t.0)
+
+abbrev pub program_or : Option (List Instruction) → List Instruction
+program_or None = []
+program_or (Some program) = program
+
+-- the program of a thread
+abbrev pub program_of : Setup → Tid → List Instruction
+program_of setup t = program_or (slice_get setup.programs t.0)
+
+-- the instruction at which a thread stands
+abbrev pub stands_at : Setup → Private → Tid → Instruction
+stands_at setup p t = next_of (program_of setup t) (thread_at p t).guest
+
+-- the threads of these homes, numbered from i on, that are at home on c
+abbrev pub home_threads_from : CpuId → List CpuId → ℕ → List Tid
+home_threads_from c [] i = []
+home_threads_from c (home ∷ homes) i =
+    if same_cpu home c then record { 0 = i } ∷ home_threads_from c homes (i + 1) else home_threads_from c homes (i + 1)
+
+-- the threads at home on c, by rising number
+abbrev pub home_threads : Setup → CpuId → List Tid
+home_threads setup c = home_threads_from c setup.homes 0
+
+-- a CPU at boot: its home threads are ready, and nothing has happened
+abbrev pub at_boot : Setup → CpuId → Private
+at_boot setup c = record { current = None; ready = home_threads setup c; hand = None; threads = map (λ home. new_thread) setup.homes; trace = [] }
+
+-- a buffer at boot
+abbrev pub empty_buffer : ℕ → Buffer
+empty_buffer capacity = record {
+  busy = None;
+  sleepers = [];
+  waiting_receivers = [];
+  waiting_senders = [];
+  receive_line = [];
+  send_line = [];
+  items = [];
+  capacity = capacity;
+  effects = 0;
+  send_positions = 0;
+  receive_positions = 0;
+}
+
+abbrev pub opening_buffer : Option ℕ → Option Block
+opening_buffer None = None
+opening_buffer (Some capacity) = Some (OfBuffer (empty_buffer capacity))
+
+-- the opening block of each lock
+abbrev pub opening : Setup → LockId → Option Block
+opening setup (Pending c) = Some (OfPending [])
+opening setup (AtBuffer b) = opening_buffer (slice_get setup.caps b.0)
+
+abbrev has_none : Option ℕ → Bool
+has_none None = true
+has_none (Some op) = false
+
+-- whether a thread is inside a call that has not taken effect
+abbrev pub is_open_call : Option Call → Bool
+is_open_call None = false
+is_open_call (Some call) = has_none call.effect
+
+-- how many of these threads are inside a call that has not taken effect
+abbrev pub open_calls : Private → List Tid → ℕ
+open_calls p [] = 0
+open_calls p (t ∷ ts) = if is_open_call (thread_at p t).call then open_calls p ts + 1 else open_calls p ts
+
+-- whether all of these threads have ended
+abbrev pub have_ended : Private → List Tid → Bool
+have_ended p [] = true
+have_ended p (t ∷ ts) = (thread_at p t).ended && have_ended p ts

@@ -1,0 +1,127 @@
+-- One step of a CPU, one step of a system, and the states that a system reaches.
+use Rattle.std.specs.Prelude.{◌≡◌, ℕ, ◌+◌, ◌<◌, zero, suc, Bool, true, false, ◌==◌, List, [], ◌∷◌, ◌++◌, Option, Some, None, slice_get, slice_set}
+use Rattle.event_log.specs.declared.ids.CpuId.{CpuId}
+use Rattle.event_log.specs.declared.ids.LockId.{LockId}
+use Rattle.event_log.specs.Actions.{Action, phase, next_action}
+use Rattle.event_log.specs.Sections.{block_after, sections_in}
+use Rattle.layer_traits.specs.declared.steps.Reason.{Reason}
+use Rattle.layer_traits.specs.declared.steps.Reason.TheVariants.{StepsUsed}
+use Rattle.layer_traits.specs.declared.steps.Step.{Step}
+use Rattle.layer_traits.specs.declared.steps.Step.TheVariants.{Stepped, Halted}
+use Rattle.layer_traits.specs.Plans.{reply, is_in_section}
+use Rattle.layer_traits.specs.Along.{Outcome, Along}
+use Rattle.cpu.specs.Table.Blocks.{Block, Name, Answer}
+use Rattle.cpu.specs.Table.Edits.{kernel}
+use Rattle.cpu.specs.Table.Setups.{Setup, Private, at_boot, opening}
+use Rattle.cpu.specs.Table.Choice.{asked, Choice, Halts, Alone, Goes, choice, after_section}
+
+-- A CPU's step.
+
+-- the private state after an action: only the action that ends a section has an answer
+abbrev pub after_reply : Setup → CpuId → Private → Option Answer → Private
+after_reply setup c p None = p
+after_reply setup c p (Some a) = after_section setup c p a
+
+-- the next action of the section at this lock
+abbrev pub acting_on : Setup → CpuId → Private → LockId → Name → List (Action Name) → Outcome Private Name
+acting_on setup c p lock name past = record {
+  next = after_reply setup c p (reply kernel (opening setup) c lock name past);
+  acts = next_action c lock name past ∷ [];
+  answer = Stepped;
+}
+
+abbrev pub acting : Setup → CpuId → Private → List (Action Name) → Outcome Private Name
+acting setup c p past = acting_on setup c p (asked setup c p).lock (asked setup c p).name past
+
+-- the step that was chosen
+abbrev pub chosen : Setup → CpuId → Private → Choice → List (Action Name) → Outcome Private Name
+chosen setup c p (Halts reason) past = record { next = p; acts = []; answer = Halted reason }
+chosen setup c p (Alone q) past = record { next = q; acts = []; answer = Stepped }
+chosen setup c p (Goes q) past = acting setup c q past
+
+-- a section that is under way goes on
+abbrev pub step_in : Setup → CpuId → Private → List (Action Name) → Bool → Outcome Private Name
+step_in setup c p past true = acting setup c p past
+step_in setup c p past false = chosen setup c p (choice setup c p) past
+
+-- one step of a CPU, after these actions of all CPUs, newest first
+abbrev pub cpu_step : Setup → CpuId → Private → List (Action Name) → Outcome Private Name
+cpu_step setup c p past = step_in setup c p past (is_in_section (phase c past))
+
+abbrev pub halted_by : Choice → Option Reason
+halted_by (Halts reason) = Some reason
+halted_by (Alone q) = None
+halted_by (Goes q) = None
+
+-- why a CPU without a section under way takes no step, if it takes none
+abbrev pub halted_at : Setup → CpuId → Private → Option Reason
+halted_at setup c p = halted_by (choice setup c p)
+
+-- the block of a lock after these actions
+abbrev pub block_at : Setup → LockId → List (Action Name) → Option Block
+block_at setup lock log = block_after kernel.edited (opening setup) lock (sections_in log)
+
+-- A system's step.
+
+-- a system: the private states of its CPUs, the actions of all of them, newest first, for how many steps there is room, and how many were taken
+pub record Whole : Type 0 where
+  pub cpus : List Private
+  pub log : List (Action Name)
+  pub room : ℕ
+  pub taken : ℕ
+
+abbrev pub cpu_numbered : ℕ → CpuId
+cpu_numbered n = record { 0 = n }
+
+-- so many CPUs at boot, numbered from n on
+abbrev pub boots_from : Setup → ℕ → ℕ → List Private
+boots_from setup n zero = []
+boots_from setup n (suc k) = at_boot setup (cpu_numbered n) ∷ boots_from setup (n + 1) k
+
+-- a system at boot
+abbrev pub whole_at_boot : Setup → ℕ → Whole
+whole_at_boot setup room = record { cpus = boots_from setup 0 setup.cpus; log = []; room = room; taken = 0 }
+
+-- a system after a step of CPU c
+abbrev pub whole_after : CpuId → Whole → Outcome Private Name → Whole
+whole_after c s o = record { cpus = slice_set s.cpus c.0 o.next; log = o.acts ++ s.log; room = s.room; taken = s.taken + 1 }
+
+-- what a step of a system leaves and answers
+pub record Stepping : Type 0 where
+  pub next : Whole
+  pub answer : Step
+
+-- a step is taken only where there is room for it
+abbrev pub roomy : CpuId → Whole → Outcome Private Name → Bool → Stepping
+roomy c s o true = record { next = s; answer = Halted StepsUsed }
+roomy c s o false = record { next = whole_after c s o; answer = Stepped }
+
+-- a halted CPU changes nothing
+abbrev pub answered_by : CpuId → Whole → Outcome Private Name → Step → Stepping
+answered_by c s o (Halted reason) = record { next = s; answer = Halted reason }
+answered_by c s o Stepped = roomy c s o (s.taken == s.room)
+
+abbrev pub stepping : CpuId → Whole → Outcome Private Name → Stepping
+stepping c s o = answered_by c s o o.answer
+
+abbrev pub step_at : Setup → CpuId → Whole → Option Private → Stepping
+step_at setup c s None = record { next = s; answer = Stepped }
+step_at setup c s (Some p) = stepping c s (cpu_step setup c p s.log)
+
+-- one step of CPU c in a system
+abbrev pub system_step : Setup → CpuId → Whole → Stepping
+system_step setup c s = step_at setup c s (slice_get s.cpus c.0)
+
+-- so many steps of CPU c, one after the other
+abbrev pub steps_by : Setup → CpuId → ℕ → Whole → Whole
+steps_by setup c zero s = s
+steps_by setup c (suc n) s = steps_by setup c n (system_step setup c s).next
+
+-- the states that a system reaches from boot, whichever CPU steps when
+pub data IsReached (setup : Setup) (room : ℕ) : Whole → Type 0 where
+  boots : IsReached setup room (whole_at_boot setup room)
+  steps : {s : Whole} (c : CpuId) → IsReached setup room s → c.0 < setup.cpus → IsReached setup room (system_step setup c s).next
+
+-- the way of CPU c along a list of actions, by the table
+abbrev pub AlongTable : Setup → CpuId → ℕ → Private → List (Action Name) → Type 0
+AlongTable setup c n p log = Along (cpu_step setup c) c (at_boot setup c) n p log

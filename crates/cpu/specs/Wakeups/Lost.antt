@@ -1,0 +1,68 @@
+-- No wake-up is lost: whoever is the first of its line, is asleep beside a free lock and has something to do, does not exist.
+use Rattle.std.specs.Prelude.{◌≡◌, ℕ, ◌≤◌, ◌<◌, true, List, [], Some, None}
+use Rattle.event_log.specs.declared.ids.CpuId.{CpuId}
+use Rattle.event_log.specs.declared.ids.Tid.{Tid}
+use Rattle.event_log.specs.declared.ids.BufId.{BufId}
+use Rattle.event_log.specs.declared.ids.LockId.TheVariants.{Buffer as AtBuffer}
+use Rattle.event_log.specs.declared.entries.Kind.{Kind}
+use Rattle.event_log.specs.declared.entries.Kind.TheVariants.{Send as SendKind, Recv as RecvKind}
+use Rattle.event_log.specs.Messages.{Message}
+use Rattle.event_log.specs.Buffers.{IsAllowedEffect}
+use Rattle.event_log.specs.History.{own}
+use Rattle.event_log.specs.Actions.{Action, doer}
+use Rattle.event_log.specs.Sections.{Section, sections_in}
+use Rattle.cpu.specs.Table.Blocks.{Buffer, OfBuffer, Name, Asks, Sends, Receives, front, stands_in}
+use Rattle.cpu.specs.Table.Setups.{Setup, Private}
+use Rattle.cpu.specs.Table.Steps.{Whole, IsReached, block_at, AlongTable}
+use Rattle.cpu.specs.Wakeups.Order.{block_of, IsInOrder}
+
+-- what a call asks whose effect is of this kind
+abbrev pub asks_of : Kind → Asks
+asks_of SendKind = Sends
+asks_of RecvKind = Receives
+
+-- the buffer allows an effect of this kind with this message
+abbrev pub Allows : Buffer → Kind → Message → Type 0
+Allows k e m = IsAllowedEffect e k.capacity k.items m
+
+-- while nobody owns the lock, the first of neither line waits although the buffer allows an effect of its call
+pub record NoWakeUpIsLost (k : Buffer) : Type 0 where
+  pub senders : k.busy ≡ None → (t : Tid) (m : Message) → front k.send_line ≡ Some t → stands_in t k.waiting_senders ≡ true
+      → (e : Kind) → asks_of e ≡ Sends → Allows k e m → ⊥
+  pub receivers : k.busy ≡ None → (t : Tid) (m : Message) → front k.receive_line ≡ Some t → stands_in t k.waiting_receivers ≡ true
+      → (e : Kind) → asks_of e ≡ Receives → Allows k e m → ⊥
+
+-- sections in the order of their calls lose no wake-up, whoever does them when
+abbrev pub OrderLosesNoWakeUp : Type 0
+OrderLosesNoWakeUp = (setup : Setup) (sections : List (Section Name)) → IsInOrder setup sections
+    → (b : BufId) (k : Buffer) → block_of setup (AtBuffer b) sections ≡ Some (OfBuffer k) → NoWakeUpIsLost k
+
+-- in every state that a system reaches the sections are in the order of their calls
+abbrev pub SystemsKeepOrder : Type 0
+SystemsKeepOrder = (setup : Setup) (room : ℕ) (s : Whole) → IsReached setup room s → IsInOrder setup (sections_in s.log)
+
+-- so no state that a system reaches has lost a wake-up
+abbrev pub SystemsLoseNoWakeUp : Type 0
+SystemsLoseNoWakeUp = (setup : Setup) (room : ℕ) (s : Whole) → IsReached setup room s
+    → (b : BufId) (k : Buffer) → block_at setup (AtBuffer b) s.log ≡ Some (OfBuffer k) → NoWakeUpIsLost k
+
+-- where nobody owns a lock, nobody sleeps at it
+abbrev pub FreeLocksHaveNoSleepers : Type 0
+FreeLocksHaveNoSleepers = (setup : Setup) (room : ℕ) (s : Whole) → IsReached setup room s
+    → (b : BufId) (k : Buffer) → block_at setup (AtBuffer b) s.log ≡ Some (OfBuffer k) → k.busy ≡ None → k.sleepers ≡ []
+
+-- a CPU has done its part of this list of actions by the table
+pub record Ran (setup : Setup) (c : CpuId) (log : List (Action Name)) : Type 0 where
+  pub count : ℕ
+  pub last : Private
+  pub steps : AlongTable setup c count last log
+
+-- each CPU has done its part of this list by the table, and nobody else has a part in it
+pub record IsWorked (setup : Setup) (log : List (Action Name)) : Type 0 where
+  pub ran : (c : CpuId) → c.0 < setup.cpus → Ran setup c log
+  pub rest : (c : CpuId) → setup.cpus ≤ c.0 → own doer c log ≡ []
+
+-- CPUs that each work by the table on one list lose no wake-up
+abbrev pub WorkersLoseNoWakeUp : Type 0
+WorkersLoseNoWakeUp = (setup : Setup) (log : List (Action Name)) → IsWorked setup log
+    → (b : BufId) (k : Buffer) → block_at setup (AtBuffer b) log ≡ Some (OfBuffer k) → NoWakeUpIsLost k

@@ -1,0 +1,51 @@
+-- What is lost where a call signals the other side alone: a concrete history.
+use Rattle.std.specs.Prelude.{◌≡◌, ℕ, List, [], ◌∷◌, Some}
+use Rattle.event_log.specs.declared.ids.LockId.TheVariants.{Buffer as AtBuffer}
+use Rattle.event_log.specs.Sections.{Section}
+use Rattle.cpu.specs.Standin.{Side, Receivers, Senders}
+use Rattle.cpu.specs.Table.Blocks.{Buffer, OfBuffer, Name, AcqQ, Enter, TryPut, TryTake, WaitOn, SigRecv, SigSend, RelQ}
+use Rattle.cpu.specs.Table.Setups.{Setup}
+use Rattle.cpu.specs.Table.Steps.{cpu_numbered}
+use Rattle.cpu.specs.Table.Worked.{thread, buffer_numbered, setup_of}
+use Rattle.cpu.specs.Wakeups.Order.{block_of}
+use Rattle.cpu.specs.Wakeups.Lost.{NoWakeUpIsLost}
+
+-- three threads, each at home on the CPU of its number, and one buffer for two messages
+abbrev pub three_threads : Setup
+three_threads = setup_of 3 (0 ∷ 1 ∷ 2 ∷ []) [] (2 ∷ []) 4
+
+-- a section of a thread on the buffer
+abbrev pub by : ℕ → Name → Section Name
+by t name = record { cpu = cpu_numbered t; lock = AtBuffer (buffer_numbered 0); edit = name }
+
+-- thread t finds nothing and waits; thread 2 sends a message; newest first
+abbrev pub receiver_waits : ℕ → List (Section Name)
+receiver_waits t = by t (WaitOn (thread t) Receivers) ∷ by t (TryTake (thread t)) ∷ by t (Enter (thread t) Receivers) ∷ by t (AcqQ (thread t)) ∷ []
+
+abbrev pub sender_sends : ℕ → List (Section Name)
+sender_sends m =
+    by 2 (RelQ (thread 2))
+    ∷ by 2 (SigSend (thread 2))
+    ∷ by 2 (SigRecv (thread 2))
+    ∷ by 2 (TryPut (thread 2) m)
+    ∷ by 2 (Enter (thread 2) Senders)
+    ∷ by 2 (AcqQ (thread 2))
+    ∷ []
+
+-- the first receiver was woken, takes its message, and signals the senders alone
+abbrev pub receiver_signals_senders : List (Section Name)
+receiver_signals_senders = by 0 (RelQ (thread 0)) ∷ by 0 (SigSend (thread 0)) ∷ by 0 (TryTake (thread 0)) ∷ by 0 (AcqQ (thread 0)) ∷ []
+
+abbrev pub in_turn : List (Section Name) → List (Section Name) → List (Section Name)
+in_turn [] past = past
+in_turn (s ∷ later) past = s ∷ in_turn later past
+
+-- two receivers wait, two messages are sent, and the first receiver, the only one that was woken, takes one of them
+abbrev pub one_signal_log : List (Section Name)
+one_signal_log =
+    in_turn receiver_signals_senders
+    (in_turn (sender_sends 8) (in_turn (sender_sends 7) (in_turn (receiver_waits 1) (receiver_waits 0))))
+
+-- then a message is left, nobody owns the lock, and the second receiver, the first of its line, sleeps beside it
+abbrev pub OneSignalLosesAWakeUp : Type 0
+OneSignalLosesAWakeUp = (k : Buffer) × (block_of three_threads (AtBuffer (buffer_numbered 0)) one_signal_log ≡ Some (OfBuffer k)) × (NoWakeUpIsLost k → ⊥)

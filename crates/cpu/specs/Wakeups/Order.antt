@@ -1,0 +1,102 @@
+-- The order of the sections of one buffer: which section of a call may come when, as the owner of the lock and what it has done tell.
+use Rattle.std.specs.Prelude.{◌≡◌, ◌≢◌, Bool, true, false, List, [], ◌∷◌, Option, Some, None, if◌then◌else◌}
+use Rattle.event_log.specs.declared.ids.LockId.{LockId}
+use Rattle.event_log.specs.declared.ids.LockId.TheVariants.{Pending, Buffer as AtBuffer}
+use Rattle.event_log.specs.History.{same_lock, IsLawful}
+use Rattle.event_log.specs.Sections.{Section, block_after}
+use Rattle.cpu.specs.Standin.{Side, Receivers, Senders}
+use Rattle.cpu.specs.Table.Blocks.{Buffer, Block, OfBuffer, OfPending, Name, AcqQ, Enter, TryPut, TryTake, WaitOn, SigRecv, SigSend, RelQ, Pend, TakeAll}
+use Rattle.cpu.specs.Table.Edits.{edited, may_put, may_take}
+use Rattle.cpu.specs.Table.Setups.{Setup, opening}
+
+-- what the owner of a buffer's lock has done since it got it: nothing, it entered a line, a try of it was in vain, or it took effect and
+-- owes the signals that are true. While nobody owns the lock nothing has been done.
+pub data Progress : Type 0 where
+  Begins : Progress
+  HasEntered : (side : Side) → Progress
+  WasRefused : (side : Side) → Progress
+  Owes : (receivers senders : Bool) → Progress
+
+abbrev pub receivers_signalled : Progress → Progress
+receivers_signalled (Owes receivers senders) = Owes false senders
+receivers_signalled Begins = Begins
+receivers_signalled (HasEntered side) = HasEntered side
+receivers_signalled (WasRefused side) = WasRefused side
+
+abbrev pub senders_signalled : Progress → Progress
+senders_signalled (Owes receivers senders) = Owes receivers false
+senders_signalled Begins = Begins
+senders_signalled (HasEntered side) = HasEntered side
+senders_signalled (WasRefused side) = WasRefused side
+
+-- the progress after a section on the buffer
+abbrev pub progress_after : Name → Buffer → Progress → Progress
+progress_after (AcqQ t) k g = g
+progress_after (Enter t side) k g = HasEntered side
+progress_after (TryPut t m) k g = if may_put t k then Owes true true else WasRefused Senders
+progress_after (TryTake t) k g = if may_take t k then Owes true true else WasRefused Receivers
+progress_after (WaitOn t side) k g = Begins
+progress_after (SigRecv t) k g = receivers_signalled g
+progress_after (SigSend t) k g = senders_signalled g
+progress_after (RelQ t) k g = Begins
+progress_after (Pend s) k g = g
+progress_after TakeAll k g = g
+
+abbrev pub progress_by : Name → Option Block → Progress → Progress
+progress_by name (Some (OfBuffer k)) g = progress_after name k g
+progress_by name (Some (OfPending threads)) g = g
+progress_by name None g = g
+
+-- the block of a lock after these sections
+abbrev pub block_of : Setup → LockId → List (Section Name) → Option Block
+block_of setup lock past = block_after edited (opening setup) lock past
+
+-- the progress of the owner of this lock after these sections
+abbrev pub progress : Setup → LockId → List (Section Name) → Progress
+progress setup lock [] = Begins
+progress setup lock (s ∷ past) =
+    if same_lock lock s.lock then progress_by s.edit (block_of setup lock past) (progress setup lock past) else progress setup lock past
+
+-- a try may come once its line was entered, and as the first section of an owner that was woken
+abbrev pub MayTry : Side → Progress → Type 0
+MayTry side Begins = Unit {0}
+MayTry side (HasEntered line) = line ≡ side
+MayTry side (WasRefused line) = ⊥
+MayTry side (Owes receivers senders) = ⊥
+
+abbrev pub IsOwing : Progress → Type 0
+IsOwing (Owes receivers senders) = Unit {0}
+IsOwing Begins = ⊥
+IsOwing (HasEntered side) = ⊥
+IsOwing (WasRefused side) = ⊥
+
+-- a section may come on the buffer: only the owner edits; it enters at once, waits only where its try was in vain, signals only after
+-- an effect, and gives the lock back only once both sides are signalled
+abbrev pub MayEdit : Name → Buffer → Progress → Type 0
+MayEdit (AcqQ t) k g = k.busy ≢ Some t
+MayEdit (Enter t side) k g = (k.busy ≡ Some t) × (g ≡ Begins)
+MayEdit (TryPut t m) k g = (k.busy ≡ Some t) × MayTry Senders g
+MayEdit (TryTake t) k g = (k.busy ≡ Some t) × MayTry Receivers g
+MayEdit (WaitOn t side) k g = (k.busy ≡ Some t) × (g ≡ WasRefused side)
+MayEdit (SigRecv t) k g = (k.busy ≡ Some t) × IsOwing g
+MayEdit (SigSend t) k g = (k.busy ≡ Some t) × IsOwing g
+MayEdit (RelQ t) k g = (k.busy ≡ Some t) × (g ≡ Owes false false)
+MayEdit (Pend s) k g = ⊥
+MayEdit TakeAll k g = ⊥
+
+abbrev pub MayEditBlock : Name → Option Block → Progress → Type 0
+MayEditBlock name (Some (OfBuffer k)) g = MayEdit name k g
+MayEditBlock name (Some (OfPending threads)) g = Unit {0}
+MayEditBlock name None g = Unit {0}
+
+abbrev pub KeepsOrderAt : Setup → LockId → Name → List (Section Name) → Type 0
+KeepsOrderAt setup (AtBuffer b) name past = MayEditBlock name (block_of setup (AtBuffer b) past) (progress setup (AtBuffer b) past)
+KeepsOrderAt setup (Pending c) name past = Unit {0}
+
+-- a section keeps the order of its call
+abbrev pub KeepsOrder : Setup → List (Section Name) → Section Name → Type 0
+KeepsOrder setup past s = KeepsOrderAt setup s.lock s.edit past
+
+-- each of these sections keeps the order of its call
+abbrev pub IsInOrder : Setup → List (Section Name) → Type 0
+IsInOrder setup sections = IsLawful (KeepsOrder setup) sections

@@ -1,0 +1,21 @@
+//! What holds of the step table. Each law is the contract of a function that does nothing, so that
+//! the law is proved with the crate.
+
+ghost use Rattle.cpu.specs.Table.Worked.{AloneRuns, RunsOfTwo, RunsOfThree};
+
+/// Worked runs of one thread on one CPU, by computation: what each leaves after its schedule.
+pub fn runs_alone()
+    ensures { AloneRuns }
+{}
+
+/// Worked runs of a receiver and a sender, by computation: a wait, the signal that ends it, and the
+/// missed looks of a CPU that waits for another one.
+pub fn runs_of_two()
+    ensures { RunsOfTwo }
+{}
+
+/// Worked runs of three threads, by computation: the second signal of a call, a lock that passes to
+/// its first sleeper, and a line that is served in its order.
+pub fn runs_of_three()
+    ensures { RunsOfThree }
+{}
