@@ -2,6 +2,8 @@
 //! the law is proved with the crate.
 
 ghost use Rattle.cpu.specs.Table.Worked.{AloneRuns, RunsOfTwo, RunsOfThree};
+ghost use Rattle.cpu.specs.Wakeups.Lost.{OrderLosesNoWakeUp};
+ghost use Rattle.cpu.specs.Wakeups.OneSignal.{OneSignalLosesAWakeUp};
 
 /// Worked runs of one thread on one CPU, by computation: what each leaves after its schedule.
 pub fn runs_alone()
@@ -18,4 +20,16 @@ pub fn runs_of_two()
 /// its first sleeper, and a line that is served in its order.
 pub fn runs_of_three()
     ensures { RunsOfThree }
+{}
+
+/// Where the sections of a buffer come in the order of their calls, no wake-up is lost: while
+/// nobody owns the lock, the first of neither line sleeps although the buffer allows its call.
+pub fn order_loses_no_wake_up()
+    ensures { OrderLosesNoWakeUp }
+{}
+
+/// The classic bug: where a receiver signals the senders alone, a second receiver sleeps on beside
+/// a message that nobody else is to take.
+pub fn one_signal_loses_a_wake_up()
+    ensures { OneSignalLosesAWakeUp }
 {}

@@ -3,4 +3,6 @@
 
 mod laws;
 
-pub use laws::{runs_alone, runs_of_three, runs_of_two};
+pub use laws::{
+    one_signal_loses_a_wake_up, order_loses_no_wake_up, runs_alone, runs_of_three, runs_of_two,
+};

@@ -16,8 +16,8 @@ use Rattle.guest.specs.declared.instructions.Instruction.{Instruction}
 use Rattle.guest.specs.declared.instructions.Instruction.TheVariants.{Set, Add, Sub, Jnz, Send, Recv, Yield as YieldLine, Exit}
 use Rattle.guest.specs.State.{State, sent_from, after_local, after_send, after_recv, after_yield}
 use Rattle.cpu.specs.Table.Blocks.{Name, AcqQ, Enter, TryPut, TryTake, WaitOn, SigRecv, SigSend, RelQ, Pend, TakeAll, Asks, Sends, Receives, side_of, effect_of}
-use Rattle.cpu.specs.Table.Blocks.{Told, Nothing, Position, Done, NotYet, Drained, Answer}
-use Rattle.cpu.specs.Table.Setups.{Setup, Stage, Acquires, Enters, Tries, Waits, AcquiresAgain, Signals, SignalsOwn, Releases, Returns, Call, Thread, Private}
+use Rattle.cpu.specs.Table.Blocks.{Told, Position, Done, NotYet, Drained, Answer}
+use Rattle.cpu.specs.Table.Setups.{Setup, Stage, Acquires, Enters, Tries, Waits, AcquiresAgain, Signals, SignalsOwn, Releases, Returns, Call, Private}
 use Rattle.cpu.specs.Table.Setups.{thread_at, with_thread, home_of, stands_at, home_threads, open_calls, have_ended}
 
 -- The section that is asked.

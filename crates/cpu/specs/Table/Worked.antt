@@ -1,6 +1,5 @@
 -- Worked runs of small systems, each from boot by a schedule, and what they leave. Each is a fact by computation.
-use Rattle.std.specs.Prelude.{◌≡◌, ℕ, ◌+◌, true, false, List, [], ◌∷◌, length, map, Bool, Option, Some, None, slice_get}
-use Rattle.event_log.specs.declared.ids.CpuId.{CpuId}
+use Rattle.std.specs.Prelude.{◌≡◌, ℕ, true, false, List, [], ◌∷◌, map, Bool, Option, Some, None, slice_get}
 use Rattle.event_log.specs.declared.ids.Tid.{Tid}
 use Rattle.event_log.specs.declared.ids.BufId.{BufId}
 use Rattle.event_log.specs.declared.ids.LockId.TheVariants.{Pending, Buffer as AtBuffer}
@@ -14,7 +13,7 @@ use Rattle.layer_traits.specs.declared.steps.Reason.TheVariants.{AllEnded, Trace
 use Rattle.guest.specs.declared.instructions.Instruction.{Instruction}
 use Rattle.guest.specs.declared.instructions.Register.TheVariants.{Reg0, Reg1}
 use Rattle.guest.specs.declared.instructions.Instruction.TheVariants.{Set, Add, Send, Recv, Yield as YieldLine, Exit}
-use Rattle.cpu.specs.Table.Blocks.{Buffer, Block, OfBuffer, OfPending}
+use Rattle.cpu.specs.Table.Blocks.{Block, OfBuffer, OfPending}
 use Rattle.cpu.specs.Table.Setups.{Setup, Call, Private, thread_at}
 use Rattle.cpu.specs.Table.Steps.{Whole, cpu_numbered, whole_at_boot, steps_by, block_at, halted_at}
 

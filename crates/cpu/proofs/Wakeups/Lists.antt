@@ -1,0 +1,54 @@
+-- Lists of threads: who stands in them, and who is first.
+use Rattle.std.proofs.Common.{◌≡◌, Bool, true, false, ◌||◌, List, [], ◌∷◌, ◌++◌, Option, Some, None, if◌then◌else◌, refl, sym, ap, ◌∙◌, subst}
+use Rattle.std.proofs.lemmas.Bool.{or_parts, or_from}
+use Rattle.event_log.specs.declared.ids.Tid.{Tid}
+use Rattle.thread_blocks.specs.Queues.{same_tid, is_in, first, without}
+use Rattle.thread_blocks.proofs.Members.{same_tid_self, same_tid_true}
+use Rattle.cpu.specs.Standin.{joined, is_first}
+
+-- a test is not both
+pub refuted : {A : Type 0} {b : Bool} → b ≡ false → b ≡ true → A
+refuted off on = absurd (cc (off, on))
+
+-- what is in an option
+abbrev pub tid_or : Tid → Option Tid → Tid
+tid_or t None = t
+tid_or t (Some u) = u
+
+pub some_is : (t u : Tid) → Some t ≡ Some u → t ≡ u
+some_is t u same = ap (tid_or t) same
+
+pub none_is_not : {A : Type 0} {t : Tid} → None ≡ Some t → A
+none_is_not {A = A} {t = t} same = absurd (cc same)
+
+-- the first of a line is the thread in front
+pub first_is : (t : Tid) (line : List Tid) → is_first t line ≡ true → first line ≡ Some t
+first_is t [] is = absurd (cc is)
+first_is t (x ∷ line) is = ap Some (sym (same_tid_true t x is))
+
+pub is_the_first : (t : Tid) (line : List Tid) → first line ≡ Some t → is_first t line ≡ true
+is_the_first t [] is = none_is_not is
+is_the_first t (x ∷ line) is = subst (λ y. same_tid t y ≡ true) (sym (some_is x t is)) (same_tid_self t)
+
+-- nobody stands in a list that is without them
+pub not_in_without : (t : Tid) (list : List Tid) → is_in t (without t list) ≡ false
+not_in_without t [] = refl
+not_in_without t (x ∷ list) = by_test (same_tid t x) refl (not_in_without t list)
+  where
+    by_test : (b : Bool) → same_tid t x ≡ b → is_in t (without t list) ≡ false → is_in t (if b then without t list else x ∷ without t list) ≡ false
+    by_test true is before = before
+    by_test false is before = ap (λ c. c || is_in t (without t list)) is ∙ before
+
+-- whoever stands in a list at whose end a thread was put is that thread, or stood in it
+pub in_end : (u t : Tid) (list : List Tid) → is_in u list ≡ false → same_tid u t ≡ false → is_in u (list ++ t ∷ []) ≡ false
+in_end u t [] absent other = ap (λ b. b || false) other
+in_end u t (x ∷ list) absent other =
+    let parts = or_parts (same_tid u x) (is_in u list) absent in
+    or_from (same_tid u x) (is_in u (list ++ t ∷ [])) parts.0 (in_end u t list parts.1 other)
+
+pub in_joined : (u t : Tid) (list : List Tid) → is_in u list ≡ false → same_tid u t ≡ false → is_in u (joined t list) ≡ false
+in_joined u t list absent other = by_test _
+  where
+    by_test : (b : Bool) → is_in u (if b then list ++ t ∷ [] else list) ≡ false
+    by_test true = in_end u t list absent other
+    by_test false = absent
