@@ -1,3 +1,2 @@
-pub mod Standin
 pub mod Table
 pub mod Wakeups

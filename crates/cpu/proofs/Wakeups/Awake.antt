@@ -5,7 +5,10 @@ use Rattle.event_log.specs.declared.ids.Tid.{Tid}
 use Rattle.event_log.specs.Messages.{Message}
 use Rattle.thread_blocks.specs.Queues.{same_tid, is_in, first, rest}
 use Rattle.thread_blocks.proofs.Members.{same_tid_self, same_tid_true}
-use Rattle.cpu.specs.Standin.{Side, Receivers, Senders, joined, may_join, is_first}
+use Rattle.layer_traits.specs.declared.locked.Side.{Side}
+use Rattle.layer_traits.specs.declared.locked.Side.TheVariants.{Receivers, Senders}
+use Rattle.layer_traits.specs.Sleeping.{joined}
+use Rattle.layer_traits.specs.BufferBlocks.{may_join, is_first}
 use Rattle.cpu.specs.Table.Blocks.{Buffer, Name, AcqQ, Enter, TryPut, TryTake, WaitOn, SigRecv, SigSend, RelQ, Pend, TakeAll, front_stands_in}
 use Rattle.cpu.specs.Table.Edits.{can_put, can_take, may_put, may_take, sender_is_due, receiver_is_due, without_any}
 use Rattle.cpu.specs.Table.Edits.{acquired, line_of, entered, put, taken, waiting, released, edited_buffer}

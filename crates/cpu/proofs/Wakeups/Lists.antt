@@ -4,7 +4,8 @@ use Rattle.std.proofs.lemmas.Bool.{or_parts, or_from}
 use Rattle.event_log.specs.declared.ids.Tid.{Tid}
 use Rattle.thread_blocks.specs.Queues.{same_tid, is_in, first, without}
 use Rattle.thread_blocks.proofs.Members.{same_tid_self, same_tid_true}
-use Rattle.cpu.specs.Standin.{joined, is_first}
+use Rattle.layer_traits.specs.Sleeping.{joined}
+use Rattle.layer_traits.specs.BufferBlocks.{is_first}
 
 -- a test is not both
 pub refuted : {A : Type 0} {b : Bool} → b ≡ false → b ≡ true → A

@@ -5,8 +5,8 @@ use Rattle.event_log.specs.declared.entries.Kind.{Kind}
 use Rattle.event_log.specs.declared.entries.Kind.TheVariants.{Send as SendKind, Recv as RecvKind}
 use Rattle.event_log.specs.Messages.{Message}
 use Rattle.thread_blocks.specs.Queues.{is_in, first, rest}
-use Rattle.cpu.specs.Standin.{Side}
-use Rattle.cpu.specs.Standin.{Receivers, Senders}
+use Rattle.layer_traits.specs.declared.locked.Side.{Side}
+use Rattle.layer_traits.specs.declared.locked.Side.TheVariants.{Receivers, Senders}
 
 -- whether two threads are one
 abbrev pub same_thread : Tid → Tid → Bool

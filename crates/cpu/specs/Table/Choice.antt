@@ -8,8 +8,8 @@ use Rattle.event_log.specs.declared.ids.LockId.TheVariants.{Pending, Buffer as A
 use Rattle.event_log.specs.declared.entries.Entry.{Entry}
 use Rattle.event_log.specs.History.{same_cpu}
 use Rattle.event_log.specs.Messages.{Message, no_message}
-use Rattle.cpu.specs.Standin.{Side}
-use Rattle.cpu.specs.Standin.{Receivers, Senders}
+use Rattle.layer_traits.specs.declared.locked.Side.{Side}
+use Rattle.layer_traits.specs.declared.locked.Side.TheVariants.{Receivers, Senders}
 use Rattle.layer_traits.specs.declared.steps.Reason.{Reason}
 use Rattle.layer_traits.specs.declared.steps.Reason.TheVariants.{AllEnded, TraceFull}
 use Rattle.guest.specs.declared.instructions.Instruction.{Instruction}

@@ -3,10 +3,11 @@ use Rattle.std.specs.Prelude.{ℕ, Bool, true, false, ◌&&◌, nat_lt, List, []
 use Rattle.event_log.specs.declared.ids.Tid.{Tid}
 use Rattle.event_log.specs.Messages.{Message}
 use Rattle.thread_blocks.specs.Queues.{without}
-use Rattle.cpu.specs.Standin.{Side}
-use Rattle.cpu.specs.Standin.{Receivers, Senders}
+use Rattle.layer_traits.specs.declared.locked.Side.{Side}
+use Rattle.layer_traits.specs.declared.locked.Side.TheVariants.{Receivers, Senders}
 use Rattle.layer_traits.specs.Plans.{Table}
-use Rattle.cpu.specs.Standin.{joined, may_join, is_first, counted, first_item, other_items}
+use Rattle.layer_traits.specs.Sleeping.{joined}
+use Rattle.layer_traits.specs.BufferBlocks.{may_join, is_first, counted, first_item, other_items}
 use Rattle.cpu.specs.Table.Blocks.{Buffer, Block, OfBuffer, OfPending, Name, AcqQ, Enter, TryPut, TryTake, WaitOn, SigRecv, SigSend, RelQ, Pend, TakeAll, Told, Nothing, Position, Done, NotYet, Drained, Answer, front, behind, front_stands_in}
 
 -- there is room for one item more

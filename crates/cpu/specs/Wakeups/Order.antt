@@ -4,7 +4,8 @@ use Rattle.event_log.specs.declared.ids.LockId.{LockId}
 use Rattle.event_log.specs.declared.ids.LockId.TheVariants.{Pending, Buffer as AtBuffer}
 use Rattle.event_log.specs.History.{same_lock, IsLawful}
 use Rattle.event_log.specs.Sections.{Section, block_after}
-use Rattle.cpu.specs.Standin.{Side, Receivers, Senders}
+use Rattle.layer_traits.specs.declared.locked.Side.{Side}
+use Rattle.layer_traits.specs.declared.locked.Side.TheVariants.{Receivers, Senders}
 use Rattle.cpu.specs.Table.Blocks.{Buffer, Block, OfBuffer, OfPending, Name, AcqQ, Enter, TryPut, TryTake, WaitOn, SigRecv, SigSend, RelQ, Pend, TakeAll}
 use Rattle.cpu.specs.Table.Edits.{edited, may_put, may_take}
 use Rattle.cpu.specs.Table.Setups.{Setup, opening}
