@@ -13,3 +13,4 @@ pub mod GrantWords
 mod Worked
 pub mod DigitsLemmas
 pub mod ReadingLemmas
+pub mod RingLemmas

@@ -12,3 +12,4 @@ pub mod Runs
 pub mod Traces
 pub mod Digits
 pub mod Reading
+pub mod Rings

@@ -2,6 +2,7 @@
 //! events, a log of events with room, and the definitions that every layer speaks in.
 #![tactic(auto)]
 
+mod cells;
 mod digits;
 mod entries;
 mod events;
@@ -11,15 +12,15 @@ mod laws;
 mod logs;
 mod messages;
 mod refusals;
+mod rings;
 mod runs;
 
+pub use cells::{Cells, Ticks};
 pub use digits::{is_number, number_has_one_spelling, number_to};
 pub use entries::{Entry, Kind};
 pub use events::Event;
 pub use grants::GrantEvent;
-pub use ids::{
-    BUFFERS, BufId, CAPACITY, CPUS, CpuId, ENTRIES, LockId, THREADS, TRACE, Tid,
-};
+pub use ids::{BUFFERS, BufId, CAPACITY, CPUS, CpuId, ENTRIES, LockId, THREADS, TRACE, Tid};
 pub use laws::{
     both_forms_agree, free_where_all_rest, freed_once_meanwhile, given_once_meanwhile,
     grants_tell_places, legal_logs_grow, one_holds, one_inside, one_inside_grants,
@@ -28,7 +29,10 @@ pub use laws::{
 pub use logs::EventLog;
 pub use messages::Msg;
 pub use refusals::{LogFull, NoMemory};
+pub use rings::Ring;
 pub use runs::{run_by_index, run_grows, run_has_op_order};
 
+#[cfg(test)]
+mod ring_tests;
 #[cfg(test)]
 mod tests;

@@ -62,7 +62,7 @@ fn freed(before: &[Event<u8>], of: LockId) -> usize {
 fn may_follow(before: &[Event<u8>], event: &Event<u8>) -> bool {
     match *event {
         Event::Draw { cpu, lock, ticket } => {
-            cpu.0 < CPUS
+            usize::from(cpu.0) < CPUS
                 && place_of(before, cpu) == Place::Outside
                 && ticket == drawn(before, lock) as u64
         }

@@ -1,0 +1,20 @@
+-- The part of a table that holds a queue of items, and a queue's steps on a list.
+use Rattle.std.specs.Prelude.{ℕ, List, [], ◌∷◌, ◌++◌, take, drop, Some, None, Option}
+
+-- a list turned k places to the left
+abbrev pub rotate_left : {A : Type 0} → ℕ → List A → List A
+rotate_left k slots = drop k slots ++ take k slots
+
+-- the n slots from slot k on, around the end
+abbrev pub window : {A : Type 0} → ℕ → ℕ → List A → List A
+window k n slots = take n (rotate_left k slots)
+
+-- the item at the front
+abbrev pub first : {A : Type 0} → List A → Option A
+first [] = None
+first (item ∷ items) = Some item
+
+-- the items behind the first
+abbrev pub rest : {A : Type 0} → List A → List A
+rest [] = []
+rest (item ∷ items) = items
