@@ -8,3 +8,6 @@ pub mod CountLemmas
 pub mod PlaceLemmas
 pub mod OnePlaceLemmas
 pub mod ListsLemmas
+pub mod KernelRenaming
+pub mod SleepLemmas
+pub mod SleepRenaming

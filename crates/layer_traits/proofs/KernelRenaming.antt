@@ -1,0 +1,323 @@
+-- A layer that wraps its edits in those of the layer beneath: what was seen, allowed, polled and planned there is so here, under the
+-- layer's own names.
+use Rattle.std.proofs.Common.{◌≡◌, ◌≤◌, length, Bool, true, false, List, [], ◌∷◌, ◌++◌, Option, Some, None, IsSome, MatchOption, option_map, is_some, if◌then◌else◌, map, refl, ap, sym, ◌∙◌, subst}
+use Rattle.std.proofs.Math.Path.{transport}
+use Rattle.event_log.specs.declared.ids.BufId.{BufId}
+use Rattle.event_log.specs.declared.ids.CpuId.{CpuId}
+use Rattle.event_log.specs.declared.ids.LockId.{LockId}
+use Rattle.event_log.specs.declared.ids.LockId.TheVariants.{Pending, Buffer}
+use Rattle.event_log.specs.declared.ids.TheConstants.{THREADS}
+use Rattle.event_log.specs.History.{IsLawful, AreOthers, Grows}
+use Rattle.event_log.specs.Actions.{Action, renamed}
+use Rattle.event_log.specs.Sections.{Section, renamed_section, sections_in, block_after}
+use Rattle.event_log.proofs.Renaming.{next_action_renamed, others_renamed, sections_in_renamed}
+use Rattle.layer_traits.specs.declared.passes.Pass.{Pass}
+use Rattle.layer_traits.specs.declared.passes.Pass.TheVariants.{Switch, YieldNow, Drain, MakeReady, End}
+use Rattle.layer_traits.specs.declared.queue_edits.QueueBlock.{QueueBlock}
+use Rattle.layer_traits.specs.declared.queue_edits.QueueBlock.TheVariants as block
+use Rattle.layer_traits.specs.declared.queue_edits.QueueEdit.{QueueEdit}
+use Rattle.layer_traits.specs.declared.queue_edits.QueueEdit.TheVariants as edit
+use Rattle.layer_traits.specs.declared.queues.QueueAnswer.{QueueAnswer}
+use Rattle.layer_traits.specs.declared.queues.QueueAnswer.TheVariants as told
+use Rattle.layer_traits.specs.declared.queues.QueueCall.{QueueCall}
+use Rattle.layer_traits.specs.declared.queues.QueueCall.TheVariants as queue
+use Rattle.layer_traits.specs.declared.queues.QueueEvent.{QueueEvent}
+use Rattle.layer_traits.specs.declared.scheds.SchedAnswer.{SchedAnswer}
+use Rattle.layer_traits.specs.declared.scheds.SchedAnswer.TheVariants.{Answer}
+use Rattle.layer_traits.specs.declared.scheds.SchedCall.{SchedCall}
+use Rattle.layer_traits.specs.declared.scheds.SchedCall.TheVariants as call
+use Rattle.layer_traits.specs.MoveRules.{edit_move}
+use Rattle.layer_traits.specs.Passes.{own_slept, own_woken, pass_after, queue_for}
+use Rattle.layer_traits.specs.Places.{Threads, Moved, step, MayEdit, MayPush, home_of, pending_by}
+use Rattle.layer_traits.specs.Plans.{Left, Plan, Now, Act, Follows, raised, reply, table_of}
+use Rattle.layer_traits.specs.Protocol.{section}
+use Rattle.layer_traits.specs.QueueBlocks.{StartsAs, StartsWell, above_of, homes_in, homes_of, inner}
+use Rattle.layer_traits.specs.QueueRules.{queue_answer, queue_edited, queue_rules}
+use Rattle.layer_traits.specs.Queues.{Kernel, CallAllowed, IsKnownEvent, QueueAllowed, buffer_sections, call_move, event, event_actor, event_of, call_at, moves_in, out_at, with_section}
+use Rattle.layer_traits.specs.Renaming.{named, renamed_call, renamed_edit, renamed_event, renamed_events, renamed_sched, viewed, viewed_block}
+use Rattle.layer_traits.specs.Scheds.{EditStays, IsLocal, SchedPolled, answer_to, events_of, left, left_by, own_after, own_answered, queue_call, sched_plan}
+use Rattle.layer_traits.proofs.PlanRenaming.{block_viewed, map-append, reply_viewed}
+
+-- Openings that are seen so.
+
+module _ {A B : Type 0} (view : A → B) (opening : LockId → Option (QueueBlock A)) where
+  -- the blocks of buffers are seen so
+  pub inner_viewed : (lock : LockId) → inner (viewed view opening) lock ≡ option_map view (inner opening lock)
+  inner_viewed lock = go (opening lock)
+    where
+      go : (o : Option (QueueBlock A)) → above_of (option_map (viewed_block view) o) ≡ option_map view (above_of o)
+      go None = refl
+      go (Some (block.Queue queue homes)) = refl
+      go (Some (block.Above above)) = refl
+
+  homes_seen : (o : Option (QueueBlock A)) → homes_of (option_map (viewed_block view) o) ≡ homes_of o
+  homes_seen None = refl
+  homes_seen (Some (block.Queue queue homes)) = refl
+  homes_seen (Some (block.Above above)) = refl
+
+  -- the homes are the same
+  pub homes_viewed : homes_in (viewed view opening) ≡ homes_in opening
+  homes_viewed = homes_seen (opening (Pending (record { 0 = 0 })))
+
+  -- a lock is there exactly where it was
+  pub there_viewed : (lock : LockId) → IsSome (viewed view opening lock) → IsSome (opening lock)
+  there_viewed lock there = go (opening lock) there
+    where
+      go : (o : Option (QueueBlock A)) → IsSome (option_map (viewed_block view) o) → IsSome o
+      go None some = some
+      go (Some b) some = refl
+
+  pub viewed_there : (lock : LockId) → IsSome (opening lock) → IsSome (viewed view opening lock)
+  viewed_there lock there = go (opening lock) there
+    where
+      go : (o : Option (QueueBlock A)) → IsSome o → IsSome (option_map (viewed_block view) o)
+      go None some = some
+      go (Some b) some = refl
+
+  -- a boot's blocks are those of a boot
+  pub starts_viewed : StartsWell opening → StartsWell (viewed view opening)
+  starts_viewed starts = record {
+    kinds = λ lock. kind lock (opening lock) (starts.kinds lock);
+    queues = λ t home at. viewed_there (Pending home) (starts.queues t home (subst (λ h. home_of h t ≡ Some home) homes_viewed at));
+    room = subst (λ h. length h ≤ THREADS) (sym homes_viewed) starts.room;
+  }
+    where
+      kind : (lock : LockId) (o : Option (QueueBlock A)) → StartsAs lock o → StartsAs lock (option_map (viewed_block view) o)
+      kind lock None is = tt
+      kind (Pending c) (Some (block.Queue queue homes)) is = is
+      kind (Pending c) (Some (block.Above above)) is = is
+      kind (Buffer b) (Some (block.Queue queue homes)) is = is
+      kind (Buffer b) (Some (block.Above above)) is = is
+
+-- Histories under other names.
+
+module _ {D E : Type 0} (name : D → E) where
+  with_renamed : (c : CpuId) (q : QueueCall D) (past : List (Section D)) (above : List (Section E)) → above ≡ map (renamed_section name) past
+      → with_section c (renamed_call name q) above ≡ map (renamed_section name) (with_section c q past)
+  with_renamed c (queue.Push d t) past above same = same
+  with_renamed c (queue.TakeAll d) past above same = same
+  with_renamed c (queue.OnBuffer b d) past above same = ap (λ p. section c (Buffer b) (name d) ∷ p) same
+
+  -- the sections are the same
+  pub sections_renamed : (past : List (QueueEvent D)) → buffer_sections (renamed_events name past) ≡ map (renamed_section name) (buffer_sections past)
+  sections_renamed [] = refl
+  sections_renamed (e ∷ past) = with_renamed e.cpu e.call (buffer_sections past) (buffer_sections (renamed_events name past)) (sections_renamed past)
+
+  pub events_append : (more past : List (QueueEvent D)) → renamed_events name (more ++ past) ≡ renamed_events name more ++ renamed_events name past
+  events_append more past = map-append (renamed_event name) more past
+
+  pub events_others : (c : CpuId) (more : List (QueueEvent D)) → AreOthers event_actor c more → AreOthers event_actor c (renamed_events name more)
+  events_others c [] others = tt
+  events_others c (e ∷ more) others = (others.0, events_others c more others.1)
+
+  pub known_renamed : (past : List (QueueEvent D)) → IsLawful IsKnownEvent past → IsLawful IsKnownEvent (renamed_events name past)
+  known_renamed [] known = tt
+  known_renamed (e ∷ past) known = (known.0, known_renamed past known.1)
+
+  -- a history that grew by foreign events did so
+  pub grows_renamed : (ActsFor : CpuId → Type 0) (old new : List (QueueEvent D)) → Grows ActsFor event_actor old new
+      → Grows ActsFor event_actor (renamed_events name old) (renamed_events name new)
+  grows_renamed ActsFor old new grows = record {
+    others = renamed_events name grows.others;
+    foreign = λ c acts. events_others c grows.others (grows.foreign c acts);
+    is = ap (renamed_events name) grows.is ∙ events_append grows.others old;
+  }
+
+  call_renamed : (lock : LockId) (m : QueueEdit D) → renamed_call name (call_at lock m) ≡ call_at lock (renamed_edit name m)
+  call_renamed lock (edit.Push t) = refl
+  call_renamed lock edit.TakeAll = refl
+  call_renamed lock (edit.Above d) = refl
+
+  sections_seen : (past : List (Section (QueueEdit D))) → renamed_events name (map event_of past) ≡ map event_of (map (renamed_section (renamed_edit name)) past)
+  sections_seen [] = refl
+  sections_seen (s ∷ past) = λ i. event s.cpu (call_renamed s.lock s.edit i) ∷ sections_seen past i
+
+  -- the events of actions are those of the actions under the other names
+  pub seen_renamed : (acts : List (Action (QueueEdit D))) → renamed_events name (map event_of (sections_in acts)) ≡ map event_of (sections_in (map (renamed (renamed_edit name)) acts))
+  seen_renamed acts = sections_seen (sections_in acts) ∙ ap (map event_of) (sym (sections_in_renamed (renamed_edit name) acts))
+
+-- Plans under other names.
+
+pub named_raised : {M N R S T A C : Type 0} (name : M → N) (f : Left S A → Left T C) (plan : Plan M R S A) → named name (raised f plan) ≡ raised f (named name plan)
+named_raised name f (Now left) = refl
+named_raised name f (Act lock m react) = refl
+
+module _ {D E A B O : Type 0} (k : Kernel D A O) (j : Kernel E B O) (name : D → E) (view : A → B)
+    (edits : (d : D) (a : A) → view (k.rules.edited d a) ≡ j.rules.edited (name d) (view a))
+    (answers : (d : D) (a : A) → k.rules.answer d a ≡ j.rules.answer (name d) (view a))
+    (openings : (lock : LockId) → j.opening lock ≡ option_map view (k.opening lock)) (homes : j.homes ≡ k.homes)
+    (callers : (d : D) → j.moves.caller (name d) ≡ k.moves.caller d) (slept : j.moves.slept ≡ k.moves.slept) (woke : j.moves.woke ≡ k.moves.woke)
+    (allowed : (past : List (Section D)) (s : Section D) → k.rules.allowed k.opening past s
+    → j.rules.allowed j.opening (map (renamed_section name) past) (renamed_section name s)) where
+  -- the block of a lock is the view of the block beneath
+  pub block_renamed : (lock : LockId) (past : List (Section D))
+      → block_after j.rules.edited j.opening lock (map (renamed_section name) past) ≡ option_map view (block_after k.rules.edited k.opening lock past)
+  block_renamed lock past =
+      ap (λ (o : LockId → Option B). block_after j.rules.edited o lock (map (renamed_section name) past)) (λ i l. openings l i)
+      ∙ block_viewed (table_of k.rules) (table_of j.rules) name view (λ o. o) edits answers k.opening lock past
+
+  out_viewed : (d : D) (o : Option A) → option_map (j.rules.answer (name d)) (option_map view o) ≡ option_map (k.rules.answer d) o
+  out_viewed d None = refl
+  out_viewed d (Some a) = ap Some (sym (answers d a))
+
+  -- an edit answers the same
+  pub out_renamed : (past : List (QueueEvent D)) (b : BufId) (d : D) → out_at j (renamed_events name past) b (name d) ≡ out_at k past b d
+  out_renamed past b d =
+      ap (λ p. option_map (j.rules.answer (name d)) (block_after j.rules.edited j.opening (Buffer b) p)) (sections_renamed name past)
+      ∙ (ap (option_map (j.rules.answer (name d))) (block_renamed (Buffer b) (buffer_sections past)) ∙ out_viewed d (block_after k.rules.edited k.opening (Buffer b) (buffer_sections past)))
+
+  move_out : (lock : LockId) (d : D) (o : Option O) → edit_move j.moves lock (name d) o ≡ edit_move k.moves lock d o
+  move_out lock d None = refl
+  move_out lock d (Some out) = λ i. Moved lock (callers d i) (slept i out) (woke i out)
+
+  move_renamed : (past : List (QueueEvent D)) (q : QueueCall D) → call_move j (renamed_events name past) (renamed_call name q) ≡ call_move k past q
+  move_renamed past (queue.Push d t) = refl
+  move_renamed past (queue.TakeAll d) = refl
+  move_renamed past (queue.OnBuffer b d) = ap (edit_move j.moves (Buffer b) (name d)) (out_renamed past b d) ∙ move_out (Buffer b) d (out_at k past b d)
+
+  -- the threads move alike
+  pub moves_renamed : (past : List (QueueEvent D)) → moves_in j (renamed_events name past) ≡ moves_in k past
+  moves_renamed [] = refl
+  moves_renamed (e ∷ past) = λ i. step e.cpu (move_renamed past e.call i) ∷ moves_renamed past i
+
+  allowed_renamed : (past : List (QueueEvent D)) (c : CpuId) (q : QueueCall D) → CallAllowed k past c q → CallAllowed j (renamed_events name past) c (renamed_call name q)
+  allowed_renamed past c (queue.Push d t) may = transport (λ i. MayPush (sym homes i) (sym (moves_renamed past) i) c d t) may
+  allowed_renamed past c (queue.TakeAll d) may = may
+  allowed_renamed past c (queue.OnBuffer b d) may = record {
+    caller = transport (λ i. MayEdit (sym homes i) (sym (moves_renamed past) i) c (sym (callers d) i)) may.caller;
+    upper = subst (λ p. j.rules.allowed j.opening p (section c (Buffer b) (name d))) (sym (sections_renamed name past))
+        (allowed (buffer_sections past) (section c (Buffer b) d) may.upper);
+  }
+
+  -- what is lawful beneath is lawful here
+  pub lawful_renamed : (past : List (QueueEvent D)) → IsLawful (QueueAllowed k) past → IsLawful (QueueAllowed j) (renamed_events name past)
+  lawful_renamed [] lawful = tt
+  lawful_renamed (e ∷ past) lawful = (allowed_renamed past e.cpu e.call lawful.0, lawful_renamed past lawful.1)
+
+  -- an edit that stays allowed here is allowed here after whatever others do beneath
+  pub stays_renamed : (c : CpuId) (past : List (QueueEvent D)) (b : BufId) (d : D) → EditStays j c (renamed_events name past) (call.OnBuffer b (name d))
+      → (more : List (QueueEvent D)) → AreOthers event_actor c more → IsLawful (QueueAllowed k) (more ++ past)
+      → j.rules.allowed j.opening (map (renamed_section name) (buffer_sections (more ++ past))) (section c (Buffer b) (name d))
+  stays_renamed c past b d stays more others lawful =
+      subst (λ p. j.rules.allowed j.opening p (section c (Buffer b) (name d))) (ap buffer_sections (sym (events_append name more past)) ∙ sections_renamed name (more ++ past))
+      (stays (renamed_events name more) (events_others name c more others)
+      (subst (IsLawful (QueueAllowed j)) (events_append name more past) (lawful_renamed (more ++ past) lawful)))
+
+  pub answered_renamed : (c : CpuId) (o : Option O) (own : Threads) → own_answered j.moves j.homes c o own ≡ own_answered k.moves k.homes c o own
+  answered_renamed c None own = refl
+  answered_renamed c (Some out) own = λ i. own_woken (homes i) c (woke i out) (own_slept (slept i out) own)
+
+  own_renamed : (c : CpuId) (past : List (QueueEvent D)) (s : SchedCall D) (own : Threads) → own_after j c (renamed_events name past) (renamed_sched name s) own ≡ own_after k c past s own
+  own_renamed c past (call.Pass p) own = ap (λ moves. pass_after p (pending_by moves c) own) (moves_renamed past)
+  own_renamed c past (call.OnBuffer b d) own = ap (λ o. own_answered j.moves j.homes c o own) (out_renamed past b d) ∙ answered_renamed c (out_at k past b d) own
+
+  told_renamed : (past : List (QueueEvent D)) (s : SchedCall D) → answer_to j (renamed_events name past) (renamed_sched name s) ≡ answer_to k past s
+  told_renamed past (call.Pass p) = refl
+  told_renamed past (call.OnBuffer b d) = ap (option_map Answer) (out_renamed past b d)
+
+  pass_seen : (c : CpuId) (p : Pass) (past : List (QueueEvent D)) → renamed_events name (events_of c (queue_call k.homes c (call.Pass p)) ++ past)
+      ≡ events_of c (queue_call j.homes c (call.Pass p)) ++ renamed_events name past
+  pass_seen c Switch past = refl
+  pass_seen c YieldNow past = refl
+  pass_seen c Drain past = refl
+  pass_seen c (MakeReady t) past = ap (λ (h : List CpuId). event c (queue.Push (queue_for h c t) t) ∷ renamed_events name past) (sym homes)
+  pass_seen c End past = refl
+
+  call_seen : (c : CpuId) (s : SchedCall D) (past : List (QueueEvent D)) → renamed_events name (events_of c (queue_call k.homes c s) ++ past)
+      ≡ events_of c (queue_call j.homes c (renamed_sched name s)) ++ renamed_events name past
+  call_seen c (call.Pass p) past = pass_seen c p past
+  call_seen c (call.OnBuffer b d) past = refl
+
+  local_renamed : (s : SchedCall D) → IsLocal (renamed_sched name s) → IsLocal s
+  local_renamed (call.Pass p) local = local
+  local_renamed (call.OnBuffer b d) local = local
+
+  -- a poll beneath is a poll here
+  pub polled_renamed : (ActsFor : CpuId → Type 0) (c : CpuId) (s : SchedCall D) (result : Option (SchedAnswer O)) (old new : List (QueueEvent D)) (own own' : Threads)
+      → SchedPolled k ActsFor c s result old new own own' → SchedPolled j ActsFor c (renamed_sched name s) result (renamed_events name old) (renamed_events name new) own own'
+  polled_renamed ActsFor c s result old new own own' polled = record {
+    others = renamed_events name polled.others;
+    foreign = λ d acts. events_others name d polled.others (polled.foreign d acts);
+    is = ap (renamed_events name) polled.is ∙ seen (is_some result);
+    after = polled.after ∙ after (is_some result);
+    answers = told result polled.answers;
+    at_once = λ local. polled.at_once (local_renamed s local);
+  }
+    where
+      past : List (QueueEvent D)
+      past = polled.others ++ old
+
+      here : renamed_events name (polled.others ++ old) ≡ renamed_events name polled.others ++ renamed_events name old
+      here = events_append name polled.others old
+
+      seen : (b : Bool) → renamed_events name (if b then events_of c (queue_call k.homes c s) ++ (polled.others ++ old) else polled.others ++ old)
+          ≡ (if b then events_of c (queue_call j.homes c (renamed_sched name s)) ++ (renamed_events name polled.others ++ renamed_events name old) else renamed_events name polled.others ++ renamed_events name old)
+      seen true = call_seen c s (polled.others ++ old) ∙ ap (λ p. events_of c (queue_call j.homes c (renamed_sched name s)) ++ p) here
+      seen false = here
+
+      after : (b : Bool) → (if b then own_after k c (polled.others ++ old) s own else own)
+          ≡ (if b then own_after j c (renamed_events name polled.others ++ renamed_events name old) (renamed_sched name s) own else own)
+      after true = sym (own_renamed c (polled.others ++ old) s own) ∙ ap (λ p. own_after j c p (renamed_sched name s) own) here
+      after false = refl
+
+      told : (r : Option (SchedAnswer O)) → MatchOption r (Unit {0}) (λ answer. answer_to k (polled.others ++ old) s ≡ Some answer)
+          → MatchOption r (Unit {0}) (λ answer. answer_to j (renamed_events name polled.others ++ renamed_events name old) (renamed_sched name s) ≡ Some answer)
+      told None answer = tt
+      told (Some a) answer = ap (λ p. answer_to j p (renamed_sched name s)) (sym here) ∙ (told_renamed (polled.others ++ old) s ∙ answer)
+
+  -- Plans and actions.
+
+  by_renamed : (c : CpuId) (h : List CpuId) (own : Threads) (r : Option (QueueAnswer O)) → left_by k.moves h c own r ≡ left_by j.moves h c own r
+  by_renamed c h own None = refl
+  by_renamed c h own (Some told.Done) = refl
+  by_renamed c h own (Some (told.Taken queue)) = refl
+  by_renamed c h own (Some (told.Answer out)) = λ i. left (own_woken h c (sym woke i out) (own_slept (sym slept i out) own)) (Some (Answer out))
+
+  -- the plan beneath is the plan here
+  pub plan_renamed : (h : List CpuId) (c : CpuId) (s : SchedCall D) (own : Threads)
+      → named (renamed_edit name) (sched_plan k.moves h c s own) ≡ sched_plan j.moves h c (renamed_sched name s) own
+  plan_renamed h c (call.Pass Switch) own = refl
+  plan_renamed h c (call.Pass YieldNow) own = λ i. Act (Pending c) edit.TakeAll (λ r. by_renamed c h own r i)
+  plan_renamed h c (call.Pass Drain) own = λ i. Act (Pending c) edit.TakeAll (λ r. by_renamed c h own r i)
+  plan_renamed h c (call.Pass (MakeReady t)) own = λ i. Act (Pending (queue_for h c t)) (edit.Push t) (λ r. by_renamed c h own r i)
+  plan_renamed h c (call.Pass End) own = refl
+  plan_renamed h c (call.OnBuffer b d) own = λ i. Act (Buffer b) (edit.Above (name d)) (λ r. by_renamed c h own r i)
+
+  queue_edits : (m : QueueEdit D) (b : QueueBlock A) → viewed_block view (queue_edited k.rules.edited m b) ≡ queue_edited j.rules.edited (renamed_edit name m) (viewed_block view b)
+  queue_edits (edit.Push t) (block.Queue queue h) = refl
+  queue_edits (edit.Push t) (block.Above a) = refl
+  queue_edits edit.TakeAll (block.Queue queue h) = refl
+  queue_edits edit.TakeAll (block.Above a) = refl
+  queue_edits (edit.Above d) (block.Queue queue h) = refl
+  queue_edits (edit.Above d) (block.Above a) = ap block.Above (edits d a)
+
+  queue_answers : (m : QueueEdit D) (b : QueueBlock A) → queue_answer k.rules.answer m b ≡ queue_answer j.rules.answer (renamed_edit name m) (viewed_block view b)
+  queue_answers (edit.Push t) b = refl
+  queue_answers edit.TakeAll (block.Queue queue h) = refl
+  queue_answers edit.TakeAll (block.Above a) = refl
+  queue_answers (edit.Above d) (block.Queue queue h) = refl
+  queue_answers (edit.Above d) (block.Above a) = ap told.Answer (answers d a)
+
+  same_option : {X : Type 0} (o : Option X) → option_map (λ (x : X). x) o ≡ o
+  same_option None = refl
+  same_option (Some x) = refl
+
+  -- a poll that followed its plan beneath followed it here
+  pub follows_named : {S T : Type 0} (ActsFor : CpuId → Type 0) (opening : LockId → Option (QueueBlock A)) (cpu : CpuId) (plan : Plan (QueueEdit D) (QueueAnswer O) S T)
+      (old new : List (Action (QueueEdit D))) (got : Left S T) → Follows ActsFor (table_of (queue_rules k.rules k.moves)) opening cpu plan old new got
+      → Follows ActsFor (table_of (queue_rules j.rules j.moves)) (viewed view opening) cpu (named (renamed_edit name) plan)
+      (map (renamed (renamed_edit name)) old) (map (renamed (renamed_edit name)) new) got
+  follows_named ActsFor opening cpu (Now left) old new got follows = (ap (map (renamed (renamed_edit name))) follows.0, follows.1)
+  follows_named ActsFor opening cpu (Act lock m react) old new got follows = record {
+    past = map (renamed (renamed_edit name)) follows.past;
+    acted = record {
+      others = map (renamed (renamed_edit name)) follows.acted.others;
+      foreign = λ c acts. others_renamed (renamed_edit name) c follows.acted.others (follows.acted.foreign c acts);
+      joined = ap (map (renamed (renamed_edit name))) follows.acted.joined ∙ map-append (renamed (renamed_edit name)) follows.acted.others old;
+      grows = ap (map (renamed (renamed_edit name))) follows.acted.grows
+          ∙ ap (λ a. a ∷ map (renamed (renamed_edit name)) follows.past) (sym (next_action_renamed (renamed_edit name) cpu lock m follows.past));
+    };
+    moves = follows.moves ∙ ap react (sym (same_option (reply (table_of (queue_rules k.rules k.moves)) opening cpu lock m follows.past))
+        ∙ reply_viewed (table_of (queue_rules k.rules k.moves)) (table_of (queue_rules j.rules j.moves)) (renamed_edit name) (viewed_block view) (λ r. r) queue_edits queue_answers opening
+        cpu lock m follows.past);
+  }

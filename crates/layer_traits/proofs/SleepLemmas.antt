@@ -1,0 +1,77 @@
+-- A poll of a sleeping layer is one poll of the scheduler's call that is due.
+use Rattle.std.proofs.Common.{◌≡◌, List, ◌++◌, Option, Some, None, IsSome, option_map, refl, ap, sym, ◌∙◌, subst}
+use Rattle.event_log.specs.declared.ids.BufId.{BufId}
+use Rattle.event_log.specs.declared.ids.CpuId.{CpuId}
+use Rattle.event_log.specs.declared.ids.Tid.{Tid}
+use Rattle.layer_traits.specs.declared.queues.QueueEvent.{QueueEvent}
+use Rattle.layer_traits.specs.declared.scheds.SchedAnswer.{SchedAnswer}
+use Rattle.layer_traits.specs.declared.scheds.SchedAnswer.TheVariants.{Done, Answer}
+use Rattle.layer_traits.specs.declared.sleeps.Outcome.{Outcome}
+use Rattle.layer_traits.specs.Places.{Threads}
+use Rattle.layer_traits.specs.Queues.{Kernel, out_at}
+use Rattle.layer_traits.specs.Scheds.{SchedPolled, own_answered}
+use Rattle.layer_traits.specs.SleepLaw.{Sleeping, SleepPolled, Waits, Does, Sends, due, left_done, left_told}
+
+-- an outcome is kept exactly while a thread stands in the hand
+abbrev pub HandKept : {O : Type 0} → Option Tid → Option (Outcome O) → Type 0
+HandKept None None = Unit {0}
+HandKept (Some t) (Some outcome) = Unit {0}
+HandKept None (Some outcome) = ⊥
+HandKept (Some t) None = ⊥
+
+module _ {E B O : Type 0} (k : Kernel E B (Outcome O)) (ActsFor : CpuId → Type 0) (c : CpuId) (b : BufId) (e : E) (old new : List (QueueEvent E)) (own : Sleeping O) (own' : Threads) where
+  answer_is : (past : List (QueueEvent E)) (outcome : Outcome O) → option_map Answer (out_at k past b e) ≡ Some (Answer outcome) → out_at k past b e ≡ Some outcome
+  answer_is past outcome answers = go (out_at k past b e) answers
+    where
+      go : (o : Option (Outcome O)) → option_map Answer o ≡ Some (Answer outcome) → o ≡ Some outcome
+      go None none = absurd cc
+      go (Some out) some = cc
+
+  no_answer : (past : List (QueueEvent E)) → option_map Answer (out_at k past b e) ≡ Some Done → ⊥
+  no_answer past answers = go (out_at k past b e) answers
+    where
+      go : (o : Option (Outcome O)) → option_map Answer o ≡ Some Done → ⊥
+      go None none = cc
+      go (Some out) some = cc
+
+  -- what the scheduler's poll did is a poll here, and leaves what its answer tells
+  pub sleep_polled : (hand : Option Tid) (kept : Option (Outcome O)) (answer : Option (SchedAnswer (Outcome O))) → own.threads.hand ≡ hand → own.kept ≡ kept → HandKept hand kept
+      → SchedPolled k ActsFor c (due hand b e) answer old new own.threads own' → SleepPolled k ActsFor c b e old new own (left_told kept own' answer)
+  sleep_polled None None None in_hand is_kept fits polled = record {
+    others = polled.others;
+    foreign = polled.foreign;
+    deed = Waits;
+    may = tt;
+    is = polled.is;
+    leaves = λ i. record { own = record { threads = polled.after i; kept = sym is_kept i }; answer = None };
+  }
+  sleep_polled None None (Some Done) in_hand is_kept fits polled = absurd (no_answer (polled.others ++ old) polled.answers)
+  sleep_polled None None (Some (Answer outcome)) in_hand is_kept fits polled =
+      let out : out_at k (polled.others ++ old) b e ≡ Some outcome = answer_is (polled.others ++ old) outcome polled.answers in
+      record {
+        others = polled.others;
+        foreign = polled.foreign;
+        deed = Does outcome;
+        may = (is_kept, out);
+        is = polled.is;
+        leaves = ap (left_done outcome) (polled.after ∙ ap (λ o. own_answered k.moves k.homes c o own.threads) out);
+      }
+  sleep_polled (Some t) (Some outcome) None in_hand is_kept fits polled = record {
+    others = polled.others;
+    foreign = polled.foreign;
+    deed = Waits;
+    may = tt;
+    is = polled.is;
+    leaves = λ i. record { own = record { threads = polled.after i; kept = sym is_kept i }; answer = None };
+  }
+  sleep_polled (Some t) (Some outcome) (Some Done) in_hand is_kept fits polled = record {
+    others = polled.others;
+    foreign = polled.foreign;
+    deed = Sends t;
+    may = (subst (λ o. IsSome o) (sym is_kept) refl, in_hand);
+    is = polled.is;
+    leaves = λ i. record { own = record { threads = polled.after i; kept = None }; answer = sym is_kept i };
+  }
+  sleep_polled (Some t) (Some outcome) (Some (Answer out)) in_hand is_kept fits polled = let other = polled.answers in absurd cc
+  sleep_polled None (Some outcome) answer in_hand is_kept fits polled = absurd fits
+  sleep_polled (Some t) None answer in_hand is_kept fits polled = absurd fits
