@@ -3,21 +3,22 @@
 use Rattle.std.specs.Prelude.{◌≡◌, ℕ, ◌<◌, List, [], ◌∷◌, ◌++◌, length, map, drop, Some, slice_get, slice_index_or}
 use Rattle.event_log.specs.declared.entries.Kind.{Kind}
 use Rattle.event_log.specs.declared.entries.Kind.TheVariants.{Send, Recv}
+use Rattle.event_log.specs.Messages.{Message}
 
 -- what buffer b holds
-abbrev pub items_of : List (List ℕ) → ℕ → List ℕ
+abbrev pub items_of : List (List Message) → ℕ → List Message
 items_of contents b = slice_index_or contents b []
 
 -- at the start every buffer is empty
-abbrev pub empty_buffers : List ℕ → List (List ℕ)
+abbrev pub empty_buffers : List ℕ → List (List Message)
 empty_buffers caps = map (λ _. []) caps
 
 -- a send wants room; a receive of a message wants it to be the first
-abbrev pub IsAllowedEffect : Kind → ℕ → List ℕ → ℕ → Type 0
+abbrev pub IsAllowedEffect : Kind → ℕ → List Message → Message → Type 0
 IsAllowedEffect Send capacity items message = length items < capacity
 IsAllowedEffect Recv capacity items message = slice_get items 0 ≡ Some message
 
 -- a send puts the message behind the others; a receive takes the first away
-abbrev pub after_effect : Kind → List ℕ → ℕ → List ℕ
+abbrev pub after_effect : Kind → List Message → Message → List Message
 after_effect Send items message = items ++ message ∷ []
 after_effect Recv items message = drop 1 items

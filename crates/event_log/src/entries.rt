@@ -1,6 +1,7 @@
 //! What a send or a receive that took effect leaves behind.
 
 use crate::ids::{BufId, CpuId, Tid};
+use crate::messages::Msg;
 
 /// Which of the two message calls took effect.
 #[derive(Clone, Copy, Debug, PartialEq, Eq)]
@@ -23,7 +24,7 @@ pub struct Entry {
     /// The buffer.
     pub buffer: BufId,
     /// The message.
-    pub value: u64,
+    pub value: Msg,
     /// How many effects, of both kinds together, the buffer had before this one.
     pub op: u64,
     /// How many effects of this kind the buffer had before this one.

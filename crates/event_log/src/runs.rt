@@ -2,6 +2,7 @@
 //! first-out buffers: laws, with nothing to run.
 
 ghost use Rattle.std.specs.Prelude.{◌≡◌, ◌<◌, ◌++◌, ◌∷◌, ◌↔◌, ℕ, [], List, length, take, slice_get, Some};
+ghost use Rattle.event_log.specs.Messages.{Message};
 ghost use Rattle.event_log.specs.declared.entries.Entry.{Entry as AnEntry};
 ghost use Rattle.event_log.specs.Runs.{IsNext, IsRun, after_entry, contents_after};
 ghost use Rattle.event_log.specs.Traces.{HasOpOrder};
@@ -9,7 +10,7 @@ ghost use Rattle.event_log.specs.Traces.{HasOpOrder};
 /// A law: a run with one entry more at its end, which may come there, is a run, and ends in what
 /// that entry leaves.
 pub fn run_grows()
-    ensures { (caps : List ℕ) (es : List AnEntry) (left : List (List ℕ)) (e : AnEntry) → IsRun caps es left → IsNext caps es left e
+    ensures { (caps : List ℕ) (es : List AnEntry) (left : List (List Message)) (e : AnEntry) → IsRun caps es left → IsNext caps es left e
         → IsRun caps (es ++ e ∷ []) (after_entry left e) }
 {}
 
@@ -17,7 +18,7 @@ pub fn run_grows()
 /// them, and each entry may come behind the entries that stand before it. So its op and its pos
 /// are the numbers of entries before it, of its buffer, and of its buffer and kind.
 pub fn run_by_index()
-    ensures runs { (caps : List ℕ) (es : List AnEntry) (left : List (List ℕ)) → IsRun caps es left
+    ensures runs { (caps : List ℕ) (es : List AnEntry) (left : List (List Message)) → IsRun caps es left
         → (left ≡ contents_after caps es)
         × ((k : ℕ) (e : AnEntry) → slice_get es k ≡ Some e → IsNext caps (take k es) (contents_after caps (take k es)) e) }
     ensures only { (caps : List ℕ) (es : List AnEntry)
@@ -27,5 +28,5 @@ pub fn run_by_index()
 
 /// A law: in a run the op numbers of each buffer are 0, 1, 2 and so on.
 pub fn run_has_op_order()
-    ensures { (caps : List ℕ) (es : List AnEntry) (left : List (List ℕ)) → IsRun caps es left → HasOpOrder es }
+    ensures { (caps : List ℕ) (es : List AnEntry) (left : List (List Message)) → IsRun caps es left → HasOpOrder es }
 {}

@@ -7,7 +7,7 @@ use Rattle.event_log.specs.declared.entries.Entry.{Entry}
 use Rattle.guest.specs.declared.instructions.Register.{Register}
 use Rattle.guest.specs.declared.instructions.Instruction.{Instruction}
 use Rattle.guest.specs.declared.instructions.Instruction.TheVariants.{Set, Add, Sub, Jnz, Send, Recv, Yield, Exit}
-use Rattle.guest.specs.State.{State, next_of, value_in, moved_on, moved_to, after_local, after_send, after_recv, after_yield}
+use Rattle.guest.specs.State.{State, next_of, value_in, sent_from, moved_on, moved_to, after_local, after_send, after_recv, after_yield}
 use Rattle.guest.specs.Calls.{IsProgramsCalls, sets, adds, subtracts, jumps, goes_on, yields, sends, receives}
 
 after_jump : (program : List Instruction) (es : List Entry) (s : State) (r : Register) (k : ℕ) (b : Bool) → b ≡ (value_in s r == 0) → IsProgramsCalls program es s → next_of program s ≡ Jnz r k
@@ -45,7 +45,7 @@ calls-yield program es s calls = yield_at program es s (next_of program s) refl 
 
 -- a send that returns has its entry, newest first
 pub calls-send : (program : List Instruction) (es : List Entry) (s : State) (b : BufId) (r : Register) (e : Entry) → IsProgramsCalls program es s → next_of program s ≡ Send b r
-    → e.kind ≡ SendKind → e.buffer ≡ b → e.value ≡ value_in s r → IsProgramsCalls program (e ∷ es) (after_send (next_of program s) s)
+    → e.kind ≡ SendKind → e.buffer ≡ b → e.value ≡ sent_from s r → IsProgramsCalls program (e ∷ es) (after_send (next_of program s) s)
 calls-send program es s b r e calls at kind buffer value =
     let P : Instruction → Type 0 = λ i. IsProgramsCalls program (e ∷ es) (after_send i s) in
     subst P (sym at) (sends b r e calls at kind buffer value)

@@ -1,6 +1,6 @@
 -- A thread's private state, and what each instruction makes of it.
 use Rattle.std.specs.Prelude.{ℕ, ◌+◌, ◌-◌, ◌^◌, ◌%◌, ◌==◌, List, [], ◌∷◌, slice_index, slice_set, if◌then◌else◌}
-use Rattle.event_log.specs.Messages.{Message}
+use Rattle.event_log.specs.Messages.{Message, first_word}
 use Rattle.guest.specs.declared.instructions.Register.{Register}
 use Rattle.guest.specs.declared.instructions.Instruction.{Instruction}
 use Rattle.guest.specs.declared.instructions.Instruction.TheVariants.{Set, Add, Sub, Jnz, Send, Recv, Yield, Exit}
@@ -62,10 +62,10 @@ abbrev pub after_send : Instruction → State → State
 after_send (Send b r) s = moved_on s
 after_send _ s = s
 
--- after a receive has returned with this value
-abbrev pub after_recv : Instruction → ℕ → State → State
-after_recv (Recv b r) value s = moved_with s r value
-after_recv _ value s = s
+-- after a receive has returned with this message, whose first word goes to the register
+abbrev pub after_recv : Instruction → Message → State → State
+after_recv (Recv b r) message s = moved_with s r (first_word message)
+after_recv _ message s = s
 
 -- after the thread has let another one run
 abbrev pub after_yield : Instruction → State → State

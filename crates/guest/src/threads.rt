@@ -1,6 +1,7 @@
 //! One thread's private state, and what each instruction makes of it.
 
 use crate::instructions::{Instruction, Program, Register};
+use event_log::Msg;
 use std::marker::Model;
 
 /// A thread of a program: the line at which it stands and its four registers.
@@ -90,13 +91,13 @@ impl Thread {
     }
 
     /// Moves the thread past the `recv` at which it stands, once the call has returned with
-    /// `value`, which goes to the instruction's register. At another instruction nothing changes.
-    /// Takes no memory.
-    pub fn after_recv(&mut self, program: &Program, value: u64)
-        ensures { self.new ≡ after_recv (next_of program.now self.old) value self.old }
+    /// `message`, whose first word goes to the instruction's register. At another instruction
+    /// nothing changes. Takes no memory.
+    pub fn after_recv(&mut self, program: &Program, message: Msg)
+        ensures { self.new ≡ after_recv (next_of program.now self.old) message self.old }
     {
         if let Instruction::Recv(_, into) = program.instruction(self.line) {
-            self.put(into, value);
+            self.put(into, message);
         }
     }
 

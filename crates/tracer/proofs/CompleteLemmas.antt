@@ -3,6 +3,7 @@ use Rattle.std.proofs.Common.{◌≡◌, ℕ, ◌+◌, ◌<◌, ◌≤◌, ◌^�
 use Rattle.std.specs.Prelude.{codes, nat_lt}
 use Rattle.std.specs.List.{AllByRecursion, flat_map, join_with_byte}
 use Rattle.std.proofs.lemmas.List.{length_push, length-drop, length-set, length-map, get_or-drop, drop-drop}
+use Rattle.event_log.specs.Messages.{Message}
 use Rattle.event_log.specs.declared.ids.TheConstants.{BUFFERS, ENTRIES}
 use Rattle.event_log.specs.declared.entries.Entry.{Entry}
 use Rattle.event_log.specs.Buffers.{items_of, empty_buffers, after_effect}
@@ -17,7 +18,7 @@ use Rattle.tracer.proofs.EntryLemmas.{progress, behind_e}
 use Rattle.tracer.proofs.StepLemmas.{entry_is_line, step_entry, behind_left, left_is_line, step_first_left, step_left}
 use Rattle.tracer.proofs.OpeningLemmas.{step_head, step_end, count_is_line_of, step_count, opened, cap_is_line, step_cap}
 
-abbrev AreSmall : List ℕ → Type 0
+abbrev AreSmall : List Message → Type 0
 AreSmall items = AllByRecursion (λ v. v < 2 ^ 64) items
 
 -- the last line
@@ -28,15 +29,15 @@ complete_end : (s : Progress) (n : ℕ) → s.at ≡ stage.End → verdict_from 
 complete_end s n at = line_read s (record s { at = stage.Done }) n (codes "end") [] [] end_is_line (step_end s at)
 
 -- what is left of a buffer, and of those behind it
-first_of : (contents : List (List ℕ)) (b : ℕ) (x : List ℕ) (xs : List (List ℕ)) → drop b contents ≡ x ∷ xs → items_of contents b ≡ x
+first_of : (contents : List (List Message)) (b : ℕ) (x : List ℕ) (xs : List (List ℕ)) → drop b contents ≡ x ∷ xs → items_of contents b ≡ x
 first_of contents b x xs e =
     let none : b + 0 ≡ b = omega arith in
     ap (λ (k : ℕ). get_or contents k []) (sym none) ∙ sym (get_or-drop b contents 0 []) ∙ ap (λ (t : List (List ℕ)). get_or t 0 []) e
 
-behind_first : (contents : List (List ℕ)) (b : ℕ) (x : List ℕ) (xs : List (List ℕ)) → drop b contents ≡ x ∷ xs → drop (b + 1) contents ≡ xs
+behind_first : (contents : List (List Message)) (b : ℕ) (x : List ℕ) (xs : List (List ℕ)) → drop b contents ≡ x ∷ xs → drop (b + 1) contents ≡ xs
 behind_first contents b x xs e = sym (drop-drop 1 b contents) ∙ ap (λ (t : List (List ℕ)). drop 1 t) e
 
-complete_left : (caps : List ℕ) (earlier : List Entry) (contents : List (List ℕ)) (s : Progress) (b n : ℕ) (x : List ℕ) (xs : List (List ℕ)) → length contents ≡ length caps → length caps ≤ BUFFERS → b < length caps → drop b contents ≡ x ∷ xs → AllByRecursion AreSmall (x ∷ xs) → step s (join_with_byte 32 (left_pieces b (items_of contents b))) ≡ Ok (progress (behind_left b caps) caps earlier contents) → verdict_from s n (lines_in (flat_map line_of (numbered left_pieces b (x ∷ xs) ++ end_pieces ∷ []))) ≡ Yes
+complete_left : (caps : List ℕ) (earlier : List Entry) (contents : List (List Message)) (s : Progress) (b n : ℕ) (x : List ℕ) (xs : List (List ℕ)) → length contents ≡ length caps → length caps ≤ BUFFERS → b < length caps → drop b contents ≡ x ∷ xs → AllByRecursion AreSmall (x ∷ xs) → step s (join_with_byte 32 (left_pieces b (items_of contents b))) ≡ Ok (progress (behind_left b caps) caps earlier contents) → verdict_from s n (lines_in (flat_map line_of (numbered left_pieces b (x ∷ xs) ++ end_pieces ∷ []))) ≡ Yes
 complete_left caps earlier contents s b n x [] long few inside rest small taken =
     let here = first_of contents b x [] rest in
     let last : (b + 1 ≡ length caps) = omega (arith, ap length rest, length-drop b contents) in
@@ -56,14 +57,14 @@ complete_left caps earlier contents s b n x (y ∷ ys) long few inside rest smal
     line_read s s' n (codes "left") _ (flat_map line_of (numbered left_pieces (b + 1) (y ∷ ys) ++ end_pieces ∷ [])) (left_is_line b x fits small.0) next ∙ complete_left caps earlier contents s' (b + 1) (n + 1) y ys long few more behind small.1 (step_left (b + 1) caps earlier contents more few following)
 
 -- the entries
-complete_first : (caps : List ℕ) (earlier : List Entry) (contents left : List (List ℕ)) (n : ℕ) → contents ≡ left → length contents ≡ length caps → 1 ≤ length caps → length caps ≤ BUFFERS → AllByRecursion AreSmall left → verdict_from (progress stage.Entries caps earlier contents) n (lines_in (flat_map line_of (numbered left_pieces 0 left ++ end_pieces ∷ []))) ≡ Yes
+complete_first : (caps : List ℕ) (earlier : List Entry) (contents left : List (List Message)) (n : ℕ) → contents ≡ left → length contents ≡ length caps → 1 ≤ length caps → length caps ≤ BUFFERS → AllByRecursion AreSmall left → verdict_from (progress stage.Entries caps earlier contents) n (lines_in (flat_map line_of (numbered left_pieces 0 left ++ end_pieces ∷ []))) ≡ Yes
 complete_first caps earlier contents [] n same long some few small = absurd (omega (arith, ap length same))
 complete_first caps earlier contents (x ∷ xs) n same long some few small =
     let inside : 0 < length caps = omega arith in
     let first : AreSmall (items_of contents 0) = subst AreSmall (sym (first_of contents 0 x xs same)) small.0 in
     complete_left caps earlier contents (progress stage.Entries caps earlier contents) 0 n x xs long few inside same small (step_first_left caps earlier contents inside first)
 
-pub complete_entries : (caps : List ℕ) (earlier : List Entry) (contents : List (List ℕ)) (es : List Entry) (left : List (List ℕ)) (n : ℕ) → IsRunFrom caps earlier contents es left → AllByRecursion (IsEntryOf (length caps)) es → length earlier + length es ≤ ENTRIES → length contents ≡ length caps → 1 ≤ length caps → length caps ≤ BUFFERS → AllByRecursion AreSmall left → verdict_from (progress stage.Entries caps earlier contents) n (lines_in (flat_map line_of (map entry_pieces es ++ (numbered left_pieces 0 left ++ end_pieces ∷ [])))) ≡ Yes
+pub complete_entries : (caps : List ℕ) (earlier : List Entry) (contents : List (List Message)) (es : List Entry) (left : List (List Message)) (n : ℕ) → IsRunFrom caps earlier contents es left → AllByRecursion (IsEntryOf (length caps)) es → length earlier + length es ≤ ENTRIES → length contents ≡ length caps → 1 ≤ length caps → length caps ≤ BUFFERS → AllByRecursion AreSmall left → verdict_from (progress stage.Entries caps earlier contents) n (lines_in (flat_map line_of (map entry_pieces es ++ (numbered left_pieces 0 left ++ end_pieces ∷ [])))) ≡ Yes
 complete_entries caps earlier contents [] left n run each room long some few small = complete_first caps earlier contents left n run long some few small
 complete_entries caps earlier contents (e ∷ es) left n run each room long some few small =
     let here : length earlier < ENTRIES = omega arith in
@@ -96,7 +97,7 @@ head_is_line = record {
   feeds = ((refl, (refl, (refl, (refl, (refl, (refl, (refl, (refl, (refl, (refl, (refl, (refl, (refl, tt))))))))))))), ((refl, tt), tt));
 }
 
-complete_lines : (caps : List ℕ) (es : List Entry) (left : List (List ℕ)) → IsSpellable caps es left → IsRun caps es left → verdict_from opening 1 (lines_in (spelling caps es left)) ≡ Yes
+complete_lines : (caps : List ℕ) (es : List Entry) (left : List (List Message)) → IsSpellable caps es left → IsRun caps es left → verdict_from opening 1 (lines_in (spelling caps es left)) ≡ Yes
 unfolding spelling lines_of
 complete_lines caps es left fits run =
     let tail = map entry_pieces es ++ (numbered left_pieces 0 left ++ end_pieces ∷ []) in
@@ -111,6 +112,6 @@ complete_lines caps es left fits run =
     ∙ line_read (record opening { at = stage.Count }) (opened (stage.Capacities (length caps)) []) (1 + 1) (codes "buffers") _ (flat_map line_of (numbered cap_pieces 0 caps ++ tail)) (count_is_line_of (length caps) fits.few_buffers) (step_count (length caps) (record opening { at = stage.Count }) refl fits.some_buffer fits.few_buffers)
     ∙ complete_caps (length caps) [] caps tail (1 + 1 + 1) some none fits.few_buffers fits.capacities entries
 
-pub complete : (text caps : List ℕ) (es : List Entry) (left : List (List ℕ)) → IsTraceText text caps es left → IsRun caps es left → verdict_of text ≡ Yes
+pub complete : (text caps : List ℕ) (es : List Entry) (left : List (List Message)) → IsTraceText text caps es left → IsRun caps es left → verdict_of text ≡ Yes
 unfolding verdict_of
 complete text caps es left spelled run = rw spelled.spelled (complete_lines caps es left spelled.spellable run)

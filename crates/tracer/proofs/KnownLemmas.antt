@@ -5,6 +5,7 @@ use Rattle.std.proofs.lemmas.Bool.{cases_eq}
 use Rattle.std.proofs.lemmas.List.{get_or-set_same, get_or-set_other, length-set, same_lists}
 use Rattle.std.proofs.lemmas.List.Sums.{sum_by_push}
 use Rattle.std.proofs.lemmas.Option.{slice_get-get_or, slice_get_within}
+use Rattle.event_log.specs.Messages.{Message}
 use Rattle.event_log.specs.declared.entries.Kind.{Kind}
 use Rattle.event_log.specs.declared.entries.Kind.TheVariants.{Send, Recv}
 use Rattle.event_log.specs.declared.entries.Entry.{Entry}
@@ -24,23 +25,23 @@ abbrev pub known_from : List Entry → List (List ℕ) → ℕ → List ℕ → 
 known_from earlier contents b [] = []
 known_from earlier contents b (k ∷ ks) = seen_of earlier contents b k ∷ known_from earlier contents (b + 1) ks
 
-pub length-known_from : (earlier : List Entry) (contents : List (List ℕ)) (b : ℕ) (caps : List ℕ) → length (known_from earlier contents b caps) ≡ length caps
+pub length-known_from : (earlier : List Entry) (contents : List (List Message)) (b : ℕ) (caps : List ℕ) → length (known_from earlier contents b caps) ≡ length caps
 length-known_from earlier contents b [] = refl
 length-known_from earlier contents b (k ∷ ks) = ap suc (length-known_from earlier contents (b + 1) ks)
 
-get_or-known_from : (earlier : List Entry) (contents : List (List ℕ)) (b : ℕ) (caps : List ℕ) (i : ℕ) (d : Seen) → i < length caps → get_or (known_from earlier contents b caps) i d ≡ seen_of earlier contents (b + i) (get_or caps i 0)
+get_or-known_from : (earlier : List Entry) (contents : List (List Message)) (b : ℕ) (caps : List ℕ) (i : ℕ) (d : Seen) → i < length caps → get_or (known_from earlier contents b caps) i d ≡ seen_of earlier contents (b + i) (get_or caps i 0)
 get_or-known_from earlier contents b [] i d lt = absurd (omega arith)
 get_or-known_from earlier contents b (k ∷ ks) zero d lt = rw (add-zero b) refl
 get_or-known_from earlier contents b (k ∷ ks) (suc i) d lt =
     let shift : b + 1 + i ≡ b + suc i = omega arith in
     get_or-known_from earlier contents (b + 1) ks i d (omega arith) ∙ ap (λ (j : ℕ). seen_of earlier contents j (get_or ks i 0)) shift
 
-get_or-known : (earlier : List Entry) (contents : List (List ℕ)) (caps : List ℕ) (i : ℕ) (d : Seen) → i < length caps → get_or (known_from earlier contents 0 caps) i d ≡ seen_of earlier contents i (get_or caps i 0)
+get_or-known : (earlier : List Entry) (contents : List (List Message)) (caps : List ℕ) (i : ℕ) (d : Seen) → i < length caps → get_or (known_from earlier contents 0 caps) i d ≡ seen_of earlier contents i (get_or caps i 0)
 get_or-known earlier contents caps i d lt =
     let none : 0 + i ≡ i = omega arith in
     get_or-known_from earlier contents 0 caps i d lt ∙ ap (λ (j : ℕ). seen_of earlier contents j (get_or caps i 0)) none
 
-pub slice_get-known : (earlier : List Entry) (contents : List (List ℕ)) (caps : List ℕ) (i : ℕ) → i < length caps → slice_get (known_from earlier contents 0 caps) i ≡ Some (seen_of earlier contents i (get_or caps i 0))
+pub slice_get-known : (earlier : List Entry) (contents : List (List Message)) (caps : List ℕ) (i : ℕ) → i < length caps → slice_get (known_from earlier contents 0 caps) i ≡ Some (seen_of earlier contents i (get_or caps i 0))
 slice_get-known earlier contents caps i lt =
     let inside : i < length (known_from earlier contents 0 caps) = omega (arith, length-known_from earlier contents 0 caps) in
     slice_get-get_or (known_from earlier contents 0 caps) i (fresh 0) inside ∙ ap Some (get_or-known earlier contents caps i (fresh 0) lt)
@@ -57,10 +58,10 @@ count_kind_more : (earlier : List Entry) (e : Entry) (b : ℕ) (kind : Kind) →
 count_kind_more earlier e b kind = sum_by_push (λ x. cond ((x.buffer.0 == b) && kind_eq x.kind kind) 1 0) earlier e
 
 -- a buffer after an effect on it
-abbrev after_seen : Kind → ℕ → Seen → Seen
+abbrev after_seen : Kind → Message → Seen → Seen
 after_seen kind value seen = record { capacity = seen.capacity; items = after_effect kind seen.items value; ops = seen.ops + 1; sends = bumped (kind_eq kind Send) seen.sends; recvs = bumped (kind_eq kind Recv) seen.recvs }
 
-seen_here : (earlier : List Entry) (contents : List (List ℕ)) (e : Entry) (capacity : ℕ) → e.buffer.0 < length contents → seen_of (earlier ++ e ∷ []) (after_entry contents e) e.buffer.0 capacity ≡ after_seen e.kind e.value (seen_of earlier contents e.buffer.0 capacity)
+seen_here : (earlier : List Entry) (contents : List (List Message)) (e : Entry) (capacity : ℕ) → e.buffer.0 < length contents → seen_of (earlier ++ e ∷ []) (after_entry contents e) e.buffer.0 capacity ≡ after_seen e.kind e.value (seen_of earlier contents e.buffer.0 capacity)
 seen_here earlier contents e capacity lt =
     let same : (e.buffer.0 == e.buffer.0) ≡ true = eq-eqb e.buffer.0 e.buffer.0 refl in
     let items : items_of (after_entry contents e) e.buffer.0 ≡ after_effect e.kind (items_of contents e.buffer.0) e.value = get_or-set_same contents e.buffer.0 (after_effect e.kind (items_of contents e.buffer.0) e.value) [] lt in
@@ -69,7 +70,7 @@ seen_here earlier contents e capacity lt =
     let recvs : count_of_kind (earlier ++ e ∷ []) e.buffer.0 Recv ≡ bumped (kind_eq e.kind Recv) (count_of_kind earlier e.buffer.0 Recv) = count_kind_more earlier e e.buffer.0 Recv ∙ rw same refl in
     rw (items, ops, sends, recvs) refl
 
-seen_elsewhere : (earlier : List Entry) (contents : List (List ℕ)) (e : Entry) (b capacity : ℕ) → b ≢ e.buffer.0 → seen_of (earlier ++ e ∷ []) (after_entry contents e) b capacity ≡ seen_of earlier contents b capacity
+seen_elsewhere : (earlier : List Entry) (contents : List (List Message)) (e : Entry) (b capacity : ℕ) → b ≢ e.buffer.0 → seen_of (earlier ++ e ∷ []) (after_entry contents e) b capacity ≡ seen_of earlier contents b capacity
 seen_elsewhere earlier contents e b capacity other =
     let apart : (e.buffer.0 == b) ≡ false = ne_eqb e.buffer.0 b (λ h. other (sym h)) in
     let items : items_of (after_entry contents e) b ≡ items_of contents b = get_or-set_other contents e.buffer.0 b (after_effect e.kind (items_of contents e.buffer.0) e.value) [] other in
@@ -79,7 +80,7 @@ seen_elsewhere earlier contents e b capacity other =
     rw (items, ops, sends, recvs) refl
 
 -- the buffers after an entry
-known_after : (caps : List ℕ) (earlier : List Entry) (contents : List (List ℕ)) (e : Entry) → length contents ≡ length caps → e.buffer.0 < length caps → slice_set (known_from earlier contents 0 caps) e.buffer.0 (after_seen e.kind e.value (seen_of earlier contents e.buffer.0 (get_or caps e.buffer.0 0))) ≡ known_from (earlier ++ e ∷ []) (after_entry contents e) 0 caps
+known_after : (caps : List ℕ) (earlier : List Entry) (contents : List (List Message)) (e : Entry) → length contents ≡ length caps → e.buffer.0 < length caps → slice_set (known_from earlier contents 0 caps) e.buffer.0 (after_seen e.kind e.value (seen_of earlier contents e.buffer.0 (get_or caps e.buffer.0 0))) ≡ known_from (earlier ++ e ∷ []) (after_entry contents e) 0 caps
 known_after caps earlier contents e long known =
     let old = known_from earlier contents 0 caps in
     let new = known_from (earlier ++ e ∷ []) (after_entry contents e) 0 caps in
@@ -97,23 +98,23 @@ known_after caps earlier contents e long known =
 
 -- ---- an effect
 
-take_again : (value : ℕ) (items : List ℕ) (seen : Seen) → slice_get items 0 ≡ Some value → take_first value items seen ≡ Ok (record seen { items = drop 1 items; ops = seen.ops + 1; recvs = seen.recvs + 1 })
+take_again : (value : Message) (items : List Message) (seen : Seen) → slice_get items 0 ≡ Some value → take_first value items seen ≡ Ok (record seen { items = drop 1 items; ops = seen.ops + 1; recvs = seen.recvs + 1 })
 take_again value [] seen first = absurd (cc)
 take_again value (x ∷ xs) seen first =
     let same : x ≡ value = cc in
     rw (eq-eqb x value same) refl
 
-take_taken : (value : ℕ) (items : List ℕ) (seen after : Seen) → take_first value items seen ≡ Ok after → (slice_get items 0 ≡ Some value) × (after ≡ record seen { items = drop 1 items; ops = seen.ops + 1; recvs = seen.recvs + 1 })
+take_taken : (value : Message) (items : List Message) (seen after : Seen) → take_first value items seen ≡ Ok after → (slice_get items 0 ≡ Some value) × (after ≡ record seen { items = drop 1 items; ops = seen.ops + 1; recvs = seen.recvs + 1 })
 take_taken value [] seen after e = absurd (cc)
 take_taken value (x ∷ xs) seen after e =
     let test = wanted_ok (x == value) WrongValue (Ok (record seen { items = xs; ops = seen.ops + 1; recvs = seen.recvs + 1 })) after e in
     (ap Some (eqb-true x value test.0), sym (same_ok _ after test.1))
 
-effect_again : (kind : Kind) (value : ℕ) (seen : Seen) → IsAllowedEffect kind seen.capacity seen.items value → effect_of kind value seen ≡ Ok (after_seen kind value seen)
+effect_again : (kind : Kind) (value : Message) (seen : Seen) → IsAllowedEffect kind seen.capacity seen.items value → effect_of kind value seen ≡ Ok (after_seen kind value seen)
 effect_again Send value seen room = rw (lt-ltb (length seen.items) seen.capacity room, add-zero seen.recvs) refl
 effect_again Recv value seen first = take_again value seen.items seen first ∙ rw (add-zero seen.sends) refl
 
-effect_taken : (kind : Kind) (value : ℕ) (seen after : Seen) → effect_of kind value seen ≡ Ok after → IsAllowedEffect kind seen.capacity seen.items value × (after ≡ after_seen kind value seen)
+effect_taken : (kind : Kind) (value : Message) (seen after : Seen) → effect_of kind value seen ≡ Ok after → IsAllowedEffect kind seen.capacity seen.items value × (after ≡ after_seen kind value seen)
 effect_taken Send value seen after e =
     let test = wanted_ok (nat_lt (length seen.items) seen.capacity) Full (Ok (record seen { items = seen.items ++ value ∷ []; ops = seen.ops + 1; sends = seen.sends + 1 })) after e in
     (ltb-true (length seen.items) seen.capacity test.0, sym (same_ok _ after test.1) ∙ rw (add-zero seen.recvs) refl)
@@ -121,12 +122,12 @@ effect_taken Recv value seen after e =
     let taken = take_taken value seen.items seen after e in
     (taken.0, taken.1 ∙ rw (add-zero seen.sends) refl)
 
-pos_of : (earlier : List Entry) (contents : List (List ℕ)) (b capacity : ℕ) (kind : Kind) → next_pos kind (seen_of earlier contents b capacity) ≡ count_of_kind earlier b kind
+pos_of : (earlier : List Entry) (contents : List (List Message)) (b capacity : ℕ) (kind : Kind) → next_pos kind (seen_of earlier contents b capacity) ≡ count_of_kind earlier b kind
 pos_of earlier contents b capacity Send = refl
 pos_of earlier contents b capacity Recv = refl
 
 -- an entry that may come is taken
-pub among_again : (caps : List ℕ) (earlier : List Entry) (contents : List (List ℕ)) (e : Entry) → length contents ≡ length caps → IsNext caps earlier contents e → entry_among e (known_from earlier contents 0 caps) ≡ Ok (known_from (earlier ++ e ∷ []) (after_entry contents e) 0 caps)
+pub among_again : (caps : List ℕ) (earlier : List Entry) (contents : List (List Message)) (e : Entry) → length contents ≡ length caps → IsNext caps earlier contents e → entry_among e (known_from earlier contents 0 caps) ≡ Ok (known_from (earlier ++ e ∷ []) (after_entry contents e) 0 caps)
 unfolding entry_among entry_on
 among_again caps earlier contents e long next =
     let seen = seen_of earlier contents e.buffer.0 (get_or caps e.buffer.0 0) in
@@ -143,7 +144,7 @@ same_some : (x y : Seen) → Some x ≡ Some y → x ≡ y
 same_some x y e = cc
 
 -- an entry that is taken may come
-pub among_taken : (caps : List ℕ) (earlier : List Entry) (contents : List (List ℕ)) (e : Entry) (after : List Seen) → length contents ≡ length caps → entry_among e (known_from earlier contents 0 caps) ≡ Ok after → IsNext caps earlier contents e × (after ≡ known_from (earlier ++ e ∷ []) (after_entry contents e) 0 caps)
+pub among_taken : (caps : List ℕ) (earlier : List Entry) (contents : List (List Message)) (e : Entry) (after : List Seen) → length contents ≡ length caps → entry_among e (known_from earlier contents 0 caps) ≡ Ok after → IsNext caps earlier contents e × (after ≡ known_from (earlier ++ e ∷ []) (after_entry contents e) 0 caps)
 unfolding entry_among entry_on
 among_taken caps earlier contents e after long taken =
     let found = bind_ok (or_range (slice_get (known_from earlier contents 0 caps) e.buffer.0)) (λ seen. entry_on e seen >>= λ next. Ok (slice_set (known_from earlier contents 0 caps) e.buffer.0 next)) after taken in

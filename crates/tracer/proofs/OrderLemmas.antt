@@ -7,6 +7,7 @@ use Rattle.std.proofs.lemmas.Bool.Decides.{nat_tests}
 use Rattle.std.proofs.lemmas.Option.{get_or_from_slice_get, slice_get-get_or}
 use Rattle.std.proofs.lemmas.List.{get_or_past}
 use Rattle.std.specs.Prelude.{slice_get, slice_index}
+use Rattle.event_log.specs.Messages.{Message}
 use Rattle.event_log.specs.declared.entries.Entry.{Entry}
 use Rattle.event_log.specs.declared.entries.Kind.{Kind}
 use Rattle.event_log.specs.Buffers.{items_of, IsAllowedEffect, after_effect, empty_buffers}
@@ -83,7 +84,7 @@ ops_like : (a b order : List Entry) → SameCounts a b → HasOpOrderFrom a orde
 ops_like a b [] s ops = tt
 ops_like a b (e ∷ order) s ops = (ops.0 ∙ s.same (λ x. eqb x.buffer.0 e.buffer.0), ops_like (a ++ e ∷ []) (b ++ e ∷ []) order (counts_more a b e s) ops.1)
 
-next_like : (caps : List ℕ) (a b : List Entry) (contents : List (List ℕ)) (e : Entry) → SameCounts a b → IsNext caps a contents e → IsNext caps b contents e
+next_like : (caps : List ℕ) (a b : List Entry) (contents : List (List Message)) (e : Entry) → SameCounts a b → IsNext caps a contents e → IsNext caps b contents e
 next_like caps a b contents e s n = record {
   known = n.known;
   allowed = n.allowed;
@@ -91,17 +92,17 @@ next_like caps a b contents e s n = record {
   pos = n.pos ∙ s.same (λ x. eqb x.buffer.0 e.buffer.0 && kind_eq x.kind e.kind);
 }
 
-run_like : (caps : List ℕ) (a b : List Entry) (contents : List (List ℕ)) (order : List Entry) (left : List (List ℕ)) → SameCounts a b → IsRunFrom caps a contents order left → IsRunFrom caps b contents order left
+run_like : (caps : List ℕ) (a b : List Entry) (contents : List (List Message)) (order : List Entry) (left : List (List Message)) → SameCounts a b → IsRunFrom caps a contents order left → IsRunFrom caps b contents order left
 run_like caps a b contents [] left s run = run
 run_like caps a b contents (e ∷ order) left s run =
     (next_like caps a b contents e s run.0, run_like caps (a ++ e ∷ []) (b ++ e ∷ []) (after_entry contents e) order left (counts_more a b e s) run.1)
 
 -- an entry leaves the items of other buffers as they are
-items_other : (contents : List (List ℕ)) (e : Entry) (b : ℕ) → b ≢ e.buffer.0 → items_of (after_entry contents e) b ≡ items_of contents b
+items_other : (contents : List (List Message)) (e : Entry) (b : ℕ) → b ≢ e.buffer.0 → items_of (after_entry contents e) b ≡ items_of contents b
 items_other contents e b differ = get_or-set_other contents e.buffer.0 b (after_effect e.kind (items_of contents e.buffer.0) e.value) [] differ
 
 -- entries of two buffers may change places
-next_before : (caps : List ℕ) (earlier : List Entry) (contents : List (List ℕ)) (e f : Entry) → f.buffer.0 ≢ e.buffer.0 → IsNext caps (earlier ++ f ∷ []) (after_entry contents f) e → IsNext caps earlier contents e
+next_before : (caps : List ℕ) (earlier : List Entry) (contents : List (List Message)) (e f : Entry) → f.buffer.0 ≢ e.buffer.0 → IsNext caps (earlier ++ f ∷ []) (after_entry contents f) e → IsNext caps earlier contents e
 next_before caps earlier contents e f differ n = record {
   known = n.known;
   allowed = subst (λ items. IsAllowedEffect e.kind (slice_index caps e.buffer.0) items e.value) (items_other contents f e.buffer.0 (λ same. differ (sym same))) n.allowed;
@@ -109,7 +110,7 @@ next_before caps earlier contents e f differ n = record {
   pos = n.pos ∙ kind_more_other earlier f e.buffer.0 e.kind differ;
 }
 
-next_behind : (caps : List ℕ) (earlier : List Entry) (contents : List (List ℕ)) (e f : Entry) → f.buffer.0 ≢ e.buffer.0 → IsNext caps earlier contents e → IsNext caps (earlier ++ f ∷ []) (after_entry contents f) e
+next_behind : (caps : List ℕ) (earlier : List Entry) (contents : List (List Message)) (e f : Entry) → f.buffer.0 ≢ e.buffer.0 → IsNext caps earlier contents e → IsNext caps (earlier ++ f ∷ []) (after_entry contents f) e
 next_behind caps earlier contents e f differ n = record {
   known = n.known;
   allowed = subst (λ items. IsAllowedEffect e.kind (slice_index caps e.buffer.0) items e.value) (sym (items_other contents f e.buffer.0 (λ same. differ (sym same)))) n.allowed;
@@ -117,7 +118,7 @@ next_behind caps earlier contents e f differ n = record {
   pos = n.pos ∙ sym (kind_more_other earlier f e.buffer.0 e.kind differ);
 }
 
-after_swap : (contents : List (List ℕ)) (e f : Entry) → f.buffer.0 ≢ e.buffer.0 → after_entry (after_entry contents f) e ≡ after_entry (after_entry contents e) f
+after_swap : (contents : List (List Message)) (e f : Entry) → f.buffer.0 ≢ e.buffer.0 → after_entry (after_entry contents f) e ≡ after_entry (after_entry contents e) f
 after_swap contents e f differ =
     ap (λ items. set (after_entry contents f) e.buffer.0 (after_effect e.kind items e.value)) (items_other contents f e.buffer.0 (λ same. differ (sym same)))
     ∙ (set_comm contents f.buffer.0 e.buffer.0 (after_effect f.kind (items_of contents f.buffer.0) f.value) (after_effect e.kind (items_of contents e.buffer.0) e.value) differ
@@ -128,7 +129,7 @@ pub record CameFirst (earlier : List Entry) (others : List (List Entry)) (order 
   pub later : List Entry
   pub keeps : IsInterleaving others later
   pub ops : HasOpOrderFrom (earlier ++ e ∷ []) later
-  pub runs : (caps : List ℕ) (contents left : List (List ℕ)) → IsRunFrom caps earlier contents order left → IsRunFrom caps earlier contents (e ∷ later) left
+  pub runs : (caps : List ℕ) (contents left : List (List Message)) → IsRunFrom caps earlier contents order left → IsRunFrom caps earlier contents (e ∷ later) left
 
 -- what is due at the head of a trace may come first
 pub may_come_first : (earlier : List Entry) (traces : List (List Entry)) (order : List Entry) (k : ℕ) (e : Entry) (rest : List Entry) → IsInterleaving traces order → HasOpOrderFrom earlier order → get_or traces k [] ≡ e ∷ rest → e.op ≡ count_of earlier e.buffer.0 → CameFirst earlier (set traces k rest) order e
@@ -177,7 +178,7 @@ may_come_first earlier traces (f ∷ order) k e rest keeps ops at due =
     ]
 
 -- behind a run of some order each other order is a run too
-run_alike_from : (caps : List ℕ) (earlier : List Entry) (contents : List (List ℕ)) (traces : List (List Entry)) (order other : List Entry) (left : List (List ℕ)) → IsInterleaving traces order → IsRunFrom caps earlier contents order left → IsInterleaving traces other → HasOpOrderFrom earlier other → IsRunFrom caps earlier contents other left
+run_alike_from : (caps : List ℕ) (earlier : List Entry) (contents : List (List Message)) (traces : List (List Entry)) (order other : List Entry) (left : List (List Message)) → IsInterleaving traces order → IsRunFrom caps earlier contents order left → IsInterleaving traces other → HasOpOrderFrom earlier other → IsRunFrom caps earlier contents other left
 run_alike_from caps earlier contents traces [] [] left keeps run others ops = run
 run_alike_from caps earlier contents traces (f ∷ order) [] left keeps run others ops =
     let bad : [] ≡ f ∷ keeps.1 = sym (others keeps.0) ∙ at_head traces keeps.0 f keeps.1 keeps.2 in absurd (cc)

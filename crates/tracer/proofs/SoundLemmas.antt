@@ -5,6 +5,7 @@ use Rattle.std.specs.List.{AllByRecursion, flat_map, join_with_byte}
 use Rattle.std.proofs.lemmas.List.{append-nil, length_push, length-set, length-map, drop_more, drop_all, nil_from_length}
 use Rattle.std.proofs.lemmas.List.Concat.{flat_map-append}
 use Rattle.std.proofs.lemmas.List.Splits.{join_with_byte-slice_split}
+use Rattle.event_log.specs.Messages.{Message}
 use Rattle.event_log.specs.declared.ids.TheConstants.{BUFFERS, ENTRIES}
 use Rattle.event_log.specs.declared.entries.Entry.{Entry}
 use Rattle.event_log.specs.Buffers.{items_of, empty_buffers}
@@ -21,7 +22,7 @@ use Rattle.tracer.proofs.EntryLemmas.{progress}
 use Rattle.tracer.proofs.StepLemmas.{left_line_taken, entries_taken}
 use Rattle.tracer.proofs.OpeningLemmas.{whole_taken, count_line_taken, opened, behind_cap, capacity_line_taken}
 
-abbrev AreSmall : List ℕ → Type 0
+abbrev AreSmall : List Message → Type 0
 AreSmall items = AllByRecursion (λ v. v < 2 ^ 64) items
 
 -- ---- one line
@@ -65,20 +66,20 @@ sound_end buffers entries n (line ∷ next ∷ more) e =
 abbrev LeftText : ℕ → List (List ℕ) → List (List ℕ) → Type 0
 LeftText b contents lines = (join_with_byte 10 lines ≡ flat_map line_of (numbered left_pieces b (drop b contents) ++ end_pieces ∷ [])) × AllByRecursion AreSmall (drop b contents)
 
-behind_cases : (b : ℕ) (caps : List ℕ) (earlier : List Entry) (contents : List (List ℕ)) (n : ℕ) (lines : List (List ℕ)) (more : Bool) → nat_lt (b + 1) (length caps) ≡ more → length contents ≡ length caps → (b + 1 < length caps → verdict_from (progress (stage.Contents (b + 1)) caps earlier contents) n lines ≡ Yes → LeftText (b + 1) contents lines) → verdict_from (progress (cond more (stage.Contents (b + 1)) stage.End) caps earlier contents) n lines ≡ Yes → LeftText (b + 1) contents lines
+behind_cases : (b : ℕ) (caps : List ℕ) (earlier : List Entry) (contents : List (List Message)) (n : ℕ) (lines : List (List ℕ)) (more : Bool) → nat_lt (b + 1) (length caps) ≡ more → length contents ≡ length caps → (b + 1 < length caps → verdict_from (progress (stage.Contents (b + 1)) caps earlier contents) n lines ≡ Yes → LeftText (b + 1) contents lines) → verdict_from (progress (cond more (stage.Contents (b + 1)) stage.End) caps earlier contents) n lines ≡ Yes → LeftText (b + 1) contents lines
 behind_cases b caps earlier contents n lines true is long again e = again (ltb-true (b + 1) (length caps) is) e
 behind_cases b caps earlier contents n lines false is long again e =
     let past : length contents ≤ b + 1 = (let h = ltb-false (b + 1) (length caps) is in omega arith) in
     rw (drop_all (b + 1) contents past) (sound_end _ _ n lines e, tt)
 
 -- a line of what is left of buffer b, and the lines behind it
-left_text : (b : ℕ) (contents : List (List ℕ)) (line : List ℕ) (ps : List (List ℕ)) (next : List ℕ) (more : List (List ℕ)) → pieces_of line ≡ ps → b < length contents → ps ≡ left_pieces b (items_of contents b) → AreSmall (items_of contents b) → LeftText (b + 1) contents (next ∷ more) → LeftText b contents (line ∷ next ∷ more)
+left_text : (b : ℕ) (contents : List (List Message)) (line : List ℕ) (ps : List (List ℕ)) (next : List ℕ) (more : List (List ℕ)) → pieces_of line ≡ ps → b < length contents → ps ≡ left_pieces b (items_of contents b) → AreSmall (items_of contents b) → LeftText (b + 1) contents (next ∷ more) → LeftText b contents (line ∷ next ∷ more)
 left_text b contents line ps next more is inside spelled small behind =
     let cut : drop b contents ≡ items_of contents b ∷ drop (b + 1) contents = drop_more contents b [] inside in
     let text : line ++ 10 ∷ join_with_byte 10 (next ∷ more) ≡ line_of (left_pieces b (items_of contents b)) ++ flat_map line_of (numbered left_pieces (b + 1) (drop (b + 1) contents) ++ end_pieces ∷ []) = line_spelled line (left_pieces b (items_of contents b)) (join_with_byte 10 (next ∷ more)) (is ∙ spelled) ∙ ap (λ (t : List ℕ). line_of (left_pieces b (items_of contents b)) ++ t) behind.0 in
     subst (λ (all : List (List ℕ)). (line ++ 10 ∷ join_with_byte 10 (next ∷ more) ≡ flat_map line_of (numbered left_pieces b all ++ end_pieces ∷ [])) × AllByRecursion AreSmall all) (sym cut) (text, (small, behind.1))
 
-sound_left : (b : ℕ) (caps : List ℕ) (earlier : List Entry) (contents : List (List ℕ)) (n : ℕ) (lines : List (List ℕ)) → length contents ≡ length caps → verdict_from (progress (stage.Contents b) caps earlier contents) n lines ≡ Yes → LeftText b contents lines
+sound_left : (b : ℕ) (caps : List ℕ) (earlier : List Entry) (contents : List (List Message)) (n : ℕ) (lines : List (List ℕ)) → length contents ≡ length caps → verdict_from (progress (stage.Contents b) caps earlier contents) n lines ≡ Yes → LeftText b contents lines
 unfolding step
 sound_left b caps earlier contents n [] long e = absurd (cc)
 sound_left b caps earlier contents n (rest ∷ []) long e = absurd (cc)
@@ -92,7 +93,7 @@ sound_left b caps earlier contents n (line ∷ next ∷ more) long e =
 -- ---- the entries
 
 -- what it says that the lines behind the capacities get yes
-pub record Judged (caps : List ℕ) (earlier : List Entry) (contents : List (List ℕ)) (lines : List (List ℕ)) (es : List Entry) (left : List (List ℕ)) : Type 0 where
+pub record Judged (caps : List ℕ) (earlier : List Entry) (contents : List (List Message)) (lines : List (List ℕ)) (es : List Entry) (left : List (List Message)) : Type 0 where
   pub run : IsRunFrom caps earlier contents es left
   pub small : AllByRecursion (IsEntryOf (length caps)) es
   pub few : length earlier + length es ≤ ENTRIES
@@ -101,10 +102,10 @@ pub record Judged (caps : List ℕ) (earlier : List Entry) (contents : List (Lis
   pub text : join_with_byte 10 lines ≡ flat_map line_of (map entry_pieces es ++ (numbered left_pieces 0 left ++ end_pieces ∷ []))
 
 abbrev IsJudged : List ℕ → List Entry → List (List ℕ) → List (List ℕ) → Type 0
-IsJudged caps earlier contents lines = (es : List Entry) × (left : List (List ℕ)) × Judged caps earlier contents lines es left
+IsJudged caps earlier contents lines = (es : List Entry) × (left : List (List Message)) × Judged caps earlier contents lines es left
 
 -- an entry, and the lines behind it
-judged_more : (caps : List ℕ) (earlier : List Entry) (contents : List (List ℕ)) (line next : List ℕ) (more : List (List ℕ)) (e : Entry) → pieces_of line ≡ entry_pieces e → IsEntryOf (length caps) e → IsNext caps earlier contents e → IsJudged caps (earlier ++ e ∷ []) (after_entry contents e) (next ∷ more) → IsJudged caps earlier contents (line ∷ next ∷ more)
+judged_more : (caps : List ℕ) (earlier : List Entry) (contents : List (List Message)) (line next : List ℕ) (more : List (List ℕ)) (e : Entry) → pieces_of line ≡ entry_pieces e → IsEntryOf (length caps) e → IsNext caps earlier contents e → IsJudged caps (earlier ++ e ∷ []) (after_entry contents e) (next ∷ more) → IsJudged caps earlier contents (line ∷ next ∷ more)
 judged_more caps earlier contents line next more e spelled small can behind =
     let rest = behind.2 in (
       e ∷ behind.0,
@@ -119,10 +120,10 @@ judged_more caps earlier contents line next more e spelled small can behind =
       },
     )
 
-judged_left : (caps : List ℕ) (earlier : List Entry) (contents : List (List ℕ)) (lines : List (List ℕ)) → length earlier ≤ ENTRIES → length contents ≡ length caps → LeftText 0 contents lines → IsJudged caps earlier contents lines
+judged_left : (caps : List ℕ) (earlier : List Entry) (contents : List (List Message)) (lines : List (List ℕ)) → length earlier ≤ ENTRIES → length contents ≡ length caps → LeftText 0 contents lines → IsJudged caps earlier contents lines
 judged_left caps earlier contents lines few long left = ([], contents, record { run = refl; small = tt; few = omega arith; each = long; values = left.1; text = left.0 })
 
-sound_entries : (caps : List ℕ) (earlier : List Entry) (contents : List (List ℕ)) (n : ℕ) (lines : List (List ℕ)) → length earlier ≤ ENTRIES → length contents ≡ length caps → verdict_from (progress stage.Entries caps earlier contents) n lines ≡ Yes → IsJudged caps earlier contents lines
+sound_entries : (caps : List ℕ) (earlier : List Entry) (contents : List (List Message)) (n : ℕ) (lines : List (List ℕ)) → length earlier ≤ ENTRIES → length contents ≡ length caps → verdict_from (progress stage.Entries caps earlier contents) n lines ≡ Yes → IsJudged caps earlier contents lines
 unfolding step
 sound_entries caps earlier contents n [] few long e = absurd (cc)
 sound_entries caps earlier contents n (rest ∷ []) few long e = absurd (cc)
@@ -191,9 +192,9 @@ sound_caps count caps n (line ∷ next ∷ more) lt e =
 
 -- what it says that the lines from the number of buffers on get yes
 abbrev IsTail : List ℕ → Type 0
-IsTail text = (caps : List ℕ) × (es : List Entry) × (left : List (List ℕ)) × IsSpellable caps es left × IsRun caps es left × (text ≡ line_of (count_pieces (length caps)) ++ flat_map line_of (numbered cap_pieces 0 caps ++ (map entry_pieces es ++ (numbered left_pieces 0 left ++ end_pieces ∷ []))))
+IsTail text = (caps : List ℕ) × (es : List Entry) × (left : List (List Message)) × IsSpellable caps es left × IsRun caps es left × (text ≡ line_of (count_pieces (length caps)) ++ flat_map line_of (numbered cap_pieces 0 caps ++ (map entry_pieces es ++ (numbered left_pieces 0 left ++ end_pieces ∷ []))))
 
-tail_of : (line next : List ℕ) (more : List (List ℕ)) (n : ℕ) (caps : List ℕ) (rest : List (List ℕ)) (es : List Entry) (left : List (List ℕ)) → pieces_of line ≡ count_pieces n → 1 ≤ n → n ≤ BUFFERS → length caps ≡ n → AllByRecursion IsCapacity caps → join_with_byte 10 (next ∷ more) ≡ flat_map line_of (numbered cap_pieces 0 caps) ++ join_with_byte 10 rest → Judged caps [] (empty_buffers caps) rest es left → IsTail (join_with_byte 10 (line ∷ next ∷ more))
+tail_of : (line next : List ℕ) (more : List (List ℕ)) (n : ℕ) (caps : List ℕ) (rest : List (List ℕ)) (es : List Entry) (left : List (List Message)) → pieces_of line ≡ count_pieces n → 1 ≤ n → n ≤ BUFFERS → length caps ≡ n → AllByRecursion IsCapacity caps → join_with_byte 10 (next ∷ more) ≡ flat_map line_of (numbered cap_pieces 0 caps) ++ join_with_byte 10 rest → Judged caps [] (empty_buffers caps) rest es left → IsTail (join_with_byte 10 (line ∷ next ∷ more))
 tail_of line next more n caps rest es left spelled some few counted small text judged = (
   caps,
   es,

@@ -5,6 +5,7 @@ use Rattle.std.specs.Str.{bytes_eq}
 use Rattle.std.specs.List.{AllByRecursion, list_all, join_with_byte}
 use Rattle.std.proofs.lemmas.List.{length_push}
 use Rattle.std.proofs.lemmas.Slice.Eq.{bytes_eq-Decides}
+use Rattle.event_log.specs.Messages.{Message}
 use Rattle.event_log.specs.declared.ids.TheConstants.{CPUS, THREADS, BUFFERS, ENTRIES}
 use Rattle.event_log.specs.declared.entries.Kind.{Kind}
 use Rattle.event_log.specs.declared.entries.Kind.TheVariants.{Send, Recv}
@@ -47,7 +48,7 @@ entry_is_line n e few small =
       feeds = ((refl, tt), (decimal_lacks 10 e.cpu.0 (lit< tt) cpu, (decimal_lacks 10 e.thread.0 (lit< tt) thread, (kind_feeds e.kind, (decimal_lacks 10 e.buffer.0 (lit< tt) buffer, (decimal_lacks 10 e.value (lit< tt) small.value, (decimal_lacks 10 e.op (lit< tt) op, (decimal_lacks 10 e.pos (lit< tt) pos, tt))))))));
     }
 
-entry_line_again : (at : Stage) (caps : List ℕ) (earlier : List Entry) (contents : List (List ℕ)) (e : Entry) → length caps ≤ BUFFERS → length earlier < ENTRIES → length contents ≡ length caps → IsEntryOf (length caps) e → IsNext caps earlier contents e → entry_line (behind_e e) (progress at caps earlier contents) ≡ Ok (progress at caps (earlier ++ e ∷ []) (after_entry contents e))
+entry_line_again : (at : Stage) (caps : List ℕ) (earlier : List Entry) (contents : List (List Message)) (e : Entry) → length caps ≤ BUFFERS → length earlier < ENTRIES → length contents ≡ length caps → IsEntryOf (length caps) e → IsNext caps earlier contents e → entry_line (behind_e e) (progress at caps earlier contents) ≡ Ok (progress at caps (earlier ++ e ∷ []) (after_entry contents e))
 unfolding entry_line
 entry_line_again at caps earlier contents e few room long small next =
     let cpu : e.cpu.0 ≤ CPUS - 1 = (let h = small.cpu in omega arith) in
@@ -63,21 +64,21 @@ entries_e : (ps : List (List ℕ)) (s : Progress) → entries_line (codes "e" �
 unfolding entries_line
 entries_e ps s = refl
 
-pub step_entry : (caps : List ℕ) (earlier : List Entry) (contents : List (List ℕ)) (e : Entry) → length caps ≤ BUFFERS → length earlier < ENTRIES → length contents ≡ length caps → IsEntryOf (length caps) e → IsNext caps earlier contents e → step (progress stage.Entries caps earlier contents) (join_with_byte 32 (entry_pieces e)) ≡ Ok (progress stage.Entries caps (earlier ++ e ∷ []) (after_entry contents e))
+pub step_entry : (caps : List ℕ) (earlier : List Entry) (contents : List (List Message)) (e : Entry) → length caps ≤ BUFFERS → length earlier < ENTRIES → length contents ≡ length caps → IsEntryOf (length caps) e → IsNext caps earlier contents e → step (progress stage.Entries caps earlier contents) (join_with_byte 32 (entry_pieces e)) ≡ Ok (progress stage.Entries caps (earlier ++ e ∷ []) (after_entry contents e))
 unfolding step
 step_entry caps earlier contents e few room long small next =
     let s = progress stage.Entries caps earlier contents in
     ap (λ (ps : List (List ℕ)). entries_line ps s) (pieces_again (codes "e") (behind_e e) (entry_is_line (length caps) e few small)) ∙ entries_e (behind_e e) s ∙ entry_line_again stage.Entries caps earlier contents e few room long small next
 
 -- what it says that an entry was taken
-pub record EntryTaken (at : Stage) (caps : List ℕ) (earlier : List Entry) (contents : List (List ℕ)) (ps : List (List ℕ)) (after : Progress) (e : Entry) : Type 0 where
+pub record EntryTaken (at : Stage) (caps : List ℕ) (earlier : List Entry) (contents : List (List Message)) (ps : List (List ℕ)) (after : Progress) (e : Entry) : Type 0 where
   pub spelled : ps ≡ behind_e e
   pub small : IsEntryOf (length caps) e
   pub next : IsNext caps earlier contents e
   pub room : length earlier < ENTRIES
   pub is : after ≡ progress at caps (earlier ++ e ∷ []) (after_entry contents e)
 
-entry_found : (at : Stage) (caps : List ℕ) (earlier : List Entry) (contents : List (List ℕ)) (ps : List (List ℕ)) (digits : Digits) (e : Entry) (buffers : List Seen) (after : Progress) → length contents ≡ length caps → ps ≡ shape_of digits → IsSmall digits e → length earlier < ENTRIES → entry_among e (known_from earlier contents 0 caps) ≡ Ok buffers → record { at = at; buffers = buffers; entries = length earlier + 1 } ≡ after → EntryTaken at caps earlier contents ps after e
+entry_found : (at : Stage) (caps : List ℕ) (earlier : List Entry) (contents : List (List Message)) (ps : List (List ℕ)) (digits : Digits) (e : Entry) (buffers : List Seen) (after : Progress) → length contents ≡ length caps → ps ≡ shape_of digits → IsSmall digits e → length earlier < ENTRIES → entry_among e (known_from earlier contents 0 caps) ≡ Ok buffers → record { at = at; buffers = buffers; entries = length earlier + 1 } ≡ after → EntryTaken at caps earlier contents ps after e
 entry_found at caps earlier contents ps digits e buffers after long shape small room among is =
     let taken = among_taken caps earlier contents e buffers long among in
     record {
@@ -88,7 +89,7 @@ entry_found at caps earlier contents ps digits e buffers after long shape small 
       is = sym is ∙ rw (taken.1, length_push earlier e) refl;
     }
 
-entry_line_taken : (at : Stage) (caps : List ℕ) (earlier : List Entry) (contents : List (List ℕ)) (ps : List (List ℕ)) (after : Progress) → length contents ≡ length caps → entry_line ps (progress at caps earlier contents) ≡ Ok after → (e : Entry) × EntryTaken at caps earlier contents ps after e
+entry_line_taken : (at : Stage) (caps : List ℕ) (earlier : List Entry) (contents : List (List Message)) (ps : List (List ℕ)) (after : Progress) → length contents ≡ length caps → entry_line ps (progress at caps earlier contents) ≡ Ok after → (e : Entry) × EntryTaken at caps earlier contents ps after e
 unfolding entry_line
 entry_line_taken at caps earlier contents ps after long taken =
     let s = progress at caps earlier contents in
@@ -100,22 +101,22 @@ entry_line_taken at caps earlier contents ps after long taken =
 
 -- ---- what is left
 
-abbrev AreSmall : List ℕ → Type 0
+abbrev AreSmall : List Message → Type 0
 AreSmall items = AllByRecursion (λ v. v < 2 ^ 64) items
 
-numbers_again : (items : List ℕ) → AreSmall items → list_all is_number (map decimal items) ≡ true
+numbers_again : (items : List Message) → AreSmall items → list_all is_number (map decimal items) ≡ true
 numbers_again [] small = refl
 numbers_again (v ∷ vs) small = rw (decimal_is_number v small.0, numbers_again vs small.1) refl
 
-within_again : (items : List ℕ) → AreSmall items → list_all is_within (map decimal items) ≡ true
+within_again : (items : List Message) → AreSmall items → list_all is_within (map decimal items) ≡ true
 within_again [] small = refl
 within_again (v ∷ vs) small = rw (number_to-decimal 18446744073709551615 v small.0 (let h = small.0 in omega arith), within_again vs small.1) refl
 
-values_again : (items : List ℕ) → AreSmall items → are_values (map decimal items) items ≡ true
+values_again : (items : List Message) → AreSmall items → are_values (map decimal items) items ≡ true
 values_again [] small = refl
 values_again (v ∷ vs) small = rw (is_value_again v small.0, values_again vs small.1) refl
 
-left_digits_again : (b : ℕ) (items : List ℕ) → b < 2 ^ 64 → AreSmall items → left_digits b (left_pieces b items) ≡ Ok (map decimal items)
+left_digits_again : (b : ℕ) (items : List Message) → b < 2 ^ 64 → AreSmall items → left_digits b (left_pieces b items) ≡ Ok (map decimal items)
 unfolding left_digits
 left_digits_again b items lt small = rw (is_value_again b lt, numbers_again items small) refl
 
@@ -123,7 +124,7 @@ left_digits_again b items lt small = rw (is_value_again b lt, numbers_again item
 abbrev pub behind_left : ℕ → List ℕ → Stage
 behind_left b caps = cond (nat_lt (b + 1) (length caps)) (stage.Contents (b + 1)) stage.End
 
-pub left_line_again : (at : Stage) (b : ℕ) (caps : List ℕ) (earlier : List Entry) (contents : List (List ℕ)) → b < length caps → b < 2 ^ 64 → AreSmall (items_of contents b) → left_line b (left_pieces b (items_of contents b)) (progress at caps earlier contents) ≡ Ok (progress (behind_left b caps) caps earlier contents)
+pub left_line_again : (at : Stage) (b : ℕ) (caps : List ℕ) (earlier : List Entry) (contents : List (List Message)) → b < length caps → b < 2 ^ 64 → AreSmall (items_of contents b) → left_line b (left_pieces b (items_of contents b)) (progress at caps earlier contents) ≡ Ok (progress (behind_left b caps) caps earlier contents)
 unfolding left_line
 left_line_again at b caps earlier contents lt fits small =
     rw (left_digits_again b (items_of contents b) fits small, within_again (items_of contents b) small, slice_get-known earlier contents caps b lt, values_again (items_of contents b) small, length-known_from earlier contents 0 caps) refl
@@ -139,7 +140,7 @@ just_some (Some m) n e = ap Some (eqb-true m n e)
 small_value : (p : List ℕ) (v : ℕ) → is_value p v ≡ true → v < 2 ^ 64
 small_value p v e = let h = (number_to-Some 18446744073709551615 p v (just_some (number_to 18446744073709551615 p) v e)).within in omega arith
 
-values_taken : (ps : List (List ℕ)) (items : List ℕ) → are_values ps items ≡ true → (ps ≡ map decimal items) × AreSmall items
+values_taken : (ps : List (List ℕ)) (items : List Message) → are_values ps items ≡ true → (ps ≡ map decimal items) × AreSmall items
 values_taken [] [] e = (refl, tt)
 values_taken [] (v ∷ vs) e = absurd (cc)
 values_taken (p ∷ ps) [] e = absurd (cc)
@@ -161,7 +162,7 @@ left_digits_taken b ps values taken =
     left_shape ps word.0 number.0.0 number.0.1 values b (word_taken (codes "left") ps word.0 word.1) (piece_taken word.0 number.0 number.1) (is_value_taken number.0.0 b value.0) (same_ok number.0.1 values rest.1)
 
 -- what it says that what is left of buffer b was taken
-pub record LeftTaken (b : ℕ) (caps : List ℕ) (earlier : List Entry) (contents : List (List ℕ)) (ps : List (List ℕ)) (after : Progress) : Type 0 where
+pub record LeftTaken (b : ℕ) (caps : List ℕ) (earlier : List Entry) (contents : List (List Message)) (ps : List (List ℕ)) (after : Progress) : Type 0 where
   pub known : b < length caps
   pub spelled : ps ≡ left_pieces b (items_of contents b)
   pub small : AllByRecursion (λ v. v < 2 ^ 64) (items_of contents b)
@@ -174,7 +175,7 @@ holds_of values (Some seen) e = (seen, refl, e)
 some_seen : (x y : Seen) → Some x ≡ Some y → x ≡ y
 some_seen x y e = cc
 
-left_found : (at : Stage) (b : ℕ) (caps : List ℕ) (earlier : List Entry) (contents : List (List ℕ)) (ps values : List (List ℕ)) (after : Progress) (seen : Seen) → ps ≡ codes "left" ∷ decimal b ∷ values → slice_get (known_from earlier contents 0 caps) b ≡ Some seen → are_values values seen.items ≡ true → record { at = cond (nat_lt (b + 1) (length (known_from earlier contents 0 caps))) (stage.Contents (b + 1)) stage.End; buffers = known_from earlier contents 0 caps; entries = length earlier } ≡ after → LeftTaken b caps earlier contents ps after
+left_found : (at : Stage) (b : ℕ) (caps : List ℕ) (earlier : List Entry) (contents : List (List Message)) (ps values : List (List ℕ)) (after : Progress) (seen : Seen) → ps ≡ codes "left" ∷ decimal b ∷ values → slice_get (known_from earlier contents 0 caps) b ≡ Some seen → are_values values seen.items ≡ true → record { at = cond (nat_lt (b + 1) (length (known_from earlier contents 0 caps))) (stage.Contents (b + 1)) stage.End; buffers = known_from earlier contents 0 caps; entries = length earlier } ≡ after → LeftTaken b caps earlier contents ps after
 left_found at b caps earlier contents ps values after seen shape found holds is =
     let inside : b < length caps = omega (arith, slice_get_within (known_from earlier contents 0 caps) b seen found, length-known_from earlier contents 0 caps) in
     let same : seen ≡ seen_of earlier contents b (get_or caps b 0) = some_seen seen _ (sym found ∙ slice_get-known earlier contents caps b inside) in
@@ -187,7 +188,7 @@ left_found at b caps earlier contents ps values after seen shape found holds is 
       is = sym is ∙ rw (length-known_from earlier contents 0 caps) refl;
     }
 
-pub left_line_taken : (at : Stage) (b : ℕ) (caps : List ℕ) (earlier : List Entry) (contents : List (List ℕ)) (ps : List (List ℕ)) (after : Progress) → left_line b ps (progress at caps earlier contents) ≡ Ok after → LeftTaken b caps earlier contents ps after
+pub left_line_taken : (at : Stage) (b : ℕ) (caps : List ℕ) (earlier : List Entry) (contents : List (List Message)) (ps : List (List ℕ)) (after : Progress) → left_line b ps (progress at caps earlier contents) ≡ Ok after → LeftTaken b caps earlier contents ps after
 unfolding left_line
 left_line_taken at b caps earlier contents ps after taken =
     let s = progress at caps earlier contents in
@@ -198,15 +199,15 @@ left_line_taken at b caps earlier contents ps after taken =
     let holds = holds_of digits.0 (slice_get s.buffers b) left.0 in
     left_found at b caps earlier contents ps digits.0 after holds.0 (left_digits_taken b ps digits.0 digits.1) holds.1 holds.2 (same_ok next after left.1)
 
-items_spaces : (items : List ℕ) → AreSmall items → AllByRecursion (Lacks 32) (map decimal items)
+items_spaces : (items : List Message) → AreSmall items → AllByRecursion (Lacks 32) (map decimal items)
 items_spaces [] small = tt
 items_spaces (v ∷ vs) small = (decimal_lacks 32 v (lit< tt) small.0, items_spaces vs small.1)
 
-items_feeds : (items : List ℕ) → AreSmall items → AllByRecursion (Lacks 10) (map decimal items)
+items_feeds : (items : List Message) → AreSmall items → AllByRecursion (Lacks 10) (map decimal items)
 items_feeds [] small = tt
 items_feeds (v ∷ vs) small = (decimal_lacks 10 v (lit< tt) small.0, items_feeds vs small.1)
 
-pub left_is_line : (b : ℕ) (items : List ℕ) → b < 2 ^ 64 → AreSmall items → IsLine (left_pieces b items)
+pub left_is_line : (b : ℕ) (items : List Message) → b < 2 ^ 64 → AreSmall items → IsLine (left_pieces b items)
 left_is_line b items fits small = record {
   spaces = ((refl, (refl, (refl, (refl, tt)))), (decimal_lacks 32 b (lit< tt) fits, items_spaces items small));
   feeds = ((refl, (refl, (refl, (refl, tt)))), (decimal_lacks 10 b (lit< tt) fits, items_feeds items small));
@@ -217,13 +218,13 @@ unfolding entries_line
 entries_left ps s = refl
 
 -- what is left of the first buffer, behind the entries
-pub step_first_left : (caps : List ℕ) (earlier : List Entry) (contents : List (List ℕ)) → 0 < length caps → AreSmall (items_of contents 0) → step (progress stage.Entries caps earlier contents) (join_with_byte 32 (left_pieces 0 (items_of contents 0))) ≡ Ok (progress (behind_left 0 caps) caps earlier contents)
+pub step_first_left : (caps : List ℕ) (earlier : List Entry) (contents : List (List Message)) → 0 < length caps → AreSmall (items_of contents 0) → step (progress stage.Entries caps earlier contents) (join_with_byte 32 (left_pieces 0 (items_of contents 0))) ≡ Ok (progress (behind_left 0 caps) caps earlier contents)
 unfolding step
 step_first_left caps earlier contents lt small =
     let s = progress stage.Entries caps earlier contents in
     ap (λ (ps : List (List ℕ)). entries_line ps s) (pieces_again (codes "left") (decimal 0 ∷ map decimal (items_of contents 0)) (left_is_line 0 (items_of contents 0) (lit< tt) small)) ∙ entries_left (decimal 0 ∷ map decimal (items_of contents 0)) s ∙ left_line_again stage.Entries 0 caps earlier contents lt (lit< tt) small
 
-pub step_left : (b : ℕ) (caps : List ℕ) (earlier : List Entry) (contents : List (List ℕ)) → b < length caps → length caps ≤ BUFFERS → AreSmall (items_of contents b) → step (progress (stage.Contents b) caps earlier contents) (join_with_byte 32 (left_pieces b (items_of contents b))) ≡ Ok (progress (behind_left b caps) caps earlier contents)
+pub step_left : (b : ℕ) (caps : List ℕ) (earlier : List Entry) (contents : List (List Message)) → b < length caps → length caps ≤ BUFFERS → AreSmall (items_of contents b) → step (progress (stage.Contents b) caps earlier contents) (join_with_byte 32 (left_pieces b (items_of contents b))) ≡ Ok (progress (behind_left b caps) caps earlier contents)
 unfolding step
 step_left b caps earlier contents lt few small =
     let s = progress (stage.Contents b) caps earlier contents in
@@ -233,7 +234,7 @@ step_left b caps earlier contents lt few small =
 same_pieces : (p w : List ℕ) (ps qs : List (List ℕ)) → p ≡ w → ps ≡ qs → p ∷ ps ≡ w ∷ qs
 same_pieces p w ps qs e1 e2 = rw (e1, e2) refl
 
-entries_cases : (caps : List ℕ) (earlier : List Entry) (contents : List (List ℕ)) (p : List ℕ) (ps : List (List ℕ)) (after : Progress) → length contents ≡ length caps → (first : Bool) → bytes_eq p (codes "e") ≡ first → cond first (entry_line ps (progress stage.Entries caps earlier contents)) (left_line 0 (p ∷ ps) (progress stage.Entries caps earlier contents)) ≡ Ok after → ((e : Entry) × (p ∷ ps ≡ entry_pieces e) × IsEntryOf (length caps) e × IsNext caps earlier contents e × (length earlier < ENTRIES) × (after ≡ progress stage.Entries caps (earlier ++ e ∷ []) (after_entry contents e))) ⊎ LeftTaken 0 caps earlier contents (p ∷ ps) after
+entries_cases : (caps : List ℕ) (earlier : List Entry) (contents : List (List Message)) (p : List ℕ) (ps : List (List ℕ)) (after : Progress) → length contents ≡ length caps → (first : Bool) → bytes_eq p (codes "e") ≡ first → cond first (entry_line ps (progress stage.Entries caps earlier contents)) (left_line 0 (p ∷ ps) (progress stage.Entries caps earlier contents)) ≡ Ok after → ((e : Entry) × (p ∷ ps ≡ entry_pieces e) × IsEntryOf (length caps) e × IsNext caps earlier contents e × (length earlier < ENTRIES) × (after ≡ progress stage.Entries caps (earlier ++ e ∷ []) (after_entry contents e))) ⊎ LeftTaken 0 caps earlier contents (p ∷ ps) after
 entries_cases caps earlier contents p ps after long true first taken =
     let found = entry_line_taken stage.Entries caps earlier contents ps after long taken in
     let word : p ≡ codes "e" = (bytes_eq-Decides p (codes "e")).0 first in
@@ -241,7 +242,7 @@ entries_cases caps earlier contents p ps after long true first taken =
 entries_cases caps earlier contents p ps after long false first taken = inr (left_line_taken stage.Entries 0 caps earlier contents (p ∷ ps) after taken)
 
 -- a line behind the entries is an entry, or what is left of the first buffer
-pub entries_taken : (caps : List ℕ) (earlier : List Entry) (contents : List (List ℕ)) (ps : List (List ℕ)) (after : Progress) → length contents ≡ length caps → entries_line ps (progress stage.Entries caps earlier contents) ≡ Ok after → ((e : Entry) × (ps ≡ entry_pieces e) × IsEntryOf (length caps) e × IsNext caps earlier contents e × (length earlier < ENTRIES) × (after ≡ progress stage.Entries caps (earlier ++ e ∷ []) (after_entry contents e))) ⊎ LeftTaken 0 caps earlier contents ps after
+pub entries_taken : (caps : List ℕ) (earlier : List Entry) (contents : List (List Message)) (ps : List (List ℕ)) (after : Progress) → length contents ≡ length caps → entries_line ps (progress stage.Entries caps earlier contents) ≡ Ok after → ((e : Entry) × (ps ≡ entry_pieces e) × IsEntryOf (length caps) e × IsNext caps earlier contents e × (length earlier < ENTRIES) × (after ≡ progress stage.Entries caps (earlier ++ e ∷ []) (after_entry contents e))) ⊎ LeftTaken 0 caps earlier contents ps after
 unfolding entries_line
 entries_taken caps earlier contents [] after long taken = absurd (cc)
 entries_taken caps earlier contents (p ∷ ps) after long taken = entries_cases caps earlier contents p ps after long (bytes_eq p (codes "e")) refl taken

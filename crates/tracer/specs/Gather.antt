@@ -1,6 +1,7 @@
 -- Which order of several traces is gathered.
 use Rattle.std.specs.Prelude.{◌≡◌, ◌<◌, ℕ, List, [], ◌∷◌, ◌++◌, Option, Some, map, Vec, slice_get, slice_index, slice_index_or, slice_set}
 use Rattle.std.specs.Global.{Global}
+use Rattle.event_log.specs.Messages.{Message}
 use Rattle.event_log.specs.declared.entries.Entry.{Entry}
 use Rattle.event_log.specs.Runs.{count_of, IsRun}
 use Rattle.event_log.specs.Traces.{IsInterleaving, HasOpOrder}
@@ -35,11 +36,11 @@ HasNoOrder traces = (order : List Entry) → ¬ IsOrder traces order
 
 -- traces of which some order is a run have an order
 abbrev pub RunsHaveOrder : List (List Entry) → Type 0
-RunsHaveOrder traces = (caps : List ℕ) (order : List Entry) (left : List (List ℕ)) → IsInterleaving traces order → IsRun caps order left → ¬ HasNoOrder traces
+RunsHaveOrder traces = (caps : List ℕ) (order : List Entry) (left : List (List Message)) → IsInterleaving traces order → IsRun caps order left → ¬ HasNoOrder traces
 
 -- where some order of the traces is a run, each order of them is a run that ends in the same contents
 abbrev pub OrdersRunAlike : List (List Entry) → Type 0
-OrdersRunAlike traces = (caps : List ℕ) (order other : List Entry) (left : List (List ℕ)) → IsInterleaving traces order
+OrdersRunAlike traces = (caps : List ℕ) (order other : List Entry) (left : List (List Message)) → IsInterleaving traces order
     → IsRun caps order left → IsOrder traces other → IsRun caps other left
 
 -- the entry of trace k that comes next, where so many of each trace are taken

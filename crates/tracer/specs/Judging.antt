@@ -2,6 +2,7 @@
 use Rattle.std.specs.Prelude.{◌-◌, ◌≡◌, ℕ, ◌+◌, Bool, true, false, ◌&&◌, ◌==◌, nat_lt, List, [], ◌∷◌, ◌++◌, length, codes, is_some, Option, Some, None, Result, Ok, Err, slice_get, slice_set, if◌then◌else◌}
 use Rattle.std.specs.List.{list_all, slice_split}
 use Rattle.std.specs.Str.{bytes_eq}
+use Rattle.event_log.specs.Messages.{Message}
 use Rattle.event_log.specs.declared.ids.TheConstants.{CPUS, THREADS, BUFFERS, CAPACITY, ENTRIES}
 use Rattle.event_log.specs.declared.entries.Kind.{Kind}
 use Rattle.event_log.specs.declared.entries.Kind.TheVariants.{Send, Recv}
@@ -69,7 +70,7 @@ is_value digits n = is_just (number_to 18446744073709551615 digits) n
 -- one buffer: its capacity, its items, front first, and how many effects it had
 pub record Seen : Type 0 where
   pub capacity : ℕ
-  pub items : List ℕ
+  pub items : List Message
   pub ops : ℕ
   pub sends : ℕ
   pub recvs : ℕ
@@ -93,15 +94,15 @@ next_pos Send seen = seen.sends
 next_pos Recv seen = seen.recvs
 
 -- a send wants room
-abbrev pub put_in : ℕ → Seen → Result Seen Reason
+abbrev pub put_in : Message → Seen → Result Seen Reason
 put_in value seen = wanted (nat_lt (length seen.items) seen.capacity) Full (Ok (record seen { items = seen.items ++ value ∷ []; ops = seen.ops + 1; sends = seen.sends + 1 }))
 
 -- a receive wants its value as the first item
-abbrev pub take_first : ℕ → List ℕ → Seen → Result Seen Reason
+abbrev pub take_first : Message → List Message → Seen → Result Seen Reason
 take_first value [] seen = Err EmptyTake
 take_first value (first ∷ rest) seen = wanted (first == value) WrongValue (Ok (record seen { items = rest; ops = seen.ops + 1; recvs = seen.recvs + 1 }))
 
-abbrev pub effect_of : Kind → ℕ → Seen → Result Seen Reason
+abbrev pub effect_of : Kind → Message → Seen → Result Seen Reason
 effect_of Send value seen = put_in value seen
 effect_of Recv value seen = take_first value seen.items seen
 
@@ -190,8 +191,8 @@ left_digits b pieces = word_at (codes "left") pieces
     >>= λ rest. piece_at rest
     >>= λ number. wanted (is_value number.0 b) Spelling (wanted (list_all is_number number.1) Spelling (Ok number.1))
 
--- the pieces are these numbers
-abbrev pub are_values : List (List ℕ) → List ℕ → Bool
+-- the pieces are these messages
+abbrev pub are_values : List (List ℕ) → List Message → Bool
 are_values [] [] = true
 are_values [] (n ∷ ns) = false
 are_values (p ∷ ps) [] = false

@@ -2,6 +2,7 @@
 -- The capacities are a list by buffer number; what is left is a list by buffer number of the buffer's items, front first.
 use Rattle.std.specs.Prelude.{◌≡◌, ℕ, ◌+◌, ◌<◌, ◌≤◌, ◌^◌, List, [], ◌∷◌, ◌++◌, length, map, codes, decimal, flat_map}
 use Rattle.std.specs.List.{AllByRecursion, join_with_byte}
+use Rattle.event_log.specs.Messages.{Message}
 use Rattle.event_log.specs.declared.ids.TheConstants.{CPUS, THREADS, BUFFERS, CAPACITY, ENTRIES}
 use Rattle.event_log.specs.declared.entries.Kind.{Kind}
 use Rattle.event_log.specs.declared.entries.Kind.TheVariants.{Send, Recv}
@@ -32,7 +33,7 @@ abbrev pub entry_pieces : Entry → List (List ℕ)
 entry_pieces e = codes "e" ∷ decimal e.cpu.0 ∷ decimal e.thread.0 ∷ kind_word e.kind ∷ decimal e.buffer.0 ∷ decimal e.value ∷ decimal e.op ∷ decimal e.pos ∷ []
 
 -- what is left in a buffer, front first
-abbrev pub left_pieces : ℕ → List ℕ → List (List ℕ)
+abbrev pub left_pieces : ℕ → List Message → List (List ℕ)
 left_pieces b items = codes "left" ∷ decimal b ∷ map decimal items
 
 abbrev pub end_pieces : List (List ℕ)
@@ -44,11 +45,11 @@ numbered line b [] = []
 numbered line b (x ∷ xs) = line b x ∷ numbered line (b + 1) xs
 
 -- all lines of a trace, each as its pieces
-unfoldable pub lines_of : List ℕ → List Entry → List (List ℕ) → List (List (List ℕ))
+unfoldable pub lines_of : List ℕ → List Entry → List (List Message) → List (List (List ℕ))
 lines_of caps es left = head_pieces ∷ count_pieces (length caps) ∷ (numbered cap_pieces 0 caps ++ (map entry_pieces es ++ (numbered left_pieces 0 left ++ end_pieces ∷ [])))
 
 -- the one spelling
-unfoldable pub spelling : List ℕ → List Entry → List (List ℕ) → List ℕ
+unfoldable pub spelling : List ℕ → List Entry → List (List Message) → List ℕ
 spelling caps es left = flat_map line_of (lines_of caps es left)
 
 abbrev pub IsCapacity : ℕ → Type 0
@@ -64,7 +65,7 @@ pub record IsEntryOf (n : ℕ) (e : Entry) : Type 0 where
   pub pos : e.pos < ENTRIES
 
 -- what has a spelling
-pub record IsSpellable (caps : List ℕ) (es : List Entry) (left : List (List ℕ)) : Type 0 where
+pub record IsSpellable (caps : List ℕ) (es : List Entry) (left : List (List Message)) : Type 0 where
   pub some_buffer : 1 ≤ length caps
   pub few_buffers : length caps ≤ BUFFERS
   pub capacities : AllByRecursion IsCapacity caps
@@ -74,6 +75,6 @@ pub record IsSpellable (caps : List ℕ) (es : List Entry) (left : List (List �
   pub values : AllByRecursion (AllByRecursion (λ v. v < 2 ^ 64)) left
 
 -- the text is the trace text of these capacities, entries and contents
-pub record IsTraceText (text : List ℕ) (caps : List ℕ) (es : List Entry) (left : List (List ℕ)) : Type 0 where
+pub record IsTraceText (text : List ℕ) (caps : List ℕ) (es : List Entry) (left : List (List Message)) : Type 0 where
   pub spellable : IsSpellable caps es left
   pub spelled : text ≡ spelling caps es left

@@ -1,9 +1,10 @@
 -- What a text must be so that the judge says yes, in the words of the buffers.
 use Rattle.std.specs.Prelude.{ℕ, List}
+use Rattle.event_log.specs.Messages.{Message}
 use Rattle.event_log.specs.declared.entries.Entry.{Entry}
 use Rattle.event_log.specs.Runs.{IsRun}
 use Rattle.tracer.specs.TraceText.{IsTraceText}
 
 -- the text spells entries that are a run, and what it says is left is where the run ends
 abbrev pub IsTraceOfRun : List ℕ → Type 0
-IsTraceOfRun text = (caps : List ℕ) × (es : List Entry) × (left : List (List ℕ)) × IsTraceText text caps es left × IsRun caps es left
+IsTraceOfRun text = (caps : List ℕ) × (es : List Entry) × (left : List (List Message)) × IsTraceText text caps es left × IsRun caps es left

@@ -165,7 +165,7 @@ fn with_most_entries(alloc: Global, more: &str) -> Result<String, Fail> {
 }
 
 #[test]
-fn there_are_at_most_524288_entries(rt: HostRuntime) -> Result<(), Fail> {
+fn there_are_no_more_entries_than_the_limit(rt: HostRuntime) -> Result<(), Fail> {
     let most = with_most_entries(rt.alloc(), "")?;
     assert_eq!(rt; check(most.as_bytes()), Verdict::Yes);
     let over = with_most_entries(rt.alloc(), "e 0 0 recv 1 7 1 1\n")?;

@@ -7,7 +7,7 @@ ghost use Rattle.tracer.specs.Judging.{Gives, piece_at, word_at, digits_at, ende
 ghost use Rattle.tracer.specs.Lines.{left_of};
 
 use crate::verdicts::Reason;
-use event_log::{is_number, number_to};
+use event_log::{Msg, is_number, number_to};
 
 /// What stands before the first byte `at` of the text, and what stands behind it.
 #[inline(always)]
@@ -125,15 +125,15 @@ pub fn are_within(mut pieces: Pieces<'_>) -> bool
     true
 }
 
-/// Whether the pieces spell these numbers.
-pub fn are_values(mut pieces: Pieces<'_>, numbers: &[u64]) -> bool
-    ensures { result ≡ are_values (left_of pieces.entry) numbers.now }
+/// Whether the pieces spell these messages.
+pub fn are_values(mut pieces: Pieces<'_>, messages: &[Msg]) -> bool
+    ensures { result ≡ are_values (left_of pieces.entry) messages.now }
 {
-    for number in numbers {
+    for message in messages {
         let Ok((front, rest)) = piece(pieces) else {
             return false;
         };
-        if !is_value(front, *number) {
+        if !is_value(front, *message) {
             return false;
         }
         pieces = rest;

@@ -8,13 +8,13 @@ ghost use Rattle.tracer.specs.Lines.{left_of};
 use crate::pieces::{Pieces, are_values};
 use crate::verdicts::Reason;
 use arrayvec::ArrayVec;
-use event_log::{CAPACITY, Entry, Kind};
+use event_log::{CAPACITY, Entry, Kind, Msg};
 
 /// One buffer: its capacity, its items, front first, and how many effects it had.
 #[derive(Drop)]
 pub struct Tally {
     capacity: usize,
-    items: ArrayVec<u64, CAPACITY>,
+    items: ArrayVec<Msg, CAPACITY>,
     ops: u64,
     sends: u64,
     recvs: u64,
@@ -41,7 +41,7 @@ impl Tally {
     /// Puts `value` behind the items.
     ///
     /// Errors: `Full` where the buffer holds as many items as its capacity; then nothing changed.
-    fn put(&mut self, value: u64) -> Result<(), Reason>
+    fn put(&mut self, value: Msg) -> Result<(), Reason>
         requires { (self.old.ops < ENTRIES) × (self.old.sends < ENTRIES) }
         ensures { StepsTo (put_in value (seen_in self.old)) result (seen_in self.new) }
     {
@@ -58,7 +58,7 @@ impl Tally {
     ///
     /// Errors: `EmptyTake` where there is none, `WrongValue` where it is another; then nothing
     /// changed.
-    fn take(&mut self, value: u64) -> Result<(), Reason>
+    fn take(&mut self, value: Msg) -> Result<(), Reason>
         requires { (self.old.ops < ENTRIES) × (self.old.recvs < ENTRIES) }
         ensures { StepsTo (take_first value (seen_in self.old).items (seen_in self.old)) result (seen_in self.new) }
     {

@@ -7,7 +7,7 @@ ghost use Rattle.tracer.specs.Pieces.{text_of, spaced};
 
 use crate::sinks::{Sink, WriteFault};
 use arrayvec::ArrayVec;
-use event_log::{CAPACITY, Entry, Kind};
+use event_log::{CAPACITY, Entry, Kind, Msg};
 use itoa::Buffer;
 use std::io::Write;
 
@@ -131,7 +131,7 @@ fn put_entries<W: Write>(sink: &mut Sink<W>, entries: &[Entry]) -> Result<(), Wr
 /// The lines of what is left.
 fn put_left<W: Write>(
     sink: &mut Sink<W>,
-    left: &[ArrayVec<u64, CAPACITY>],
+    left: &[ArrayVec<Msg, CAPACITY>],
 ) -> Result<(), WriteFault>
     requires { has_failed sink.old ≡ false }
     ensures failed { is_err result ≡ has_failed sink.new }
@@ -156,7 +156,7 @@ pub fn write_trace<W: Write>(
     sink: &mut Sink<W>,
     caps: &[u8],
     entries: &[Entry],
-    left: &[ArrayVec<u64, CAPACITY>],
+    left: &[ArrayVec<Msg, CAPACITY>],
 ) -> Result<(), WriteFault>
     requires live { has_failed sink.old ≡ false }
     requires spellable { IsSpellable caps.now entries.now (map (λ v. v.items) left.now) }

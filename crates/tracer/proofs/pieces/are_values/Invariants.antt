@@ -3,5 +3,5 @@ use Rattle.tracer.specs.Judging.{are_values}
 use Rattle.tracer.specs.Lines.{left_of}
 use Rattle.tracer.proofs.pieces.are_values.Given as goal
 
-abbrev pub invariant-loop-number : goal.invariant-loop-number
-invariant-loop-number l = are_values (left_of l.pieces) (drop l.number-index l.numbers) ≡ are_values (left_of l.fn.pieces) l.numbers
+abbrev pub invariant-loop-message : goal.invariant-loop-message
+invariant-loop-message l = are_values (left_of l.pieces) (drop l.message-index l.messages) ≡ are_values (left_of l.fn.pieces) l.messages
