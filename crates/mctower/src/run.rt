@@ -17,7 +17,7 @@ ghost use Rattle.mctower.specs.declared.run.Fault.TheVariants.{NoMemory, NoOrder
 use crate::kernel::{BadCpu, System};
 use arrayvec::ArrayVec;
 use boot::{Boot, BootError};
-use event_log::{BUFFERS, BufId, CAPACITY, CpuId, Entry, NoMemory};
+use event_log::{BUFFERS, BufId, CAPACITY, CpuId, Entry, Msg, NoMemory};
 use std::alloc::{AllocError, AllocFailed, Global};
 use std::io::Write;
 use thiserror::Error;
@@ -177,7 +177,7 @@ fn values_fit(entries: &[Entry])
 }
 
 // A value has 64 bits.
-fn value_fits(value: u64)
+fn value_fits(value: Msg)
     ensures { value < 2 ^ 64 }
 {}
 
@@ -195,7 +195,7 @@ fn traces(alloc: Global, cpus: u8, system: &System) -> Result<Vec<Vec<Entry>>, A
 }
 
 /// What the buffers hold, which are so many, at most `BUFFERS`.
-fn contents(buffers: usize, system: &System) -> ArrayVec<ArrayVec<u64, CAPACITY>, BUFFERS>
+fn contents(buffers: usize, system: &System) -> ArrayVec<ArrayVec<Msg, CAPACITY>, BUFFERS>
     requires all { length system.now.guarded.buffers ≡ buffers }
     requires few { buffers ≤ BUFFERS }
     ensures { map (λ items. items.items) result.items ≡ contents_of system.now }
