@@ -1,0 +1,61 @@
+-- The threads at home on a CPU, home by home.
+use Rattle.std.proofs.Common.{◌≡◌, ℕ, ◌+◌, ◌<◌, ◌≤◌, min, Bool, true, false, ◌||◌, List, [], ◌∷◌, ◌++◌, length, take, get_or, if◌then◌else◌, refl, ap, ◌∙◌, arith}
+use Rattle.std.proofs.lemmas.Bool.{eq-eqb, ne_eqb}
+use Rattle.std.proofs.lemmas.List.{take_more, length-take}
+use Rattle.event_log.specs.declared.ids.CpuId.{CpuId}
+use Rattle.event_log.specs.declared.ids.Tid.{Tid}
+use Rattle.event_log.specs.History.{same_cpu}
+use Rattle.thread_blocks.specs.Queues.{is_in}
+use Rattle.thread_blocks.proofs.Members.{tid_numbered}
+use Rattle.layer_traits.specs.Places.{homed}
+
+-- one home more: its thread stands last, if it is at home here
+homed_more : (c : CpuId) (n : ℕ) (homes : List CpuId) (home : CpuId)
+    → homed c n (homes ++ home ∷ []) ≡ (if same_cpu c home then homed c n homes ++ tid_numbered (n + length homes) ∷ [] else homed c n homes)
+homed_more c n [] home = ap (λ k. if same_cpu c home then tid_numbered k ∷ [] else []) (omega arith)
+homed_more c n (x ∷ homes) home = go (same_cpu c x) (same_cpu c home) (homed_more c (n + 1) homes home)
+  where
+    later : n + 1 + length homes ≡ n + length (x ∷ homes)
+    later = omega arith
+
+    go : (here last : Bool) → homed c (n + 1) (homes ++ home ∷ [])
+        ≡ (if last then homed c (n + 1) homes ++ tid_numbered (n + 1 + length homes) ∷ [] else homed c (n + 1) homes)
+        → (if here then tid_numbered n ∷ homed c (n + 1) (homes ++ home ∷ []) else homed c (n + 1) (homes ++ home ∷ []))
+        ≡ (if last then (if here then tid_numbered n ∷ homed c (n + 1) homes else homed c (n + 1) homes) ++ tid_numbered (n + length (x ∷ homes)) ∷ []
+        else (if here then tid_numbered n ∷ homed c (n + 1) homes else homed c (n + 1) homes))
+    go true true is = ap (λ q. tid_numbered n ∷ q) is ∙ ap (λ k. tid_numbered n ∷ (homed c (n + 1) homes ++ tid_numbered k ∷ [])) later
+    go true false is = ap (λ q. tid_numbered n ∷ q) is
+    go false true is = is ∙ ap (λ k. homed c (n + 1) homes ++ tid_numbered k ∷ []) later
+    go false false is = is
+
+-- no thread beyond the homes is among them
+homed_beyond : (c : CpuId) (n : ℕ) (homes : List CpuId) (t : Tid) → n + length homes ≤ t.0 → is_in t (homed c n homes) ≡ false
+homed_beyond c n [] t beyond = refl
+homed_beyond c n (x ∷ homes) t beyond = go (same_cpu c x) (homed_beyond c (n + 1) homes t (omega arith))
+  where
+    go : (here : Bool) → is_in t (homed c (n + 1) homes) ≡ false
+        → is_in t (if here then tid_numbered n ∷ homed c (n + 1) homes else homed c (n + 1) homes) ≡ false
+    go true rest = ap (λ b. b || is_in t (homed c (n + 1) homes)) (ne_eqb t.0 n (λ e. omega arith)) ∙ rest
+    go false rest = rest
+
+-- the loop over the homes: the next thread is not among those before it
+pub next_new : (c : CpuId) (homes : List CpuId) (i : ℕ) → is_in (tid_numbered i) (homed c 0 (take i homes)) ≡ false
+next_new c homes i = let most : length (take i homes) ≡ min i (length homes) = length-take i homes in
+    homed_beyond c 0 (take i homes) (tid_numbered i) (omega (arith, most))
+
+next : (c : CpuId) (homes : List CpuId) (i : ℕ) (d : CpuId) → i < length homes → (b : Bool) → same_cpu c (get_or homes i d) ≡ b
+    → homed c 0 (take (i + 1) homes) ≡ (if b then homed c 0 (take i homes) ++ tid_numbered i ∷ [] else homed c 0 (take i homes))
+next c homes i d within b is =
+    let most : 0 + length (take i homes) ≡ i = let so : length (take i homes) ≡ min i (length homes) = length-take i homes in omega (arith, so) in
+    ap (homed c 0) (take_more homes i d within)
+    ∙ (homed_more c 0 (take i homes) (get_or homes i d)
+    ∙ (λ j. if is j then homed c 0 (take i homes) ++ tid_numbered (most j) ∷ [] else homed c 0 (take i homes)))
+
+-- and joins them, if it is at home here
+pub joins : (c : CpuId) (homes : List CpuId) (i : ℕ) (d : CpuId) → i < length homes → c.0 ≡ (get_or homes i d).0
+    → homed c 0 (take (i + 1) homes) ≡ homed c 0 (take i homes) ++ tid_numbered i ∷ []
+joins c homes i d within here = next c homes i d within true (eq-eqb c.0 (get_or homes i d).0 here)
+
+pub stays : (c : CpuId) (homes : List CpuId) (i : ℕ) (d : CpuId) → i < length homes → (c.0 ≡ (get_or homes i d).0 → ⊥)
+    → homed c 0 (take (i + 1) homes) ≡ homed c 0 (take i homes)
+stays c homes i d within elsewhere = next c homes i d within false (ne_eqb c.0 (get_or homes i d).0 elsewhere)

@@ -1,0 +1,45 @@
+-- What a CPU's own threads must be like for a change of them to be one, and what a call leaves that touches nothing shared.
+use Rattle.std.specs.Prelude.{◌≡◌, ◌<◌, false, List, ◌++◌, Option, Some}
+use Rattle.event_log.specs.declared.ids.Tid.{Tid}
+use Rattle.event_log.specs.declared.ids.TheConstants.{THREADS}
+use Rattle.thread_blocks.specs.Queues.{is_in, AreApart}
+use Rattle.layer_traits.specs.declared.passes.Pass.{Pass}
+use Rattle.layer_traits.specs.declared.passes.Pass.TheVariants.{Switch, YieldNow, Drain, MakeReady, End}
+use Rattle.layer_traits.specs.declared.queues.QueueAnswer.{QueueAnswer}
+use Rattle.layer_traits.specs.declared.queues.QueueAnswer.TheVariants.{Done, Taken, Answer}
+use Rattle.layer_traits.specs.declared.scheds.SchedCall.{SchedCall}
+use Rattle.layer_traits.specs.declared.scheds.SchedCall.TheVariants as call
+use Rattle.layer_traits.specs.MoveRules.{MoveRules}
+use Rattle.layer_traits.specs.Passes.{switched, finished}
+use Rattle.layer_traits.specs.Places.{Threads}
+
+-- the thread that runs may end: it has not ended yet
+abbrev pub MayFinish : Threads → Type 0
+MayFinish own = (t : Tid) → own.current ≡ Some t → (t.0 < THREADS) × (is_in t own.ended ≡ false)
+
+-- the threads of a queue, and behind them the thread that runs, may join those that are ready: none of them stands there
+abbrev pub MayJoin : List Tid → Threads → Type 0
+MayJoin queue own = AreApart queue own.ready × ((t : Tid) → own.current ≡ Some t → (t.0 < THREADS) × (is_in t (own.ready ++ queue) ≡ false))
+
+-- a thread that was woken may become ready: it is not
+abbrev pub MaySettle : Option Tid → Threads → Type 0
+MaySettle woke own = (t : Tid) → woke ≡ Some t → (t.0 < THREADS) × (is_in t own.ready ≡ false)
+
+-- an answer of the shared queues may be taken up
+abbrev pub MayTake : {E O : Type 0} → MoveRules E O → QueueAnswer O → Threads → Type 0
+MayTake mv Done own = Unit {0}
+MayTake mv (Taken queue) own = MayJoin queue own
+MayTake mv (Answer out) own = MaySettle (mv.woke out) own
+
+-- what a pass leaves that touches nothing shared; any other changes nothing
+abbrev pub passed_by : Pass → Threads → Threads
+passed_by Switch own = switched own
+passed_by YieldNow own = own
+passed_by Drain own = own
+passed_by (MakeReady t) own = own
+passed_by End own = finished own
+
+-- what a call leaves that touches nothing shared; any other changes nothing
+abbrev pub local_after : {E : Type 0} → SchedCall E → Threads → Threads
+local_after (call.Pass p) own = passed_by p own
+local_after (call.OnBuffer b e) own = own

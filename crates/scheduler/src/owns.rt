@@ -1,0 +1,196 @@
+//! What a CPU has of its own.
+
+ghost use Rattle.std.specs.Prelude.{◌≡◌, ◌≢◌, ◌≤◌, ◌<◌, ◌++◌, [], Option, Some, true, false, length};
+ghost use Rattle.event_log.specs.declared.ids.TheConstants.{THREADS};
+ghost use Rattle.event_log.specs.declared.ids.Tid.{Tid};
+ghost use Rattle.thread_blocks.specs.Queues.{is_in, AreApart};
+ghost use Rattle.layer_traits.specs.Places.{at_boot, home_of, is_cpu};
+ghost use Rattle.layer_traits.specs.Passes.{switched, took, passed_on, finished, own_slept, own_woken};
+ghost use Rattle.layer_traits.specs.Scheds.{own_by, answer_by};
+ghost use Rattle.scheduler.specs.Owns.{MayFinish, MayJoin, MaySettle, MayTake, local_after};
+
+use event_log::{CpuId, Tid};
+use layer_traits::{Line, Moves, Pass, QueueAnswer, SchedAnswer, SchedCall};
+use std::marker::Model;
+use thread_blocks::ThreadQueue;
+
+/// What a CPU has of its own: the thread that runs, the woken thread in its hand whose home is
+/// elsewhere, who is ready, and who has ended.
+#[derive(Drop)]
+pub struct OwnThreads {
+    current: Option<Tid>,
+    hand: Option<Tid>,
+    ready: ThreadQueue,
+    ended: ThreadQueue,
+}
+
+impl Model for OwnThreads {
+    ghost use Rattle.layer_traits.specs.Places.{Threads};
+
+    ghost Value = { Threads };
+
+    ghost view = { λ o. record { current = o.current; hand = o.hand; ready = o.ready; ended = o.ended } };
+}
+
+impl OwnThreads {
+    /// What `cpu` has of its own at boot: all threads at home on it are ready, in the order of their
+    /// numbers. `homes` holds the home of each thread, at most `THREADS` of them.
+    pub fn at_boot(homes: &[CpuId], cpu: CpuId) -> OwnThreads
+        requires { length homes.now ≤ THREADS }
+        ensures { result ≡ at_boot homes.now cpu }
+    {
+        let mut ready = ThreadQueue::new();
+        for i in 0..homes.len() {
+            if cpu.0 == homes[i].0 {
+                ready.push(Tid(i as u8));
+            }
+        }
+        OwnThreads {
+            current: None,
+            hand: None,
+            ready,
+            ended: ThreadQueue::new(),
+        }
+    }
+
+    /// The thread that runs; `None` where none does.
+    pub fn current(&self) -> Option<Tid>
+        ensures { result ≡ self.now.current }
+    {
+        self.current
+    }
+
+    /// The woken thread in hand; `None` where there is none.
+    pub fn hand(&self) -> Option<Tid>
+        ensures { result ≡ self.now.hand }
+    {
+        self.hand
+    }
+
+    /// Whether any thread is ready.
+    pub fn has_ready(&self) -> bool
+        ensures some { result ≡ true → self.now.ready ≢ [] }
+        ensures none { result ≡ false → self.now.ready ≡ [] }
+    {
+        self.ready.front().is_some()
+    }
+
+    /// Whether `t` is ready.
+    pub fn is_ready(&self, t: Tid) -> bool
+        ensures { result ≡ is_in t self.now.ready }
+    {
+        self.ready.contains(t)
+    }
+
+    /// Whether `t` has ended.
+    pub fn has_ended(&self, t: Tid) -> bool
+        ensures { result ≡ is_in t self.now.ended }
+    {
+        self.ended.contains(t)
+    }
+
+    /// The front of the ready threads runs.
+    pub fn switch(&mut self)
+        ensures { self.new ≡ switched self.old }
+    {
+        self.current = self.ready.pop();
+    }
+
+    /// The thread that runs has ended.
+    pub fn finish(&mut self)
+        requires { MayFinish self.old }
+        ensures { self.new ≡ finished self.old }
+    {
+        if let Some(t) = self.current {
+            self.ended.push(t);
+        }
+        self.current = None;
+    }
+
+    /// The threads of `queue` join those that are ready, and behind them the thread that runs.
+    pub fn take(&mut self, queue: ThreadQueue)
+        requires { MayJoin queue self.old }
+        ensures { self.new ≡ took queue self.old }
+    {
+        let mut queue = queue;
+        queue.drain_into(&mut self.ready);
+        if let Some(t) = self.current {
+            self.ready.push(t);
+        }
+        self.current = None;
+    }
+
+    /// The hand has passed its thread on.
+    pub fn pass_on(&mut self)
+        ensures { self.new ≡ passed_on self.old }
+    {
+        self.hand = None;
+    }
+
+    /// The thread that runs went to sleep, if `slept` tells a line, and `woke` was woken: that one is
+    /// ready if `cpu` is its home, and else in hand.
+    pub fn settle(&mut self, homes: &[CpuId], cpu: CpuId, slept: Option<Line>, woke: Option<Tid>)
+        requires { MaySettle woke self.old }
+        ensures { self.new ≡ own_woken homes.now cpu woke (own_slept slept self.old) }
+    {
+        if slept.is_some() {
+            self.current = None;
+        }
+        let Some(t) = woke else { return };
+        if is_home(homes, cpu, t) {
+            self.ready.push(t);
+        } else {
+            self.hand = Some(t);
+        }
+    }
+
+    /// Does a call that touches nothing shared: a switch, or the end of the thread that runs. Any
+    /// other call changes nothing.
+    pub fn local<E>(&mut self, call: &SchedCall<E>)
+        requires { MayFinish self.old }
+        ensures { self.new ≡ local_after call.now self.old }
+    {
+        match call {
+            SchedCall::Pass(Pass::Switch) => self.switch(),
+            SchedCall::Pass(Pass::End) => self.finish(),
+            _ => {}
+        }
+    }
+
+    /// Takes up the answer of the shared queues, and gives the scheduler's.
+    pub fn answered<E: Moves>(
+        &mut self,
+        homes: &[CpuId],
+        cpu: CpuId,
+        answer: QueueAnswer<E::Out>,
+    ) -> SchedAnswer<E::Out>
+        requires { MayTake E.moves answer self.old }
+        ensures own { self.new ≡ own_by E.moves homes.now cpu answer self.old }
+        ensures answer { result ≡ answer_by answer }
+    {
+        match answer {
+            QueueAnswer::Done => {
+                self.pass_on();
+                SchedAnswer::Done
+            }
+            QueueAnswer::Taken(queue) => {
+                self.take(queue);
+                SchedAnswer::Done
+            }
+            QueueAnswer::Answer(out) => {
+                self.settle(homes, cpu, E::slept(&out), E::woke(&out));
+                SchedAnswer::Answer(out)
+            }
+        }
+    }
+}
+
+/// Whether `cpu` is the home of `t`.
+fn is_home(homes: &[CpuId], cpu: CpuId, t: Tid) -> bool
+    ensures { result ≡ is_cpu cpu (home_of homes.now t) }
+{
+    match homes.get(usize::from(t.0)) {
+        None => false,
+        Some(home) => cpu.0 == home.0,
+    }
+}
