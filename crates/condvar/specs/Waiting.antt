@@ -1,0 +1,38 @@
+-- Which call waits, on which side, and which answer says that its caller waits now.
+use Rattle.std.specs.Prelude.{Bool, true, false, Option, Some, None}
+use Rattle.layer_traits.specs.declared.conditions.CvLeave.TheVariants.{Leave, Wait}
+use Rattle.layer_traits.specs.declared.conditions.CvOut.{CvOut}
+use Rattle.layer_traits.specs.declared.conditions.CvOut.TheVariants as answer
+use Rattle.layer_traits.specs.declared.locked.QEdit.TheVariants.{Acquire, Inside, Release}
+use Rattle.layer_traits.specs.declared.locked.QOut.{QOut}
+use Rattle.layer_traits.specs.declared.locked.QOut.TheVariants.{Acquired, Queued, Did, Released}
+use Rattle.layer_traits.specs.declared.locked.Side.{Side}
+use Rattle.layer_traits.specs.declared.locked.Side.TheVariants.{Receivers}
+use Rattle.layer_traits.specs.declared.sleeps.Outcome.{Outcome}
+use Rattle.layer_traits.specs.Conditions.{CvCall}
+
+-- the side of a wait; Receivers of a call that is no wait
+abbrev pub side_in : {G : Type 0} → CvCall G → Side
+side_in (Acquire t) = Receivers
+side_in (Inside e) = Receivers
+side_in (Release (Leave t)) = Receivers
+side_in (Release (Wait t side)) = side
+
+-- whether an inner answer is that of a wait
+abbrev pub is_waited : {O : Type 0} → CvOut O → Bool
+is_waited (answer.Did out) = false
+is_waited (answer.Signalled side front) = false
+is_waited answer.Left = false
+is_waited (answer.Waited side) = true
+
+-- whether a lock's answer is that of a release by which its caller waits
+abbrev pub is_waiting : {O : Type 0} → QOut (CvOut O) → Bool
+is_waiting Acquired = false
+is_waiting Queued = false
+is_waiting (Did out) = false
+is_waiting (Released out) = is_waited out
+
+-- whether a lock's poll answered so
+abbrev pub is_wait : {O : Type 0} → Option (Outcome (QOut (CvOut O))) → Bool
+is_wait None = false
+is_wait (Some outcome) = is_waiting outcome.out

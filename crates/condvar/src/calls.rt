@@ -1,0 +1,32 @@
+//! What a call on a lock with conditions says of itself.
+
+ghost use Rattle.std.specs.Prelude.{◌≡◌};
+ghost use Rattle.layer_traits.specs.Conditions.{cv_rules};
+ghost use Rattle.layer_traits.specs.Locking.{lock_caller};
+ghost use Rattle.condvar.specs.Waiting.{side_in};
+
+use event_log::Tid;
+use layer_traits::{CvEdit, CvLeave, Guarded, QEdit, Side};
+
+/// The thread that calls.
+pub fn caller_of<G: Guarded>(call: &QEdit<CvEdit<G>, CvLeave>) -> Tid
+    ensures { result ≡ lock_caller (cv_rules G.deeds) call.now }
+{
+    match *call {
+        QEdit::Acquire(t) => t,
+        QEdit::Inside(CvEdit::Edit(edit)) => edit.caller(),
+        QEdit::Inside(CvEdit::SignalFront(t, _)) => t,
+        QEdit::Release(CvLeave::Leave(t)) => t,
+        QEdit::Release(CvLeave::Wait(t, _)) => t,
+    }
+}
+
+/// The side on which a wait is; `Receivers` of a call that is no wait.
+pub fn side_of<G: Guarded>(call: &QEdit<CvEdit<G>, CvLeave>) -> Side
+    ensures { result ≡ side_in call.now }
+{
+    match *call {
+        QEdit::Release(CvLeave::Wait(_, side)) => side,
+        QEdit::Release(CvLeave::Leave(_)) | QEdit::Acquire(_) | QEdit::Inside(_) => Side::Receivers,
+    }
+}

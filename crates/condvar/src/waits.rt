@@ -1,0 +1,71 @@
+//! Who waits at which buffer.
+
+ghost use Rattle.std.specs.Prelude.{◌≡◌, ◌<◌, Some, None, is_some, replicate, slice_set, if◌then◌else◌};
+ghost use Rattle.event_log.specs.declared.ids.TheConstants.{THREADS};
+ghost use Rattle.layer_traits.specs.LockLaw.{slept_for};
+ghost use Rattle.condvar.specs.Waiting.{is_wait};
+
+use event_log::{BufId, THREADS, Tid};
+use layer_traits::{CvOut, Outcome, QOut};
+
+/// Of each thread the buffer at which it waits, from the poll in which it began to wait until its
+/// wait answers.
+#[derive(Drop)]
+pub struct Waits {
+    /// By thread.
+    pub buffers: [Option<BufId>; THREADS],
+}
+
+impl Waits {
+    /// Nobody waits.
+    pub fn new() -> Waits
+        ensures { result.buffers ≡ replicate THREADS None }
+    {
+        Waits {
+            buffers: [None; THREADS],
+        }
+    }
+
+    /// Ends the wait of `t`, and tells whether there was one.
+    pub fn wake(&mut self, t: Tid) -> bool
+        requires { t.0 < THREADS }
+        ensures was { result ≡ is_some (slept_for self.old.buffers t) }
+        ensures now { self.new.buffers ≡ (if result then slice_set self.old.buffers t.0 None else self.old.buffers) }
+    {
+        let at = usize::from(t.0);
+        if self.buffers[at].is_none() {
+            return false;
+        }
+        self.buffers[at] = None;
+        true
+    }
+
+    /// Takes what the lock of `buffer` told `t`: the answer of a wait is held back, and the thread
+    /// waits there; each other answer is handed on.
+    pub fn told<O: Drop>(
+        &mut self,
+        t: Tid,
+        buffer: BufId,
+        answer: Option<Outcome<QOut<CvOut<O>>>>,
+    ) -> Option<Outcome<QOut<CvOut<O>>>>
+        requires { t.0 < THREADS }
+        ensures waits { self.new.buffers ≡ (if is_wait answer then slice_set self.old.buffers t.0 (Some buffer) else self.old.buffers) }
+        ensures told { result ≡ (if is_wait answer then None else answer) }
+    {
+        if has_waited(&answer) {
+            self.buffers[usize::from(t.0)] = Some(buffer);
+            return None;
+        }
+        answer
+    }
+}
+
+/// Whether the lock answered that the caller waits now.
+fn has_waited<O>(answer: &Option<Outcome<QOut<CvOut<O>>>>) -> bool
+    ensures { result ≡ is_wait answer.now }
+{
+    match answer {
+        Some(outcome) => matches!(outcome.out, QOut::Released(CvOut::Waited(_))),
+        None => false,
+    }
+}
