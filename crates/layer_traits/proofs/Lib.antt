@@ -11,3 +11,4 @@ pub mod ListsLemmas
 pub mod KernelRenaming
 pub mod SleepLemmas
 pub mod SleepRenaming
+pub mod CallLemmas

@@ -1,0 +1,182 @@
+-- Calls at shared queues: their steps are lawful moves, calls of others are moves of others, and what a poll of a pass means in moves.
+use Rattle.std.proofs.Common.{◌≡◌, Bool, true, false, List, [], ◌∷◌, ◌++◌, Option, Some, None, MatchOption, is_some, if◌then◌else◌, refl, ap, sym, ◌∙◌, subst}
+use Rattle.event_log.specs.declared.ids.BufId.{BufId}
+use Rattle.event_log.specs.declared.ids.CpuId.{CpuId}
+use Rattle.event_log.specs.declared.ids.LockId.{LockId}
+use Rattle.event_log.specs.declared.ids.LockId.TheVariants.{Buffer}
+use Rattle.event_log.specs.declared.ids.Tid.{Tid}
+use Rattle.event_log.specs.History.{AreOthers, IsLawful, same_cpu}
+use Rattle.event_log.specs.Actions.{Action}
+use Rattle.thread_blocks.specs.Queues.{same_tid}
+use Rattle.thread_blocks.proofs.Members.{same_tid_true}
+use Rattle.layer_traits.specs.declared.moves.Line.{Line}
+use Rattle.layer_traits.specs.declared.passes.Pass.{Pass}
+use Rattle.layer_traits.specs.declared.passes.Pass.TheVariants.{Switch, YieldNow, Drain, MakeReady, End}
+use Rattle.layer_traits.specs.declared.queues.QueueCall.{QueueCall}
+use Rattle.layer_traits.specs.declared.queues.QueueCall.TheVariants.{Push, TakeAll, OnBuffer}
+use Rattle.layer_traits.specs.declared.queues.QueueEvent.{QueueEvent}
+use Rattle.layer_traits.specs.declared.scheds.SchedAnswer.{SchedAnswer}
+use Rattle.layer_traits.specs.declared.scheds.SchedCall.TheVariants as call
+use Rattle.layer_traits.specs.MoveRules.{WakesSleepers, edit_move, section_moves, slept_at, asleep_after, asleep_by}
+use Rattle.layer_traits.specs.Passes.{PassPolled, pass_after, pass_steps}
+use Rattle.layer_traits.specs.Places.{AreMoves, Asleep, Hand, Home, MayMove, Move, Moved, Pend, Place, Pushed, Step, Still, Threads, Took, Where, home_of, is_asleep, is_cpu, is_place, is_thread, pending_by, place_of, step, stepper, where_after, where_is, where_slept, where_taken, where_woken}
+use Rattle.layer_traits.specs.Plans.{Act, Follows, Left, Now, Plan, Table, raised}
+use Rattle.layer_traits.specs.Queues.{CallAllowed, Kernel, QueueAllowed, buffer_sections, call_move, event, event_actor, moves_in, out_at}
+use Rattle.layer_traits.specs.Scheds.{SchedPolled, events_of, pass_call}
+
+-- Where a thread sleeps needs no home.
+
+taken_place : (d : CpuId) (w : Where) → place_of (where_taken d w) ≡ place_of w
+taken_place d Home = refl
+taken_place d (Hand c) = refl
+taken_place d (Pend c) = go (same_cpu d c)
+  where
+    go : (b : Bool) → place_of (if b then Home else Pend c) ≡ None
+    go true = refl
+    go false = refl
+taken_place d (Asleep p) = refl
+
+woken_place : (c : CpuId) (home : Option CpuId) → place_of (where_woken c home) ≡ None
+woken_place c home = go (is_cpu c home)
+  where
+    go : (b : Bool) → place_of (if b then Home else Hand c) ≡ None
+    go true = refl
+    go false = refl
+
+slept_place : (lock : LockId) (slept : Option Line) (w : Where) (p : Option Place) → place_of w ≡ p → place_of (where_slept lock slept w) ≡ slept_at lock slept p
+slept_place lock None w p is = is
+slept_place lock (Some line) w p is = refl
+
+module _ (homes : List CpuId) where
+  place_after : (past : List Step) (c : CpuId) (move : Move) (t : Tid) → MayMove homes past c move → place_of (where_is homes past t) ≡ asleep_by past t
+      → place_of (where_after homes c move t (where_is homes past t)) ≡ asleep_after move t (asleep_by past t)
+  place_after past c (Pushed d u) t may is = go (same_tid u t) refl
+    where
+      go : (b : Bool) → same_tid u t ≡ b → place_of (if b then Pend d else where_is homes past t) ≡ asleep_by past t
+      go false other = is
+      go true same = sym (ap place_of (subst (λ v. where_is homes past v ≡ Hand c) (same_tid_true u t same) may.held)) ∙ is
+  place_after past c (Took d) t may is = taken_place d (where_is homes past t) ∙ is
+  place_after past c (Moved lock caller slept woke) t may is = by_woke (is_thread t woke)
+    where
+      by_caller : (b : Bool) → place_of (if b then where_slept lock slept (where_is homes past t) else where_is homes past t)
+          ≡ (if b then slept_at lock slept (asleep_by past t) else asleep_by past t)
+      by_caller true = slept_place lock slept (where_is homes past t) (asleep_by past t) is
+      by_caller false = is
+
+      by_woke : (b : Bool)
+          → place_of (if b then where_woken c (home_of homes t) else (if same_tid caller t then where_slept lock slept (where_is homes past t) else where_is homes past t))
+          ≡ (if b then None else (if same_tid caller t then slept_at lock slept (asleep_by past t) else asleep_by past t))
+      by_woke true = woken_place c (home_of homes t)
+      by_woke false = by_caller (same_tid caller t)
+  place_after past c Still t may is = is
+
+  -- where a thread sleeps by its place is where it sleeps by the moves alone
+  pub asleep_place : (moves : List Step) (t : Tid) → AreMoves homes moves → place_of (where_is homes moves t) ≡ asleep_by moves t
+  asleep_place [] t legal = refl
+  asleep_place (s ∷ past) t legal = place_after past s.cpu s.move t legal.0 (asleep_place past t legal.1)
+
+module _ {E B O : Type 0} (k : Kernel E B O) where
+  -- The steps of calls.
+
+  -- the steps of newer calls, after these older ones
+  abbrev pub moves_over : List (QueueEvent E) → List (QueueEvent E) → List Step
+  moves_over [] past = []
+  moves_over (e ∷ more) past = step e.cpu (call_move k (more ++ past) e.call) ∷ moves_over more past
+
+  pub moves_append : (more past : List (QueueEvent E)) → moves_in k (more ++ past) ≡ moves_over more past ++ moves_in k past
+  moves_append [] past = refl
+  moves_append (e ∷ more) past = ap (λ l. step e.cpu (call_move k (more ++ past) e.call) ∷ l) (moves_append more past)
+
+  -- calls of others are moves of others
+  pub moves_others : (c : CpuId) (more past : List (QueueEvent E)) → AreOthers event_actor c more → AreOthers stepper c (moves_over more past)
+  moves_others c [] past others = tt
+  moves_others c (e ∷ more) past others = (others.0, moves_others c more past others.1)
+
+  -- the sections of the layer above are allowed where the calls are
+  pub upper_lawful : (log : List (QueueEvent E)) → IsLawful (QueueAllowed k) log → IsLawful (k.rules.allowed k.opening) (buffer_sections log)
+  upper_lawful [] lawful = tt
+  upper_lawful (e ∷ past) lawful = by_call e.cpu e.call past lawful.0 (upper_lawful past lawful.1)
+    where
+      by_call : (c : CpuId) (q : QueueCall E) (past : List (QueueEvent E)) → CallAllowed k past c q → IsLawful (k.rules.allowed k.opening) (buffer_sections past)
+          → IsLawful (k.rules.allowed k.opening) (buffer_sections (event c q ∷ past))
+      by_call c (Push d t) past allowed before = before
+      by_call c (TakeAll d) past allowed before = before
+      by_call c (OnBuffer b e) past allowed before = (allowed.upper, before)
+
+  -- pushes and takings put nobody to sleep and wake nobody
+  sections_asleep : (past : List (QueueEvent E)) (u : Tid) → asleep_by (section_moves k.rules k.moves k.opening (buffer_sections past)) u ≡ asleep_by (moves_in k past) u
+  sections_asleep [] u = refl
+  sections_asleep (e ∷ past) u = by_call e.cpu e.call past (sections_asleep past u)
+    where
+      by_call : (c : CpuId) (q : QueueCall E) (past : List (QueueEvent E))
+          → asleep_by (section_moves k.rules k.moves k.opening (buffer_sections past)) u ≡ asleep_by (moves_in k past) u
+          → asleep_by (section_moves k.rules k.moves k.opening (buffer_sections (event c q ∷ past))) u ≡ asleep_by (moves_in k (event c q ∷ past)) u
+      by_call c (Push d t) past before = before
+      by_call c (TakeAll d) past before = before
+      by_call c (OnBuffer b e) past before = ap (asleep_after (edit_move k.moves (Buffer b) e (out_at k past b e)) u) before
+
+  module _ (wakes : WakesSleepers k.rules k.moves) where
+    sleeps : (past : List (QueueEvent E)) → IsLawful (QueueAllowed k) past → AreMoves k.homes (moves_in k past) → (c : CpuId) (b : BufId) (e : E)
+        → CallAllowed k past c (OnBuffer b e) → (o : O) → out_at k past b e ≡ Some o → (u : Tid) → k.moves.woke o ≡ Some u
+        → is_asleep (where_is k.homes (moves_in k past) u) ≡ true
+    sleeps past lawful moves c b e allowed o answers u woke =
+        ap is_place (asleep_place k.homes (moves_in k past) u moves ∙ sym (sections_asleep past u))
+        ∙ wakes k.opening (buffer_sections past) (record { cpu = c; lock = Buffer b; edit = e }) o u (upper_lawful past lawful) allowed.upper answers woke
+
+    -- the steps of allowed calls are moves that may be made
+    pub moves_lawful : (log : List (QueueEvent E)) → IsLawful (QueueAllowed k) log → AreMoves k.homes (moves_in k log)
+    moves_lawful [] lawful = tt
+    moves_lawful (e ∷ past) lawful = (by_call e.cpu e.call past lawful.0 lawful.1 (moves_lawful past lawful.1), moves_lawful past lawful.1)
+      where
+        by_call : (c : CpuId) (q : QueueCall E) (past : List (QueueEvent E)) → CallAllowed k past c q → IsLawful (QueueAllowed k) past → AreMoves k.homes (moves_in k past)
+            → MayMove k.homes (moves_in k past) c (call_move k past q)
+        by_call c (Push d t) past allowed lawful moves = allowed
+        by_call c (TakeAll d) past allowed lawful moves = allowed
+        by_call c (OnBuffer b e) past allowed lawful moves = by_out (out_at k past b e) refl
+          where
+            by_woke : (o : O) → out_at k past b e ≡ Some o → (w : Option Tid) → k.moves.woke o ≡ w
+                → MatchOption w (Unit {0}) (λ u. is_asleep (where_is k.homes (moves_in k past) u) ≡ true)
+            by_woke o answers None woke = tt
+            by_woke o answers (Some u) woke = sleeps past lawful moves c b e allowed o answers u woke
+
+            by_out : (out : Option O) → out_at k past b e ≡ out → MayMove k.homes (moves_in k past) c (edit_move k.moves (Buffer b) e out)
+            by_out None answers = tt
+            by_out (Some o) answers = (allowed.caller, by_woke o answers (k.moves.woke o) refl)
+
+    -- whom an allowed edit wakes sleeps
+    pub woken_sleeps : (past : List (QueueEvent E)) → IsLawful (QueueAllowed k) past → (c : CpuId) (b : BufId) (e : E)
+        → CallAllowed k past c (OnBuffer b e) → (o : O) → out_at k past b e ≡ Some o → (u : Tid) → k.moves.woke o ≡ Some u
+        → is_asleep (where_is k.homes (moves_in k past) u) ≡ true
+    woken_sleeps past lawful = sleeps past lawful (moves_lawful past lawful)
+
+  -- A pass in moves.
+
+  pass_moves : (c : CpuId) (p : Pass) (past : List (QueueEvent E)) → moves_in k (events_of c (pass_call k.homes c p) ++ past) ≡ pass_steps k.homes c p ++ moves_in k past
+  pass_moves c Switch past = refl
+  pass_moves c YieldNow past = refl
+  pass_moves c Drain past = refl
+  pass_moves c (MakeReady t) past = refl
+  pass_moves c End past = refl
+
+  -- a poll of a pass, in moves alone
+  pub pass_polled : (ActsFor : CpuId → Type 0) (c : CpuId) (p : Pass) (result : Option (SchedAnswer O)) (old new : List (QueueEvent E)) (own own' : Threads)
+      → SchedPolled k ActsFor c (call.Pass p) result old new own own' → PassPolled k.homes ActsFor c p result (moves_in k old) (moves_in k new) own own'
+  pass_polled ActsFor c p result old new own own' polled = record {
+    others = moves_over polled.others old;
+    foreign = λ d acts. moves_others d polled.others old (polled.foreign d acts);
+    is = ap (moves_in k) polled.is ∙ by_answer (is_some result);
+    after = polled.after ∙ ap (λ moves. if is_some result then pass_after p (pending_by moves c) own else own) (moves_append polled.others old);
+    at_once = polled.at_once;
+  }
+    where
+      by_answer : (b : Bool) → moves_in k (if b then events_of c (pass_call k.homes c p) ++ (polled.others ++ old) else polled.others ++ old)
+          ≡ (if b then pass_steps k.homes c p ++ (moves_over polled.others old ++ moves_in k old) else moves_over polled.others old ++ moves_in k old)
+      by_answer true = pass_moves c p (polled.others ++ old) ∙ ap (λ l. pass_steps k.homes c p ++ l) (moves_append polled.others old)
+      by_answer false = moves_append polled.others old
+
+-- a poll that followed a plan followed the plan raised, with what is made of what it left
+pub follows_raised : {N B R S T A Q : Type 0} (ActsFor : CpuId → Type 0) (table : Table N B R) (opening : LockId → Option B) (cpu : CpuId) (f : Left S A → Left T Q)
+    (plan : Plan N R S A) (old new : List (Action N)) (got : Left S A) → Follows ActsFor table opening cpu plan old new got
+    → Follows ActsFor table opening cpu (raised f plan) old new (f got)
+follows_raised ActsFor table opening cpu f (Now left) old new got follows = (follows.0, ap f follows.1)
+follows_raised ActsFor table opening cpu f (Act lock name react) old new got follows = record { past = follows.past; acted = follows.acted; moves = ap f follows.moves }
