@@ -12,3 +12,4 @@ pub mod KernelRenaming
 pub mod SleepLemmas
 pub mod SleepRenaming
 pub mod CallLemmas
+pub mod NestedLemmas

@@ -1,5 +1,5 @@
 -- What the edits of shared queues mean as edits of locks' blocks, and which sections of them are allowed.
-use Rattle.std.specs.Prelude.{◌≡◌, ◌&&◌, not, nat_lt, List, [], ◌∷◌, ◌++◌, Option, map, if◌then◌else◌}
+use Rattle.std.specs.Prelude.{◌≡◌, ◌&&◌, not, nat_lt, List, [], ◌∷◌, ◌++◌, Option, Some, None, map, if◌then◌else◌}
 use Rattle.event_log.specs.declared.ids.LockId.{LockId}
 use Rattle.event_log.specs.declared.ids.Tid.{Tid}
 use Rattle.event_log.specs.declared.ids.TheConstants.{THREADS}
@@ -39,6 +39,11 @@ queue_answer answer (Above e) (block.Above b) = Answer (answer e b)
 -- the edit is of the kind of the lock's block
 abbrev pub IsProper : {E : Type 0} → LockId → QueueEdit E → Type 0
 IsProper lock edit = lock_of (call_at lock edit) ≡ lock
+
+-- a section under way, if there is one, edits a block of its kind
+abbrev pub IsProperCall : {E : Type 0} → Option (Section (QueueEdit E)) → Type 0
+IsProperCall None = Unit {0}
+IsProperCall (Some s) = IsProper s.lock s.edit
 
 -- a section may come after these: it edits a block of its kind, and its call is allowed
 pub record SectionAllowed {E B O : Type 0} (rules : Rules E B O) (mv : MoveRules E O) (opening : LockId → Option (QueueBlock B)) (past : List (Section (QueueEdit E))) (s : Section (QueueEdit E)) : Type 0 where

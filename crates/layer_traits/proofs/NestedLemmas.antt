@@ -1,0 +1,278 @@
+-- Sections of the edits of shared queues as calls: a section is its call, what the blocks of the locks hold after calls, and what one
+-- poll of a section means as a poll of its call.
+use Rattle.std.proofs.Common.{◌≡◌, ◌<◌, Bool, true, false, ◌&&◌, not, List, [], ◌∷◌, ◌++◌, Option, Some, None, MatchOption, is_some, option_map, if◌then◌else◌, map, refl, ap, sym, ◌∙◌, subst, arith}
+use Rattle.std.proofs.lemmas.Bool.{lt-ltb}
+use Rattle.std.proofs.lemmas.Option.{slice_get_within}
+use Rattle.event_log.specs.declared.ids.BufId.{BufId}
+use Rattle.event_log.specs.declared.ids.CpuId.{CpuId}
+use Rattle.event_log.specs.declared.ids.LockId.{LockId}
+use Rattle.event_log.specs.declared.ids.LockId.TheVariants.{Pending, Buffer}
+use Rattle.event_log.specs.declared.ids.Tid.{Tid}
+use Rattle.event_log.specs.declared.ids.TheConstants.{THREADS}
+use Rattle.event_log.specs.History.{AreForeign, AreOthers, Grows, IsLawful, same_cpu, same_lock}
+use Rattle.event_log.specs.Sections.{Section, block_after, section_actor}
+use Rattle.thread_blocks.specs.Queues.{is_in}
+use Rattle.layer_traits.specs.declared.queue_edits.QueueBlock.{QueueBlock}
+use Rattle.layer_traits.specs.declared.queue_edits.QueueBlock.TheVariants as block
+use Rattle.layer_traits.specs.declared.queue_edits.QueueEdit.{QueueEdit}
+use Rattle.layer_traits.specs.declared.queue_edits.QueueEdit.TheVariants as edit
+use Rattle.layer_traits.specs.declared.queues.QueueAnswer.{QueueAnswer}
+use Rattle.layer_traits.specs.declared.queues.QueueAnswer.TheVariants.{Done, Taken, Answer}
+use Rattle.layer_traits.specs.declared.queues.QueueCall.{QueueCall}
+use Rattle.layer_traits.specs.declared.queues.QueueCall.TheVariants.{Push, TakeAll, OnBuffer}
+use Rattle.layer_traits.specs.declared.queues.QueueEvent.{QueueEvent}
+use Rattle.layer_traits.specs.MoveRules.{MoveRules, WakesSleepers, edit_move}
+use Rattle.layer_traits.specs.Places.{MayPush, pending_after, pending_by}
+use Rattle.layer_traits.specs.Protocol.{IsKnown, Rules, StaysAllowed, section}
+use Rattle.layer_traits.specs.QueueBlocks.{StartsAs, StartsWell, above_of, homes_in, inner}
+use Rattle.layer_traits.specs.QueueRules.{IsProper, IsProperCall, SectionAllowed, pushed, queue_answer, queue_edited, queue_rules}
+use Rattle.layer_traits.specs.Queues.{CallAllowed, IsKnownEvent, Kernel, MayQueue, QueueAllowed, QueuePolled, StaysCallable, answer_of, buffer_sections, call_at, edit_of, event, event_actor, event_of, kernel, lock_of, moves_in, out_at}
+use Rattle.layer_traits.specs.Turns.{MayPoll, Polled}
+use Rattle.layer_traits.proofs.CallLemmas.{moves_lawful}
+use Rattle.layer_traits.proofs.CountLemmas.{same_cpu_sym}
+use Rattle.layer_traits.proofs.PlaceLemmas.{pend_where}
+use Rattle.layer_traits.proofs.PlanRenaming.{map-append}
+
+-- A section is its call.
+
+pub call_at_of : {E : Type 0} (call : QueueCall E) → call_at (lock_of call) (edit_of call) ≡ call
+call_at_of (Push d t) = refl
+call_at_of (TakeAll d) = refl
+call_at_of (OnBuffer b e) = refl
+
+edit_of_at : {E : Type 0} (lock : LockId) (x : QueueEdit E) → edit_of (call_at lock x) ≡ x
+edit_of_at lock (edit.Push t) = refl
+edit_of_at lock edit.TakeAll = refl
+edit_of_at lock (edit.Above e) = refl
+
+-- a call edits a block of its kind
+pub proper_of : {E : Type 0} (call : QueueCall E) → IsProper (lock_of call) (edit_of call)
+proper_of call = ap lock_of (call_at_of call)
+
+-- the event of a call's section is the call's
+pub event_is : {E : Type 0} (c : CpuId) (call : QueueCall E) → event_of (section c (lock_of call) (edit_of call)) ≡ event c call
+event_is c call = ap (event c) (call_at_of call)
+
+-- a section of a block of its kind is that of its call
+pub section_is : {E : Type 0} (s : Section (QueueEdit E)) (c : CpuId) (call : QueueCall E) → IsProper s.lock s.edit → event_of s ≡ event c call
+    → s ≡ section c (lock_of call) (edit_of call)
+section_is s c call proper is =
+    let at : s.lock ≡ lock_of call = sym proper ∙ ap (λ e. lock_of e.call) is in
+    let edits : s.edit ≡ edit_of call = sym (edit_of_at s.lock s.edit) ∙ ap (λ e. edit_of e.call) is in
+    λ i. section (is i).cpu (at i) (edits i)
+
+pub others_events : {E : Type 0} (c : CpuId) (more : List (Section (QueueEdit E))) → AreOthers section_actor c more → AreOthers event_actor c (map event_of more)
+others_events c [] others = tt
+others_events c (s ∷ more) others = (others.0, others_events c more others.1)
+
+pub foreign_events : {E : Type 0} (ActsFor Acts : CpuId → Type 0) → ((d : CpuId) → Acts d → ActsFor d) → (more : List (Section (QueueEdit E)))
+    → AreForeign ActsFor section_actor more → AreForeign Acts event_actor (map event_of more)
+foreign_events ActsFor Acts weakens more foreign = λ d acts. others_events d more (foreign d (weakens d acts))
+
+pub known_events : {E : Type 0} (log : List (Section (QueueEdit E))) → IsLawful IsKnown log → IsLawful IsKnownEvent (map event_of log)
+known_events [] known = tt
+known_events (s ∷ past) known = (known.0, known_events past known.1)
+
+-- a history of sections that grew by foreign ones is a history of calls that did
+pub event_grows : {E : Type 0} (ActsFor Acts : CpuId → Type 0) → ((d : CpuId) → Acts d → ActsFor d) → (old new : List (Section (QueueEdit E)))
+    → Grows ActsFor section_actor old new → Grows Acts event_actor (map event_of old) (map event_of new)
+event_grows ActsFor Acts weakens old new grows = record {
+  others = map event_of grows.others;
+  foreign = foreign_events ActsFor Acts weakens grows.others grows.foreign;
+  is = ap (map event_of) grows.is ∙ map-append event_of grows.others old;
+}
+
+-- The block with this queue in it, where it is a queue's.
+abbrev pub with_queue : {B : Type 0} → List Tid → Option (QueueBlock B) → Option (QueueBlock B)
+with_queue queue None = None
+with_queue queue (Some (block.Queue old homes)) = Some (block.Queue queue homes)
+with_queue queue (Some (block.Above b)) = Some (block.Above b)
+
+module _ {E B O : Type 0} (rules : Rules E B O) (mv : MoveRules E O) (opening : LockId → Option (QueueBlock B)) where
+  abbrev beneath : Kernel E B O
+  beneath = kernel rules mv opening
+
+  abbrev Lawful : List (Section (QueueEdit E)) → Type 0
+  Lawful log = IsLawful (SectionAllowed rules mv opening) log
+
+  -- allowed sections are allowed calls
+  pub lawful_events : (log : List (Section (QueueEdit E))) → Lawful log → IsLawful (QueueAllowed beneath) (map event_of log)
+  lawful_events [] lawful = tt
+  lawful_events (s ∷ past) lawful = (lawful.0.call, lawful_events past lawful.1)
+
+  -- a call that stays allowed is a section that does
+  pub stays_section : (old : List (Section (QueueEdit E))) (c : CpuId) (call : QueueCall E) → StaysCallable (QueueAllowed beneath) (map event_of old) (event c call)
+      → StaysAllowed (SectionAllowed rules mv opening) old (section c (lock_of call) (edit_of call))
+  stays_section old c call stays = λ more others lawful.
+      let joined : map event_of (more ++ old) ≡ map event_of more ++ map event_of old = map-append event_of more old in
+      let allowed : CallAllowed beneath (map event_of more ++ map event_of old) c call
+      = stays (map event_of more) (others_events c more others) (subst (IsLawful (QueueAllowed beneath)) joined (lawful_events (more ++ old) lawful)) in
+      record {
+        proper = proper_of call;
+        call = subst (λ l. CallAllowed beneath l c (call_at (lock_of call) (edit_of call))) (sym joined)
+            (subst (λ q. CallAllowed beneath (map event_of more ++ map event_of old) c q) (sym (call_at_of call)) allowed);
+      }
+
+  -- a call that may be polled is a section that may
+  pub may_section : (old : List (Section (QueueEdit E))) (under : Option (Section (QueueEdit E))) (c : CpuId) (call : QueueCall E) → IsProperCall under
+      → MayQueue (QueueAllowed beneath) (map event_of old) (option_map event_of under) (event c call)
+      → MayPoll (SectionAllowed rules mv opening) old under (section c (lock_of call) (edit_of call))
+  may_section old None c call proper may = stays_section old c call may
+  may_section old (Some s) c call proper may = section_is s c call proper may
+
+  -- What the locks' blocks hold.
+
+  module _ (starts : StartsWell opening) where
+    opens_buffer : (b : BufId) (found : Option (QueueBlock B)) → StartsAs (Buffer b) found → found ≡ option_map block.Above (above_of found)
+    opens_buffer b None kind = refl
+    opens_buffer b (Some (block.Queue queue homes)) kind = absurd kind
+    opens_buffer b (Some (block.Above x)) kind = refl
+
+    edits_above : (e : E) (x : Bool) (found : Option (QueueBlock B)) (above : Option B) → found ≡ option_map block.Above above
+        → (if x then option_map (queue_edited rules.edited (edit.Above e)) found else found) ≡ option_map block.Above (if x then option_map (rules.edited e) above else above)
+    edits_above e false found above is = is
+    edits_above e true found None is = ap (option_map (queue_edited rules.edited (edit.Above e))) is
+    edits_above e true found (Some x) is = ap (option_map (queue_edited rules.edited (edit.Above e))) is
+
+    buffer_step : (b : BufId) (lock : LockId) (x : QueueEdit E) (c : CpuId) (past : List (Section (QueueEdit E))) → IsProper lock x
+        → block_after (queue_edited rules.edited) opening (Buffer b) past ≡ option_map block.Above (block_after rules.edited (inner opening) (Buffer b) (buffer_sections (map event_of past)))
+        → block_after (queue_edited rules.edited) opening (Buffer b) (section c lock x ∷ past)
+        ≡ option_map block.Above (block_after rules.edited (inner opening) (Buffer b) (buffer_sections (map event_of (section c lock x ∷ past))))
+    buffer_step b (Pending d) (edit.Push t) c past proper is = is
+    buffer_step b (Pending d) edit.TakeAll c past proper is = is
+    buffer_step b (Pending d) (edit.Above e) c past proper is = absurd cc
+    buffer_step b (Buffer at) (edit.Push t) c past proper is = absurd cc
+    buffer_step b (Buffer at) edit.TakeAll c past proper is = absurd cc
+    buffer_step b (Buffer at) (edit.Above e) c past proper is = edits_above e (same_lock (Buffer b) (Buffer at)) (block_after (queue_edited rules.edited) opening (Buffer b) past)
+        (block_after rules.edited (inner opening) (Buffer b) (buffer_sections (map event_of past))) is
+
+    -- a buffer's block is that which the sections of the layer above leave
+    pub buffer_block : (b : BufId) (log : List (Section (QueueEdit E))) → Lawful log
+        → block_after (queue_edited rules.edited) opening (Buffer b) log ≡ option_map block.Above (block_after rules.edited (inner opening) (Buffer b) (buffer_sections (map event_of log)))
+    buffer_block b [] lawful = opens_buffer b (opening (Buffer b)) (starts.kinds (Buffer b))
+    buffer_block b (s ∷ past) lawful = buffer_step b s.lock s.edit s.cpu past lawful.0.proper (buffer_block b past lawful.1)
+
+    module _ (wakes : WakesSleepers rules mv) where
+      opens_queue : (d : CpuId) (found : Option (QueueBlock B)) → StartsAs (Pending d) found → found ≡ with_queue [] found
+      opens_queue d None kind = refl
+      opens_queue d (Some (block.Queue queue homes)) kind = ap (λ q. Some (block.Queue q homes)) kind
+      opens_queue d (Some (block.Above x)) kind = absurd kind
+
+      -- who may be pushed is one of the machine's threads, and does not stand in the queue
+      pub push_known : (past : List (QueueEvent E)) (c d : CpuId) (t : Tid) → MayPush (homes_in opening) (moves_in beneath past) c d t → t.0 < THREADS
+      push_known past c d t may =
+          let within = slice_get_within (homes_in opening) t.0 d may.home in
+          let most = starts.room in
+          omega (arith, within, most)
+
+      pub push_new : (past : List (QueueEvent E)) → IsLawful (QueueAllowed beneath) past → (c d e : CpuId) (t : Tid) → MayPush (homes_in opening) (moves_in beneath past) c d t
+          → is_in t (pending_by (moves_in beneath past) e) ≡ false
+      push_new past lawful c d e t may = go (is_in t (pending_by (moves_in beneath past) e)) refl
+        where
+          go : (b : Bool) → is_in t (pending_by (moves_in beneath past) e) ≡ b → b ≡ false
+          go false is = refl
+          go true is =
+              let pends = pend_where (homes_in opening) (moves_in beneath past) (moves_lawful beneath wakes past lawful) e t is in
+              let held = may.held in
+              absurd (cc (pends, held))
+
+      pushed_is : (t : Tid) (queue : List Tid) → t.0 < THREADS → is_in t queue ≡ false → pushed t queue ≡ queue ++ t ∷ []
+      pushed_is t queue known new = λ i. if (lt-ltb t.0 THREADS known i) && not (new i) then queue ++ t ∷ [] else queue
+
+      edits_queue : (x : QueueEdit E) (at : Bool) (found opened : Option (QueueBlock B)) (queue next : List Tid) → found ≡ with_queue queue opened
+          → ((homes : _) → queue_edited rules.edited x (block.Queue queue homes) ≡ block.Queue next homes)
+          → ((b : B) → queue_edited rules.edited x (block.Above b) ≡ block.Above b)
+          → (if at then option_map (queue_edited rules.edited x) found else found) ≡ with_queue (if at then next else queue) opened
+      edits_queue x false found opened queue next is edits leaves = is
+      edits_queue x true found None queue next is edits leaves = ap (option_map (queue_edited rules.edited x)) is
+      edits_queue x true found (Some (block.Queue old homes)) queue next is edits leaves = ap (option_map (queue_edited rules.edited x)) is ∙ ap Some (edits homes)
+      edits_queue x true found (Some (block.Above b)) queue next is edits leaves = ap (option_map (queue_edited rules.edited x)) is ∙ ap Some (leaves b)
+
+      still_pending : (b : BufId) (e : E) (d : CpuId) (queue : List Tid) (out : Option O) → pending_after (edit_move mv (Buffer b) e out) d queue ≡ queue
+      still_pending b e d queue None = refl
+      still_pending b e d queue (Some o) = refl
+
+      queue_step : (d : CpuId) (lock : LockId) (x : QueueEdit E) (c : CpuId) (past : List (Section (QueueEdit E))) → IsProper lock x
+          → CallAllowed beneath (map event_of past) c (call_at lock x) → IsLawful (QueueAllowed beneath) (map event_of past)
+          → block_after (queue_edited rules.edited) opening (Pending d) past ≡ with_queue (pending_by (moves_in beneath (map event_of past)) d) (opening (Pending d))
+          → block_after (queue_edited rules.edited) opening (Pending d) (section c lock x ∷ past)
+          ≡ with_queue (pending_by (moves_in beneath (map event_of (section c lock x ∷ past))) d) (opening (Pending d))
+      queue_step d (Pending at) (edit.Push t) c past proper allowed lawful is =
+          let queue = pending_by (moves_in beneath (map event_of past)) d in
+          edits_queue (edit.Push t) (same_cpu d at) (block_after (queue_edited rules.edited) opening (Pending d) past) (opening (Pending d)) queue (queue ++ t ∷ []) is
+          (λ homes. ap (λ q. block.Queue q homes) (pushed_is t queue (push_known (map event_of past) c at t allowed) (push_new (map event_of past) lawful c at d t allowed)))
+          (λ b. refl)
+          ∙ ap (λ b. with_queue (if b then queue ++ t ∷ [] else queue) (opening (Pending d))) (same_cpu_sym d at)
+      queue_step d (Pending at) edit.TakeAll c past proper allowed lawful is =
+          let queue = pending_by (moves_in beneath (map event_of past)) d in
+          edits_queue edit.TakeAll (same_cpu d at) (block_after (queue_edited rules.edited) opening (Pending d) past) (opening (Pending d)) queue [] is
+          (λ homes. refl) (λ b. refl)
+          ∙ ap (λ b. with_queue (if b then [] else queue) (opening (Pending d))) (same_cpu_sym d at)
+      queue_step d (Pending at) (edit.Above e) c past proper allowed lawful is = absurd cc
+      queue_step d (Buffer at) (edit.Push t) c past proper allowed lawful is = absurd cc
+      queue_step d (Buffer at) edit.TakeAll c past proper allowed lawful is = absurd cc
+      queue_step d (Buffer at) (edit.Above e) c past proper allowed lawful is =
+          is ∙ ap (λ q. with_queue q (opening (Pending d)))
+          (sym (still_pending at e d (pending_by (moves_in beneath (map event_of past)) d) (out_at beneath (map event_of past) at e)))
+
+      -- a queue's block holds who is pending there by the moves
+      pub queue_block : (d : CpuId) (log : List (Section (QueueEdit E))) → Lawful log
+          → block_after (queue_edited rules.edited) opening (Pending d) log ≡ with_queue (pending_by (moves_in beneath (map event_of log)) d) (opening (Pending d))
+      queue_block d [] lawful = opens_queue d (opening (Pending d)) (starts.kinds (Pending d))
+      queue_block d (s ∷ past) lawful = queue_step d s.lock s.edit s.cpu past lawful.0.proper lawful.0.call (lawful_events past lawful.1) (queue_block d past lawful.1)
+
+      -- What a poll of a section means as a poll of its call.
+
+      told_push : (found : Option (QueueBlock B)) (t : Tid) (answer : QueueAnswer O) → option_map (queue_answer rules.answer (edit.Push t)) found ≡ Some answer → Some Done ≡ Some answer
+      told_push None t answer is = absurd cc
+      told_push (Some b) t answer is = is
+
+      told_taken : (d : CpuId) (opened : Option (QueueBlock B)) → StartsAs (Pending d) opened → (queue : List Tid) (answer : QueueAnswer O)
+          → option_map (queue_answer rules.answer edit.TakeAll) (with_queue queue opened) ≡ Some answer → Some (Taken queue) ≡ Some answer
+      told_taken d None kind queue answer is = absurd cc
+      told_taken d (Some (block.Queue old homes)) kind queue answer is = is
+      told_taken d (Some (block.Above b)) kind queue answer is = absurd kind
+
+      told_above : (e : E) (above : Option B) → option_map Answer (option_map (rules.answer e) above) ≡ option_map (queue_answer rules.answer (edit.Above e)) (option_map block.Above above)
+      told_above e None = refl
+      told_above e (Some b) = refl
+
+      -- the answer of a section is that of its call
+      pub answers_call : (log : List (Section (QueueEdit E))) → Lawful log → (call : QueueCall E) (answer : QueueAnswer O)
+          → option_map (queue_answer rules.answer (edit_of call)) (block_after (queue_edited rules.edited) opening (lock_of call) log) ≡ Some answer
+          → answer_of beneath (map event_of log) call ≡ Some answer
+      answers_call log lawful (Push d t) answer is = told_push (block_after (queue_edited rules.edited) opening (Pending d) log) t answer is
+      answers_call log lawful (TakeAll d) answer is = told_taken d (opening (Pending d)) (starts.kinds (Pending d)) (pending_by (moves_in beneath (map event_of log)) d) answer
+          (ap (option_map (queue_answer rules.answer edit.TakeAll)) (sym (queue_block d log lawful)) ∙ is)
+      answers_call log lawful (OnBuffer b e) answer is =
+          told_above e (block_after rules.edited (inner opening) (Buffer b) (buffer_sections (map event_of log)))
+          ∙ (ap (option_map (queue_answer rules.answer (edit.Above e))) (sym (buffer_block b log lawful)) ∙ is)
+
+      -- a poll of a section is a poll of its call
+      pub polled_event : (ActsFor Acts : CpuId → Type 0) → ((d : CpuId) → Acts d → ActsFor d) → (c : CpuId) (call : QueueCall E) (result : Option (QueueAnswer O))
+          (old new : List (Section (QueueEdit E))) → Lawful new → Polled (queue_rules rules mv) opening ActsFor (section c (lock_of call) (edit_of call)) result old new
+          → QueuePolled beneath Acts (event c call) result (map event_of old) (map event_of new)
+      polled_event ActsFor Acts weakens c call result old new lawful polled = record {
+        others = map event_of polled.others;
+        foreign = foreign_events ActsFor Acts weakens polled.others polled.foreign;
+        is = ap (map event_of) polled.is ∙ grown (is_some result);
+        answers = answers result polled.is polled.answers;
+      }
+        where
+          joined : map event_of (polled.others ++ old) ≡ map event_of polled.others ++ map event_of old
+          joined = map-append event_of polled.others old
+
+          grown : (b : Bool) → map event_of (if b then section c (lock_of call) (edit_of call) ∷ (polled.others ++ old) else polled.others ++ old)
+              ≡ (if b then event c call ∷ (map event_of polled.others ++ map event_of old) else map event_of polled.others ++ map event_of old)
+          grown true = λ i. event_is c call i ∷ joined i
+          grown false = joined
+
+          answers : (out : Option (QueueAnswer O))
+              → new ≡ (if is_some out then section c (lock_of call) (edit_of call) ∷ (polled.others ++ old) else polled.others ++ old)
+              → MatchOption out (Unit {0})
+              (λ answer. option_map (queue_answer rules.answer (edit_of call)) (block_after (queue_edited rules.edited) opening (lock_of call) (polled.others ++ old)) ≡ Some answer)
+              → MatchOption out (Unit {0}) (λ answer. answer_of beneath (map event_of polled.others ++ map event_of old) call ≡ Some answer)
+          answers None is told = tt
+          answers (Some answer) is told =
+              let before : Lawful (polled.others ++ old) = (subst (λ l. Lawful l) is lawful).1 in
+              subst (λ l. answer_of beneath l call ≡ Some answer) joined (answers_call (polled.others ++ old) before call answer told)
