@@ -1,2 +1,4 @@
 pub mod Members
-pub mod Arrays
+pub mod Distinct
+pub mod Linking
+pub mod Holding

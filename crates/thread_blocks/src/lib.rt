@@ -1,6 +1,7 @@
-//! Queues of threads.
+//! Queues of threads, over tables of links.
 #![tactic(auto)]
 
+mod links;
 mod queues;
 
 pub use queues::ThreadQueue;

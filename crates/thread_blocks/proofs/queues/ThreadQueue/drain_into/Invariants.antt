@@ -1,9 +1,4 @@
-use Rattle.std.proofs.Common.{◌≡◌, ◌++◌, length}
-use Rattle.thread_blocks.specs.Queues.{AreApart}
 use Rattle.thread_blocks.proofs.queues.ThreadQueue.drain_into.Given as goal
 
-abbrev pub invariant-loop-t : goal.invariant-loop-t
-invariant-loop-t l = (l.to ++ l.self ≡ l.fn.to ++ l.fn.self) × AreApart l.self l.to
-
-abbrev pub decreases-loop-t : goal.decreases-loop-t
-decreases-loop-t l = length l.self
+abbrev pub ghosts-drain_from : goal.ghosts-drain_from
+ghosts-drain_from a = record { name = a.blank.name; parts = a.blank.parts }

@@ -1,0 +1,249 @@
+-- Queues as lists in which no thread stands twice.
+use Rattle.std.proofs.Common.{◌≡◌, ℕ, ◌<◌, ◌≤◌, Bool, true, false, List, [], ◌∷◌, ◌++◌, length, refl, sym, ap, ◌∙◌, arith, subst, eqb, ◌||◌, ◌⊎◌, inl, inr, suc, Some, None, if◌then◌else◌}
+use Rattle.std.specs.Cmp.{IsEquivalence, nat_eq_equiv}
+use Rattle.std.specs.List.{IsDistinct, AllByRecursion, list_any}
+use Rattle.std.proofs.lemmas.Bool.{or_parts, or_cases, true≢false, cond_both}
+use Rattle.std.proofs.lemmas.List.Folds.{list_any-append}
+use Rattle.std.proofs.lemmas.Map.Keys.{IsDistinct-head, IsDistinct-cons, IsDistinct-push}
+use Rattle.std.proofs.lemmas.Map.Steps.{length-le_from_distinct_below}
+use Rattle.event_log.specs.declared.ids.Tid.{Tid}
+use Rattle.event_log.specs.declared.ids.TheConstants.{THREADS}
+use Rattle.thread_blocks.specs.Queues.{same_tid, is_in, first, rest, without, IsQueue}
+use Rattle.thread_blocks.proofs.Linking.{IsOff, AreDistinct, AreBelow}
+use Rattle.thread_blocks.proofs.Members.{tid_numbered, same_tid_self, same_tid_true}
+
+laws : IsEquivalence same_tid
+laws = record {
+  refl = λ x. nat_eq_equiv.refl x.0;
+  symm = λ x y. nat_eq_equiv.symm x.0 y.0;
+  congr = λ x y z. nat_eq_equiv.congr x.0 y.0 z.0;
+}
+
+or_first : (a b : Bool) → a ≡ true → (a || b) ≡ true
+or_first a b is = rw is refl
+
+or_second : (a b : Bool) → b ≡ true → (a || b) ≡ true
+or_second true b is = refl
+or_second false b is = is
+
+-- no thread stands in none
+pub none : IsQueue []
+unfolding IsDistinct
+none = (tt, λ t found. absurd cc)
+
+numbers : List Tid → List ℕ
+numbers [] = []
+numbers (x ∷ queue) = x.0 ∷ numbers queue
+
+length_numbers : (queue : List Tid) → length (numbers queue) ≡ length queue
+unfolding numbers
+length_numbers [] = refl
+length_numbers (x ∷ queue) = ap suc (length_numbers queue)
+
+is_numbered : (n : ℕ) (queue : List Tid) → list_any (eqb n) (numbers queue) ≡ is_in (tid_numbered n) queue
+unfolding numbers
+is_numbered n [] = refl
+is_numbered n (x ∷ queue) = rw (is_numbered n queue) refl
+
+apart_numbers : (t : Tid) (queue : List Tid) → AllByRecursion (λ y. same_tid t y ≡ false) queue → AllByRecursion (λ n. eqb t.0 n ≡ false) (numbers queue)
+unfolding numbers
+apart_numbers t [] apart = tt
+apart_numbers t (x ∷ queue) apart = (apart.0, apart_numbers t queue apart.1)
+
+distinct_numbers : (queue : List Tid) → IsDistinct same_tid queue → IsDistinct eqb (numbers queue)
+unfolding numbers IsDistinct
+distinct_numbers [] distinct = tt
+distinct_numbers (x ∷ queue) distinct = (apart_numbers x queue distinct.0, distinct_numbers queue distinct.1)
+
+-- a queue is no longer than there are threads
+no_more : (queue : List Tid) → IsQueue queue → length queue ≤ THREADS
+no_more queue is = subst (λ n. n ≤ THREADS) (length_numbers queue)
+    (length-le_from_distinct_below (numbers queue) THREADS (distinct_numbers queue is.0)
+    (λ n found. is.1 (tid_numbered n) (sym (is_numbered n queue) ∙ found)))
+
+known_one : (t u : Tid) → t.0 < THREADS → same_tid u t ≡ true → u.0 < THREADS
+known_one t u known same = subst (λ (x : Tid). x.0 < THREADS) (sym (same_tid_true u t same)) known
+
+or_none : (a b : Bool) → a ≡ false → b ≡ false → (a || b) ≡ false
+or_none true b left right = absurd (true≢false left)
+or_none false b left right = right
+
+known_more : (t u : Tid) (queue : List Tid) → ((x : Tid) → is_in x queue ≡ true → x.0 < THREADS) → t.0 < THREADS
+    → (same_tid u t ≡ true) ⊎ (is_in u queue ≡ true) → u.0 < THREADS
+known_more t u queue all known (inl same) = known_one t u known same
+known_more t u queue all known (inr found) = all u found
+
+not_apart : (t : Tid) (queue : List Tid) → is_in t queue ≡ false → AllByRecursion (λ y. same_tid t y ≡ false) queue
+not_apart t [] new = tt
+not_apart t (x ∷ queue) new = let parts = or_parts _ _ new in (parts.0, not_apart t queue parts.1)
+
+one_more : (queue : List Tid) (t : Tid) → IsQueue queue → t.0 < THREADS → is_in t queue ≡ false → IsQueue (t ∷ queue)
+one_more queue t is known new = (
+  IsDistinct-cons same_tid t queue (not_apart t queue new) is.0,
+  λ u found. known_more t u queue is.1 known (or_cases (same_tid u t) (is_in u queue) found),
+)
+
+-- there is room for one more
+pub has_room : (queue : List Tid) (t : Tid) → IsQueue queue → t.0 < THREADS → is_in t queue ≡ false → length queue < THREADS
+has_room queue t is known new = omega (arith, no_more (t ∷ queue) (one_more queue t is known new))
+
+pub apart_is : (t : Tid) (queue : List Tid) → AllByRecursion (λ y. same_tid t y ≡ false) queue → is_in t queue ≡ false
+apart_is t [] apart = refl
+apart_is t (x ∷ queue) apart = or_none _ _ apart.0 (apart_is t queue apart.1)
+
+last_known : (t u : Tid) (queue : List Tid) → ((x : Tid) → is_in x queue ≡ true → x.0 < THREADS) → t.0 < THREADS
+    → (is_in u queue ≡ true) ⊎ (is_in u (t ∷ []) ≡ true) → u.0 < THREADS
+last_known t u queue all known (inl found) = all u found
+last_known t u queue all known (inr last) = known_more t u [] (λ x found. absurd (true≢false (sym found))) known (or_cases (same_tid u t) false last)
+
+-- one more thread behind the others
+pub pushed : (queue : List Tid) (t : Tid) → IsQueue queue → t.0 < THREADS → is_in t queue ≡ false → IsQueue (queue ++ t ∷ [])
+pushed queue t is known new = (
+  IsDistinct-push laws queue t is.0 new,
+  λ u found. last_known t u queue is.1 known (or_cases (is_in u queue) (is_in u (t ∷ [])) (sym (list_any-append (same_tid u) queue (t ∷ [])) ∙ found)),
+)
+
+others_apart : (t x : Tid) (queue : List Tid) → AllByRecursion (λ y. same_tid x y ≡ false) queue
+    → AllByRecursion (λ y. same_tid x y ≡ false) (without t queue)
+others_apart t x [] apart = tt
+others_apart t x (y ∷ queue) apart = cond_both (same_tid t y) (without t queue) (y ∷ without t queue) (λ ys. AllByRecursion (λ z. same_tid x z ≡ false) ys)
+    (λ same. others_apart t x queue apart.1)
+    (λ other. (apart.0, others_apart t x queue apart.1))
+
+distinct_without : (t : Tid) (queue : List Tid) → IsDistinct same_tid queue → IsDistinct same_tid (without t queue)
+unfolding IsDistinct
+distinct_without t [] distinct = tt
+distinct_without t (x ∷ queue) distinct = cond_both (same_tid t x) (without t queue) (x ∷ without t queue) (λ ys. IsDistinct same_tid ys)
+    (λ same. distinct_without t queue distinct.1)
+    (λ other. (others_apart t x queue distinct.0, distinct_without t queue distinct.1))
+
+cases_without : (b : Bool) (u t x : Tid) (queue : List Tid) → (is_in u (without t queue) ≡ true → is_in u queue ≡ true)
+    → is_in u (if b then without t queue else x ∷ without t queue) ≡ true → is_in u (x ∷ queue) ≡ true
+cases_without true u t x queue stays found = or_second _ _ (stays found)
+cases_without false u t x queue stays found = either (or_cases (same_tid u x) (is_in u (without t queue)) found)
+  where
+    either : (same_tid u x ≡ true) ⊎ (is_in u (without t queue) ≡ true) → is_in u (x ∷ queue) ≡ true
+    either (inl same) = or_first _ _ same
+    either (inr found) = or_second _ _ (stays found)
+
+in_without : (u t : Tid) (queue : List Tid) → is_in u (without t queue) ≡ true → is_in u queue ≡ true
+in_without u t [] found = found
+in_without u t (x ∷ queue) found = cases_without (same_tid t x) u t x queue (in_without u t queue) found
+
+-- a thread taken out
+pub taken_out : (t : Tid) (queue : List Tid) → IsQueue queue → IsQueue (without t queue)
+taken_out t queue is = (distinct_without t queue is.0, λ u found. is.1 u (in_without u t queue found))
+
+-- a thread that stands nowhere is taken out of nothing
+pub without_none : (t : Tid) (queue : List Tid) → is_in t queue ≡ false → without t queue ≡ queue
+without_none t [] absent = refl
+without_none t (x ∷ queue) absent =
+    let parts = or_parts (same_tid t x) (is_in t queue) absent in
+    ap (λ b. if b then without t queue else x ∷ without t queue) parts.0 ∙ ap (λ (ys : List Tid). x ∷ ys) (without_none t queue parts.1)
+
+-- a thread that stands once is taken out from between the others
+pub without_parted : (t : Tid) (ys zs : List Tid) → is_in t ys ≡ false → is_in t zs ≡ false → without t (ys ++ t ∷ zs) ≡ ys ++ zs
+without_parted t [] zs before after = ap (λ b. if b then without t zs else t ∷ without t zs) (same_tid_self t) ∙ without_none t zs after
+without_parted t (y ∷ ys) zs before after =
+    let parts = or_parts (same_tid t y) (is_in t ys) before in
+    ap (λ b. if b then without t (ys ++ t ∷ zs) else y ∷ without t (ys ++ t ∷ zs)) parts.0 ∙ ap (λ (xs : List Tid). y ∷ xs) (without_parted t ys zs parts.1 after)
+
+absent_step : (b : Bool) (t x : Tid) (queue : List Tid) → same_tid t x ≡ b → is_in t (without t queue) ≡ false
+    → is_in t (if b then without t queue else x ∷ without t queue) ≡ false
+absent_step true t x queue is absent = absent
+absent_step false t x queue is absent = or_none _ _ is absent
+
+-- a thread that was taken out stands there no more
+pub taken_absent : (t : Tid) (queue : List Tid) → is_in t (without t queue) ≡ false
+taken_absent t [] = refl
+taken_absent t (x ∷ queue) = absent_step (same_tid t x) t x queue refl (taken_absent t queue)
+
+stay_step : (b : Bool) (u t x : Tid) (queue : List Tid) → same_tid t x ≡ b → same_tid u t ≡ false → is_in u (without t queue) ≡ is_in u queue
+    → is_in u (if b then without t queue else x ∷ without t queue) ≡ is_in u (x ∷ queue)
+stay_step true u t x queue is differ stays =
+    stays ∙ sym (ap (λ b. b || is_in u queue) (ap (same_tid u) (sym (same_tid_true t x is)) ∙ differ))
+stay_step false u t x queue is differ stays = ap (λ b. same_tid u x || b) stays
+
+-- the others stand where they stood
+pub others_stay : (u t : Tid) (queue : List Tid) → same_tid u t ≡ false → is_in u (without t queue) ≡ is_in u queue
+others_stay u t [] differ = refl
+others_stay u t (x ∷ queue) differ = stay_step (same_tid t x) u t x queue refl differ (others_stay u t queue differ)
+
+-- who stands in a queue with one more thread behind the others
+pub pushed_in : (u t : Tid) (queue : List Tid) → is_in u (queue ++ t ∷ []) ≡ (is_in u queue || (same_tid u t || false))
+pushed_in u t queue = list_any-append (same_tid u) queue (t ∷ [])
+
+parts_step : (t y : Tid) (ys zs : List Tid) → AllByRecursion (λ z. same_tid y z ≡ false) (ys ++ t ∷ zs) → same_tid t y ≡ false
+parts_step t y [] zs apart = laws.symm t y ∙ apart.0
+parts_step t y (x ∷ ys) zs apart = parts_step t y ys zs apart.1
+
+-- a thread of a queue stands neither before nor behind itself
+pub parts : (t : Tid) (ys zs : List Tid) → IsDistinct same_tid (ys ++ t ∷ zs) → (is_in t ys ≡ false) × (is_in t zs ≡ false)
+unfolding IsDistinct
+parts t [] zs distinct = (refl, apart_is t zs distinct.0)
+parts t (y ∷ ys) zs distinct = let later = parts t ys zs distinct.1 in (or_none _ _ (parts_step t y ys zs distinct.0) later.0, later.1)
+
+some_same : (t x : Tid) → Some t ≡ Some x → t ≡ x
+some_same t x same = cc
+
+-- where a thread stands in a list
+pub record Parted (t : Tid) (queue : List Tid) : Type 0 where
+  pub before : List Tid
+  pub after : List Tid
+  pub is : queue ≡ before ++ t ∷ after
+
+parted_step : (b : Bool) (t x : Tid) (queue : List Tid) → same_tid t x ≡ b → (is_in t queue ≡ true → Parted t queue) → (b || is_in t queue) ≡ true
+    → Parted t (x ∷ queue)
+parted_step true t x queue same later found =
+    record { before = []; after = queue; is = ap (λ (y : Tid). y ∷ queue) (sym (same_tid_true t x same)) }
+parted_step false t x queue same later found =
+    let p = later found in record { before = x ∷ p.before; after = p.after; is = ap (λ (ys : List Tid). x ∷ ys) p.is }
+
+pub parted : (t : Tid) (queue : List Tid) → is_in t queue ≡ true → Parted t queue
+parted t [] found = absurd (true≢false (sym found))
+parted t (x ∷ queue) found = parted_step (same_tid t x) t x queue refl (parted t queue) found
+
+-- a thread of a queue stands between others, which are left where it is taken out
+pub record Split (t : Tid) (queue : List Tid) : Type 0 where
+  pub before : List Tid
+  pub after : List Tid
+  pub is : queue ≡ before ++ t ∷ after
+  pub left : without t queue ≡ before ++ after
+
+pub split : (t : Tid) (queue : List Tid) → IsDistinct same_tid queue → is_in t queue ≡ true → Split t queue
+split t queue distinct found =
+    let p = parted t queue found in
+    let apart = parts t p.before p.after (subst (IsDistinct same_tid) p.is distinct) in
+    record { before = p.before; after = p.after; is = p.is; left = ap (without t) p.is ∙ without_parted t p.before p.after apart.0 apart.1 }
+
+-- the first thread is one of the machine's, and does not stand behind itself
+pub first_known : (t : Tid) (queue : List Tid) → IsQueue (t ∷ queue) → t.0 < THREADS
+first_known t queue is = is.1 t (or_first _ _ (same_tid_self t))
+
+pub first_once : (t : Tid) (queue : List Tid) → IsQueue (t ∷ queue) → is_in t queue ≡ false
+first_once t queue is = apart_is t queue (IsDistinct-head same_tid t queue is.0)
+
+-- a queue with a first thread is that one before the others
+pub front_is : (t : Tid) (queue : List Tid) → first queue ≡ Some t → queue ≡ t ∷ rest queue
+front_is t [] is = absurd cc
+front_is t (x ∷ queue) is = ap (λ (y : Tid). y ∷ queue) (some_same x t is)
+
+-- the same in the words of links
+pub off : (t : Tid) (queue : List Tid) → is_in t queue ≡ false → IsOff (Some t) queue
+off t [] absent = tt
+off t (x ∷ queue) absent =
+    let each = or_parts (same_tid t x) (is_in t queue) absent in
+    (λ same. true≢false (sym (same_tid_self t) ∙ ap (same_tid t) (some_same t x (sym same)) ∙ each.0), off t queue each.1)
+
+pub all_off_end : (queue : List Tid) → IsOff None queue
+all_off_end [] = tt
+all_off_end (x ∷ queue) = (λ same. absurd cc, all_off_end queue)
+
+pub all_distinct : (queue : List Tid) → IsDistinct same_tid queue → AreDistinct queue
+unfolding IsDistinct
+all_distinct [] distinct = tt
+all_distinct (x ∷ queue) distinct = (off x queue (apart_is x queue distinct.0), all_distinct queue distinct.1)
+
+pub all_below : (n : ℕ) (queue : List Tid) → ((t : Tid) → is_in t queue ≡ true → t.0 < n) → AreBelow n queue
+all_below n [] all = tt
+all_below n (x ∷ queue) all = (all x (or_first _ _ (same_tid_self x)), all_below n queue (λ t found. all t (or_second _ _ found)))
