@@ -104,7 +104,7 @@ module _ {E B O : Type 0} (k : Kernel E B O) where
       by_call c (OnBuffer b e) past allowed before = (allowed.upper, before)
 
   -- pushes and takings put nobody to sleep and wake nobody
-  sections_asleep : (past : List (QueueEvent E)) (u : Tid) → asleep_by (section_moves k.rules k.moves k.opening (buffer_sections past)) u ≡ asleep_by (moves_in k past) u
+  pub sections_asleep : (past : List (QueueEvent E)) (u : Tid) → asleep_by (section_moves k.rules k.moves k.opening (buffer_sections past)) u ≡ asleep_by (moves_in k past) u
   sections_asleep [] u = refl
   sections_asleep (e ∷ past) u = by_call e.cpu e.call past (sections_asleep past u)
     where

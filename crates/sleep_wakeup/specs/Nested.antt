@@ -1,0 +1,51 @@
+-- A section's edit with the waiting lists of its lock, as an edit of what the lock guards.
+use Rattle.std.specs.Prelude.{List, Option, map, option_map}
+use Rattle.event_log.specs.declared.ids.LockId.{LockId}
+use Rattle.event_log.specs.Sections.{Section, renamed_section}
+use Rattle.layer_traits.specs.declared.moves.Line.TheVariants.{Sleepers, Receivers, Senders}
+use Rattle.layer_traits.specs.declared.sleeps.Outcome.{Outcome}
+use Rattle.layer_traits.specs.MoveRules.{MoveRules}
+use Rattle.layer_traits.specs.Protocol.{Rules}
+use Rattle.layer_traits.specs.Sleeping.{IsAwake, NobodySleeps, SleepRules, SleepState, line_after, sleep_answer}
+use Rattle.sleep_wakeup.specs.declared.edits.SleepBlock.{SleepBlock}
+use Rattle.sleep_wakeup.specs.declared.edits.SleepEdit.{SleepEdit}
+use Rattle.thread_blocks.specs.Queues.{first}
+
+-- the edit of the layer above
+abbrev pub edit_in : {E : Type 0} → SleepEdit E → E
+edit_in d = d.edit
+
+-- a block with its waiting lists as lists of threads
+abbrev pub state_of : {B : Type 0} → SleepBlock B → SleepState B
+state_of block = record { sleepers = block.sleepers; receivers = block.receivers; senders = block.senders; above = block.above }
+
+-- the opening blocks so
+abbrev pub states : {B : Type 0} → (LockId → Option (SleepBlock B)) → LockId → Option (SleepState B)
+states opening lock = option_map state_of (opening lock)
+
+-- the block that an edit leaves
+abbrev pub nested_edited : {E B O : Type 0} → SleepRules E B O → SleepEdit E → SleepBlock B → SleepBlock B
+nested_edited rules d block = record {
+  sleepers = line_after rules Sleepers d.edit (state_of block) block.sleepers;
+  receivers = line_after rules Receivers d.edit (state_of block) block.receivers;
+  senders = line_after rules Senders d.edit (state_of block) block.senders;
+  above = rules.edited d.edit (first block.sleepers) block.above;
+}
+
+-- what it answers
+abbrev pub nested_answer : {E B O : Type 0} → SleepRules E B O → SleepEdit E → SleepBlock B → Outcome O
+nested_answer rules d block = sleep_answer rules d.edit (state_of block)
+
+-- an edit keeps the protocol: nobody slept at the opening, its caller is awake, and the layer above allows it
+pub record NestedAllowed {E B O : Type 0} (rules : SleepRules E B O) (opening : LockId → Option (SleepBlock B)) (past : List (Section (SleepEdit E))) (s : Section (SleepEdit E)) : Type 0 where
+  pub start : NobodySleeps (states opening)
+  pub awake : IsAwake rules (states opening) (map (renamed_section edit_in) past) (renamed_section edit_in s)
+  pub upper : rules.allowed (states opening) (map (renamed_section edit_in) past) (renamed_section edit_in s)
+
+-- what the edits mean
+abbrev pub nested_rules : {E B O : Type 0} → SleepRules E B O → Rules (SleepEdit E) (SleepBlock B) (Outcome O)
+nested_rules rules = record { edited = nested_edited rules; answer = nested_answer rules; allowed = NestedAllowed rules }
+
+-- how they move threads
+abbrev pub nested_moves : {E B O : Type 0} → SleepRules E B O → MoveRules (SleepEdit E) (Outcome O)
+nested_moves rules = record { caller = λ d. rules.caller d.edit; slept = λ outcome. rules.joins outcome.out; woke = λ outcome. outcome.woke }

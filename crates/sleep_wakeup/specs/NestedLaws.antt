@@ -1,0 +1,190 @@
+-- The laws of the layer, by those of the scheduler beneath.
+use Rattle.std.proofs.Common.{◌≡◌, Bool, true, false, List, [], ◌∷◌, ◌++◌, Option, Some, None, option_map, is_some, map, refl, ap, sym, ◌∙◌, subst, arith}
+use Rattle.std.proofs.Math.Path.{transport}
+use Rattle.std.proofs.lemmas.Option.{slice_get_within}
+use Rattle.event_log.specs.declared.ids.BufId.{BufId}
+use Rattle.event_log.specs.declared.ids.CpuId.{CpuId}
+use Rattle.event_log.specs.declared.ids.LockId.{LockId}
+use Rattle.event_log.specs.declared.ids.LockId.TheVariants.{Buffer}
+use Rattle.event_log.specs.declared.ids.Tid.{Tid}
+use Rattle.event_log.specs.History.{IsLawful}
+use Rattle.event_log.specs.Actions.{Action, phase, renamed}
+use Rattle.event_log.specs.Sections.{Section, block_after, renamed_section}
+use Rattle.event_log.proofs.Renaming.{phase_renamed}
+use Rattle.layer_traits.specs.declared.queue_edits.QueueBlock.{QueueBlock}
+use Rattle.layer_traits.specs.declared.queue_edits.QueueEdit.{QueueEdit}
+use Rattle.layer_traits.specs.declared.queues.QueueEvent.{QueueEvent}
+use Rattle.layer_traits.specs.declared.scheds.SchedCall.{SchedCall}
+use Rattle.layer_traits.specs.declared.scheds.SchedCall.TheVariants as call
+use Rattle.layer_traits.specs.declared.sleeps.Outcome.{Outcome}
+use Rattle.layer_traits.specs.ListsAgree.{ListsAgree, is_at}
+use Rattle.layer_traits.specs.MoveRules.{WakesSleepers, asleep_by, edit_move, section_moves}
+use Rattle.layer_traits.specs.Places.{AreMoves, Home, Stands, count_in, Threads, home_of, is_place, one_if, place_of, step, where_is}
+use Rattle.layer_traits.specs.Plans.{is_in_section, table_of}
+use Rattle.layer_traits.specs.QueueBlocks.{StartsWell, homes_in, inner}
+use Rattle.layer_traits.specs.Queues.{Kernel, QueueAllowed, buffer_sections, kernel, moves_in}
+use Rattle.layer_traits.specs.Renaming.{renamed_edit, renamed_events, viewed}
+use Rattle.layer_traits.specs.Scheds.{EditStays}
+use Rattle.layer_traits.specs.SleepLaw.{MaySleep, sleep_kernel}
+use Rattle.layer_traits.specs.Sleeping.{IsAwake, NobodySleeps, SleepRules, SleepState, line_at, sleep_answer, sleep_edited, sleep_moves, sleep_rules}
+use Rattle.layer_traits.proofs.CallLemmas.{asleep_place, moves_append, moves_lawful, moves_others, moves_over, sections_asleep, upper_lawful}
+use Rattle.layer_traits.proofs.KernelRenaming.{homes_viewed, inner_viewed, lawful_renamed, moves_renamed, sections_renamed, stays_renamed}
+use Rattle.layer_traits.proofs.ListsLemmas.{lists_agree, section_wakes}
+use Rattle.layer_traits.proofs.PlaceLemmas.{current_at, stands_others}
+use Rattle.layer_traits.proofs.PlanRenaming.{block_viewed}
+use Rattle.sleep_wakeup.specs.declared.edits.SleepBlock.{SleepBlock}
+use Rattle.sleep_wakeup.specs.declared.edits.SleepEdit.{SleepEdit}
+use Rattle.sleep_wakeup.specs.declared.kept.Kept.{Kept}
+use Rattle.sleep_wakeup.specs.Nested.{NestedAllowed, edit_in, nested_answer, nested_edited, nested_moves, nested_rules, state_of, states}
+use Rattle.sleep_wakeup.specs.Parts.{as_edit, under_of}
+
+-- Sections.
+
+module _ {E B O : Type 0} (rules : SleepRules E B O) (opening : LockId → Option (SleepBlock B)) where
+  -- the sections under the names of the layer above
+  abbrev above : List (Section (SleepEdit E)) → List (Section E)
+  above past = map (renamed_section edit_in) past
+
+  edits : (d : SleepEdit E) (a : SleepBlock B) → state_of (nested_edited rules d a) ≡ sleep_edited rules (edit_in d) (state_of a)
+  edits d a = refl
+
+  -- the block of a lock is the view of the block beneath
+  state_after : (lock : LockId) (past : List (Section (SleepEdit E)))
+      → block_after (sleep_edited rules) (states opening) lock (above past) ≡ option_map state_of (block_after (nested_edited rules) opening lock past)
+  state_after lock past =
+      block_viewed (table_of (nested_rules rules)) (table_of (sleep_rules rules)) edit_in state_of (λ (o : Outcome O). o) edits (λ d a. refl) opening lock past
+
+  answer_seen : (d : SleepEdit E) (o : Option (SleepBlock B)) → option_map (sleep_answer rules (edit_in d)) (option_map state_of o) ≡ option_map (nested_answer rules d) o
+  answer_seen d None = refl
+  answer_seen d (Some a) = refl
+
+  -- and so is its answer
+  out_after : (past : List (Section (SleepEdit E))) (s : Section (SleepEdit E)) → option_map (sleep_answer rules (edit_in s.edit)) (block_after (sleep_edited rules) (states opening) s.lock (above past))
+      ≡ option_map (nested_answer rules s.edit) (block_after (nested_edited rules) opening s.lock past)
+  out_after past s = ap (option_map (sleep_answer rules (edit_in s.edit))) (state_after s.lock past) ∙ answer_seen s.edit (block_after (nested_edited rules) opening s.lock past)
+
+  move_out : (lock : LockId) (d : SleepEdit E) (o : Option (Outcome O)) → edit_move (sleep_moves rules) lock (edit_in d) o ≡ edit_move (nested_moves rules) lock d o
+  move_out lock d None = refl
+  move_out lock d (Some out) = refl
+
+  -- the sections move threads alike
+  pub moves_above : (past : List (Section (SleepEdit E)))
+      → section_moves (sleep_rules rules) (sleep_moves rules) (states opening) (above past) ≡ section_moves (nested_rules rules) (nested_moves rules) opening past
+  moves_above [] = refl
+  moves_above (s ∷ past) = λ i. step s.cpu ((ap (edit_move (sleep_moves rules) s.lock (edit_in s.edit)) (out_after past s)
+      ∙ move_out s.lock s.edit (option_map (nested_answer rules s.edit) (block_after (nested_edited rules) opening s.lock past))) i) ∷ moves_above past i
+
+  -- the callers of allowed sections are awake
+  pub awake_above : (past : List (Section (SleepEdit E))) → IsLawful (NestedAllowed rules opening) past → IsLawful (IsAwake rules (states opening)) (above past)
+  awake_above [] lawful = tt
+  awake_above (s ∷ past) lawful = (lawful.0.awake, awake_above past lawful.1)
+
+-- whom an allowed section wakes sleeps
+pub nested_wakes : {E B O : Type 0} (rules : SleepRules E B O) → WakesSleepers (nested_rules rules) (nested_moves rules)
+nested_wakes rules opening past s out u lawful allowed answers wakes =
+    subst (λ moves. is_place (asleep_by moves u) ≡ true) (moves_above rules opening past)
+    (section_wakes rules (states opening) (map (renamed_section edit_in) past) (renamed_section edit_in s) out u (awake_above rules opening past lawful) allowed.start
+    (out_after rules opening past s ∙ answers) wakes)
+
+-- Histories. The kernel beneath is that of the nested edits over this opening, and the kernel here that of the layer's own.
+
+module _ {E B O : Type 0} (rules : SleepRules E B O) (opening : LockId → Option (QueueBlock (SleepBlock B))) where
+  -- what stands beneath
+  abbrev pub beneath : Kernel (SleepEdit E) (SleepBlock B) (Outcome O)
+  beneath = kernel (nested_rules rules) (nested_moves rules) opening
+
+  -- what stands here
+  abbrev pub here : Kernel E (SleepState B) (Outcome O)
+  here = sleep_kernel rules (viewed state_of opening)
+
+  inner_states : (λ (lock : LockId). inner (viewed state_of opening) lock) ≡ states (inner opening)
+  inner_states = λ i lock. inner_viewed state_of opening lock i
+
+  pub allowed_here : (past : List (Section (SleepEdit E))) (s : Section (SleepEdit E)) → NestedAllowed rules (inner opening) past s
+      → rules.allowed (inner (viewed state_of opening)) (map (renamed_section edit_in) past) (renamed_section edit_in s)
+  allowed_here past s allowed =
+      subst (λ (o : LockId → Option (SleepState B)). rules.allowed o (map (renamed_section edit_in) past) (renamed_section edit_in s)) (sym inner_states) allowed.upper
+
+  pub nested_lawful : (past : List (QueueEvent (SleepEdit E))) → IsLawful (QueueAllowed beneath) past → IsLawful (QueueAllowed here) (renamed_events edit_in past)
+  nested_lawful past lawful =
+      lawful_renamed beneath here edit_in state_of (λ d a. refl) (λ d a. refl) (inner_viewed state_of opening) (homes_viewed state_of opening) (λ d. refl) refl refl allowed_here past lawful
+
+  pub same_moves : (past : List (QueueEvent (SleepEdit E))) → moves_in here (renamed_events edit_in past) ≡ moves_in beneath past
+  same_moves past =
+      moves_renamed beneath here edit_in state_of (λ d a. refl) (λ d a. refl) (inner_viewed state_of opening) (homes_viewed state_of opening) (λ d. refl) refl refl allowed_here past
+
+  -- the threads stand here as they stand beneath
+  pub nested_stands : (c : CpuId) (past : List (QueueEvent (SleepEdit E))) (own : Threads) → Stands (homes_in opening) c (moves_in beneath past) own
+      → Stands (homes_in (viewed state_of opening)) c (moves_in here (renamed_events edit_in past)) own
+  nested_stands c past own stands = transport (λ i. Stands (sym (homes_viewed state_of opening) i) c (sym (same_moves past) i) own) stands
+
+  -- they move from where they stand
+  pub nested_moving : (past : List (QueueEvent (SleepEdit E))) → IsLawful (QueueAllowed beneath) past
+      → AreMoves (homes_in (viewed state_of opening)) (moves_in here (renamed_events edit_in past))
+  nested_moving past lawful =
+      transport (λ i. AreMoves (sym (homes_viewed state_of opening) i) (sym (same_moves past) i)) (moves_lawful beneath (nested_wakes rules) past lawful)
+
+  -- where a thread sleeps by the sections of the layer above is where its place says
+  asleep_here : (past : List (QueueEvent (SleepEdit E))) (t : Tid) → IsLawful (QueueAllowed beneath) past
+      → place_of (where_is (homes_in opening) (moves_in beneath past) t)
+      ≡ asleep_by (section_moves (sleep_rules rules) (sleep_moves rules) (states (inner opening)) (map (renamed_section edit_in) (buffer_sections past))) t
+  asleep_here past t lawful =
+      asleep_place (homes_in opening) (moves_in beneath past) t (moves_lawful beneath (nested_wakes rules) past lawful)
+      ∙ (sym (sections_asleep beneath past t) ∙ ap (λ moves. asleep_by moves t) (sym (moves_above rules (inner opening) (buffer_sections past))))
+
+  -- the waiting lists agree with the places
+  pub nested_lists : (past : List (QueueEvent (SleepEdit E))) → IsLawful (QueueAllowed beneath) past → NobodySleeps (states (inner opening))
+      → ListsAgree rules (viewed state_of opening) (renamed_events edit_in past)
+  nested_lists past lawful nobody lock line t =
+      ap (λ (o : LockId → Option (SleepState B)). count_in t (line_at line (block_after (sleep_edited rules) o lock (buffer_sections (renamed_events edit_in past))))) inner_states
+      ∙ (ap (λ sections. count_in t (line_at line (block_after (sleep_edited rules) (states (inner opening)) lock sections))) (sections_renamed edit_in past)
+      ∙ (lists_agree rules (states (inner opening)) (map (renamed_section edit_in) (buffer_sections past))
+      (awake_above rules (inner opening) (buffer_sections past) (upper_lawful beneath past lawful)) nobody lock line t
+      ∙ (ap (λ p. one_if (is_at lock line p)) (sym (asleep_here past t lawful))
+      ∙ λ i. one_if (is_at lock line (place_of (where_is (sym (homes_viewed state_of opening) i) (sym (same_moves past) i) t))))))
+
+  -- A section that may begin here may begin beneath, and stays allowed there.
+
+  pub nested_stays : (c : CpuId) (past : List (QueueEvent (SleepEdit E))) (own : Threads) (b : BufId) (e : E) → StartsWell opening → IsLawful (QueueAllowed beneath) past
+      → NobodySleeps (states (inner opening)) → Stands (homes_in opening) c (moves_in beneath past) own
+      → MaySleep here c (renamed_events edit_in past) own b e → EditStays beneath c past (call.OnBuffer b (as_edit e))
+  nested_stays c past own b e starts lawful nobody stands may more others legal = record {
+    start = nobody;
+    awake = record {
+      awake = sym (asleep_here (more ++ past) (rules.caller e) legal) ∙ ap place_of at.1;
+      small = omega (arith, slice_get_within (homes_in opening) (rules.caller e).0 c at.0, starts.room);
+    };
+    upper = subst (λ (o : LockId → Option (SleepState B)). rules.allowed o (map (renamed_section edit_in) (buffer_sections (more ++ past))) (record { cpu = c; lock = Buffer b; edit = e })) inner_states
+        (stays_renamed beneath here edit_in state_of (λ d a. refl) (λ d a. refl) (inner_viewed state_of opening) (homes_viewed state_of opening) (λ d. refl) refl refl allowed_here
+        c past b (as_edit e) may.stays more others legal);
+  }
+    where
+      moving : AreMoves (homes_in opening) (moves_in beneath (more ++ past))
+      moving = moves_lawful beneath (nested_wakes rules) (more ++ past) legal
+
+      now : Stands (homes_in opening) c (moves_in beneath (more ++ past)) own
+      now = subst (λ moves. Stands (homes_in opening) c moves own) (sym (moves_append beneath more past))
+          (stands_others (homes_in opening) c (moves_over beneath more past) (moves_in beneath past) own (moves_others beneath c more past others)
+          (subst (λ moves. AreMoves (homes_in opening) moves) (moves_append beneath more past) moving) stands)
+
+      at : (home_of (homes_in opening) (rules.caller e) ≡ Some c) × (where_is (homes_in opening) (moves_in beneath (more ++ past)) (rules.caller e) ≡ Home)
+          × (count_in (rules.caller e) own.ready ≡ 0) × (count_in (rules.caller e) own.ended ≡ 0)
+      at = current_at (homes_in opening) c (moves_in beneath (more ++ past)) own moving now (rules.caller e) may.current
+
+-- The part.
+
+-- a layer with no history beneath has none here
+pub nothing_seen : {E : Type 0} (past : List (QueueEvent (SleepEdit E))) → renamed_events edit_in past ≡ [] → past ≡ []
+nothing_seen [] none = refl
+nothing_seen (e ∷ past) none = absurd cc
+
+-- while no call is under way here none is beneath
+pub nested_idle : {E O : Type 0} (kept : Option (Kept E O)) (under : Option (SchedCall (SleepEdit E))) → under_of kept under ≡ None → is_some under ≡ false
+nested_idle None None none = refl
+nested_idle None (Some s) none = absurd cc
+nested_idle (Some k) under none = absurd cc
+
+-- a CPU waits or holds here as it does beneath
+pub nested_busy : {E : Type 0} (c : CpuId) (acts : List (Action (QueueEdit (SleepEdit E)))) (b : Bool) → b ≡ is_in_section (phase c acts)
+    → b ≡ is_in_section (phase c (map (renamed (renamed_edit edit_in)) acts))
+nested_busy c acts b is = is ∙ ap is_in_section (sym (phase_renamed (renamed_edit edit_in) c acts))

@@ -1,0 +1,141 @@
+//! A section's edit with the waiting lists of its lock.
+
+ghost use Rattle.std.specs.Prelude.{◌≡◌};
+ghost use Rattle.layer_traits.specs.declared.moves.Line.TheVariants.{Sleepers, Receivers, Senders};
+ghost use Rattle.layer_traits.specs.Sleeping.{joined, left, line_joined, woken};
+
+use event_log::{THREADS, Tid};
+use layer_traits::{Edit, Leave, Line, Moves, Outcome, Sleeps};
+use thread_blocks::ThreadQueue;
+
+/// An edit of the layer above, with what it makes of the waiting lists.
+#[derive(Clone, Copy, Debug, PartialEq, Eq)]
+pub struct SleepEdit<E> {
+    /// The edit.
+    pub edit: E,
+}
+
+/// What a lock guards: its waiting lists, and the block of the layer above.
+#[derive(Drop)]
+pub struct SleepBlock<B> {
+    /// Those that sleep for the lock itself.
+    pub sleepers: ThreadQueue,
+    /// Those that wait to receive.
+    pub receivers: ThreadQueue,
+    /// Those that wait to send.
+    pub senders: ThreadQueue,
+    /// The block of the layer above.
+    pub above: B,
+}
+
+/// Puts `t` at the end of a waiting list, if it is a thread that a machine may have and does not
+/// stand there yet.
+fn join(queue: &mut ThreadQueue, t: Tid)
+    ensures { queue.new ≡ joined t queue.old }
+{
+    if usize::from(t.0) < THREADS && !queue.contains(t) {
+        queue.push(t);
+    }
+}
+
+/// Lets those go that leave, and gives whom that wakes.
+fn let_out(
+    leave: Leave,
+    sleepers: &mut ThreadQueue,
+    receivers: &mut ThreadQueue,
+    senders: &mut ThreadQueue,
+) -> Option<Tid>
+    ensures woke { result ≡ woken leave sleepers.old receivers.old senders.old }
+    ensures sleepers { sleepers.new ≡ left Sleepers leave sleepers.old }
+    ensures receivers { receivers.new ≡ left Receivers leave receivers.old }
+    ensures senders { senders.new ≡ left Senders leave senders.old }
+{
+    match leave {
+        Leave::Nobody => None,
+        Leave::First => sleepers.pop(),
+        Leave::Receiver(u) => {
+            if receivers.remove(u) {
+                return Some(u);
+            }
+            None
+        }
+        Leave::Sender(u) => {
+            if senders.remove(u) {
+                return Some(u);
+            }
+            None
+        }
+    }
+}
+
+/// Puts `t` at the end of the list of this line, if there is one.
+fn fall_asleep(
+    line: Option<Line>,
+    t: Tid,
+    sleepers: &mut ThreadQueue,
+    receivers: &mut ThreadQueue,
+    senders: &mut ThreadQueue,
+)
+    ensures sleepers { sleepers.new ≡ line_joined Sleepers line t sleepers.old }
+    ensures receivers { receivers.new ≡ line_joined Receivers line t receivers.old }
+    ensures senders { senders.new ≡ line_joined Senders line t senders.old }
+{
+    match line {
+        None => {}
+        Some(Line::Sleepers) => join(sleepers, t),
+        Some(Line::Receivers) => join(receivers, t),
+        Some(Line::Senders) => join(senders, t),
+    }
+}
+
+impl<E: Sleeps> Edit for SleepEdit<E> {
+    ghost use Rattle.sleep_wakeup.specs.Nested.{nested_rules};
+
+    type Block = SleepBlock<E::Block>;
+
+    type Out = Outcome<E::Out>;
+
+    ghost rules = { nested_rules E.rules };
+
+    fn apply(self, block: &mut SleepBlock<E::Block>) -> Outcome<E::Out> {
+        let first = block.sleepers.front();
+        let out = self.edit.apply(first, &mut block.above);
+        let line = E::joins(&out);
+        let leave = E::leaves(&out);
+        let woke = let_out(
+            leave,
+            &mut block.sleepers,
+            &mut block.receivers,
+            &mut block.senders,
+        );
+        fall_asleep(
+            line,
+            self.edit.caller(),
+            &mut block.sleepers,
+            &mut block.receivers,
+            &mut block.senders,
+        );
+        Outcome {
+            out,
+            slept: line.is_some(),
+            woke,
+        }
+    }
+}
+
+impl<E: Sleeps> Moves for SleepEdit<E> {
+    ghost use Rattle.sleep_wakeup.specs.Nested.{nested_moves};
+    ghost use Rattle.sleep_wakeup.specs.NestedLaws.{nested_wakes};
+
+    ghost moves = { nested_moves E.rules };
+
+    fn slept(out: &Outcome<E::Out>) -> Option<Line> {
+        E::joins(&out.out)
+    }
+
+    fn woke(out: &Outcome<E::Out>) -> Option<Tid> {
+        out.woke
+    }
+
+    ghost wakes_sleepers = { nested_wakes E.rules };
+}

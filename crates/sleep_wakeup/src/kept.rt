@@ -1,0 +1,72 @@
+//! The outcome of a section whose answer waits until the thread that it woke has left the hand.
+
+ghost use Rattle.std.specs.Prelude.{◌≡◌};
+ghost use Rattle.layer_traits.specs.SleepLaw.{due};
+ghost use Rattle.sleep_wakeup.specs.Parts.{answer_told, as_edit, done_of, kept_told};
+
+use crate::edits::SleepEdit;
+use event_log::{BufId, Tid};
+use layer_traits::{Outcome, Pass, SchedAnswer, SchedCall};
+
+/// A section that is done and not answered yet: which it was, and its outcome.
+#[derive(Drop)]
+pub struct Kept<E, O> {
+    /// The buffer whose block it edited.
+    pub buffer: BufId,
+    /// Its edit.
+    pub edit: E,
+    /// What it answers once the thread that it woke has left the hand.
+    pub outcome: Outcome<O>,
+}
+
+/// The call on the scheduler that is due: to send home who stands in the hand, or else the section.
+pub fn next<E: Copy + Drop>(hand: Option<Tid>, buffer: BufId, edit: E) -> SchedCall<SleepEdit<E>>
+    ensures { result ≡ due hand buffer (as_edit edit) }
+{
+    match hand {
+        None => SchedCall::OnBuffer(buffer, SleepEdit { edit }),
+        Some(t) => SchedCall::Pass(Pass::MakeReady(t)),
+    }
+}
+
+/// Takes the scheduler's answer, after which the hand is this, and gives the outcome of the section
+/// if it has one now. It is kept while its caller goes on and a thread stands in the hand.
+pub fn told<E: Copy + Drop, O: Drop>(
+    kept: &mut Option<Kept<E, O>>,
+    hand: Option<Tid>,
+    buffer: BufId,
+    edit: E,
+    answer: SchedAnswer<Outcome<O>>,
+) -> Option<Outcome<O>>
+    ensures kept { kept.new ≡ kept_told hand buffer edit answer }
+    ensures answer { result ≡ answer_told kept.old hand answer }
+{
+    match answer {
+        SchedAnswer::Done => match kept.take() {
+            None => None,
+            Some(k) => Some(k.outcome),
+        },
+        SchedAnswer::Answer(outcome) => {
+            if !outcome.slept && hand.is_some() {
+                *kept = Some(Kept {
+                    buffer,
+                    edit,
+                    outcome,
+                });
+                return None;
+            }
+            *kept = None;
+            Some(outcome)
+        }
+    }
+}
+
+/// Whether a call that is passed on is done.
+pub fn done<O: Drop>(answer: Option<SchedAnswer<O>>) -> Option<()>
+    ensures { result ≡ done_of answer }
+{
+    match answer {
+        None => None,
+        Some(_) => Some(()),
+    }
+}

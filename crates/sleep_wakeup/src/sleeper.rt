@@ -1,0 +1,136 @@
+//! The layer of sections that put threads to sleep and wake them.
+
+use crate::edits::SleepEdit;
+use crate::kept::{Kept, done, next, told};
+use event_log::{BufId, CpuId, Tid};
+use layer_traits::{Outcome, Pass, SchedCall, SchedLayer, SleepLayer, Sleeps};
+
+/// One CPU's part of sleep and wakeup over a part of a scheduler (Gu et al., PLDI 2018): the
+/// scheduler moves the threads, and the edits keep the waiting lists. Who joins or leaves a list
+/// does so in the section that puts it to sleep or wakes it.
+#[derive(Drop)]
+pub struct Sleeper<E: Sleeps, S> {
+    lower: S,
+    kept: Option<Kept<E, E::Out>>,
+}
+
+impl<E: Sleeps, S: SchedLayer<SleepEdit<E>>> SleepLayer<E> for Sleeper<E, S> {
+    ghost use Rattle.std.proofs.Common.{map, is_some, ap, ◌∙◌};
+    ghost use Rattle.event_log.specs.Actions.{renamed};
+    ghost use Rattle.event_log.proofs.Renaming.{legal_renamed};
+    ghost use Rattle.layer_traits.specs.QueueBlocks.{inner};
+    ghost use Rattle.layer_traits.specs.Renaming.{renamed_edit, renamed_events, viewed};
+    ghost use Rattle.layer_traits.proofs.KernelRenaming.{known_renamed, seen_renamed, starts_viewed};
+    ghost use Rattle.layer_traits.specs.Sleeping.{NobodySleeps};
+    ghost use Rattle.sleep_wakeup.specs.Nested.{edit_in, state_of, states};
+    ghost use Rattle.sleep_wakeup.specs.NestedLaws.{nested_busy, nested_idle, nested_lawful, nested_lists, nested_moving, nested_stands};
+    ghost use Rattle.sleep_wakeup.specs.Parts.{KeptFits, own_of, under_of};
+
+    type Machine = S::Machine;
+
+    ghost opening = { λ m. viewed state_of (S.opening m) };
+
+    ghost seen = { λ m. renamed_events edit_in (S.seen m) };
+
+    ghost ActsFor = { λ m c. S.ActsFor m c };
+
+    ghost room = { λ m. S.room m };
+
+    ghost site = { λ m. S.site m };
+
+    ghost IsOutside = { λ m c. S.IsOutside m c };
+
+    ghost cpu_of = { λ p. S.cpu_of p.lower };
+
+    ghost own = { λ p. own_of p.kept (S.threads p.lower) };
+
+    ghost under_way = { λ p. under_of p.kept (S.under_way p.lower) };
+
+    ghost is_inside = { λ p. is_some (S.under_way p.lower) };
+
+    ghost Fits = { λ p m. S.Fits p.lower m × NobodySleeps (states (inner (S.opening m)))
+        × KeptFits p.kept (S.under_way p.lower) (S.threads p.lower).hand };
+
+    ghost IsStepwise = { S.IsStepwise };
+
+    ghost acts = { λ m. map (renamed (renamed_edit edit_in)) (S.acts m) };
+
+    fn part(cpu: CpuId, homes: &[CpuId], buffers: u8) -> Self {
+        Sleeper {
+            lower: S::part(cpu, homes, buffers),
+            kept: None,
+        }
+    }
+
+    #[inline(always)]
+    fn is_busy(&self) -> bool {
+        self.lower.is_busy()
+    }
+
+    #[inline(always)]
+    fn current(&self) -> Option<Tid> {
+        self.lower.current()
+    }
+
+    #[inline(always)]
+    fn hand(&self) -> Option<Tid> {
+        self.lower.hand()
+    }
+
+    #[inline(always)]
+    fn has_ready(&self) -> bool {
+        self.lower.has_ready()
+    }
+
+    #[inline(always)]
+    fn is_ready(&self, t: Tid) -> bool {
+        self.lower.is_ready(t)
+    }
+
+    #[inline(always)]
+    fn has_ended(&self, t: Tid) -> bool {
+        self.lower.has_ended(t)
+    }
+
+    #[inline(always)]
+    fn look(&mut self, m: &mut S::Machine) -> bool {
+        self.lower.look(m)
+    }
+
+    #[inline(always)]
+    fn poll(&mut self, m: &mut S::Machine, buffer: BufId, edit: E) -> Option<Outcome<E::Out>> {
+        let call = next(self.lower.hand(), buffer, edit);
+        match self.lower.poll(m, &call) {
+            None => None,
+            Some(answer) => told(&mut self.kept, self.lower.hand(), buffer, edit, answer),
+        }
+    }
+
+    #[inline(always)]
+    fn pass(&mut self, m: &mut S::Machine, call: Pass) -> Option<()> {
+        let answer = self.lower.poll(m, &SchedCall::Pass(call));
+        done(answer)
+    }
+
+    ghost own_cpu = { λ p m fits. S.own p.lower m fits.0 };
+
+    ghost stands = { λ p m fits. nested_stands E.rules (S.opening m) (S.cpu_of p.lower) (S.seen m) (S.threads p.lower) (S.stands p.lower m fits.0) };
+
+    ghost lists = { λ p m fits. nested_lists E.rules (S.opening m) (S.seen m) (S.lawful m (S.cpu_of p.lower) (S.own p.lower m fits.0)) fits.1 };
+
+    ghost opens = { λ m c acts. starts_viewed state_of (S.opening m) (S.opens m c acts) };
+
+    ghost lawful = { λ m c acts. nested_lawful E.rules (S.opening m) (S.seen m) (S.lawful m c acts) };
+
+    ghost moving = { λ m c acts. nested_moving E.rules (S.opening m) (S.seen m) (S.lawful m c acts) };
+
+    ghost known = { λ m c acts. known_renamed edit_in (S.seen m) (S.known m c acts) };
+
+    ghost legal = { λ m c acts. legal_renamed (renamed_edit edit_in) (S.acts m) (S.legal m c acts) };
+
+    ghost seen_is = { λ step m. ap (renamed_events edit_in) (S.seen_is step m) ∙ seen_renamed edit_in (S.acts m) };
+
+    ghost busy = { λ p m fits step. nested_busy (S.cpu_of p.lower) (S.acts m) (is_some (S.under_way p.lower)) (S.busy p.lower m fits.0 step) };
+
+    ghost idle = { λ p m fits none. nested_idle p.kept (S.under_way p.lower) none };
+}
