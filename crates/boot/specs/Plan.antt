@@ -4,6 +4,7 @@ use Rattle.std.specs.List.{list_all}
 use Rattle.toml.specs.Data.{Data, Items, no_items, item, Members, as_integer, as_array, as_str, as_table, get_member}
 use Rattle.toml.specs.Parse.{parse_document}
 use Rattle.event_log.specs.declared.ids.TheConstants.{CPUS, THREADS, BUFFERS, CAPACITY, TRACE}
+use Rattle.event_log.specs.Buffers.{IsCapacity}
 use Rattle.event_log.specs.Reading.{◌>>=◌, read_from, all_as}
 use Rattle.guest.specs.declared.instructions.Instruction.{Instruction}
 use Rattle.guest.specs.declared.refusals.GuestError.{GuestError}
@@ -135,11 +136,11 @@ pub record IsTask (cpus buffers : ℕ) (task : Task) : Type 0 where
   pub program : IsProgram task.program
   pub known : All (λ i. IsTrue (names_below buffers i)) task.program
 
--- the capacities of the buffers, at least one and at most BUFFERS, each from one message to CAPACITY
+-- the capacities of the buffers, at least one and at most BUFFERS
 pub record AreCaps (caps : List ℕ) : Type 0 where
   pub some : 1 ≤ length caps
   pub most : length caps ≤ BUFFERS
-  pub each : All (λ capacity. (1 ≤ capacity) × (capacity ≤ CAPACITY)) caps
+  pub each : All IsCapacity caps
 
 -- at least one thread, and at most THREADS
 pub record AreTasks (cpus buffers : ℕ) (tasks : List Task) : Type 0 where

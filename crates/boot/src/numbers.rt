@@ -2,6 +2,7 @@
 
 ghost use Rattle.std.specs.Prelude.{◌≡◌, ◌<◌, ◌≤◌, length, codes, option_map, All, IfOk, IfSome};
 ghost use Rattle.event_log.specs.declared.ids.TheConstants.{BUFFERS, CAPACITY};
+ghost use Rattle.event_log.specs.Buffers.{IsCapacity};
 ghost use Rattle.event_log.specs.Reading.{all_as};
 ghost use Rattle.toml.specs.Data.{get_member};
 ghost use Rattle.toml.specs.View.{table_view};
@@ -60,7 +61,7 @@ fn caps_of(integers: &[i64]) -> Option<ArrayVec<u8, BUFFERS>>
     requires { length integers.now ≤ BUFFERS }
     ensures caps { option_map (λ caps. caps.items) result ≡ all_as (number_within 1 CAPACITY) integers.now }
     ensures len { IfSome result (λ caps. length caps.items ≡ length integers.now) }
-    ensures within { IfSome result (λ caps. All (λ capacity. (1 ≤ capacity) × (capacity ≤ CAPACITY)) caps.items) }
+    ensures within { IfSome result (λ caps. All IsCapacity caps.items) }
 {
     let mut caps = ArrayVec::new();
     for integer in integers {

@@ -1,3 +1,4 @@
+pub mod Tests
 pub mod RunLemmas
 pub mod Same
 pub mod Forms

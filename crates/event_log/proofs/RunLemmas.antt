@@ -1,11 +1,13 @@
 -- How a run grows, and what its entries are by their index.
-use Rattle.std.proofs.Common.{◌≡◌, ℕ, zero, suc, List, [], ◌∷◌, ◌++◌, take, Some, refl, sym, append_assoc}
+use Rattle.std.proofs.Common.{◌≡◌, ℕ, zero, suc, ◌+◌, ◌==◌, ◌&&◌, if◌then◌else◌, List, [], ◌∷◌, ◌++◌, take, Some, refl, sym, append_assoc}
 use Rattle.std.specs.Prelude.{slice_get}
 use Rattle.std.proofs.lemmas.List.{append-nil}
+use Rattle.std.proofs.lemmas.List.Sums.{sum_by_push}
 use Rattle.event_log.specs.Messages.{Message}
 use Rattle.event_log.specs.declared.entries.Entry.{Entry}
+use Rattle.event_log.specs.declared.entries.Kind.{Kind}
 use Rattle.event_log.specs.Buffers.{empty_buffers}
-use Rattle.event_log.specs.Runs.{IsNext, IsRunFrom, IsRun, after_entry, contents_from}
+use Rattle.event_log.specs.Runs.{IsNext, IsRunFrom, IsRun, after_entry, contents_from, count_of, count_of_kind, kind_eq}
 use Rattle.event_log.specs.Traces.{HasOpOrderFrom}
 
 -- one entry more
@@ -48,3 +50,12 @@ run_from_next caps earlier contents (x ∷ es) each = (
 pub op_order_from : (caps : List ℕ) (earlier : List Entry) (contents : List (List Message)) (es : List Entry) (left : List (List Message)) → IsRunFrom caps earlier contents es left → HasOpOrderFrom earlier es
 op_order_from caps earlier contents [] left run = tt
 op_order_from caps earlier contents (x ∷ es) left run = (run.0.op, op_order_from caps (earlier ++ x ∷ []) (after_entry contents x) es left run.1)
+
+-- ---- the numbers behind one entry more
+
+pub count_more : (earlier : List Entry) (e : Entry) (b : ℕ) → count_of (earlier ++ e ∷ []) b ≡ count_of earlier b + (if e.buffer.0 == b then 1 else 0)
+count_more earlier e b = sum_by_push (λ (x : Entry). if x.buffer.0 == b then 1 else 0) earlier e
+
+pub count_kind_more : (earlier : List Entry) (e : Entry) (b : ℕ) (kind : Kind)
+    → count_of_kind (earlier ++ e ∷ []) b kind ≡ count_of_kind earlier b kind + (if (e.buffer.0 == b) && kind_eq e.kind kind then 1 else 0)
+count_kind_more earlier e b kind = sum_by_push (λ (x : Entry). if (x.buffer.0 == b) && kind_eq x.kind kind then 1 else 0) earlier e

@@ -1,11 +1,12 @@
 -- Tests whether two CPUs or two locks are one.
-use Rattle.std.proofs.Common.{◌≡◌, ℕ, true, refl, ap}
+use Rattle.std.proofs.Common.{◌≡◌, ◌≢◌, ℕ, true, false, refl, ap, arith}
 use Rattle.std.proofs.lemmas.Bool.{eq-eqb, eqb-true}
 use Rattle.event_log.specs.declared.ids.BufId.{BufId}
 use Rattle.event_log.specs.declared.ids.CpuId.{CpuId}
 use Rattle.event_log.specs.declared.ids.LockId.{LockId}
 use Rattle.event_log.specs.declared.ids.LockId.TheVariants.{Pending, Buffer}
 use Rattle.event_log.specs.History.{same_cpu, same_lock}
+use Rattle.event_log.specs.Locks.{lock_number}
 
 abbrev pub cpu_numbered : ℕ → CpuId
 cpu_numbered n = record { 0 = n }
@@ -28,3 +29,13 @@ same_lock_true (Pending a) (Pending b) same = ap Pending (same_cpu_true a b same
 same_lock_true (Buffer a) (Buffer b) same = ap (λ n. Buffer (buffer_numbered n)) (eqb-true a.0 b.0 same)
 same_lock_true (Pending a) (Buffer b) same = absurd cc
 same_lock_true (Buffer a) (Pending b) same = absurd cc
+
+-- two locks with one number are one lock
+pub lock_number_same : (a b : LockId) → lock_number a ≡ lock_number b → same_lock a b ≡ true
+lock_number_same (Pending a) (Pending b) e = eq-eqb a.0 b.0 (omega arith)
+lock_number_same (Buffer a) (Buffer b) e = eq-eqb a.0 b.0 (omega arith)
+lock_number_same (Pending a) (Buffer b) e = absurd (omega arith)
+lock_number_same (Buffer a) (Pending b) e = absurd (omega arith)
+
+pub lock_number_other : (a b : LockId) → same_lock a b ≡ false → lock_number a ≢ lock_number b
+lock_number_other a b other e = let same : same_lock a b ≡ true = lock_number_same a b e in cc

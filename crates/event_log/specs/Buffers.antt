@@ -1,9 +1,14 @@
 -- What first-in first-out buffers hold, and what one send or receive does to one of them.
 -- Capacities are a list by buffer number; contents are a list by buffer number of lists of messages, front first.
-use Rattle.std.specs.Prelude.{◌≡◌, ℕ, ◌<◌, List, [], ◌∷◌, ◌++◌, length, map, drop, Some, slice_get, slice_index_or}
+use Rattle.std.specs.Prelude.{◌≡◌, ℕ, ◌<◌, ◌≤◌, List, [], ◌∷◌, ◌++◌, length, map, drop, Some, slice_get, slice_index_or}
+use Rattle.event_log.specs.declared.ids.TheConstants.{CAPACITY}
 use Rattle.event_log.specs.declared.entries.Kind.{Kind}
 use Rattle.event_log.specs.declared.entries.Kind.TheVariants.{Send, Recv}
 use Rattle.event_log.specs.Messages.{Message}
+
+-- a buffer holds from one message to CAPACITY
+abbrev pub IsCapacity : ℕ → Type 0
+IsCapacity capacity = (1 ≤ capacity) × (capacity ≤ CAPACITY)
 
 -- what buffer b holds
 abbrev pub items_of : List (List Message) → ℕ → List Message

@@ -1,5 +1,6 @@
 pub mod Log
 pub mod History
+pub mod Locks
 pub mod Forms
 pub mod WordsLog
 pub mod Actions

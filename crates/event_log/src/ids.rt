@@ -1,6 +1,10 @@
 //! The names of the machine's parts, and how many of each a machine may have. Each name is a
 //! number with a type of its own, so that a CPU is never taken for a thread.
 
+ghost use Rattle.std.specs.Prelude.{◌≡◌, ◌<◌};
+ghost use Rattle.event_log.specs.declared.ids.TheConstants.{LOCKS};
+ghost use Rattle.event_log.specs.Locks.{lock_number};
+
 /// How many CPUs a machine may have: they are numbered from 0 to `CPUS - 1`. A table indexed by
 /// CPU has this size.
 pub const CPUS: usize = 8;
@@ -43,4 +47,22 @@ pub enum LockId {
     Pending(CpuId),
     /// The lock of this buffer.
     Buffer(BufId),
+}
+
+/// How many locks there can be: one for each number of a CPU and one for each number of a buffer,
+/// of which each is a `u8`. A table indexed by lock has this size.
+pub const LOCKS: usize = 512;
+
+impl LockId {
+    /// The number of the lock among all that there can be: even for that of a CPU's queue, odd for
+    /// that of a buffer. Two locks have two numbers.
+    pub fn number(self) -> usize
+        ensures number { result ≡ lock_number self }
+        ensures within { result < LOCKS }
+    {
+        match self {
+            LockId::Pending(cpu) => 2 * usize::from(cpu.0),
+            LockId::Buffer(buffer) => 2 * usize::from(buffer.0) + 1,
+        }
+    }
 }

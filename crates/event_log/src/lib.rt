@@ -20,7 +20,7 @@ pub use digits::{is_number, number_has_one_spelling, number_to};
 pub use entries::{Entry, Kind};
 pub use events::Event;
 pub use grants::GrantEvent;
-pub use ids::{BUFFERS, BufId, CAPACITY, CPUS, CpuId, ENTRIES, LockId, THREADS, TRACE, Tid};
+pub use ids::{BUFFERS, BufId, CAPACITY, CPUS, CpuId, ENTRIES, LOCKS, LockId, THREADS, TRACE, Tid};
 pub use laws::{
     both_forms_agree, free_where_all_rest, freed_once_meanwhile, given_once_meanwhile,
     grants_tell_places, legal_logs_grow, one_holds, one_inside, one_inside_grants,

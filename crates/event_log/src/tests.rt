@@ -208,6 +208,13 @@ fn a_refused_allocation_is_no_memory(rt: HostRuntime) {
 }
 
 #[test]
+fn each_lock_has_its_number(rt: HostRuntime) {
+    assert_eq!(rt; LockId::Pending(CpuId(0)).number(), 0);
+    assert_eq!(rt; LockId::Pending(CpuId(3)).number(), 6);
+    assert_eq!(rt; LockId::Buffer(BufId(255)).number(), 511);
+}
+
+#[test]
 fn refusals_print_their_names_and_numbers(rt: HostRuntime) -> Result<(), Fail> {
     assert_eq!(rt;
         format!(in rt.alloc(); "{NoMemory}")?.as_str(),

@@ -20,7 +20,7 @@ use Rattle.mctower.specs.Claims.{standing_at, times, due_at}
 use Rattle.mctower.specs.declared.kernel.edit.Call.{Call}
 use Rattle.mctower.specs.declared.kernel.guests.Guest.{Guest}
 use Rattle.mctower.specs.declared.kernel.guests.Todo.TheVariants.{Tries}
-use Rattle.mctower.proofs.ListLemmas.{get_set, get_within}
+use Rattle.mctower.proofs.ListLemmas.{get_set, get_within, map_get}
 use Rattle.mctower.proofs.BootSteps.{once_none, once_admit}
 
 -- what holds of all holds of the one at an index
@@ -28,11 +28,6 @@ at_of_all : {X : Type 0} (P : X → Type 0) (xs : List X) (k : ℕ) (x : X) → 
 at_of_all P xs k x all at = subst P (get_or_from_slice_get xs k x x at) (all k x (slice_get_within xs k x at))
 
 -- an element of a list that was made by a function
-get_map : {X Y : Type 0} (f : X → Y) (xs : List X) (k : ℕ) (y : Y) → slice_get (map f xs) k ≡ Some y → (x : X) × (slice_get xs k ≡ Some x) × (f x ≡ y)
-get_map f [] k y at = absurd (cc)
-get_map f (x ∷ xs) zero y at = (x, refl, same_Some (f x) y at)
-get_map f (x ∷ xs) (suc k) y at = get_map f xs k y at
-
 get_replicate : {X : Type 0} (n : ℕ) (x : X) (k : ℕ) (y : X) → slice_get (replicate n x) k ≡ Some y → y ≡ x
 get_replicate zero x k y at = absurd (cc)
 get_replicate (suc n) x zero y at = sym (same_Some x y at)
@@ -118,17 +113,17 @@ booted_fresh plan room is small =
         trace = ap (λ (x : CpuState). x.trace) e;
         begun = ap (λ (x : CpuState). x.begun) e;
       });
-      guests = λ t g at. let m = get_map guest_of plan.tasks t g at in record {
+      guests = λ t g at. let m = map_get guest_of plan.tasks t g at in record {
         thread = ap (λ (x : Guest). x.thread) (sym m.2);
         stage = ap (λ (x : Guest). x.stage) (sym m.2);
         home = subst (λ (x : Guest). x.home.0 < length (with_threads 0 plan.tasks cpus)) m.2 (omega (arith, kept, (task_at t m.0 m.1).home));
       };
-      buffers = λ k x at. let m = get_map new_buffer plan.caps k x at in sym m.2 ∙ ap (λ (y : Buffer). new_buffer y.capacity) m.2;
+      buffers = λ k x at. let m = map_get new_buffer plan.caps k x at in sym m.2 ∙ ap (λ (y : Buffer). new_buffer y.capacity) m.2;
       under = λ c u at. get_replicate plan.cpus None c u at;
       once = once_with plan.tasks cpus [] (λ k task at. omega (arith, many, (task_at k task at).home))
           (once_none cpus (λ c p at. ap (λ (x : CpuState). standing_at x) (get_replicate plan.cpus (idle_cpu plan.trace) c p at)));
       known = λ t program at d b call e.
-          let m = get_map (λ (task : Task). task.program) plan.tasks t program at in
+          let m = map_get (λ (task : Task). task.program) plan.tasks t program at in
           subst (λ n. b.0 < n) (sym (length-map plan.caps new_buffer))
           (known_in (length plan.caps) program d (slice_get program d.line) b call refl
           (subst (All (λ i. IsTrue (names_below (length plan.caps) i))) m.2 (task_at t m.0 m.1).known) e);

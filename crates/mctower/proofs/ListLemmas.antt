@@ -54,3 +54,9 @@ within_get (z ∷ zs) (suc i) x e = let rest : i < length zs = within_get zs i x
 pub all_push : {X : Type 0} (P : X → Type 0) (xs : List X) (x : X) → AllByRecursion P xs → P x → AllByRecursion P (xs ++ x ∷ [])
 all_push P [] x all here = (here, tt)
 all_push P (y ∷ xs) x all here = (all.0, all_push P xs x all.1 here)
+
+-- what stands in a mapped list is the image of what stands there
+pub map_get : {X Y : Type 0} (f : X → Y) (xs : List X) (k : ℕ) (y : Y) → slice_get (map f xs) k ≡ Some y → (x : X) × (slice_get xs k ≡ Some x) × (f x ≡ y)
+map_get f [] k y at = absurd (cc)
+map_get f (x ∷ xs) zero y at = (x, refl, cc)
+map_get f (x ∷ xs) (suc k) y at = map_get f xs k y at

@@ -3,13 +3,13 @@ use Rattle.std.proofs.Common.{◌≡◌, ◌≢◌, ℕ, zero, suc, ◌+◌, tru
 use Rattle.std.specs.Prelude.{slice_get, slice_index_or, if◌then◌else◌}
 use Rattle.std.proofs.lemmas.Bool.{eq-eqb, ne_eqb}
 use Rattle.std.proofs.lemmas.List.{set_comm, set-set}
-use Rattle.std.proofs.lemmas.List.Sums.{sum_by_push}
 use Rattle.std.proofs.lemmas.Bool.Decides.{eqb_tells}
 use Rattle.std.proofs.lemmas.Option.{get_or_from_slice_get, same_Some}
 use Rattle.event_log.specs.declared.entries.Entry.{Entry}
 use Rattle.event_log.specs.declared.entries.Kind.{Kind}
 use Rattle.event_log.specs.Traces.{IsInterleaving}
 use Rattle.event_log.specs.Runs.{count_of, count_of_kind, kind_eq}
+use Rattle.event_log.proofs.RunLemmas.{count_more, count_kind_more}
 use Rattle.mctower.proofs.ListLemmas.{get_set_same, get_set_other}
 
 -- two numbers are equal or not
@@ -55,13 +55,6 @@ interleaving_more traces [] k trace e at none =
     )
 interleaving_more traces (x ∷ order) k trace e at keeps =
     more_at traces order x keeps.0 k keeps.1 trace e (λ ts t a i. interleaving_more ts order k t e a i) at keeps.2 keeps.3 (eq_or_not keeps.0 k)
-
--- one entry more, at the counters of buffer k
-pub count_more : (order : List Entry) (e : Entry) (k : ℕ) → count_of (order ++ e ∷ []) k ≡ count_of order k + (if e.buffer.0 == k then 1 else 0)
-count_more order e k = sum_by_push (λ (x : Entry). if x.buffer.0 == k then 1 else 0) order e
-
-pub count_kind_more : (order : List Entry) (e : Entry) (k : ℕ) (which : Kind) → count_of_kind (order ++ e ∷ []) k which ≡ count_of_kind order k which + (if (e.buffer.0 == k) && kind_eq e.kind which then 1 else 0)
-count_kind_more order e k which = sum_by_push (λ (x : Entry). if (x.buffer.0 == k) && kind_eq x.kind which then 1 else 0) order e
 
 -- an entry of another buffer
 pub count_other : (order : List Entry) (e : Entry) (k : ℕ) → k ≢ e.buffer.0 → count_of (order ++ e ∷ []) k ≡ count_of order k

@@ -8,13 +8,13 @@ use Rattle.std.proofs.lemmas.Option.{slice_get_within}
 use Rattle.event_log.specs.declared.ids.TheConstants.{CPUS, THREADS, TRACE, ENTRIES}
 use Rattle.event_log.specs.declared.entries.Entry.{Entry}
 use Rattle.event_log.specs.Runs.{IsRun}
-use Rattle.event_log.specs.Buffers.{empty_buffers}
+use Rattle.event_log.specs.Buffers.{empty_buffers, IsCapacity}
 use Rattle.event_log.specs.Traces.{IsInterleaving}
 use Rattle.boot.specs.Plan.{Plan, IsPlan}
 use Rattle.tracer.specs.declared.gathering.GatherError.{GatherError}
 use Rattle.tracer.specs.declared.gathering.GatherError.TheVariants as gathering
 use Rattle.tracer.specs.Gather.{IsOrder, TakesFirstReady, HasNoOrder}
-use Rattle.tracer.specs.TraceText.{IsSpellable, IsCapacity, IsEntryOf, spelling}
+use Rattle.tracer.specs.TraceText.{IsSpellable, IsEntryOf, spelling}
 use Rattle.tracer.specs.Sinks.{Outs}
 use Rattle.tracer.proofs.OrderLemmas.{runs_have_order, run_alike}
 use Rattle.mctower.specs.Buffer.{Buffer}
@@ -24,16 +24,12 @@ use Rattle.mctower.specs.Sound.{IsSound}
 use Rattle.mctower.specs.Plans.{IsEntryAt, IsSystemOf, IsOfPlan, from_gather}
 use Rattle.mctower.specs.Running.{IsOut, Writes}
 use Rattle.mctower.specs.declared.run.Fault.{Fault}
+use Rattle.mctower.proofs.ListLemmas.{map_get}
 use Rattle.mctower.proofs.OrderNumbers.{order_length, order_all, run_numbers, run_values, empty_values}
 
 all_by : {X : Type 0} (P : X → Type 0) (xs : List X) → All P xs → AllByRecursion P xs
 all_by P [] all = tt
 all_by P (x ∷ xs) all = (all 0 x (omega arith), all_by P xs (λ k d lt. all (suc k) d (omega arith)))
-
-map_get : {X Y : Type 0} (f : X → Y) (xs : List X) (k : ℕ) (y : Y) → slice_get (map f xs) k ≡ Some y → (x : X) × (slice_get xs k ≡ Some x) × (f x ≡ y)
-map_get f [] k y at = absurd (cc)
-map_get f (x ∷ xs) zero y at = (x, refl, cc)
-map_get f (x ∷ xs) (suc k) y at = map_get f xs k y at
 
 few_together : (traces : List (List Entry)) → ((k : ℕ) (trace : List Entry) → slice_get traces k ≡ Some trace → length trace ≤ TRACE) → sum_by length traces ≤ length traces * TRACE
 few_together [] each = omega arith

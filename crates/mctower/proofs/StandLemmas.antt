@@ -5,6 +5,7 @@ use Rattle.std.specs.List.{list_all}
 use Rattle.std.proofs.lemmas.Bool.{eq-eqb, ne_eqb}
 use Rattle.std.proofs.lemmas.List.Sums.{sum_by-cons, sum_by-append}
 use Rattle.std.proofs.lemmas.Option.{same_Some}
+use Rattle.event_log.proofs.Tests.{both_true}
 use Rattle.event_log.specs.declared.ids.CpuId.{CpuId}
 use Rattle.event_log.specs.declared.ids.Tid.{Tid}
 use Rattle.event_log.specs.History.{same_cpu}
@@ -33,10 +34,6 @@ only_at t (p ∷ cpus) (suc h) n within here there =
       there 0 p refl (λ (e : 0 ≡ suc h). absurd (cc)),
       only_at t cpus h n (omega (arith, within)) (λ c q at e. here (suc c) q at (ap suc e)) (λ c q at ne. there (suc c) q at (λ e. ne (omega (arith, e)))),
     )
-
-both_true : (a b : Bool) → (a && b) ≡ true → (a ≡ true) × (b ≡ true)
-both_true true b e = (refl, e)
-both_true false b e = absurd (cc)
 
 -- where a thread is due
 due_here : (c : ℕ) (g : Guest) → g.home.0 ≡ c → due_at c (Some g) ≡ cond (is_ended g.stage) 0 1

@@ -4,7 +4,9 @@ use mathlib.Core.Logic.{dite}
 use native.Mathlib.Decide.{ℕ_discrete, dec_le}
 use mathlib.Core.Option.{some, some-injective, some-ne-none}
 use lib.ListN.{get_elem?, get_or-append}
-use Rattle.table_machine.proofs.Seeing.{at_longer}
+use Rattle.atomic_table.proofs.Lists.{at_longer, at_last}
+use Rattle.table_machine.proofs.Fresh.{length_new, read_at}
+use Rattle.event_log.proofs.Foreign.{own_others}
 use Rattle.event_log.specs.declared.ids.TheConstants.{CPUS}
 use Rattle.event_log.specs.declared.ids.CpuId.{CpuId}
 use Rattle.event_log.specs.declared.ids.LockId.{LockId}
@@ -28,10 +30,6 @@ use Rattle.mctower.proofs.CountLemmas.{frees_are_sections, number_is}
 one_more : (b : Bool) (k : ℕ) → (if b then k + 1 else k) ≡ k + (if b then 1 else 0)
 one_more true k = refl
 one_more false k = omega arith
-
-own_others : {E : Type 0} (by : E → CpuId) (c : CpuId) (others old : List E) → AreOthers by c others → own by c (others ++ old) ≡ own by c old
-own_others by c [] old h = refl
-own_others by c (e ∷ others) old h = ap (λ b. if b then e ∷ own by c (others ++ old) else own by c (others ++ old)) h.0 ∙ own_others by c others old h.1
 
 module _ {E B O : Type 0} (rules : Rules E B O) (opening : LockId → Option B) (ActsFor : CpuId → Type 0) (cpu : CpuId) (lock : LockId) (edit : E) (result : Option O) (old new : List (Section E)) (polled : Polled rules opening ActsFor (section cpu lock edit) result old new) (acts : ActsFor cpu) where
   -- a poll that does not answer adds no section of its CPU
@@ -184,16 +182,6 @@ both_last Fits [] x (y ∷ z ∷ ys) all = absurd all.1
 both_last Fits (w ∷ xs) x [] all = absurd all
 both_last Fits (w ∷ xs) x (y ∷ ys) all = let more = both_last Fits xs x ys all.1 in (y ∷ more.0, more.1, ap (λ l. y ∷ l) more.2, (all.0, more.3), more.4)
 
-length_new : (E : Type 0) {B : Type 0} (board : Board B) (n : ℕ) → length (new_desks {E = E} board n) ≡ n
-length_new E board zero = refl
-length_new E board (suc n) = length-append (new_desks {E = E} board n) (new_desk board n ∷ []) ∙ omega (arith, length_new E board n)
-
-at_last : {A : Type 0} (l : List A) (a : A) (n : ℕ) → length l ≡ n → get_elem? (l ++ a ∷ []) n ≡ some a
-at_last [] a zero e = refl
-at_last [] a (suc n) e = absurd (omega arith)
-at_last (x ∷ xs) a zero e = absurd (omega arith)
-at_last (x ∷ xs) a (suc n) e = at_last xs a n (omega arith)
-
 -- what came back for each key of a new table
 came_at : {E B : Type 0} (board : Board B) (Fits : Desk E B → Desk E B → Type 0) (n : ℕ) (came : List (Desk E B)) → Both Fits (new_desks board n) came
     → (k : ℕ) → k < n → (e : Desk E B) × (get_elem? came k ≡ some e) × Fits (new_desk board k) e
@@ -207,11 +195,6 @@ came_at {E = E} board Fits (suc n) came all k below =
     (λ (ne : k ≢ n). (
     let old = came_at board Fits n split.0 split.3 k (omega arith) in
     (old.0, ap (λ l. get_elem? l k) split.2 ∙ at_longer split.0 (split.1 ∷ []) k old.0 old.1, old.2)))
-
-read_at : {A : Type 0} (l : List A) (k : ℕ) (d a : A) → get_elem? l k ≡ some a → get_or l k d ≡ a
-read_at [] k d a at = absurd (some-ne-none a (sym at))
-read_at (x ∷ xs) zero d a at = some-injective x a at
-read_at (x ∷ xs) (suc k) d a at = read_at xs k d a at
 
 -- the keys of a new table are at rest
 pub new_at_rest : {E B : Type 0} (board : Board B) (n : ℕ) → All (IsAtRest {E = E} board) (new_desks board n)

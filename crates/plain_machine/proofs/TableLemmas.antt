@@ -1,24 +1,14 @@
 -- A table of cells: what a write leaves, and that a table filled with fresh cells has them all.
 use Rattle.std.proofs.Common.{◌≡◌, ◌≢◌, ℕ, zero, suc, ◌⊎◌, inl, inr, ◌<◌, ◌≤◌, true, false, List, [], ◌∷◌, ◌++◌, length, get_or, Option, Some, None, IsSome, is_some, refl, ap, sym, ◌∙◌, subst, All, arith}
-use Rattle.std.proofs.lemmas.Bool.{eq-eqb}
 use Rattle.std.proofs.lemmas.List.{get_or-set_same, get_or-set_other}
 use Rattle.std.proofs.lemmas.List.Elements.{All-head, All-tail}
 use Rattle.event_log.specs.declared.ids.LockId.{LockId}
-use Rattle.event_log.specs.declared.ids.LockId.TheVariants.{Pending, Buffer}
 use Rattle.event_log.specs.History.{same_lock}
 use Rattle.layer_traits.specs.OneLock.{AreDistinct, IsMissing}
 use Rattle.plain_machine.specs.declared.cells.Cell.{Cell}
-use Rattle.plain_machine.specs.Table.{address_of, cell_at, with_cell, fresh_cell, AreFresh}
-
--- two locks with one address are one lock
-pub address_same : (a b : LockId) → address_of a ≡ address_of b → same_lock a b ≡ true
-address_same (Pending a) (Pending b) e = eq-eqb a.0 b.0 (omega arith)
-address_same (Buffer a) (Buffer b) e = eq-eqb a.0 b.0 (omega arith)
-address_same (Pending a) (Buffer b) e = absurd (omega arith)
-address_same (Buffer a) (Pending b) e = absurd (omega arith)
-
-pub address_other : (a b : LockId) → same_lock a b ≡ false → address_of a ≢ address_of b
-address_other a b other e = let same : same_lock a b ≡ true = address_same a b e in cc
+use Rattle.event_log.proofs.Same.{lock_number_other}
+use Rattle.event_log.specs.Locks.{lock_number}
+use Rattle.plain_machine.specs.Table.{cell_at, with_cell, fresh_cell, AreFresh}
 
 get_or_past : {X : Type 0} (xs : List X) (i : ℕ) (d : X) → length xs ≤ i → get_or xs i d ≡ d
 get_or_past [] i d past = refl
@@ -30,20 +20,20 @@ within_or_past i n = grind arith
 
 module _ {B : Type 0} (cells : List (Option (Cell B))) (lock : LockId) where
   -- a lock that has a cell has its place within the table
-  pub cell_within : IsSome (cell_at cells lock) → address_of lock < length cells
-  cell_within has = elim (within_or_past (address_of lock) (length cells)) [
+  pub cell_within : IsSome (cell_at cells lock) → lock_number lock < length cells
+  cell_within has = elim (within_or_past (lock_number lock) (length cells)) [
     | inl within ↦ within
-    | inr past ↦ absurd (let empty : cell_at cells lock ≡ None = get_or_past cells (address_of lock) None past in
+    | inr past ↦ absurd (let empty : cell_at cells lock ≡ None = get_or_past cells (lock_number lock) None past in
         let gone : is_some (cell_at cells lock) ≡ false = ap is_some empty in cc)
   ]
 
   -- the cell that was put is there
-  pub cell_put : (cell : Cell B) → address_of lock < length cells → cell_at (with_cell cells lock cell) lock ≡ Some cell
-  cell_put cell within = get_or-set_same cells (address_of lock) (Some cell) None within
+  pub cell_put : (cell : Cell B) → lock_number lock < length cells → cell_at (with_cell cells lock cell) lock ≡ Some cell
+  cell_put cell within = get_or-set_same cells (lock_number lock) (Some cell) None within
 
   -- and each other lock has the cell that it had
   pub cell_other : (cell : Cell B) (l : LockId) → same_lock l lock ≡ false → cell_at (with_cell cells lock cell) l ≡ cell_at cells l
-  cell_other cell l other = get_or-set_other cells (address_of lock) (address_of l) (Some cell) None (address_other l lock other)
+  cell_other cell l other = get_or-set_other cells (lock_number lock) (lock_number l) (Some cell) None (lock_number_other l lock other)
 
 missing_mid : {B : Type 0} (lock : LockId) (xs : List (LockId × B)) (o : LockId × B) (ys : List (LockId × B)) → IsMissing lock (xs ++ o ∷ ys) → same_lock lock o.0 ≡ false
 missing_mid lock [] o ys missing = missing.0
@@ -51,7 +41,7 @@ missing_mid lock (x ∷ xs) o ys missing = missing_mid lock xs o ys missing.1
 
 -- one more fresh cell
 pub fresh_more : {B : Type 0} (xs : List (LockId × B)) (o : LockId × B) (ys : List (LockId × B)) (cells : List (Option (Cell B))) → AreDistinct (xs ++ o ∷ ys)
-    → address_of o.0 < length cells → AreFresh xs cells → AreFresh (xs ++ o ∷ []) (with_cell cells o.0 (fresh_cell o.1))
+    → lock_number o.0 < length cells → AreFresh xs cells → AreFresh (xs ++ o ∷ []) (with_cell cells o.0 (fresh_cell o.1))
 fresh_more [] o ys cells distinct within fresh = (cell_put cells o.0 (fresh_cell o.1) within, tt)
 fresh_more (x ∷ xs) o ys cells distinct within fresh =
     (cell_other cells o.0 (fresh_cell o.1) x.0 (missing_mid x.0 xs o ys distinct.0) ∙ fresh.0, fresh_more xs o ys cells distinct.1 within fresh.1)
@@ -62,7 +52,7 @@ all_mid P (x ∷ xs) o ys all = all_mid P xs o ys (All-tail P x (xs ++ o ∷ ys)
 
 -- a turn of the loop that fills the table
 pub fresh_turn : {B : Type 0} (blocks xs : List (LockId × B)) (o : LockId × B) (ys : List (LockId × B)) (cells : List (Option (Cell B))) → xs ++ o ∷ ys ≡ blocks → AreDistinct blocks
-    → All (λ entry. address_of entry.0 < length cells) blocks → AreFresh xs cells → AreFresh (xs ++ o ∷ []) (with_cell cells o.0 (fresh_cell o.1))
+    → All (λ entry. lock_number entry.0 < length cells) blocks → AreFresh xs cells → AreFresh (xs ++ o ∷ []) (with_cell cells o.0 (fresh_cell o.1))
 fresh_turn blocks xs o ys cells is distinct within fresh =
-    let reaches : All (λ entry. address_of entry.0 < length cells) (xs ++ o ∷ ys) = subst (λ l. All (λ entry. address_of entry.0 < length cells) l) (sym is) within in
-    fresh_more xs o ys cells (subst (λ l. AreDistinct l) (sym is) distinct) (all_mid (λ entry. address_of entry.0 < length cells) xs o ys reaches) fresh
+    let reaches : All (λ entry. lock_number entry.0 < length cells) (xs ++ o ∷ ys) = subst (λ l. All (λ entry. lock_number entry.0 < length cells) l) (sym is) within in
+    fresh_more xs o ys cells (subst (λ l. AreDistinct l) (sym is) distinct) (all_mid (λ entry. lock_number entry.0 < length cells) xs o ys reaches) fresh

@@ -1,21 +1,16 @@
--- The table of lock cells: a lock's place in it, and what the actions make of a cell.
+-- The table of lock cells, by the locks' numbers, and what the actions make of a cell.
 use Rattle.std.specs.Prelude.{◌≡◌, ℕ, ◌+◌, ◌*◌, ◌%◌, ◌^◌, ◌==◌, List, [], ◌∷◌, Option, Some, None, if◌then◌else◌, slice_index_or, slice_set}
 use Rattle.event_log.specs.declared.ids.LockId.{LockId}
-use Rattle.event_log.specs.declared.ids.LockId.TheVariants.{Pending, Buffer}
+use Rattle.event_log.specs.Locks.{lock_number}
 use Rattle.plain_machine.specs.declared.cells.Cell.{Cell}
-
--- the place of a lock in the table: even for the pending locks, odd for those of buffers
-abbrev pub address_of : LockId → ℕ
-address_of (Pending cpu) = 2 * cpu.0
-address_of (Buffer buffer) = 2 * buffer.0 + 1
 
 -- the cell of a lock, None where the table has none
 abbrev pub cell_at : {B : Type 0} → List (Option (Cell B)) → LockId → Option (Cell B)
-cell_at cells lock = slice_index_or cells (address_of lock) None
+cell_at cells lock = slice_index_or cells (lock_number lock) None
 
 -- the table with this cell put in the lock's place
 abbrev pub with_cell : {B : Type 0} → List (Option (Cell B)) → LockId → Cell B → List (Option (Cell B))
-with_cell cells lock cell = slice_set cells (address_of lock) (Some cell)
+with_cell cells lock cell = slice_set cells (lock_number lock) (Some cell)
 
 -- the cell at the start: both words are 0 and the block is home
 abbrev pub fresh_cell : {B : Type 0} → B → Cell B

@@ -1,8 +1,9 @@
 //! The words and the block of each lock, in a table that is indexed by the lock.
 
 ghost use Rattle.std.specs.Prelude.{◌≡◌, ℕ, ◌+◌, ◌<◌, ◌==◌, IsSome, IfSome, IfOk, All, Some, None, option_map, if◌then◌else◌, length};
+ghost use Rattle.event_log.specs.Locks.{lock_number};
 ghost use Rattle.layer_traits.specs.OneLock.{AreDistinct};
-ghost use Rattle.plain_machine.specs.Table.{address_of, cell_at, with_cell, fresh_cell, drawn_cell, looked_cell, freed_cell, AreFresh};
+ghost use Rattle.plain_machine.specs.Table.{cell_at, with_cell, fresh_cell, drawn_cell, looked_cell, freed_cell, AreFresh};
 
 use event_log::{LockId, NoMemory};
 use std::alloc::Global;
@@ -27,23 +28,12 @@ pub struct Cell<B> {
     pub home: Option<B>,
 }
 
-/// The place of `lock` in a table: even for the pending locks, odd for those of buffers.
-pub fn address(lock: LockId) -> usize
-    ensures place { result ≡ address_of lock }
-    ensures within { result < 512 }
-{
-    match lock {
-        LockId::Pending(cpu) => 2 * usize::from(cpu.0),
-        LockId::Buffer(buffer) => 2 * usize::from(buffer.0) + 1,
-    }
-}
-
 /// Draws at `lock`, and gives the ticket.
 pub fn draw<B>(cells: &mut Vec<Option<Cell<B>>>, lock: LockId) -> u64
     requires { IsSome (cell_at cells.old.items lock) }
     ensures { IfSome (cell_at cells.old.items lock) (λ cell. (result ≡ cell.next) × (cells.new.items ≡ with_cell cells.old.items lock (drawn_cell cell))) }
 {
-    match &mut cells[address(lock)] {
+    match &mut cells[lock.number()] {
         Some(cell) => {
             let ticket = cell.next;
             cell.next = ticket.wrapping_add(1);
@@ -59,7 +49,7 @@ pub fn look<B>(cells: &mut Vec<Option<Cell<B>>>, lock: LockId, ticket: u64) -> O
     ensures { IfSome (cell_at cells.old.items lock) (λ cell. (result ≡ (if cell.serving == ticket then cell.home else None))
         × (cells.new.items ≡ with_cell cells.old.items lock (looked_cell cell ticket))) }
 {
-    match &mut cells[address(lock)] {
+    match &mut cells[lock.number()] {
         Some(cell) => {
             if cell.serving == ticket {
                 cell.home.take()
@@ -76,7 +66,7 @@ pub fn free<B: Drop>(cells: &mut Vec<Option<Cell<B>>>, lock: LockId, block: B)
     requires { IsSome (cell_at cells.old.items lock) }
     ensures { IfSome (cell_at cells.old.items lock) (λ cell. cells.new.items ≡ with_cell cells.old.items lock (freed_cell cell block)) }
 {
-    match &mut cells[address(lock)] {
+    match &mut cells[lock.number()] {
         Some(cell) => {
             cell.serving = cell.serving.wrapping_add(1);
             cell.home = Some(block);
@@ -90,7 +80,7 @@ pub fn home<B>(cells: &Vec<Option<Cell<B>>>, lock: LockId) -> Option<&B>
     requires { IsSome (cell_at cells.now.items lock) }
     ensures { IfSome (cell_at cells.now.items lock) (λ cell. option_map (λ block. block.now) result ≡ cell.home) }
 {
-    match &cells[address(lock)] {
+    match &cells[lock.number()] {
         Some(cell) => cell.home.as_ref(),
         None => unreachable!(),
     }
@@ -101,7 +91,7 @@ pub fn words<B>(cells: &Vec<Option<Cell<B>>>, lock: LockId) -> LockWords
     requires { IsSome (cell_at cells.now.items lock) }
     ensures { IfSome (cell_at cells.now.items lock) (λ cell. (result.next ≡ cell.next) × (result.serving ≡ cell.serving)) }
 {
-    match &cells[address(lock)] {
+    match &cells[lock.number()] {
         Some(cell) => LockWords {
             next: cell.next,
             serving: cell.serving,
@@ -112,11 +102,11 @@ pub fn words<B>(cells: &Vec<Option<Cell<B>>>, lock: LockId) -> LockWords
 
 /// How long a table has to be, so that each of these locks has a place in it.
 pub fn table_len<B>(blocks: &Vec<(LockId, B)>) -> usize
-    ensures { All (λ entry. address_of entry.0 < result) blocks.now.items }
+    ensures { All (λ entry. lock_number entry.0 < result) blocks.now.items }
 {
     let mut len = 0;
     for entry in blocks {
-        let end = address(entry.0) + 1;
+        let end = entry.0.number() + 1;
         if len < end {
             len = end;
         }
@@ -139,10 +129,10 @@ pub fn empty_table<B: Drop>(alloc: Global, len: usize) -> Result<Vec<Option<Cell
 
 /// Puts a fresh cell with this block in the place of `lock`.
 pub fn put<B: Drop>(cells: &mut Vec<Option<Cell<B>>>, lock: LockId, block: B)
-    requires { address_of lock < length cells.old.items }
+    requires { lock_number lock < length cells.old.items }
     ensures { cells.new.items ≡ with_cell cells.old.items lock (fresh_cell block) }
 {
-    cells[address(lock)] = Some(Cell {
+    cells[lock.number()] = Some(Cell {
         next: 0,
         serving: 0,
         home: Some(block),
@@ -152,7 +142,7 @@ pub fn put<B: Drop>(cells: &mut Vec<Option<Cell<B>>>, lock: LockId, block: B)
 /// Puts a fresh cell with its block in the place of each lock.
 pub fn fill<B: Drop>(cells: &mut Vec<Option<Cell<B>>>, blocks: Vec<(LockId, B)>)
     requires distinct { AreDistinct blocks.items }
-    requires within { All (λ entry. address_of entry.0 < length cells.old.items) blocks.items }
+    requires within { All (λ entry. lock_number entry.0 < length cells.old.items) blocks.items }
     ensures { AreFresh blocks.items cells.new.items }
 {
     for (lock, block) in blocks {

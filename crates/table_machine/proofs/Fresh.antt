@@ -12,19 +12,13 @@ use Rattle.event_log.proofs.Foreign.{standing_others}
 use Rattle.layer_traits.specs.declared.edits.Mark.{Mark}
 use Rattle.table_machine.specs.Views.{IsCpu}
 use Rattle.table_machine.specs.Desks.{Board, Desk, new_desk, new_desks, Covers, IsOver}
-use Rattle.table_machine.proofs.Seeing.{at_longer}
+use Rattle.atomic_table.proofs.Lists.{at_longer, at_last}
 
-length_new : (E : Type 0) {B : Type 0} (board : Board B) (n : ℕ) → length (new_desks {E = E} board n) ≡ n
+pub length_new : (E : Type 0) {B : Type 0} (board : Board B) (n : ℕ) → length (new_desks {E = E} board n) ≡ n
 length_new E board zero = refl
 length_new E board (suc n) = length-append (new_desks {E = E} board n) (new_desk board n ∷ []) ∙ omega (arith, length_new E board n)
 
-at_last : {A : Type 0} (l : List A) (a : A) (n : ℕ) → length l ≡ n → get_elem? (l ++ a ∷ []) n ≡ some a
-at_last [] a zero e = refl
-at_last [] a (suc n) e = absurd (omega arith)
-at_last (x ∷ xs) a zero e = absurd (omega arith)
-at_last (x ∷ xs) a (suc n) e = at_last xs a n (omega arith)
-
-read_at : {A : Type 0} (l : List A) (k : ℕ) (d a : A) → get_elem? l k ≡ some a → get_or l k d ≡ a
+pub read_at : {A : Type 0} (l : List A) (k : ℕ) (d a : A) → get_elem? l k ≡ some a → get_or l k d ≡ a
 read_at [] k d a at = absurd (some-ne-none a (sym at))
 read_at (x ∷ xs) zero d a at = some-injective x a at
 read_at (x ∷ xs) (suc k) d a at = read_at xs k d a at

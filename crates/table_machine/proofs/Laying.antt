@@ -2,6 +2,9 @@
 use Rattle.std.proofs.Common.{◌≡◌, ◌≢◌, ℕ, suc, ◌+◌, ◌-◌, ◌<◌, ◌≤◌, Bool, true, false, if◌then◌else◌, List, [], ◌∷◌, ◌++◌, length, get_or, set, drop, map, replicate, ◌^◌, zero-add, Some, IsSome, refl, ap, sym, ◌∙◌, subst, arith, eq-eqb, add-one, get_or-set_same, get_or-set_other, drop-cons}
 use Rattle.atomic_table.specs.Seated.{TableId}
 use Rattle.atomic_table.specs.Table.{Me, Splits}
+use Rattle.event_log.specs.Locks.{lock_number}
+use Rattle.event_log.specs.declared.ids.TheConstants.{LOCKS}
+use Rattle.event_log.proofs.Same.{lock_number_same}
 use Rattle.event_log.specs.declared.ids.LockId.{LockId}
 use Rattle.event_log.specs.declared.ids.LockId.TheVariants.{Pending, Buffer}
 use Rattle.event_log.specs.History.{same_lock}
@@ -11,7 +14,7 @@ use Rattle.layer_traits.specs.OneLock.{opened}
 use Rattle.table_machine.specs.declared.views.Home.{Home}
 use Rattle.table_machine.specs.declared.views.View.{View}
 use lib.ListN.{length-replicate, length-map}
-use Rattle.table_machine.specs.Places.{index_of, number_of, word_count, TellsPlaces, IsLaidOut}
+use Rattle.table_machine.specs.Places.{index_of, word_count, TellsPlaces, IsLaidOut}
 use Rattle.table_machine.specs.Views.{viewed, mine, owner, cpus_from}
 use Rattle.table_machine.specs.Rule.{Kept, fresh_home}
 use Rattle.table_machine.specs.Desks.{Board, new_desk, new_desks}
@@ -19,41 +22,35 @@ use Rattle.table_machine.proofs.Dealing.{deals_split}
 use Rattle.table_machine.proofs.Asking.{board_of}
 use Rattle.table_machine.proofs.Meeting.{has_words}
 
-number_same : (a b : LockId) → number_of a ≡ number_of b → same_lock a b ≡ true
-number_same (Pending a) (Pending b) e = eq-eqb a.0 b.0 (omega arith)
-number_same (Buffer a) (Buffer b) e = eq-eqb a.0 b.0 (omega arith)
-number_same (Pending a) (Buffer b) e = absurd (omega arith)
-number_same (Buffer a) (Pending b) e = absurd (omega arith)
-
 -- the row tells the places of the locks from this place on
 abbrev pub TellsFrom : {B : Type 0} → List ℕ → List (LockId × B) → ℕ → Type 0
-TellsFrom row blocks from = (lock : LockId) → IsSome (opened (drop from blocks) lock) → get_or row (number_of lock) 0 ≡ from + index_of (drop from blocks) lock
+TellsFrom row blocks from = (lock : LockId) → IsSome (opened (drop from blocks) lock) → get_or row (lock_number lock) 0 ≡ from + index_of (drop from blocks) lock
 
-tells_one : {B : Type 0} (row : List ℕ) (o : LockId × B) (rest : List (LockId × B)) (i : ℕ) → number_of o.0 < length row
-    → ((lock : LockId) → IsSome (opened rest lock) → get_or row (number_of lock) 0 ≡ suc i + index_of rest lock)
-    → (lock : LockId) → IsSome (opened (o ∷ rest) lock) → get_or (set row (number_of o.0) i) (number_of lock) 0 ≡ i + index_of (o ∷ rest) lock
+tells_one : {B : Type 0} (row : List ℕ) (o : LockId × B) (rest : List (LockId × B)) (i : ℕ) → lock_number o.0 < length row
+    → ((lock : LockId) → IsSome (opened rest lock) → get_or row (lock_number lock) 0 ≡ suc i + index_of rest lock)
+    → (lock : LockId) → IsSome (opened (o ∷ rest) lock) → get_or (set row (lock_number o.0) i) (lock_number lock) 0 ≡ i + index_of (o ∷ rest) lock
 tells_one row o rest i within tells lock exists = go (same_lock o.0 lock) refl
   where
-    go : (b : Bool) → same_lock o.0 lock ≡ b → get_or (set row (number_of o.0) i) (number_of lock) 0 ≡ i + index_of (o ∷ rest) lock
+    go : (b : Bool) → same_lock o.0 lock ≡ b → get_or (set row (lock_number o.0) i) (lock_number lock) 0 ≡ i + index_of (o ∷ rest) lock
     go true same =
         let lock_is : o.0 ≡ lock = same_lock_true o.0 lock same in
-        let read : get_or (set row (number_of o.0) i) (number_of lock) 0 ≡ i = subst (λ (l : LockId). get_or (set row (number_of o.0) i) (number_of l) 0 ≡ i) lock_is (get_or-set_same row (number_of o.0) i 0 within) in
+        let read : get_or (set row (lock_number o.0) i) (lock_number lock) 0 ≡ i = subst (λ (l : LockId). get_or (set row (lock_number o.0) i) (lock_number l) 0 ≡ i) lock_is (get_or-set_same row (lock_number o.0) i 0 within) in
         let none : index_of (o ∷ rest) lock ≡ 0 = ap (λ b. if b then 0 else suc (index_of rest lock)) same in omega arith
     go false other =
-        let away : number_of lock ≢ number_of o.0 = λ e. (let same = number_same o.0 lock (sym e) in absurd (cc (other, same))) in
-        let read : get_or (set row (number_of o.0) i) (number_of lock) 0 ≡ get_or row (number_of lock) 0 = get_or-set_other row (number_of o.0) (number_of lock) i 0 away in
-        let old : get_or row (number_of lock) 0 ≡ suc i + index_of rest lock = tells lock (subst (λ b. IsSome (if b then Some o.1 else opened rest lock)) other exists) in
+        let away : lock_number lock ≢ lock_number o.0 = λ e. (let same = lock_number_same o.0 lock (sym e) in absurd (cc (other, same))) in
+        let read : get_or (set row (lock_number o.0) i) (lock_number lock) 0 ≡ get_or row (lock_number lock) 0 = get_or-set_other row (lock_number o.0) (lock_number lock) i 0 away in
+        let old : get_or row (lock_number lock) 0 ≡ suc i + index_of rest lock = tells lock (subst (λ b. IsSome (if b then Some o.1 else opened rest lock)) other exists) in
         let later : index_of (o ∷ rest) lock ≡ suc (index_of rest lock) = ap (λ b. if b then 0 else suc (index_of rest lock)) other in omega arith
 
 -- one place more, downwards
-pub tells_more : {B : Type 0} (row : List ℕ) (blocks : List (LockId × B)) (o : LockId × B) (place : ℕ) → 0 < place → place - 1 < length blocks → o ≡ get_or blocks (place - 1) o → number_of o.0 < length row
-    → TellsFrom row blocks place → TellsFrom (set row (number_of o.0) (place - 1)) blocks (place - 1)
+pub tells_more : {B : Type 0} (row : List ℕ) (blocks : List (LockId × B)) (o : LockId × B) (place : ℕ) → 0 < place → place - 1 < length blocks → o ≡ get_or blocks (place - 1) o → lock_number o.0 < length row
+    → TellsFrom row blocks place → TellsFrom (set row (lock_number o.0) (place - 1)) blocks (place - 1)
 tells_more {B} row blocks o place some below is within tells =
     let i : ℕ = place - 1 in
     let up : place ≡ suc i = omega arith in
     let cut : drop i blocks ≡ o ∷ drop (suc i) blocks = drop-cons blocks i o below ∙ ap (λ (x : LockId × B). x ∷ drop (suc i) blocks) (sym is) in
     let old : TellsFrom row blocks (suc i) = subst (λ (p : ℕ). TellsFrom row blocks p) up tells in
-    subst (λ (l : List (LockId × B)). (lock : LockId) → IsSome (opened l lock) → get_or (set row (number_of o.0) i) (number_of lock) 0 ≡ i + index_of l lock) (sym cut) (tells_one row o (drop (suc i) blocks) i within old)
+    subst (λ (l : List (LockId × B)). (lock : LockId) → IsSome (opened l lock) → get_or (set row (lock_number o.0) i) (lock_number lock) 0 ≡ i + index_of l lock) (sym cut) (tells_one row o (drop (suc i) blocks) i within old)
 
 one_less : (n k : ℕ) → k < n → n - k ≡ suc (n - (k + 1))
 one_less n k below = omega arith
@@ -96,7 +93,7 @@ tells_all row blocks place done tells lock exists =
 module _ {E B : Type 0} where
   pub laid_fits : (start blocks : List (LockId × B)) (words slots : ℕ) (row places : List ℕ) (locks : List LockId) (homes : List (Home E B)) → start ≡ blocks
       → words ≡ length row → row ≡ replicate (word_count (length blocks)) 0 → slots ≡ length homes → homes ≡ map (λ (o : LockId × B). fresh_home o.1) blocks
-      → word_count (length blocks) < 2 ^ 64 → length places ≡ 512 → TellsPlaces places blocks → locks ≡ map (λ (o : LockId × B). o.0) blocks
+      → word_count (length blocks) < 2 ^ 64 → length places ≡ LOCKS → TellsPlaces places blocks → locks ≡ map (λ (o : LockId × B). o.0) blocks
       → IsLaidOut start words slots places locks
   laid_fits start blocks words slots row places locks homes same words_is row_is slots_is homes_are small places_are tells locks_are =
       subst (λ (s : List (LockId × B)). IsLaidOut s words slots places locks) (sym same) (record {

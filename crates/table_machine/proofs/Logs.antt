@@ -8,22 +8,13 @@ use Rattle.event_log.specs.History.{same_cpu, same_lock, AreOthers, IsLawful, ow
 use Rattle.event_log.specs.WordsLog.{actor, standing, left_by, IsLegalWords, Inside}
 use Rattle.event_log.specs.Sections.{block_after, Section, section_actor}
 use Rattle.event_log.proofs.Same.{same_lock_true}
+use Rattle.event_log.proofs.Foreign.{standing_others, own_others}
 use Rattle.layer_traits.specs.declared.edits.Mark.{Mark}
 use Rattle.layer_traits.specs.Protocol.{sections, MayCome, section}
 use Rattle.table_machine.specs.Views.{EndsWith, IsSince}
 use Rattle.event_log.proofs.Tickets.{one_inside}
 
 module _ {M : Type 0} where
-  -- a CPU stands where it stood while others act
-  pub standing_others : (c : CpuId) (more past : List (Event M)) → AreOthers actor c more → standing c (more ++ past) ≡ standing c past
-  standing_others c [] past h = refl
-  standing_others c (e ∷ more) past h = ap (λ b. if b then left_by e else standing c (more ++ past)) h.0 ∙ standing_others c more past h.1
-
-  -- a CPU has the events that it had while others act
-  pub own_others : (c : CpuId) (more past : List (Event M)) → AreOthers actor c more → own actor c (more ++ past) ≡ own actor c past
-  own_others c [] past h = refl
-  own_others c (e ∷ more) past h = ap (λ b. if b then e ∷ own actor c (more ++ past) else own actor c (more ++ past)) h.0 ∙ own_others c more past h.1
-
   pub others_append : (c : CpuId) (a b : List (Event M)) → AreOthers actor c a → AreOthers actor c b → AreOthers actor c (a ++ b)
   others_append c [] b h k = k
   others_append c (e ∷ a) b h k = (h.0, others_append c a b h.1 k)
@@ -43,7 +34,7 @@ module _ {M : Type 0} where
   standing_since c log seen s = ap (standing c) s.is ∙ standing_others c s.more seen s.others
 
   pub own_since : (c : CpuId) (log seen : List (Event M)) → IsSince log seen c → own actor c log ≡ own actor c seen
-  own_since c log seen s = ap (own actor c) s.is ∙ own_others c s.more seen s.others
+  own_since c log seen s = ap (own actor c) s.is ∙ own_others actor c s.more seen s.others
 
   -- a log goes on from nothing
   pub ends_nil : (log : List (Event M)) → EndsWith log []

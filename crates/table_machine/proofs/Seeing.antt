@@ -20,16 +20,6 @@ at_end [] a b (suc j) e = absurd (some-ne-none b (sym e))
 at_end (x ∷ xs) a b zero e = inl e
 at_end (x ∷ xs) a b (suc j) e = ⊎_elim inl (λ t. inr (ap suc t.0, t.1)) (at_end xs a b j e)
 
-pub at_longer : {A : Type 0} (l m : List A) (i : ℕ) (a : A) → get_elem? l i ≡ some a → get_elem? (l ++ m) i ≡ some a
-at_longer [] m i a e = absurd (some-ne-none a (sym e))
-at_longer (x ∷ xs) m zero a e = e
-at_longer (x ∷ xs) m (suc i) a e = at_longer xs m i a e
-
-pub set_length : {A : Type 0} (l : List A) (i : ℕ) (a : A) → length (set l i a) ≡ length l
-set_length [] i a = refl
-set_length (x ∷ xs) zero a = refl
-set_length (x ∷ xs) (suc i) a = ap suc (set_length xs i a)
-
 -- a seat that changed hands
 abbrev pub moved_seat : ℕ → ℕ → ℕ → ℕ
 moved_seat from to seat = if seat == from then to else seat

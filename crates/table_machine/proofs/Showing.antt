@@ -1,5 +1,5 @@
 -- How the words and the slots change with a step.
-use Rattle.std.proofs.Common.{◌≡◌, ◌≢◌, ℕ, zero, suc, ◌<◌, Bool, true, false, List, [], ◌∷◌, length, set, get_or, map, replicate, Option, Some, None, IsSome, slice_index, refl, ap, sym, ◌∙◌, subst, arith, get_or-set_other}
+use Rattle.std.proofs.Common.{length-set, ◌≡◌, ◌≢◌, ℕ, zero, suc, ◌<◌, Bool, true, false, List, [], ◌∷◌, length, set, get_or, map, replicate, Option, Some, None, IsSome, slice_index, refl, ap, sym, ◌∙◌, subst, arith, get_or-set_other}
 use mathlib.Core.Option.{Option as Maybe, none, some}
 use lib.ListN.{get_elem?, length-replicate, length-map}
 use Rattle.event_log.specs.declared.ids.LockId.{LockId}
@@ -14,7 +14,6 @@ use Rattle.table_machine.specs.declared.views.Home.{Home}
 use Rattle.table_machine.specs.Places.{index_of, next_at, serving_at, word_count}
 use Rattle.table_machine.specs.Rule.{home_block, fresh_home, Stands, Shows}
 use Rattle.table_machine.proofs.Finding.{index_same, index_below, opened_there}
-use Rattle.table_machine.proofs.Seeing.{set_length}
 
 -- a lock that a step does not touch
 abbrev pub IsApart : ℕ → ℕ → Type 0
@@ -70,7 +69,7 @@ module _ {E B : Type 0} (edited : E → B → B) (start : List (LockId × B)) wh
       → Stands edited start (set words i x) later (e ∷ log) (event_lock e)
       → Shows edited start (set words i x) later (e ∷ log)
   shows_step words homes log shows e may i x apart later count same here = record {
-    word_length = set_length words i x ∙ shows.word_length;
+    word_length = length-set words i x ∙ shows.word_length;
     home_length = count;
     stand = λ lock exists. go lock exists (same_lock lock (event_lock e)) refl;
   }

@@ -1,5 +1,5 @@
 -- Each atomic step keeps the rule, and tells what it tells.
-use Rattle.std.proofs.Common.{◌≡◌, ◌==◌, ℕ, ◌+◌, ◌<◌, ◌%◌, ◌^◌, ◌⊎◌, inl, inr, ⊎_elim, Bool, true, false, if◌then◌else◌, List, [], ◌∷◌, ◌++◌, length, set, Some, IsSome, option_map, slice_index, refl, ap, sym, ◌∙◌, subst, arith, get_or-set_same, get_or-set_other, lt_of_lt_of_le, ne_eqb}
+use Rattle.std.proofs.Common.{length-set, ◌≡◌, ◌==◌, ℕ, ◌+◌, ◌<◌, ◌%◌, ◌^◌, ◌⊎◌, inl, inr, ⊎_elim, Bool, true, false, if◌then◌else◌, List, [], ◌∷◌, ◌++◌, length, set, Some, IsSome, option_map, slice_index, refl, ap, sym, ◌∙◌, subst, arith, get_or-set_same, get_or-set_other, lt_of_lt_of_le, ne_eqb}
 use mathlib.Core.Option.{Option as Maybe, none, some}
 use lib.ListN.{get_elem?}
 use lib.Seq.{set-get_or}
@@ -25,7 +25,7 @@ use Rattle.table_machine.specs.Plays.{Moves, Drew, Looked, Freed, Met, Entered}
 use Rattle.layer_traits.proofs.OneLockLemmas.{standing_own, drew, missed, hit, freed, hit_finds}
 use Rattle.table_machine.proofs.Logs.{standing_since, legal_words, lawful_sections, sections_more, sections_others, inside_keeps, ends_nil}
 use Rattle.table_machine.proofs.Finding.{index_below}
-use Rattle.table_machine.proofs.Seeing.{sees_moved, sees_less, sees_new, sees_join, one_event, owns_viewed, set_length}
+use Rattle.table_machine.proofs.Seeing.{sees_moved, sees_less, sees_new, sees_join, one_event, owns_viewed}
 use Rattle.table_machine.proofs.Showing.{next_apart, serving_apart, next_not_serving, serving_not_next, next_within, serving_within, reword, shows_step, home_of}
 
 module _ {E B O : Type 0} (R : Rules E B O) (n : ℕ) (start : List (LockId × B)) where
@@ -169,7 +169,7 @@ module _ {E B O : Type 0} (R : Rules E B O) (n : ℕ) (start : List (LockId × B
         at = set_here s.homes k none within;
         is = hit R.edited (opened start) lock cpu ticket read kept.log same (slice_index s.words (next_at k)) (slice_index s.words i) (home_block old.home) old.is;
       } in
-      let shows = shows_step R.edited start s.words s.homes kept.log kept.shows e may.0 i read (serving_apart k) homes (set_length s.homes k none ∙ kept.shows.home_length) (λ j away. set_else s.homes k j none away) (loaded s i homes (e ∷ kept.log) lock here) in (
+      let shows = shows_step R.edited start s.words s.homes kept.log kept.shows e may.0 i read (serving_apart k) homes (length-set s.homes k none ∙ kept.shows.home_length) (λ j away. set_else s.homes k j none away) (loaded s i homes (e ∷ kept.log) lock here) in (
         mine start cpu (e ∷ kept.log),
         takes k y,
         old.at ∙ ap some found.2,
@@ -237,7 +237,7 @@ module _ {E B O : Type 0} (R : Rules E B O) (n : ℕ) (start : List (LockId × B
             (subst (λ o. LockFits R.edited (opened start) (e ∷ kept.log) lock (slice_index s.words (next_at k)) x o) (sym has_block)
             (freed R.edited (opened start) lock cpu ticket (mark_of edit) kept.log words_legal inside block block_is (slice_index s.words (next_at k)) read (home_block old.home) old.is));
       } in
-      let shows = shows_step R.edited start s.words s.homes kept.log kept.shows e may.0 i x (serving_apart k) homes (set_length s.homes k (some y) ∙ kept.shows.home_length) (λ j away. set_else s.homes k j (some y) away) here in (
+      let shows = shows_step R.edited start s.words s.homes kept.log kept.shows e may.0 i x (serving_apart k) homes (length-set s.homes k (some y) ∙ kept.shows.home_length) (λ j away. set_else s.homes k j (some y) away) here in (
         mine start cpu (e ∷ kept.log),
         gives,
         tt,

@@ -2,8 +2,9 @@
 -- Word 0 is never written. The words of a lock are 8 words, 64 bytes, from each other and from those of every other lock.
 use Rattle.std.specs.Prelude.{◌≡◌, ℕ, suc, ◌+◌, ◌*◌, ◌^◌, ◌<◌, if◌then◌else◌, List, [], ◌∷◌, length, map, slice_index, IsSome}
 use Rattle.event_log.specs.declared.ids.LockId.{LockId}
-use Rattle.event_log.specs.declared.ids.LockId.TheVariants.{Pending, Buffer}
+use Rattle.event_log.specs.declared.ids.TheConstants.{LOCKS}
 use Rattle.event_log.specs.History.{same_lock}
+use Rattle.event_log.specs.Locks.{lock_number}
 use Rattle.layer_traits.specs.OneLock.{opened}
 
 -- the place of a lock among those of the opening, counted from 0; past the last where it is missing
@@ -23,20 +24,15 @@ serving_at index = 16 * index + 16
 abbrev pub word_count : ℕ → ℕ
 word_count locks = 16 * locks + 1
 
--- a number for each lock that there can be: even for a CPU's, odd for a buffer's
-abbrev pub number_of : LockId → ℕ
-number_of (Pending cpu) = 2 * cpu.0
-number_of (Buffer buffer) = 2 * buffer.0 + 1
-
 -- the row tells the place of each lock of the opening
 abbrev pub TellsPlaces : {B : Type 0} → List ℕ → List (LockId × B) → Type 0
-TellsPlaces places start = (lock : LockId) → IsSome (opened start lock) → slice_index places (number_of lock) ≡ index_of start lock
+TellsPlaces places start = (lock : LockId) → IsSome (opened start lock) → slice_index places (lock_number lock) ≡ index_of start lock
 
 -- a table is laid out for these locks: their words, their slots, and the row of their places
 pub record IsLaidOut {B : Type 0} (start : List (LockId × B)) (words slots : ℕ) (places : List ℕ) (locks : List LockId) : Type 0 where
   pub words_are : words ≡ word_count (length start)
   pub slots_are : slots ≡ length start
   pub small : word_count (length start) < 2 ^ 64
-  pub row : length places ≡ 512
+  pub row : length places ≡ LOCKS
   pub tells : TellsPlaces places start
   pub locks_are : locks ≡ map (λ (o : LockId × B). o.0) start

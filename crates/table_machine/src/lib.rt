@@ -6,7 +6,6 @@
 mod close;
 mod keys;
 mod open;
-mod places;
 mod plays;
 mod rule;
 mod seats;

@@ -2,7 +2,7 @@
 
 ghost use Rattle.std.specs.Prelude.{◌≡◌, ◌+◌, ◌-◌, ◌<◌, ◌≤◌, ◌^◌, [], length, map, replicate, vec_len, vec_capacity, IfOk};
 ghost use Rattle.event_log.specs.declared.ids.LockId.{LockId};
-ghost use Rattle.event_log.specs.declared.ids.TheConstants.{CPUS};
+ghost use Rattle.event_log.specs.declared.ids.TheConstants.{CPUS, LOCKS};
 ghost use Rattle.layer_traits.specs.OneLock.{AreDistinct};
 ghost use Rattle.table_machine.specs.Places.{word_count, TellsPlaces, IsLaidOut};
 ghost use Rattle.table_machine.specs.Rule.{fresh_home};
@@ -10,12 +10,11 @@ ghost use Rattle.table_machine.specs.Views.{viewed, cpus_from};
 ghost use Rattle.table_machine.specs.Desks.{new_desk, new_desks};
 
 use crate::keys::Key;
-use crate::places::{LOCKS, number_of_lock};
 use crate::plays::Deals;
 use crate::rule::{Opening, Token, Whole};
 use crate::shared::Shared;
 use crate::views::Home;
-use event_log::{CPUS, CpuId, LockId, NoMemory};
+use event_log::{CPUS, CpuId, LOCKS, LockId, NoMemory};
 use layer_traits::Edit;
 use std::alloc::{AllocError, Global};
 use std::snapshot::Snapshot;
@@ -155,7 +154,7 @@ fn laid_out<E: Edit>(
 ) -> Result<Layout<E>, AllocError>
     ensures words { IfOk result (λ r. r.words.items ≡ replicate (word_count (length blocks.items)) 0) }
     ensures small { IfOk result (λ r. word_count (length blocks.items) < 2 ^ 64) }
-    ensures row { IfOk result (λ r. length r.places.items ≡ 512) }
+    ensures row { IfOk result (λ r. length r.places.items ≡ LOCKS) }
     ensures places { IfOk result (λ r. TellsPlaces r.places.items blocks.items) }
     ensures locks { IfOk result (λ r. r.locks.items ≡ map (λ (o : LockId × _). o.0) blocks.items) }
     ensures homes { IfOk result (λ r. r.homes.items ≡ map (λ (o : LockId × _). fresh_home o.1) blocks.items) }
@@ -191,14 +190,14 @@ fn zero_words(alloc: Global, locks: usize) -> Result<Vec<u64>, AllocError>
 
 // A row that tells the place of each lock.
 fn places_of<B>(alloc: Global, blocks: &[(LockId, B)]) -> Result<Vec<usize>, AllocError>
-    ensures row { IfOk result (λ v. length v.items ≡ 512) }
+    ensures row { IfOk result (λ v. length v.items ≡ LOCKS) }
     ensures places { IfOk result (λ v. TellsPlaces v.items blocks.now) }
 {
     let mut places = vec![in alloc; 0; LOCKS]?;
     let mut place = blocks.len();
     while place > 0 {
         place -= 1;
-        places[number_of_lock(blocks[place].0)] = place;
+        places[blocks[place].0.number()] = place;
     }
     Ok(places)
 }

@@ -4,7 +4,6 @@ ghost use Rattle.std.specs.Prelude.{◌≡◌, ◌<◌, ◌^◌, IsSome, length}
 ghost use Rattle.layer_traits.specs.OneLock.{opened};
 ghost use Rattle.table_machine.specs.Places.{index_of, next_at, serving_at, word_count};
 
-use crate::places::number_of_lock;
 use crate::rule::Whole;
 use event_log::LockId;
 use layer_traits::Edit;
@@ -47,7 +46,7 @@ impl<E: Edit> Shared<E> {
         ensures within { result < length self.now.start }
         ensures small { word_count (length self.now.start) < 2 ^ 64 }
     {
-        self.places[number_of_lock(lock)]
+        self.places[lock.number()]
     }
 
     // The word `next` of a lock.

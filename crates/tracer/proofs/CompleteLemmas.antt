@@ -6,20 +6,17 @@ use Rattle.std.proofs.lemmas.List.{length_push, length-drop, length-set, length-
 use Rattle.event_log.specs.Messages.{Message}
 use Rattle.event_log.specs.declared.ids.TheConstants.{BUFFERS, ENTRIES}
 use Rattle.event_log.specs.declared.entries.Entry.{Entry}
-use Rattle.event_log.specs.Buffers.{items_of, empty_buffers, after_effect}
+use Rattle.event_log.specs.Buffers.{items_of, empty_buffers, after_effect, IsCapacity}
 use Rattle.event_log.specs.Runs.{after_entry, IsRunFrom, IsRun}
 use Rattle.tracer.specs.declared.stages.Stage.TheVariants as stage
 use Rattle.tracer.specs.declared.verdicts.Verdict.TheVariants.{Yes}
-use Rattle.tracer.specs.TraceText.{line_of, head_pieces, count_pieces, cap_pieces, entry_pieces, left_pieces, end_pieces, numbered, lines_of, spelling, IsCapacity, IsEntryOf, IsSpellable, IsTraceText}
+use Rattle.tracer.specs.TraceText.{line_of, head_pieces, count_pieces, cap_pieces, entry_pieces, left_pieces, end_pieces, numbered, lines_of, spelling, IsEntryOf, IsSpellable, IsTraceText, AreSmall}
 use Rattle.tracer.specs.Judging.{Progress, opening, step, lines_in, verdict_from, verdict_of}
 use Rattle.tracer.proofs.SplitLemmas.{IsLine, line_read}
 use Rattle.tracer.proofs.KnownLemmas.{known_fresh_from}
 use Rattle.tracer.proofs.EntryLemmas.{progress, behind_e}
 use Rattle.tracer.proofs.StepLemmas.{entry_is_line, step_entry, behind_left, left_is_line, step_first_left, step_left}
 use Rattle.tracer.proofs.OpeningLemmas.{step_head, step_end, count_is_line_of, step_count, opened, cap_is_line, step_cap}
-
-abbrev AreSmall : List Message → Type 0
-AreSmall items = AllByRecursion (λ v. v < 2 ^ 64) items
 
 -- the last line
 end_is_line : IsLine end_pieces

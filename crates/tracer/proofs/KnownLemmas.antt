@@ -3,7 +3,6 @@ use Rattle.std.proofs.Common.{◌≡◌, ◌≢◌, ℕ, zero, suc, ◌+◌, ◌
 use Rattle.std.specs.Prelude.{slice_get, slice_set, nat_lt}
 use Rattle.std.proofs.lemmas.Bool.{cases_eq}
 use Rattle.std.proofs.lemmas.List.{get_or-set_same, get_or-set_other, length-set, same_lists}
-use Rattle.std.proofs.lemmas.List.Sums.{sum_by_push}
 use Rattle.std.proofs.lemmas.Option.{slice_get-get_or, slice_get_within}
 use Rattle.event_log.specs.Messages.{Message}
 use Rattle.event_log.specs.declared.entries.Kind.{Kind}
@@ -12,6 +11,7 @@ use Rattle.event_log.specs.declared.entries.Entry.{Entry}
 use Rattle.event_log.specs.Buffers.{items_of, empty_buffers, IsAllowedEffect, after_effect}
 use Rattle.event_log.specs.Runs.{kind_eq, count_of, count_of_kind, IsNext, after_entry}
 use Rattle.event_log.specs.Reading.{◌>>=◌}
+use Rattle.event_log.proofs.RunLemmas.{count_more, count_kind_more}
 use Rattle.tracer.specs.declared.verdicts.Reason.TheVariants.{Op, Pos, Full, WrongValue}
 use Rattle.tracer.specs.Judging.{Seen, fresh, wanted, or_range, next_pos, take_first, effect_of, entry_on, entry_among}
 use Rattle.tracer.proofs.ReadLemmas.{bind_ok, wanted_ok, same_ok}
@@ -50,12 +50,6 @@ slice_get-known earlier contents caps i lt =
 
 abbrev bumped : Bool → ℕ → ℕ
 bumped counts n = n + cond counts 1 0
-
-count_more : (earlier : List Entry) (e : Entry) (b : ℕ) → count_of (earlier ++ e ∷ []) b ≡ bumped (e.buffer.0 == b) (count_of earlier b)
-count_more earlier e b = sum_by_push (λ x. cond (x.buffer.0 == b) 1 0) earlier e
-
-count_kind_more : (earlier : List Entry) (e : Entry) (b : ℕ) (kind : Kind) → count_of_kind (earlier ++ e ∷ []) b kind ≡ bumped ((e.buffer.0 == b) && kind_eq e.kind kind) (count_of_kind earlier b kind)
-count_kind_more earlier e b kind = sum_by_push (λ x. cond ((x.buffer.0 == b) && kind_eq x.kind kind) 1 0) earlier e
 
 -- a buffer after an effect on it
 abbrev after_seen : Kind → Message → Seen → Seen

@@ -5,13 +5,14 @@ use Rattle.std.specs.Str.{bytes_eq}
 use Rattle.std.specs.List.{join_with_byte}
 use Rattle.std.proofs.lemmas.List.{length-map, map_push}
 use Rattle.std.proofs.lemmas.Slice.Eq.{bytes_eq-Decides}
+use Rattle.event_log.specs.Buffers.{IsCapacity}
 use Rattle.event_log.specs.declared.ids.TheConstants.{BUFFERS, CAPACITY}
 use Rattle.event_log.specs.Reading.{◌>>=◌}
 use Rattle.event_log.proofs.DigitsLemmas.{number_to-decimal}
 use Rattle.tracer.specs.declared.verdicts.Reason.TheVariants.{Spelling, Range}
 use Rattle.tracer.specs.declared.stages.Stage.{Stage}
 use Rattle.tracer.specs.declared.stages.Stage.TheVariants as stage
-use Rattle.tracer.specs.TraceText.{cap_pieces, count_pieces, IsCapacity}
+use Rattle.tracer.specs.TraceText.{cap_pieces, count_pieces}
 use Rattle.tracer.specs.Judging.{Progress, fresh, wanted, piece_at, word_at, digits_at, ended, in_range, is_value, count_digits, count_line, capacity_digits, capacity_line, whole_line, step}
 use Rattle.tracer.proofs.SplitLemmas.{IsLine, decimal_lacks, pieces_again}
 use Rattle.tracer.proofs.ReadLemmas.{bind_ok, wanted_ok, same_ok, piece_taken, word_taken, digits_taken, ended_taken, IsInRange, in_range_taken, is_value_taken, decimal_is_number, is_value_again}

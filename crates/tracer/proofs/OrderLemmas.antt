@@ -13,7 +13,7 @@ use Rattle.event_log.specs.declared.entries.Kind.{Kind}
 use Rattle.event_log.specs.Buffers.{items_of, IsAllowedEffect, after_effect, empty_buffers}
 use Rattle.event_log.specs.Runs.{count_of, count_of_kind, kind_eq, IsNext, IsRunFrom, after_entry}
 use Rattle.event_log.specs.Traces.{IsInterleaving, HasOpOrderFrom}
-use Rattle.event_log.proofs.RunLemmas.{op_order_from}
+use Rattle.event_log.proofs.RunLemmas.{op_order_from, count_more, count_kind_more}
 use Rattle.tracer.specs.Gather.{RunsHaveOrder, OrdersRunAlike}
 
 -- the entries of a trace, from a look at its head and back
@@ -31,20 +31,14 @@ pub head_at : (traces : List (List Entry)) (k : ℕ) (e : Entry) (rest : List En
 head_at traces k e rest at = slice_get-get_or traces k [] (head_within traces k e rest at) ∙ ap Some at
 
 -- how one entry more changes the count of a buffer
-count_more : (earlier : List Entry) (e : Entry) (b : ℕ) → count_of (earlier ++ e ∷ []) b ≡ count_of earlier b + cond (eqb e.buffer.0 b) 1 0
-count_more earlier e b = sum_by_push (λ x. cond (eqb x.buffer.0 b) 1 0) earlier e
-
 pub count_more_same : (earlier : List Entry) (e : Entry) (b : ℕ) → e.buffer.0 ≡ b → count_of (earlier ++ e ∷ []) b ≡ count_of earlier b + 1
 count_more_same earlier e b same = grind (arith, nat_tests, count_more earlier e b)
 
 pub count_more_other : (earlier : List Entry) (e : Entry) (b : ℕ) → e.buffer.0 ≢ b → count_of (earlier ++ e ∷ []) b ≡ count_of earlier b
 count_more_other earlier e b differ = grind (arith, nat_tests, count_more earlier e b)
 
-kind_more : (earlier : List Entry) (e : Entry) (b : ℕ) (kind : Kind) → count_of_kind (earlier ++ e ∷ []) b kind ≡ count_of_kind earlier b kind + cond (eqb e.buffer.0 b && kind_eq e.kind kind) 1 0
-kind_more earlier e b kind = sum_by_push (λ x. cond (eqb x.buffer.0 b && kind_eq x.kind kind) 1 0) earlier e
-
 kind_more_other : (earlier : List Entry) (e : Entry) (b : ℕ) (kind : Kind) → e.buffer.0 ≢ b → count_of_kind (earlier ++ e ∷ []) b kind ≡ count_of_kind earlier b kind
-kind_more_other earlier e b kind differ = grind (arith, nat_tests, kind_more earlier e b kind)
+kind_more_other earlier e b kind differ = grind (arith, nat_tests, count_kind_more earlier e b kind)
 
 -- an entry whose op number has gone by is never taken
 stuck : (earlier : List Entry) (traces : List (List Entry)) (order : List Entry) (k : ℕ) (e : Entry) (rest : List Entry) → IsInterleaving traces order → HasOpOrderFrom earlier order → get_or traces k [] ≡ e ∷ rest → e.op < count_of earlier e.buffer.0 → ⊥

@@ -8,22 +8,19 @@ use Rattle.std.proofs.lemmas.List.Splits.{join_with_byte-slice_split}
 use Rattle.event_log.specs.Messages.{Message}
 use Rattle.event_log.specs.declared.ids.TheConstants.{BUFFERS, ENTRIES}
 use Rattle.event_log.specs.declared.entries.Entry.{Entry}
-use Rattle.event_log.specs.Buffers.{items_of, empty_buffers}
+use Rattle.event_log.specs.Buffers.{items_of, empty_buffers, IsCapacity}
 use Rattle.event_log.specs.Runs.{IsNext, after_entry, IsRunFrom, IsRun}
 use Rattle.tracer.specs.declared.stages.Stage.TheVariants as stage
 use Rattle.tracer.specs.declared.verdicts.Reason.{Reason}
 use Rattle.tracer.specs.declared.verdicts.Verdict.{Verdict}
 use Rattle.tracer.specs.declared.verdicts.Verdict.TheVariants.{Yes, No}
-use Rattle.tracer.specs.TraceText.{line_of, head_pieces, count_pieces, cap_pieces, entry_pieces, left_pieces, end_pieces, numbered, lines_of, spelling, IsCapacity, IsEntryOf, IsSpellable}
+use Rattle.tracer.specs.TraceText.{line_of, head_pieces, count_pieces, cap_pieces, entry_pieces, left_pieces, end_pieces, numbered, lines_of, spelling, IsEntryOf, IsSpellable, AreSmall}
 use Rattle.tracer.specs.Verdicts.{IsTraceOfRun}
 use Rattle.tracer.specs.Judging.{Progress, opening, step, after_line, pieces_of, lines_in, verdict_from, verdict_of, whole_line, count_line, capacity_line, entries_line, left_line}
 use Rattle.tracer.proofs.KnownLemmas.{known_fresh_from}
 use Rattle.tracer.proofs.EntryLemmas.{progress}
 use Rattle.tracer.proofs.StepLemmas.{left_line_taken, entries_taken}
 use Rattle.tracer.proofs.OpeningLemmas.{whole_taken, count_line_taken, opened, behind_cap, capacity_line_taken}
-
-abbrev AreSmall : List Message → Type 0
-AreSmall items = AllByRecursion (λ v. v < 2 ^ 64) items
 
 -- ---- one line
 
@@ -98,7 +95,7 @@ pub record Judged (caps : List ℕ) (earlier : List Entry) (contents : List (Lis
   pub small : AllByRecursion (IsEntryOf (length caps)) es
   pub few : length earlier + length es ≤ ENTRIES
   pub each : length left ≡ length caps
-  pub values : AllByRecursion (AllByRecursion (λ v. v < 2 ^ 64)) left
+  pub values : AllByRecursion AreSmall left
   pub text : join_with_byte 10 lines ≡ flat_map line_of (map entry_pieces es ++ (numbered left_pieces 0 left ++ end_pieces ∷ []))
 
 abbrev IsJudged : List ℕ → List Entry → List (List ℕ) → List (List ℕ) → Type 0

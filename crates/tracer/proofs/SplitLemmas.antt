@@ -7,6 +7,7 @@ use Rattle.std.specs.List.{AllByRecursion, slice_split, join_with_byte}
 use Rattle.std.proofs.lemmas.Bool.Decides.{nat_tests}
 use Rattle.std.proofs.lemmas.List.Elements.{All-from_recursion}
 use Rattle.std.proofs.lemmas.List.Splits.{slice_split_at, slice_split_none}
+use Rattle.event_log.proofs.Tests.{both_true}
 use Rattle.event_log.proofs.DigitsLemmas.{decimal-spelled}
 use Rattle.tracer.specs.TraceText.{line_of}
 use Rattle.tracer.specs.Judging.{Progress, pieces_of, lines_in, step, verdict_from}
@@ -34,10 +35,6 @@ join_lacks : (at sep : ℕ) (ps : List (List ℕ)) → (sep == at) ≡ false →
 join_lacks at sep [] other lacks = tt
 join_lacks at sep (p ∷ []) other lacks = lacks.0
 join_lacks at sep (p ∷ q ∷ qs) other lacks = Lacks-append at p (sep ∷ join_with_byte sep (q ∷ qs)) lacks.0 (other, join_lacks at sep (q ∷ qs) other lacks.1)
-
-both_true : (a b : Bool) → (a && b) ≡ true → (a ≡ true) × (b ≡ true)
-both_true true b e = (refl, e)
-both_true false b e = absurd (cc)
 
 no_digit : (at c : ℕ) → at < 48 → is_ascii_digit c ≡ true → (c == at) ≡ false
 no_digit at c lt digit = grind (arith, nat_tests)

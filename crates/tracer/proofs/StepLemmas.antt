@@ -5,6 +5,7 @@ use Rattle.std.specs.Str.{bytes_eq}
 use Rattle.std.specs.List.{AllByRecursion, list_all, join_with_byte}
 use Rattle.std.proofs.lemmas.List.{length_push}
 use Rattle.std.proofs.lemmas.Slice.Eq.{bytes_eq-Decides}
+use Rattle.event_log.proofs.Tests.{both_true}
 use Rattle.event_log.specs.Messages.{Message}
 use Rattle.event_log.specs.declared.ids.TheConstants.{CPUS, THREADS, BUFFERS, ENTRIES}
 use Rattle.event_log.specs.declared.entries.Kind.{Kind}
@@ -18,7 +19,7 @@ use Rattle.event_log.proofs.DigitsLemmas.{number_to-decimal, number_to-Some}
 use Rattle.tracer.specs.declared.verdicts.Reason.TheVariants.{Spelling, Range, Left}
 use Rattle.tracer.specs.declared.stages.Stage.{Stage}
 use Rattle.tracer.specs.declared.stages.Stage.TheVariants as stage
-use Rattle.tracer.specs.TraceText.{kind_word, entry_pieces, left_pieces, IsEntryOf}
+use Rattle.tracer.specs.TraceText.{kind_word, entry_pieces, left_pieces, IsEntryOf, AreSmall}
 use Rattle.tracer.specs.Judging.{Digits, Seen, Progress, wanted, piece_at, word_at, is_just, is_value, is_within, are_values, is_left, entry_digits, entry_in, entry_among, entry_line, left_digits, left_line, entries_line, step}
 use Rattle.tracer.proofs.SplitLemmas.{Lacks, IsLine, decimal_lacks, pieces_again}
 use Rattle.tracer.proofs.ReadLemmas.{bind_ok, wanted_ok, same_ok, piece_taken, word_taken, is_value_taken, decimal_is_number, is_value_again}
@@ -101,9 +102,6 @@ entry_line_taken at caps earlier contents ps after long taken =
 
 -- ---- what is left
 
-abbrev AreSmall : List Message → Type 0
-AreSmall items = AllByRecursion (λ v. v < 2 ^ 64) items
-
 numbers_again : (items : List Message) → AreSmall items → list_all is_number (map decimal items) ≡ true
 numbers_again [] small = refl
 numbers_again (v ∷ vs) small = rw (decimal_is_number v small.0, numbers_again vs small.1) refl
@@ -128,10 +126,6 @@ pub left_line_again : (at : Stage) (b : ℕ) (caps : List ℕ) (earlier : List E
 unfolding left_line
 left_line_again at b caps earlier contents lt fits small =
     rw (left_digits_again b (items_of contents b) fits small, within_again (items_of contents b) small, slice_get-known earlier contents caps b lt, values_again (items_of contents b) small, length-known_from earlier contents 0 caps) refl
-
-both_true : (a b : Bool) → (a && b) ≡ true → (a ≡ true) × (b ≡ true)
-both_true true b e = (refl, e)
-both_true false b e = absurd (cc)
 
 just_some : (read : Option ℕ) (n : ℕ) → is_just read n ≡ true → read ≡ Some n
 just_some None n e = absurd (cc)
@@ -165,7 +159,7 @@ left_digits_taken b ps values taken =
 pub record LeftTaken (b : ℕ) (caps : List ℕ) (earlier : List Entry) (contents : List (List Message)) (ps : List (List ℕ)) (after : Progress) : Type 0 where
   pub known : b < length caps
   pub spelled : ps ≡ left_pieces b (items_of contents b)
-  pub small : AllByRecursion (λ v. v < 2 ^ 64) (items_of contents b)
+  pub small : AreSmall (items_of contents b)
   pub is : after ≡ progress (behind_left b caps) caps earlier contents
 
 holds_of : (values : List (List ℕ)) (found : Option Seen) → is_left values found ≡ true → (seen : Seen) × (found ≡ Some seen) × (are_values values seen.items ≡ true)

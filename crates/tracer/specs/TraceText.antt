@@ -3,6 +3,7 @@
 use Rattle.std.specs.Prelude.{◌≡◌, ℕ, ◌+◌, ◌<◌, ◌≤◌, ◌^◌, List, [], ◌∷◌, ◌++◌, length, map, codes, decimal, flat_map}
 use Rattle.std.specs.List.{AllByRecursion, join_with_byte}
 use Rattle.event_log.specs.Messages.{Message}
+use Rattle.event_log.specs.Buffers.{IsCapacity}
 use Rattle.event_log.specs.declared.ids.TheConstants.{CPUS, THREADS, BUFFERS, CAPACITY, ENTRIES}
 use Rattle.event_log.specs.declared.entries.Kind.{Kind}
 use Rattle.event_log.specs.declared.entries.Kind.TheVariants.{Send, Recv}
@@ -52,8 +53,9 @@ lines_of caps es left = head_pieces ∷ count_pieces (length caps) ∷ (numbered
 unfoldable pub spelling : List ℕ → List Entry → List (List Message) → List ℕ
 spelling caps es left = flat_map line_of (lines_of caps es left)
 
-abbrev pub IsCapacity : ℕ → Type 0
-IsCapacity capacity = (1 ≤ capacity) × (capacity ≤ CAPACITY)
+-- messages whose numbers have 64 bits
+abbrev pub AreSmall : List Message → Type 0
+AreSmall items = AllByRecursion (λ v. v < 2 ^ 64) items
 
 -- the numbers of an entry are in range, where there are n buffers
 pub record IsEntryOf (n : ℕ) (e : Entry) : Type 0 where
@@ -72,7 +74,7 @@ pub record IsSpellable (caps : List ℕ) (es : List Entry) (left : List (List Me
   pub few_entries : length es ≤ ENTRIES
   pub entries : AllByRecursion (IsEntryOf (length caps)) es
   pub each_left : length left ≡ length caps
-  pub values : AllByRecursion (AllByRecursion (λ v. v < 2 ^ 64)) left
+  pub values : AllByRecursion AreSmall left
 
 -- the text is the trace text of these capacities, entries and contents
 pub record IsTraceText (text : List ℕ) (caps : List ℕ) (es : List Entry) (left : List (List Message)) : Type 0 where

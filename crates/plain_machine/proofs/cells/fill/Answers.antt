@@ -1,7 +1,8 @@
 use Rattle.std.proofs.Common.{◌≡◌, ◌<◌, [], ◌∷◌, ◌++◌, All, length, append_assoc, ap, subst, sym, ◌∙◌}
 use Rattle.std.proofs.Math.ListN.{length-set}
 use Rattle.event_log.specs.declared.ids.LockId.{LockId}
-use Rattle.plain_machine.specs.Table.{address_of, AreFresh}
+use Rattle.event_log.specs.Locks.{lock_number}
+use Rattle.plain_machine.specs.Table.{AreFresh}
 use Rattle.plain_machine.proofs.TableLemmas.{fresh_turn}
 use Rattle.plain_machine.proofs.cells.fill.Goals as goal
 
@@ -13,11 +14,11 @@ loop-lock-preserved g c =
     let cells = c.loop-lock.cells.items in
     let blocks = c.args.blocks.items in
     let all : c.loop-lock.yielded ++ (o ∷ rest) ≡ blocks = ap (λ l. c.loop-lock.yielded ++ l) (sym c.in-Some.ensures.steps.0) ∙ turn.all ∙ c.into_iter-lock-iterator.ensures.into_iter_gives.0 in
-    let within : All (λ entry. address_of entry.0 < length cells) blocks = subst (λ n. All (λ entry. address_of entry.0 < n) blocks) (sym turn.length_is) c.requires.within in
+    let within : All (λ entry. lock_number entry.0 < length cells) blocks = subst (λ n. All (λ entry. lock_number entry.0 < n) blocks) (sym turn.length_is) c.requires.within in
     record {
       can_next = tt;
       ends = tt;
       all = append_assoc c.loop-lock.yielded (o ∷ []) rest ∙ ap (λ l. c.loop-lock.yielded ++ l) (sym c.in-Some.ensures.steps.0) ∙ turn.all;
-      length_is = ap length c.put.ensures ∙ length-set cells (address_of o.0) _ ∙ turn.length_is;
+      length_is = ap length c.put.ensures ∙ length-set cells (lock_number o.0) _ ∙ turn.length_is;
       fresh = subst (λ l. AreFresh (c.loop-lock.yielded ++ o ∷ []) l) (sym c.put.ensures) (fresh_turn blocks c.loop-lock.yielded o rest cells all c.requires.distinct within turn.fresh);
     }

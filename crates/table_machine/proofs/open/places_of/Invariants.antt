@@ -1,10 +1,11 @@
 use Rattle.std.proofs.Common.{◌≡◌, ◌≤◌, length}
+use Rattle.event_log.specs.declared.ids.TheConstants.{LOCKS}
 use Rattle.table_machine.proofs.Laying.{TellsFrom}
 use Rattle.table_machine.proofs.open.places_of.Given as goal
 
 abbrev pub invariant-loop-place : goal.invariant-loop-place
 invariant-loop-place g l = record {
-  row : length l.places.items ≡ 512;
+  row : length l.places.items ≡ LOCKS;
   within : l.place ≤ length l.blocks;
   tells : TellsFrom l.places.items l.blocks l.place;
 }

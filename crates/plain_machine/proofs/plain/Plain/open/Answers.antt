@@ -2,11 +2,11 @@ use Rattle.std.proofs.Common.{◌<◌, All, ap, subst, sym}
 use Rattle.layer_traits.specs.OneLock.{opened}
 use Rattle.plain_machine.proofs.MachineLemmas.{fresh_sound}
 use Rattle.plain_machine.specs.Machine.{IsSound, history}
-use Rattle.plain_machine.specs.Table.{address_of}
+use Rattle.event_log.specs.Locks.{lock_number}
 use Rattle.plain_machine.proofs.plain.Plain.open.Goals as goal
 
 pub fill-requires-clause-within : goal.fill-requires-clause-within
-fill-requires-clause-within g c = subst (λ n. All (λ entry. address_of entry.0 < n) c.args.blocks.items) (sym c.in_ok-cells.ensures) c.table_len-len.ensures
+fill-requires-clause-within g c = subst (λ n. All (λ entry. lock_number entry.0 < n) c.args.blocks.items) (sym c.in_ok-cells.ensures) c.table_len-len.ensures
 
 pub returns-clause-opening : goal.returns-clause-opening
 returns-clause-opening g c = ap (λ blocks. opened blocks.items) c.of-opening.ensures
