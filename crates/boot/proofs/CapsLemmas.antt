@@ -20,7 +20,8 @@ module _ (integers : List ℤ) where
   pub caps_none : CapsSoFar integers 0 []
   caps_none = record { seen = seen_none (λ z. z) (number_within 1 CAPACITY) integers ∙ whole; len = refl; each = All-nil IsCapacity }
 
-  pub caps_one : (i : ℕ) (d : ℤ) (front : List ℕ) (capacity : ℕ) → CapsSoFar integers i front → i < length integers → number_within 1 CAPACITY (get_or integers i d) ≡ Some capacity → IsCapacity capacity
+  pub caps_one : (i : ℕ) (d : ℤ) (front : List ℕ) (capacity : ℕ) → CapsSoFar integers i front → i < length integers
+      → number_within 1 CAPACITY (get_or integers i d) ≡ Some capacity → IsCapacity capacity
       → CapsSoFar integers (i + 1) (front ++ capacity ∷ [])
   caps_one i d front capacity so_far h e fits = record {
     seen = seen_one (λ z. z) (number_within 1 CAPACITY) integers i d front capacity h e ∙ so_far.seen;
@@ -28,7 +29,8 @@ module _ (integers : List ℤ) where
     each = All-push IsCapacity front capacity so_far.each fits;
   }
 
-  pub caps_other : (i : ℕ) (d : ℤ) (front : List ℕ) → CapsSoFar integers i front → i < length integers → number_within 1 CAPACITY (get_or integers i d) ≡ None → None ≡ all_as (number_within 1 CAPACITY) integers
+  pub caps_other : (i : ℕ) (d : ℤ) (front : List ℕ) → CapsSoFar integers i front → i < length integers → number_within 1 CAPACITY (get_or integers i d) ≡ None
+      → None ≡ all_as (number_within 1 CAPACITY) integers
   caps_other i d front so_far h other = sym (seen_other (λ z. z) (number_within 1 CAPACITY) integers i d front h other) ∙ so_far.seen
 
   pub caps_all : (i : ℕ) (front : List ℕ) → CapsSoFar integers i front → length integers ≤ i → Some front ≡ all_as (number_within 1 CAPACITY) integers

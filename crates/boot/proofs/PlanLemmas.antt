@@ -22,7 +22,8 @@ module _ (plan : Plan) (tasks : List TaskInside) (i : ℕ) (t : TaskInside) (at 
   shown : {X : Type 0} (f : Task → X) (e : X) → f (task_of t) ≡ get_or (map f plan.tasks) i e
   shown f e =
       ap (λ x. f (task_of x)) at.here
-      ∙ sym (ap (λ xs. get_or (map f xs) i e) (sym at.same) ∙ get_or-map f (tasks_of tasks) i (task_of t) e (rw at.same at.below) ∙ ap f (get_or-map task_of tasks i t (task_of t) inside))
+      ∙ sym (ap (λ xs. get_or (map f xs) i e) (sym at.same) ∙ get_or-map f (tasks_of tasks) i (task_of t) e (rw at.same at.below)
+      ∙ ap f (get_or-map task_of tasks i t (task_of t) inside))
 
   pub home_at : t.home.0 ≡ home_of plan i
   home_at = shown (λ task. task.home) 0
@@ -34,5 +35,6 @@ module _ (plan : Plan) (tasks : List TaskInside) (i : ℕ) (t : TaskInside) (at 
   pub home_exists : IsPlan plan → t.home.0 < plan.cpus
   home_exists is =
       let each = All-get_or (IsTask plan.cpus (length plan.caps)) plan.tasks i (task_of t) at.below is.tasks.each in
-      let same : get_or plan.tasks i (task_of t) ≡ task_of t = ap (λ xs. get_or xs i (task_of t)) (sym at.same) ∙ get_or-map task_of tasks i t (task_of t) inside ∙ ap task_of (sym at.here) in
+      let same : get_or plan.tasks i (task_of t) ≡ task_of t = ap (λ xs. get_or xs i (task_of t)) (sym at.same)
+      ∙ get_or-map task_of tasks i t (task_of t) inside ∙ ap task_of (sym at.here) in
       (subst (IsTask plan.cpus (length plan.caps)) same each).home

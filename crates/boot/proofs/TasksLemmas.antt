@@ -17,7 +17,8 @@ module _ {X : Type 0} (table : X → Members) (cpus buffers : ℕ) (tables : Lis
   pub tasks_none : TasksSoFar table cpus buffers tables 0 []
   tasks_none = record { read = read_none table (task_at cpus buffers) tables; each = All-nil (IsTask cpus buffers) }
 
-  pub tasks_one : (i : ℕ) (d : X) (front : List Task) (task : Task) → TasksSoFar table cpus buffers tables i front → i < length tables → task_at cpus buffers i (table (get_or tables i d)) ≡ Ok task → IsTask cpus buffers task
+  pub tasks_one : (i : ℕ) (d : X) (front : List Task) (task : Task) → TasksSoFar table cpus buffers tables i front → i < length tables
+      → task_at cpus buffers i (table (get_or tables i d)) ≡ Ok task → IsTask cpus buffers task
       → TasksSoFar table cpus buffers tables (i + 1) (front ++ task ∷ [])
   tasks_one i d front task so_far h e within = record {
     read = read_one table (task_at cpus buffers) tables i d front task h e ∙ so_far.read;
@@ -25,15 +26,18 @@ module _ {X : Type 0} (table : X → Members) (cpus buffers : ℕ) (tables : Lis
   }
 
   -- an error of one table is the error of all
-  one_fails : (i : ℕ) (d : X) (front : List Task) (e : BootError) → TasksSoFar table cpus buffers tables i front → i < length tables → task_at cpus buffers i (table (get_or tables i d)) ≡ Err e → read_from (task_at cpus buffers) 0 (map table tables) ≡ Err e
+  one_fails : (i : ℕ) (d : X) (front : List Task) (e : BootError) → TasksSoFar table cpus buffers tables i front → i < length tables
+      → task_at cpus buffers i (table (get_or tables i d)) ≡ Err e → read_from (task_at cpus buffers) 0 (map table tables) ≡ Err e
   one_fails i d front e so_far h bad = sym so_far.read ∙ read_fault table (task_at cpus buffers) tables i d front e h bad
 
-  pub tasks_fault : (i : ℕ) (d : X) (front : List Task) (e : BootError) → TasksSoFar table cpus buffers tables i front → i < length tables → Fails e (task_at cpus buffers i (table (get_or tables i d))) → Fails e (read_from (task_at cpus buffers) 0 (map table tables))
+  pub tasks_fault : (i : ℕ) (d : X) (front : List Task) (e : BootError) → TasksSoFar table cpus buffers tables i front → i < length tables
+      → Fails e (task_at cpus buffers i (table (get_or tables i d))) → Fails e (read_from (task_at cpus buffers) 0 (map table tables))
   tasks_fault i d front NoMemory so_far h fails = tt
   tasks_fault i d front BadToml so_far h fails = one_fails i d front BadToml so_far h fails
   tasks_fault i d front (MissingKey key) so_far h fails = one_fails i d front (MissingKey key) so_far h fails
   tasks_fault i d front (OutOfRange key) so_far h fails = one_fails i d front (OutOfRange key) so_far h fails
   tasks_fault i d front (Guest t line fault) so_far h fails = one_fails i d front (Guest t line fault) so_far h fails
 
-  pub tasks_all : (i : ℕ) (front : List Task) → TasksSoFar table cpus buffers tables i front → length tables ≤ i → read_from (task_at cpus buffers) 0 (map table tables) ≡ Ok front
+  pub tasks_all : (i : ℕ) (front : List Task) → TasksSoFar table cpus buffers tables i front → length tables ≤ i
+      → read_from (task_at cpus buffers) 0 (map table tables) ≡ Ok front
   tasks_all i front so_far h = sym so_far.read ∙ read_all table (task_at cpus buffers) tables i front h

@@ -1,5 +1,6 @@
 -- What a plan says, and the first fault of one.
-use Rattle.std.specs.Prelude.{◌≡◌, ℕ, ◌-◌, ◌<◌, ◌≤◌, Bool, ◌&&◌, ℤ, pos, negsuc, List, [], ◌∷◌, length, codes, nat_le, map, slice_index, slice_index_or, All, IsTrue, Option, Some, None, Result, Ok, Err, if◌then◌else◌, option_and_then}
+use Rattle.std.specs.Prelude.{◌≡◌, ℕ, ◌-◌, ◌<◌, ◌≤◌, Bool, ◌&&◌, ℤ, pos, negsuc, List, [], ◌∷◌, length, codes, nat_le, map, slice_index, slice_index_or, All}
+use Rattle.std.specs.Prelude.{IsTrue, Option, Some, None, Result, Ok, Err, if◌then◌else◌, option_and_then}
 use Rattle.std.specs.List.{list_all}
 use Rattle.toml.specs.Data.{Data, Items, no_items, item, Members, as_integer, as_array, as_str, as_table, get_member}
 use Rattle.toml.specs.Parse.{parse_document}

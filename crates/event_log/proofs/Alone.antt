@@ -5,7 +5,8 @@ use Rattle.event_log.specs.declared.ids.CpuId.{CpuId}
 use Rattle.event_log.specs.declared.ids.LockId.{LockId}
 use Rattle.event_log.specs.declared.ids.TheConstants.{CPUS}
 use Rattle.event_log.specs.History.{same_lock}
-use Rattle.event_log.specs.Actions.{Action, Take, Try, Give, Phase, Rests, Waits, Holds, phase, place, takes, gives, AreLegal, action_in, next_action, IsFree, AreFree}
+use Rattle.event_log.specs.Actions.{Action, Take, Try, Give, Phase, Rests, Waits, Holds, phase, place, takes, gives, AreLegal, action_in, next_action, IsFree}
+use Rattle.event_log.specs.Actions.{AreFree}
 use Rattle.event_log.specs.Sections.{sections_in}
 use Rattle.event_log.specs.Laws.{IsOneSection}
 use Rattle.event_log.proofs.Same.{same_cpu_self, same_lock_self}
@@ -13,7 +14,8 @@ use Rattle.event_log.proofs.Line.{crowd, crowd_absent}
 use Rattle.event_log.proofs.Exclusion.{is_at, phase_own, line_at}
 
 -- a CPU that rests takes a place
-pub first_action : {N : Type 0} (cpu : CpuId) (lock : LockId) (name : N) (past : List (Action N)) → phase cpu past ≡ Rests → next_action cpu lock name past ≡ Take cpu lock
+pub first_action : {N : Type 0} (cpu : CpuId) (lock : LockId) (name : N) (past : List (Action N)) → phase cpu past ≡ Rests
+    → next_action cpu lock name past ≡ Take cpu lock
 first_action cpu lock name past rests = ap (action_in cpu lock name past) rests
 
 -- at a lock that was free it then enters
@@ -21,11 +23,13 @@ pub second_action : {N : Type 0} (cpu : CpuId) (lock : LockId) (name : N) (past 
     → next_action cpu lock name (Take cpu lock ∷ past) ≡ Try cpu lock true
 second_action cpu lock name past free =
     let here : place cpu (Take cpu lock ∷ past) ≡ takes lock past = ap (λ b. if b then takes lock past else place cpu past) (same_cpu_self cpu) in
-    let served : (gives lock past == place cpu (Take cpu lock ∷ past)) ≡ true = eq-eqb (gives lock past) (place cpu (Take cpu lock ∷ past)) (sym free ∙ sym here) in
+    let served : (gives lock past == place cpu (Take cpu lock ∷ past)) ≡ true =
+    eq-eqb (gives lock past) (place cpu (Take cpu lock ∷ past)) (sym free ∙ sym here) in
     ap (action_in cpu lock name (Take cpu lock ∷ past)) (phase_own (Take cpu lock) past) ∙ ap (Try cpu lock) served
 
 -- and then it gives the lock on
-pub third_action : {N : Type 0} (cpu : CpuId) (lock : LockId) (name : N) (past : List (Action N)) → next_action cpu lock name (Try cpu lock true ∷ past) ≡ Give cpu lock name
+pub third_action : {N : Type 0} (cpu : CpuId) (lock : LockId) (name : N) (past : List (Action N))
+    → next_action cpu lock name (Try cpu lock true ∷ past) ≡ Give cpu lock name
 third_action cpu lock name past = ap (action_in cpu lock name (Try cpu lock true ∷ past)) (phase_own (Try cpu lock true) past)
 
 kept_equal : (b : Bool) (t g : ℕ) → t ≡ g → (if b then t + 1 else t) ≡ (if b then g + 1 else g)

@@ -1,5 +1,6 @@
 -- Numbers in digits: what `number_to` reads, and the one text that spells a number.
-use Rattle.std.proofs.Common.{ne_eqb, ◌≢◌, ◌==◌, zero, ap₂, lit<, ◌≡◌, ℕ, suc, ◌+◌, ◌*◌, ◌^◌, ◌<◌, ◌≤◌, ◌-◌, Bool, true, false, ◌&&◌, List, [], ◌∷◌, length, get_or, take, nat_le, Some, None, if◌then◌else◌, decimal, refl, sym, ◌∙◌, ap, arith, take_all}
+use Rattle.std.proofs.Common.{ne_eqb, ◌≢◌, ◌==◌, zero, ap₂, lit<, ◌≡◌, ℕ, suc, ◌+◌, ◌*◌, ◌^◌, ◌<◌, ◌≤◌, ◌-◌, Bool, true, false, ◌&&◌, List, [], ◌∷◌, length}
+use Rattle.std.proofs.Common.{get_or, take, nat_le, Some, None, if◌then◌else◌, decimal, refl, sym, ◌∙◌, ap, arith, take_all}
 use Rattle.std.specs.Int.{IsInRange}
 use Rattle.std.specs.List.{list_all}
 use Rattle.std.specs.Str.{all_ascii_digits}
@@ -151,11 +152,13 @@ digit-value : (c : ℕ) → is_ascii_digit c ≡ true → digit_value c ≡ c - 
 digit-value c is = let r = digit_range c is in omega (arith, digit_value_digit c r)
 
 -- one digit more
-value-more : (text : List ℕ) (i n : ℕ) → i < length text → digits_value 10 (take i text) ≡ n → is_ascii_digit (get_or text i 0) ≡ true → digits_value 10 (take (i + 1) text) ≡ n * 10 + (get_or text i 0 - 48)
+value-more : (text : List ℕ) (i n : ℕ) → i < length text → digits_value 10 (take i text) ≡ n → is_ascii_digit (get_or text i 0) ≡ true
+    → digits_value 10 (take (i + 1) text) ≡ n * 10 + (get_or text i 0 - 48)
 value-more text i n h e is =
     digits_value_more 10 text i h ∙ ap₂ (λ v d. v * 10 + d) e (digit-value (get_or text i 0) is)
 
-pub reads_one_more : (most : ℕ) (text : List ℕ) (i n : ℕ) → ReadsUpTo most text i n → i < length text → is_ascii_digit (get_or text i 0) ≡ true → n * 10 + (get_or text i 0 - 48) ≤ most → ReadsUpTo most text (i + 1) (n * 10 + (get_or text i 0 - 48))
+pub reads_one_more : (most : ℕ) (text : List ℕ) (i n : ℕ) → ReadsUpTo most text i n → i < length text → is_ascii_digit (get_or text i 0) ≡ true
+    → n * 10 + (get_or text i 0 - 48) ≤ most → ReadsUpTo most text (i + 1) (n * 10 + (get_or text i 0 - 48))
 reads_one_more most text i n r h is fits =
     let range = digit_range (get_or text i 0) is in
     let below : digit_value (get_or text i 0) < 10 = (let v = digit-value (get_or text i 0) is in let high = range.1 in omega arith) in
@@ -166,7 +169,8 @@ reads_one_more most text i n r h is fits =
     }
 
 -- the whole text is read
-pub reads_all : (most : ℕ) (text : List ℕ) (i n : ℕ) → ReadsUpTo most text i n → length text ≤ i → 0 < length text → (get_or text 0 0 ≡ 48 → length text ≡ 1) → number_to most text ≡ Some n
+pub reads_all : (most : ℕ) (text : List ℕ) (i n : ℕ) → ReadsUpTo most text i n → length text ≤ i → 0 < length text → (get_or text 0 0 ≡ 48 → length text ≡ 1)
+    → number_to most text ≡ Some n
 reads_all most text i n r end some lead =
     let whole = take_all i text end in
     let digits = rw whole at r.digits in
@@ -186,7 +190,8 @@ pub number_to-not_a_digit : (most : ℕ) (text : List ℕ) (i : ℕ) → i < len
 number_to-not_a_digit most text i h other = number_to-not most text (not_a_digit text i (is_number text) refl h other)
 
 -- a number that grows too large at a digit
-pub number_to-too_large : (most : ℕ) (text : List ℕ) (i n : ℕ) → ReadsUpTo most text i n → i < length text → is_ascii_digit (get_or text i 0) ≡ true → most < n * 10 + (get_or text i 0 - 48) → number_to most text ≡ None
+pub number_to-too_large : (most : ℕ) (text : List ℕ) (i n : ℕ) → ReadsUpTo most text i n → i < length text → is_ascii_digit (get_or text i 0) ≡ true
+    → most < n * 10 + (get_or text i 0 - 48) → number_to most text ≡ None
 number_to-too_large most text i n r h is large =
     let more = value-more text i n h r.value is in
     let front = digits_value-take-le 10 text (i + 1) (omega arith) in

@@ -58,11 +58,13 @@ module _ {N : Type 0} (lock : LockId) (past : List (Action N)) (line : LineAt lo
       (λ c o h. place_other a past c o))
       (by_cpu (doer a) (λ c. is_holding lock (phase c (a ∷ past)) ≡ true → (is_at lock (phase c past) ≡ true) × (place c past ≡ gives lock past))
       (λ h. entered (sym (ap (is_holding lock) (phase_own a past)) ∙ h))
-      (λ c o h. let held : is_holding lock (phase c past) ≡ true = sym (ap (is_holding lock) (phase_other a past c o)) ∙ h in (line.inside c held, line.first c held)))
+      (λ c o h. let held : is_holding lock (phase c past) ≡ true = sym (ap (is_holding lock) (phase_other a past c o)) ∙ h in
+      (line.inside c held, line.first c held)))
 
   -- what an action leaves to all others
   others_same : (c : CpuId) → same_cpu (doer a) c ≡ false
-      → (is_at lock (phase c (a ∷ past)) ≡ is_at lock (phase c past)) × (is_holding lock (phase c (a ∷ past)) ≡ is_holding lock (phase c past)) × (place c (a ∷ past) ≡ place c past)
+      → (is_at lock (phase c (a ∷ past)) ≡ is_at lock (phase c past)) × (is_holding lock (phase c (a ∷ past)) ≡ is_holding lock (phase c past))
+      × (place c (a ∷ past) ≡ place c past)
   others_same c o = (ap (is_at lock) (phase_other a past c o), ap (is_holding lock) (phase_other a past c o), place_other a past c o)
 
 line_take : {N : Type 0} (lock : LockId) (past : List (Action N)) → LineAt lock past → (d : CpuId) (m : LockId)

@@ -84,7 +84,8 @@ actors_known {M = M} (e ∷ past) legal =
 
 -- Sections of logs, of actions and of both.
 
-pub sections_of-append : {M E : Type 0} (edit : M → E) (more past : List (Event M)) → sections_of edit (more ++ past) ≡ sections_of edit more ++ sections_of edit past
+pub sections_of-append : {M E : Type 0} (edit : M → E) (more past : List (Event M))
+    → sections_of edit (more ++ past) ≡ sections_of edit more ++ sections_of edit past
 sections_of-append edit [] past = refl
 sections_of-append edit (Draw cpu lock ticket ∷ more) past = sections_of-append edit more past
 sections_of-append edit (Look cpu lock ticket read ∷ more) past = sections_of-append edit more past
@@ -118,14 +119,16 @@ others_sections_in c (Take cpu lock ∷ others) foreign = others_sections_in c o
 others_sections_in c (Try cpu lock hit ∷ others) foreign = others_sections_in c others foreign.1
 others_sections_in c (Give cpu lock name ∷ others) foreign = (foreign.0, others_sections_in c others foreign.1)
 
-pub others_sections_of : {M E : Type 0} (edit : M → E) (c : CpuId) (others : List (Event M)) → AreOthers actor c others → AreOthers section_actor c (sections_of edit others)
+pub others_sections_of : {M E : Type 0} (edit : M → E) (c : CpuId) (others : List (Event M)) → AreOthers actor c others
+    → AreOthers section_actor c (sections_of edit others)
 others_sections_of edit c [] foreign = tt
 others_sections_of edit c (Draw cpu lock ticket ∷ others) foreign = others_sections_of edit c others foreign.1
 others_sections_of edit c (Look cpu lock ticket read ∷ others) foreign = others_sections_of edit c others foreign.1
 others_sections_of edit c (Free cpu lock mark ∷ others) foreign = (foreign.0, others_sections_of edit c others foreign.1)
 
 -- whose section it is is a CPU of the machine
-pub sections_in_known : {N : Type 0} (actions : List (Action N)) → IsLawful (λ before a. (doer a).0 < CPUS) actions → IsLawful (λ before s. s.cpu.0 < CPUS) (sections_in actions)
+pub sections_in_known : {N : Type 0} (actions : List (Action N)) → IsLawful (λ before a. (doer a).0 < CPUS) actions
+    → IsLawful (λ before s. s.cpu.0 < CPUS) (sections_in actions)
 sections_in_known [] known = tt
 sections_in_known (Take cpu lock ∷ past) known = sections_in_known past known.1
 sections_in_known (Try cpu lock hit ∷ past) known = sections_in_known past known.1

@@ -1,5 +1,6 @@
 -- A legal log of grant words is a legal list of actions: what a word holds says exactly whether its waiter is served.
-use Rattle.std.proofs.Common.{◌≡◌, ℕ, ◌+◌, ◌%◌, ◌^◌, ◌<◌, ◌≤◌, ◌⊎◌, inl, inr, Bool, true, false, List, [], ◌∷◌, ◌==◌, if◌then◌else◌, refl, ap, sym, subst, ◌∙◌, arith}
+use Rattle.std.proofs.Common.{◌≡◌, ℕ, ◌+◌, ◌%◌, ◌^◌, ◌<◌, ◌≤◌, ◌⊎◌, inl, inr, Bool, true, false, List, [], ◌∷◌, ◌==◌, if◌then◌else◌, refl, ap, sym, subst, ◌∙◌}
+use Rattle.std.proofs.Common.{arith}
 use Rattle.std.proofs.lemmas.Bool.{eqb-true, eqb-false}
 use Rattle.event_log.specs.declared.ids.CpuId.{CpuId}
 use Rattle.event_log.specs.declared.ids.LockId.{LockId}
@@ -8,7 +9,8 @@ use Rattle.event_log.specs.declared.grants.GrantEvent.{GrantEvent}
 use Rattle.event_log.specs.declared.grants.GrantEvent.TheVariants.{Take, Peek, Give}
 use Rattle.event_log.specs.History.{same_lock}
 use Rattle.event_log.specs.WordsLog.{Inside}
-use Rattle.event_log.specs.Grants.{grant_actor, is_ticket, tickets, left_by_grant, grant_standing, ticket_in, after_give, grant_word, MayFollowGrants, IsLegalGrants, act_of_grant, acts_of_grants}
+use Rattle.event_log.specs.Grants.{grant_actor, is_ticket, tickets, left_by_grant, grant_standing, ticket_in, after_give, grant_word, MayFollowGrants}
+use Rattle.event_log.specs.Grants.{IsLegalGrants, act_of_grant, acts_of_grants}
 use Rattle.event_log.specs.Actions.{Waits, Holds, phase, left_in, doer, place, takes, gives, is_take, MayAct, AreLegal}
 use Rattle.event_log.proofs.Same.{same_cpu_self, same_lock_self, same_lock_true}
 use Rattle.event_log.proofs.Exclusion.{is_at, is_holding, line_at, one_holds, near}
@@ -44,7 +46,8 @@ ticket_left : {M N : Type 0} (name : M → N) (e : GrantEvent M) (past : List (G
     → TicketOf (grant_standing (grant_actor e) past) (place (grant_actor e) (acts_of_grants name past))
     → TicketOf (left_by_grant e) (place (grant_actor e) (acts_of_grants name (e ∷ past)))
 ticket_left name (Take cpu lock ticket) past may had =
-    may.2 ∙ ap (λ n. n % 2 ^ 64) (sym (takes_grants name lock past) ∙ sym (ap (λ b. if b then takes lock (acts_of_grants name past) else place cpu (acts_of_grants name past)) (same_cpu_self cpu)))
+    may.2 ∙ ap (λ n. n % 2 ^ 64) (sym (takes_grants name lock past)
+    ∙ sym (ap (λ b. if b then takes lock (acts_of_grants name past) else place cpu (acts_of_grants name past)) (same_cpu_self cpu)))
 ticket_left name (Peek cpu lock ticket read) past may had =
     ticket_either (read == (ticket + 1) % 2 ^ 64) lock ticket (place cpu (acts_of_grants name past))
     (subst (λ s. TicketOf s (place cpu (acts_of_grants name past))) may.0 had)
@@ -89,7 +92,8 @@ kept_latest : (word given ticket held k : ℕ) → ticket ≡ given % 2 ^ 64 →
 kept_latest word given ticket held k is there le lt at holds = (k, omega arith, omega arith, at, holds)
 
 -- and no other word
-fits_there : (word given ticket held : ℕ) → word < CPUS → ticket ≡ given % 2 ^ 64 → (word ≡ (ticket + 1) % CPUS → ⊥) → WordFits word given held → WordFits word (given + 1) held
+fits_there : (word given ticket held : ℕ) → word < CPUS → ticket ≡ given % 2 ^ 64 → (word ≡ (ticket + 1) % CPUS → ⊥) → WordFits word given held
+    → WordFits word (given + 1) held
 fits_there word given ticket held within is there fits = record {
   written = λ le. elim (within_or_past word given) [
     | inl old ↦ let latest = fits.written old in kept_latest word given ticket held latest.0 is there latest.1 latest.2 latest.3 latest.4
@@ -107,7 +111,8 @@ served_is_latest : (given spot ticket word held k : ℕ) → given ≡ spot → 
 served_is_latest given spot ticket word held k served is at le lt same holds = omega arith
 
 -- a waiter near the front reads its place plus 1 exactly where it is served
-served_exactly : (given spot ticket word held : ℕ) → given ≤ spot → spot < given + CPUS → ticket ≡ spot % 2 ^ 64 → word ≡ ticket % CPUS → WordFits word given held
+served_exactly : (given spot ticket word held : ℕ) → given ≤ spot → spot < given + CPUS → ticket ≡ spot % 2 ^ 64 → word ≡ ticket % CPUS
+    → WordFits word given held
     → (held == (ticket + 1) % 2 ^ 64) ≡ (given == spot)
 served_exactly given spot ticket word held ahead close is at fits =
     eqb_same held ((ticket + 1) % 2 ^ 64) given spot
@@ -119,7 +124,8 @@ served_exactly given spot ticket word held ahead close is at fits =
     (λ served. let latest = fits.written (omega arith) in
     served_is_latest given spot ticket word held latest.0 served is at latest.1 latest.2 latest.3 latest.4)
 
-fits_after : (word given ticket held : ℕ) → word < CPUS → ticket ≡ given % 2 ^ 64 → WordFits word given held → WordFits word (given + 1) (after_give ticket word held)
+fits_after : (word given ticket held : ℕ) → word < CPUS → ticket ≡ given % 2 ^ 64 → WordFits word given held
+    → WordFits word (given + 1) (after_give ticket word held)
 fits_after word given ticket held within is fits = go (word == (ticket + 1) % CPUS) refl
   where
     go : (b : Bool) → (word == (ticket + 1) % CPUS) ≡ b → WordFits word (given + 1) (if b then (ticket + 2) % 2 ^ 64 else held)
@@ -127,7 +133,8 @@ fits_after word given ticket held within is fits = go (word == (ticket + 1) % CP
     go false there = fits_there word given ticket held within is (eqb-false word ((ticket + 1) % CPUS) there) fits
 
 -- who is inside a lock holds the ticket of the place that is served
-inside_is_served : {M N : Type 0} (name : M → N) (cpu : CpuId) (lock : LockId) (ticket : ℕ) (past : List (GrantEvent M)) → IsLegalGrants past → AreLegal (acts_of_grants name past)
+inside_is_served : {M N : Type 0} (name : M → N) (cpu : CpuId) (lock : LockId) (ticket : ℕ) (past : List (GrantEvent M)) → IsLegalGrants past
+    → AreLegal (acts_of_grants name past)
     → grant_standing cpu past ≡ Inside lock ticket → ticket_in (grant_standing cpu past) ≡ gives lock (acts_of_grants name past) % 2 ^ 64
 inside_is_served name cpu lock ticket past legal acts inside =
     let holds : phase cpu (acts_of_grants name past) ≡ Holds lock = phase_grants name cpu past ∙ ap phase_of inside in
@@ -138,15 +145,18 @@ inside_is_served name cpu lock ticket past legal acts inside =
     ap ticket_in inside ∙ (has ∙ ap (λ n. n % 2 ^ 64) served)
 
 -- in a legal log each grant word holds what the number of gives says
-pub words_fit : {M N : Type 0} (name : M → N) (lock : LockId) (word : ℕ) → word < CPUS → (log : List (GrantEvent M)) → IsLegalGrants log → AreLegal (acts_of_grants name log)
+pub words_fit : {M N : Type 0} (name : M → N) (lock : LockId) (word : ℕ) → word < CPUS → (log : List (GrantEvent M)) → IsLegalGrants log
+    → AreLegal (acts_of_grants name log)
     → WordFits word (gives lock (acts_of_grants name log)) (grant_word lock word log)
 words_fit name lock word within [] legal acts = fits_at_start word within
 words_fit name lock word within (Take cpu at ticket ∷ past) legal acts = words_fit name lock word within past legal.1 acts.1
 words_fit name lock word within (Peek cpu at ticket read ∷ past) legal acts = words_fit name lock word within past legal.1 acts.1
 words_fit {M = M} {N = N} name lock word within (Give cpu at mark ∷ past) legal acts =
-    give_fits name lock at (same_lock lock at) refl cpu word within legal.0.0 past legal.1 acts.1 legal.0.1 (words_fit name lock word within past legal.1 acts.1)
+    give_fits name lock at (same_lock lock at) refl cpu word within legal.0.0 past legal.1 acts.1 legal.0.1
+    (words_fit name lock word within past legal.1 acts.1)
   where
-    give_fits : {M N : Type 0} (name : M → N) (lock at : LockId) (b : Bool) → same_lock lock at ≡ b → (cpu : CpuId) (word : ℕ) → word < CPUS → (ticket : ℕ) (past : List (GrantEvent M))
+    give_fits : {M N : Type 0} (name : M → N) (lock at : LockId) (b : Bool) → same_lock lock at ≡ b → (cpu : CpuId) (word : ℕ) → word < CPUS
+        → (ticket : ℕ) (past : List (GrantEvent M))
         → IsLegalGrants past → AreLegal (acts_of_grants name past) → grant_standing cpu past ≡ Inside at ticket
         → WordFits word (gives lock (acts_of_grants name past)) (grant_word lock word past)
         → WordFits word (if b then gives lock (acts_of_grants name past) + 1 else gives lock (acts_of_grants name past))
@@ -157,7 +167,8 @@ words_fit {M = M} {N = N} name lock word within (Give cpu at mark ∷ past) lega
         fits_after word (gives lock (acts_of_grants name past)) (ticket_in (grant_standing cpu past)) (grant_word lock word past) within
         (inside_is_served name cpu lock ticket past legal acts (inside ∙ ap (λ l. Inside l ticket) same)) fits
 
-legal_grant : {M N : Type 0} (name : M → N) (e : GrantEvent M) (past : List (GrantEvent M)) → MayFollowGrants past e → IsLegalGrants past → AreLegal (acts_of_grants name past)
+legal_grant : {M N : Type 0} (name : M → N) (e : GrantEvent M) (past : List (GrantEvent M)) → MayFollowGrants past e → IsLegalGrants past
+    → AreLegal (acts_of_grants name past)
     → MayAct (acts_of_grants name past) (act_of_grant name e)
 legal_grant name (Take cpu lock ticket) past may legal acts = (may.0, phase_grants name cpu past ∙ ap phase_of may.1)
 legal_grant name (Peek cpu lock ticket read) past may legal acts =
@@ -170,7 +181,8 @@ legal_grant name (Peek cpu lock ticket read) past may legal acts =
     let fits = words_fit name lock (ticket % CPUS) within past legal acts in (
       waits,
       ap (λ r. r == (ticket + 1) % 2 ^ 64) may.1
-          ∙ served_exactly (gives lock (acts_of_grants name past)) (place cpu (acts_of_grants name past)) ticket (ticket % CPUS) (grant_word lock (ticket % CPUS) past) close.0 close.1 has refl fits,
+          ∙ served_exactly (gives lock (acts_of_grants name past)) (place cpu (acts_of_grants name past)) ticket (ticket % CPUS)
+          (grant_word lock (ticket % CPUS) past) close.0 close.1 has refl fits,
     )
 legal_grant name (Give cpu lock mark) past may legal acts = phase_grants name cpu past ∙ ap phase_of may.1
 

@@ -112,7 +112,8 @@ pub record Line (taken given : ℕ) (stands holds : CpuId → Bool) (spot : CpuI
   pub inside : (c : CpuId) → holds c ≡ true → stands c ≡ true
   pub first : (c : CpuId) → holds c ≡ true → spot c ≡ given
 
-module _ (taken given : ℕ) (stands holds : CpuId → Bool) (spot : CpuId → ℕ) (stands' holds' : CpuId → Bool) (spot' : CpuId → ℕ) (line : Line taken given stands holds spot) where
+module _ (taken given : ℕ) (stands holds : CpuId → Bool) (spot : CpuId → ℕ) (stands' holds' : CpuId → Bool) (spot' : CpuId → ℕ)
+    (line : Line taken given stands holds spot) where
   -- nobody comes or goes; one may enter whose place is served
   pub line_stays : ((c : CpuId) → stands' c ≡ stands c) → ((c : CpuId) → stands c ≡ true → spot' c ≡ spot c)
       → ((c : CpuId) → holds' c ≡ true → (stands c ≡ true) × (spot c ≡ given)) → Line taken given stands' holds' spot'

@@ -60,7 +60,8 @@ module _ {N : Type 0} (lock : LockId) (cpu other : CpuId) (first : ℕ) (differ 
         stands = ap (is_at lock) (left_own (Try d m hit) log cpu by) ∙ (at_either lock m hit ∙ (sym (ap (is_at lock) waits) ∙ so_far.stands));
         spot = so_far.spot;
         once = subst (λ xs. gives lock xs ≤ 1) (sym same) so_far.once;
-        behind = λ some there. so_far.behind (subst (λ xs. 1 ≤ gives lock xs) same some) (sym (ap (is_at lock) (phase_other {N = N} (Try d m hit) log other not_other)) ∙ there);
+        behind = λ some there. so_far.behind (subst (λ xs. 1 ≤ gives lock xs) same some)
+            (sym (ap (is_at lock) (phase_other {N = N} (Try d m hit) log other not_other)) ∙ there);
       }
 
   -- an action of the other CPU
@@ -177,6 +178,7 @@ freed_once {M = M} past between cpu other lock ticket legal looks differ =
     let name : M → M = λ m. m in
     let whole : acts_of name (between ++ (Draw cpu lock ticket ∷ past)) ≡ acts_of name between ++ (Take cpu lock ∷ acts_of name past) =
     acts_of-append name between (Draw cpu lock ticket ∷ past) in
-    let tries : OnlyTries (own doer cpu (acts_of name between)) = subst OnlyTries (sym (own_acts name cpu between)) (looks_try name (own actor cpu between) looks) in
+    let tries : OnlyTries (own doer cpu (acts_of name between)) =
+    subst OnlyTries (sym (own_acts name cpu between)) (looks_try name (own actor cpu between) looks) in
     let once = given_once (acts_of name past) (acts_of name between) cpu other lock (subst AreLegal whole (legal_acts name _ legal)) tries differ in
     subst (λ k. k ≤ 1) (ap (gives lock) (own_acts name other between) ∙ gives_acts name lock (own actor other between)) once

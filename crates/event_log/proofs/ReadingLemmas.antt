@@ -1,5 +1,6 @@
 -- The loops that read parts one after another: what is read so far, and what is left.
-use Rattle.std.proofs.Common.{◌≡◌, ℕ, ◌+◌, ◌<◌, ◌≤◌, List, [], ◌∷◌, ◌++◌, length, get_or, drop, map, Option, Some, None, Result, Ok, Err, option_map, option_and_then, refl, sym, ◌∙◌, ap, add-one, drop-cons, drop_of_length-le, append_assoc, append-nil}
+use Rattle.std.proofs.Common.{◌≡◌, ℕ, ◌+◌, ◌<◌, ◌≤◌, List, [], ◌∷◌, ◌++◌, length, get_or, drop, map, Option, Some, None, Result, Ok, Err, option_map}
+use Rattle.std.proofs.Common.{option_and_then, refl, sym, ◌∙◌, ap, add-one, drop-cons, drop_of_length-le, append_assoc, append-nil}
 use Rattle.event_log.specs.Reading.{◌>>=◌, read_from, all_as}
 
 -- what is read so far stands in front of the rest
@@ -19,7 +20,8 @@ module _ {X A B E : Type 0} (view : X → A) (read : ℕ → A → Result B E) w
   after_none (Ok ys) = refl
   after_none (Err e) = refl
 
-  left_at : (xs : List X) (i : ℕ) (d : X) → i < length xs → left_from view read xs i ≡ (read i (view (get_or xs i d)) >>= λ y. left_from view read xs (i + 1) >>= λ ys. Ok (y ∷ ys))
+  left_at : (xs : List X) (i : ℕ) (d : X) → i < length xs → left_from view read xs i
+      ≡ (read i (view (get_or xs i d)) >>= λ y. left_from view read xs (i + 1) >>= λ ys. Ok (y ∷ ys))
   left_at xs i d h = ap (λ rest. read_from read i (map view rest)) (drop-cons xs i d h ∙ ap (λ k. get_or xs i d ∷ drop k xs) (sym (add-one i)))
 
   -- before the first part
@@ -27,11 +29,14 @@ module _ {X A B E : Type 0} (view : X → A) (read : ℕ → A → Result B E) w
   read_none xs = after_none (read_from read 0 (map view xs))
 
   -- a part that reads as `y`
-  pub read_one : (xs : List X) (i : ℕ) (d : X) (front : List B) (y : B) → i < length xs → read i (view (get_or xs i d)) ≡ Ok y → after (front ++ y ∷ []) (left_from view read xs (i + 1)) ≡ after front (left_from view read xs i)
-  read_one xs i d front y h e = sym (ap (after front) (left_at xs i d h ∙ ap (λ r. r >>= λ z. left_from view read xs (i + 1) >>= λ ys. Ok (z ∷ ys)) e) ∙ after_one front y (left_from view read xs (i + 1)))
+  pub read_one : (xs : List X) (i : ℕ) (d : X) (front : List B) (y : B) → i < length xs → read i (view (get_or xs i d)) ≡ Ok y
+      → after (front ++ y ∷ []) (left_from view read xs (i + 1)) ≡ after front (left_from view read xs i)
+  read_one xs i d front y h e = sym (ap (after front) (left_at xs i d h ∙ ap (λ r. r >>= λ z. left_from view read xs (i + 1) >>= λ ys. Ok (z ∷ ys)) e)
+      ∙ after_one front y (left_from view read xs (i + 1)))
 
   -- a part with a fault
-  pub read_fault : (xs : List X) (i : ℕ) (d : X) (front : List B) (e : E) → i < length xs → read i (view (get_or xs i d)) ≡ Err e → after front (left_from view read xs i) ≡ Err e
+  pub read_fault : (xs : List X) (i : ℕ) (d : X) (front : List B) (e : E) → i < length xs → read i (view (get_or xs i d)) ≡ Err e
+      → after front (left_from view read xs i) ≡ Err e
   read_fault xs i d front e h bad = ap (after front) (left_at xs i d h ∙ ap (λ r. r >>= λ z. left_from view read xs (i + 1) >>= λ ys. Ok (z ∷ ys)) bad)
 
   -- past the last part
@@ -54,17 +59,23 @@ module _ {X A B : Type 0} (view : X → A) (kind : A → Option B) where
   front_none (Some ys) = refl
   front_none None = refl
 
-  seen_at : (xs : List X) (i : ℕ) (d : X) → i < length xs → left_as view kind xs i ≡ option_and_then (λ y. option_map (λ ys. y ∷ ys) (left_as view kind xs (i + 1))) (kind (view (get_or xs i d)))
+  seen_at : (xs : List X) (i : ℕ) (d : X) → i < length xs → left_as view kind xs i
+      ≡ option_and_then (λ y. option_map (λ ys. y ∷ ys) (left_as view kind xs (i + 1))) (kind (view (get_or xs i d)))
   seen_at xs i d h = ap (λ rest. all_as kind (map view rest)) (drop-cons xs i d h ∙ ap (λ k. get_or xs i d ∷ drop k xs) (sym (add-one i)))
 
   pub seen_none : (xs : List X) → with_front [] (left_as view kind xs 0) ≡ all_as kind (map view xs)
   seen_none xs = front_none (all_as kind (map view xs))
 
-  pub seen_one : (xs : List X) (i : ℕ) (d : X) (front : List B) (y : B) → i < length xs → kind (view (get_or xs i d)) ≡ Some y → with_front (front ++ y ∷ []) (left_as view kind xs (i + 1)) ≡ with_front front (left_as view kind xs i)
-  seen_one xs i d front y h e = sym (ap (with_front front) (seen_at xs i d h ∙ ap (option_and_then (λ z. option_map (λ ys. z ∷ ys) (left_as view kind xs (i + 1)))) e) ∙ front_one front y (left_as view kind xs (i + 1)))
+  pub seen_one : (xs : List X) (i : ℕ) (d : X) (front : List B) (y : B) → i < length xs → kind (view (get_or xs i d)) ≡ Some y
+      → with_front (front ++ y ∷ []) (left_as view kind xs (i + 1)) ≡ with_front front (left_as view kind xs i)
+  seen_one xs i d front y h e =
+      sym (ap (with_front front) (seen_at xs i d h ∙ ap (option_and_then (λ z. option_map (λ ys. z ∷ ys) (left_as view kind xs (i + 1)))) e)
+      ∙ front_one front y (left_as view kind xs (i + 1)))
 
-  pub seen_other : (xs : List X) (i : ℕ) (d : X) (front : List B) → i < length xs → kind (view (get_or xs i d)) ≡ None → with_front front (left_as view kind xs i) ≡ None
-  seen_other xs i d front h other = ap (with_front front) (seen_at xs i d h ∙ ap (option_and_then (λ z. option_map (λ ys. z ∷ ys) (left_as view kind xs (i + 1)))) other)
+  pub seen_other : (xs : List X) (i : ℕ) (d : X) (front : List B) → i < length xs → kind (view (get_or xs i d)) ≡ None
+      → with_front front (left_as view kind xs i) ≡ None
+  seen_other xs i d front h other =
+      ap (with_front front) (seen_at xs i d h ∙ ap (option_and_then (λ z. option_map (λ ys. z ∷ ys) (left_as view kind xs (i + 1)))) other)
 
   pub seen_all : (xs : List X) (i : ℕ) (front : List B) → length xs ≤ i → with_front front (left_as view kind xs i) ≡ Some front
   seen_all xs i front h = ap (λ rest. with_front front (all_as kind (map view rest))) (drop_of_length-le xs h) ∙ ap Some (append-nil front)

@@ -5,7 +5,8 @@ use Rattle.event_log.specs.declared.ids.LockId.{LockId}
 use Rattle.event_log.specs.declared.events.Event.{Event}
 use Rattle.event_log.specs.declared.events.Event.TheVariants.{Draw, Look, Free}
 use Rattle.event_log.specs.History.{same_cpu, AreOthers}
-use Rattle.event_log.specs.Actions.{Action, Take, Try, Give, Phase, Rests, Waits, Holds, phase, left_in, doer, place, takes, gives, is_take, is_give, MayAct, AreLegal, action_in, next_action, renamed, act_of, acts_of}
+use Rattle.event_log.specs.Actions.{Action, Take, Try, Give, Phase, Rests, Waits, Holds, phase, left_in, doer, place, takes, gives, is_take, is_give, MayAct}
+use Rattle.event_log.specs.Actions.{AreLegal, action_in, next_action, renamed, act_of, acts_of}
 use Rattle.event_log.specs.Sections.{renamed_section, sections_in}
 
 module _ {N L : Type 0} (f : N → L) where

@@ -11,12 +11,14 @@ use Rattle.event_log.specs.Runs.{IsNext, IsRunFrom, IsRun, after_entry, contents
 use Rattle.event_log.specs.Traces.{HasOpOrderFrom}
 
 -- one entry more
-pub run_from_more : (caps : List ℕ) (earlier : List Entry) (contents : List (List Message)) (es : List Entry) (left : List (List Message)) (e : Entry) → IsRunFrom caps earlier contents es left → IsNext caps (earlier ++ es) left e → IsRunFrom caps earlier contents (es ++ e ∷ []) (after_entry left e)
+pub run_from_more : (caps : List ℕ) (earlier : List Entry) (contents : List (List Message)) (es : List Entry) (left : List (List Message)) (e : Entry)
+    → IsRunFrom caps earlier contents es left → IsNext caps (earlier ++ es) left e → IsRunFrom caps earlier contents (es ++ e ∷ []) (after_entry left e)
 run_from_more caps earlier contents [] left e same next = (rw (same, ← append-nil earlier) next, rw same refl)
 run_from_more caps earlier contents (x ∷ es) left e run next =
     (run.0, run_from_more caps (earlier ++ x ∷ []) (after_entry contents x) es left e run.1 (rw append_assoc next))
 
-pub run_more : (caps : List ℕ) (es : List Entry) (left : List (List Message)) (e : Entry) → IsRun caps es left → IsNext caps es left e → IsRun caps (es ++ e ∷ []) (after_entry left e)
+pub run_more : (caps : List ℕ) (es : List Entry) (left : List (List Message)) (e : Entry) → IsRun caps es left → IsNext caps es left e
+    → IsRun caps (es ++ e ∷ []) (after_entry left e)
 run_more caps es left e run next = run_from_more caps [] (empty_buffers caps) es left e run next
 
 -- no entry is a run that leaves the buffers empty
@@ -24,12 +26,15 @@ pub run_none : (caps : List ℕ) → IsRun caps [] (empty_buffers caps)
 run_none caps = refl
 
 -- what a run leaves
-pub left_from : (caps : List ℕ) (earlier : List Entry) (contents : List (List Message)) (es : List Entry) (left : List (List Message)) → IsRunFrom caps earlier contents es left → left ≡ contents_from contents es
+pub left_from : (caps : List ℕ) (earlier : List Entry) (contents : List (List Message)) (es : List Entry) (left : List (List Message))
+    → IsRunFrom caps earlier contents es left → left ≡ contents_from contents es
 left_from caps earlier contents [] left same = sym same
 left_from caps earlier contents (x ∷ es) left run = left_from caps (earlier ++ x ∷ []) (after_entry contents x) es left run.1
 
 -- each entry may come behind those before it
-pub next_from : (caps : List ℕ) (earlier : List Entry) (contents : List (List Message)) (es : List Entry) (left : List (List Message)) → IsRunFrom caps earlier contents es left → (k : ℕ) (e : Entry) → slice_get es k ≡ Some e → IsNext caps (earlier ++ take k es) (contents_from contents (take k es)) e
+pub next_from : (caps : List ℕ) (earlier : List Entry) (contents : List (List Message)) (es : List Entry) (left : List (List Message))
+    → IsRunFrom caps earlier contents es left → (k : ℕ) (e : Entry) → slice_get es k ≡ Some e
+    → IsNext caps (earlier ++ take k es) (contents_from contents (take k es)) e
 next_from caps earlier contents [] left same k e at = absurd (cc)
 next_from caps earlier contents (x ∷ es) left run zero e at =
     let same : x ≡ e = cc in
@@ -39,7 +44,9 @@ next_from caps earlier contents (x ∷ es) left run (suc k) e at =
     rw (← front) (next_from caps (earlier ++ x ∷ []) (after_entry contents x) es left run.1 k e at)
 
 -- entries that each may come behind those before them are a run
-pub run_from_next : (caps : List ℕ) (earlier : List Entry) (contents : List (List Message)) (es : List Entry) → ((k : ℕ) (e : Entry) → slice_get es k ≡ Some e → IsNext caps (earlier ++ take k es) (contents_from contents (take k es)) e) → IsRunFrom caps earlier contents es (contents_from contents es)
+pub run_from_next : (caps : List ℕ) (earlier : List Entry) (contents : List (List Message)) (es : List Entry)
+    → ((k : ℕ) (e : Entry) → slice_get es k ≡ Some e → IsNext caps (earlier ++ take k es) (contents_from contents (take k es)) e)
+    → IsRunFrom caps earlier contents es (contents_from contents es)
 run_from_next caps earlier contents [] each = refl
 run_from_next caps earlier contents (x ∷ es) each = (
   rw (← append-nil earlier) (each 0 x refl),
@@ -47,7 +54,8 @@ run_from_next caps earlier contents (x ∷ es) each = (
 )
 
 -- the op numbers of a run
-pub op_order_from : (caps : List ℕ) (earlier : List Entry) (contents : List (List Message)) (es : List Entry) (left : List (List Message)) → IsRunFrom caps earlier contents es left → HasOpOrderFrom earlier es
+pub op_order_from : (caps : List ℕ) (earlier : List Entry) (contents : List (List Message)) (es : List Entry) (left : List (List Message))
+    → IsRunFrom caps earlier contents es left → HasOpOrderFrom earlier es
 op_order_from caps earlier contents [] left run = tt
 op_order_from caps earlier contents (x ∷ es) left run = (run.0.op, op_order_from caps (earlier ++ x ∷ []) (after_entry contents x) es left run.1)
 

@@ -53,7 +53,8 @@ ticket_left : {M N : Type 0} (name : M → N) (e : Event M) (past : List (Event 
     → TicketOf (standing (actor e) past) (place (actor e) (acts_of name past))
     → TicketOf (left_by e) (place (actor e) (acts_of name (e ∷ past)))
 ticket_left name (Draw cpu lock ticket) past may had =
-    may.2 ∙ ap (λ n. n % 2 ^ 64) (sym (takes_acts name lock past) ∙ sym (ap (λ b. if b then takes lock (acts_of name past) else place cpu (acts_of name past)) (same_cpu_self cpu)))
+    may.2 ∙ ap (λ n. n % 2 ^ 64) (sym (takes_acts name lock past)
+    ∙ sym (ap (λ b. if b then takes lock (acts_of name past) else place cpu (acts_of name past)) (same_cpu_self cpu)))
 ticket_left name (Look cpu lock ticket read) past may had =
     ticket_either (read == ticket) lock ticket (place cpu (acts_of name past))
     (subst (λ s. TicketOf s (place cpu (acts_of name past))) may.0 had)
@@ -83,8 +84,11 @@ legal_act name (Look cpu lock ticket read) past may legal acts =
     let waits : phase cpu (acts_of name past) ≡ Waits lock = phase_acts name cpu past ∙ ap phase_of may.0 in
     let there : is_at lock (phase cpu (acts_of name past)) ≡ true = ap (is_at lock) waits ∙ same_lock_self lock in
     let has : ticket ≡ place cpu (acts_of name past) % 2 ^ 64 = subst (λ s. TicketOf s (place cpu (acts_of name past))) may.0 (ticket_at name past legal cpu) in
-    let close = near (acts_of name past) acts cpu lock there in
-    (waits, same_rests (gives lock (acts_of name past)) (place cpu (acts_of name past)) read ticket close.0 close.1 (may.1 ∙ ap (λ n. n % 2 ^ 64) (sym (gives_acts name lock past))) has)
+    let close = near (acts_of name past) acts cpu lock there in (
+      waits,
+      same_rests (gives lock (acts_of name past)) (place cpu (acts_of name past)) read ticket close.0 close.1
+          (may.1 ∙ ap (λ n. n % 2 ^ 64) (sym (gives_acts name lock past))) has,
+    )
 legal_act name (Free cpu lock mark) past may legal acts = phase_acts name cpu past ∙ ap phase_of may.1
 
 -- a legal words log is a legal list of actions

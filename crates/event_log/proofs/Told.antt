@@ -22,11 +22,13 @@ TicketOf Outside spot = Unit {0}
 TicketOf (Waiting lock ticket) spot = ticket ≡ spot % 2 ^ 64
 TicketOf (Inside lock ticket) spot = ticket ≡ spot % 2 ^ 64
 
-pub phase_either : (b : Bool) (lock : LockId) (ticket : ℕ) → (if b then Holds lock else Waits lock) ≡ phase_of (if b then Inside lock ticket else Waiting lock ticket)
+pub phase_either : (b : Bool) (lock : LockId) (ticket : ℕ) → (if b then Holds lock else Waits lock)
+    ≡ phase_of (if b then Inside lock ticket else Waiting lock ticket)
 phase_either true lock ticket = refl
 phase_either false lock ticket = refl
 
-pub ticket_either : (b : Bool) (lock : LockId) (ticket spot : ℕ) → ticket ≡ spot % 2 ^ 64 → TicketOf (if b then Inside lock ticket else Waiting lock ticket) spot
+pub ticket_either : (b : Bool) (lock : LockId) (ticket spot : ℕ) → ticket ≡ spot % 2 ^ 64
+    → TicketOf (if b then Inside lock ticket else Waiting lock ticket) spot
 ticket_either true lock ticket spot is = is
 ticket_either false lock ticket spot is = is
 
@@ -34,7 +36,8 @@ one_more : (b c : Bool) (k n : ℕ) → b ≡ c → k ≡ n → (if b then k + 1
 one_more b c k n picks count = ap (λ x. if x then k + 1 else k) picks ∙ ap (λ x. if c then x + 1 else x) count
 
 -- tests that agree count the same
-pub how_many-map : {E F : Type 0} (f : E → F) (p : E → Bool) (q : F → Bool) → ((e : E) → q (f e) ≡ p e) → (log : List E) → how_many q (map f log) ≡ how_many p log
+pub how_many-map : {E F : Type 0} (f : E → F) (p : E → Bool) (q : F → Bool) → ((e : E) → q (f e) ≡ p e) → (log : List E)
+    → how_many q (map f log) ≡ how_many p log
 how_many-map f p q agree [] = refl
 how_many-map f p q agree (e ∷ past) = one_more (q (f e)) (p e) (how_many q (map f past)) (how_many p past) (agree e) (how_many-map f p q agree past)
 
@@ -69,7 +72,8 @@ module _ {E N : Type 0} (by : E → CpuId) (left : E → Standing) (stand : CpuI
 
   -- where each event leaves its CPU with a true ticket, every ticket of a lawful log is the rest of the true place
   pub told_ticket : (May : List E → E → Type 0)
-      → ((e : E) (past : List E) → May past e → TicketOf (stand (by e) past) (place (by e) (map act past)) → TicketOf (left e) (place (by e) (map act (e ∷ past))))
+      → ((e : E) (past : List E) → May past e → TicketOf (stand (by e) past) (place (by e) (map act past))
+      → TicketOf (left e) (place (by e) (map act (e ∷ past))))
       → (log : List E) → IsLawful May log → (c : CpuId) → TicketOf (stand c log) (place c (map act log))
   told_ticket May keeps [] lawful c = subst (λ s. TicketOf s 0) (sym (tells.at_start c)) tt
   told_ticket May keeps (e ∷ past) lawful c =

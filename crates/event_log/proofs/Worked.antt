@@ -73,7 +73,8 @@ two_grants_are_legal =
     ((1, refl), ((refl, refl), ((0, refl), ((refl, refl), ((refl, refl), ((omega arith, refl, refl), ((omega arith, refl, refl), tt)))))))
 
 -- after two sections words 0, 1 and 2 hold 1, 2 and 3, and the next one 0
-words_after_two : (grant_word lock 0 two_grants ≡ 1) × (grant_word lock 1 two_grants ≡ 2) × (grant_word lock 2 two_grants ≡ 3) × (grant_word lock 3 two_grants ≡ 0)
+words_after_two : (grant_word lock 0 two_grants ≡ 1) × (grant_word lock 1 two_grants ≡ 2) × (grant_word lock 2 two_grants ≡ 3)
+    × (grant_word lock 3 two_grants ≡ 0)
 words_after_two = (refl, refl, refl, refl)
 
 peek_before_its_turn : IsLegalGrants {M = ℕ} (Peek b lock 1 2 ∷ Peek a lock 0 1 ∷ Take b lock 1 ∷ Take a lock 0 ∷ []) → ⊥

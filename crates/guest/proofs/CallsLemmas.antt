@@ -10,12 +10,14 @@ use Rattle.guest.specs.declared.instructions.Instruction.TheVariants.{Set, Add, 
 use Rattle.guest.specs.State.{State, next_of, value_in, sent_from, moved_on, moved_to, after_local, after_send, after_recv, after_yield}
 use Rattle.guest.specs.Calls.{IsProgramsCalls, sets, adds, subtracts, jumps, goes_on, yields, sends, receives}
 
-after_jump : (program : List Instruction) (es : List Entry) (s : State) (r : Register) (k : ℕ) (b : Bool) → b ≡ (value_in s r == 0) → IsProgramsCalls program es s → next_of program s ≡ Jnz r k
+after_jump : (program : List Instruction) (es : List Entry) (s : State) (r : Register) (k : ℕ) (b : Bool) → b ≡ (value_in s r == 0)
+    → IsProgramsCalls program es s → next_of program s ≡ Jnz r k
     → IsProgramsCalls program es (if b then moved_on s else moved_to s k)
 after_jump program es s r k true e calls at = goes_on r k calls at (eqb-true _ _ (sym e))
 after_jump program es s r k false e calls at = jumps r k calls at (λ zero. false≢true (e ∙ rw zero refl))
 
-local_at : (program : List Instruction) (es : List Entry) (s : State) (i : Instruction) → next_of program s ≡ i → IsProgramsCalls program es s → IsProgramsCalls program es (after_local i s)
+local_at : (program : List Instruction) (es : List Entry) (s : State) (i : Instruction) → next_of program s ≡ i → IsProgramsCalls program es s
+    → IsProgramsCalls program es (after_local i s)
 local_at program es s (Set r n) at calls = sets r n calls at
 local_at program es s (Add r q) at calls = adds r q calls at
 local_at program es s (Sub r q) at calls = subtracts r q calls at
@@ -26,10 +28,12 @@ local_at program es s Yield at calls = calls
 local_at program es s Exit at calls = calls
 
 -- an instruction that shares nothing leaves the list
-pub calls-local : (program : List Instruction) (es : List Entry) (s : State) → IsProgramsCalls program es s → IsProgramsCalls program es (after_local (next_of program s) s)
+pub calls-local : (program : List Instruction) (es : List Entry) (s : State) → IsProgramsCalls program es s
+    → IsProgramsCalls program es (after_local (next_of program s) s)
 calls-local program es s calls = local_at program es s (next_of program s) refl calls
 
-yield_at : (program : List Instruction) (es : List Entry) (s : State) (i : Instruction) → next_of program s ≡ i → IsProgramsCalls program es s → IsProgramsCalls program es (after_yield i s)
+yield_at : (program : List Instruction) (es : List Entry) (s : State) (i : Instruction) → next_of program s ≡ i → IsProgramsCalls program es s
+    → IsProgramsCalls program es (after_yield i s)
 yield_at program es s Yield at calls = yields calls at
 yield_at program es s (Set r n) at calls = calls
 yield_at program es s (Add r q) at calls = calls
@@ -40,18 +44,21 @@ yield_at program es s (Recv b r) at calls = calls
 yield_at program es s Exit at calls = calls
 
 -- and so does a yield
-pub calls-yield : (program : List Instruction) (es : List Entry) (s : State) → IsProgramsCalls program es s → IsProgramsCalls program es (after_yield (next_of program s) s)
+pub calls-yield : (program : List Instruction) (es : List Entry) (s : State) → IsProgramsCalls program es s
+    → IsProgramsCalls program es (after_yield (next_of program s) s)
 calls-yield program es s calls = yield_at program es s (next_of program s) refl calls
 
 -- a send that returns has its entry, newest first
-pub calls-send : (program : List Instruction) (es : List Entry) (s : State) (b : BufId) (r : Register) (e : Entry) → IsProgramsCalls program es s → next_of program s ≡ Send b r
+pub calls-send : (program : List Instruction) (es : List Entry) (s : State) (b : BufId) (r : Register) (e : Entry) → IsProgramsCalls program es s
+    → next_of program s ≡ Send b r
     → e.kind ≡ SendKind → e.buffer ≡ b → e.value ≡ sent_from s r → IsProgramsCalls program (e ∷ es) (after_send (next_of program s) s)
 calls-send program es s b r e calls at kind buffer value =
     let P : Instruction → Type 0 = λ i. IsProgramsCalls program (e ∷ es) (after_send i s) in
     subst P (sym at) (sends b r e calls at kind buffer value)
 
 -- a receive that returns has its entry, newest first
-pub calls-recv : (program : List Instruction) (es : List Entry) (s : State) (b : BufId) (r : Register) (e : Entry) → IsProgramsCalls program es s → next_of program s ≡ Recv b r
+pub calls-recv : (program : List Instruction) (es : List Entry) (s : State) (b : BufId) (r : Register) (e : Entry) → IsProgramsCalls program es s
+    → next_of program s ≡ Recv b r
     → e.kind ≡ RecvKind → e.buffer ≡ b → IsProgramsCalls program (e ∷ es) (after_recv (next_of program s) e.value s)
 calls-recv program es s b r e calls at kind buffer =
     let P : Instruction → Type 0 = λ i. IsProgramsCalls program (e ∷ es) (after_recv i e.value s) in

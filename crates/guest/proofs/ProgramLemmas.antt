@@ -25,7 +25,8 @@ module _ {X : Type 0} (text : X → List ℕ) (lines : List X) where
   }
 
   pub so_far_one : (i : ℕ) (d : X) (front : List Instruction) (instruction : Instruction) → ReadSoFar text lines i front → i < length lines
-      → numbered_line (length lines) i (text (get_or lines i d)) ≡ Ok instruction → IsWithin (length lines) instruction → ReadSoFar text lines (i + 1) (front ++ instruction ∷ [])
+      → numbered_line (length lines) i (text (get_or lines i d)) ≡ Ok instruction → IsWithin (length lines) instruction
+      → ReadSoFar text lines (i + 1) (front ++ instruction ∷ [])
   so_far_one i d front instruction so_far h e within = record {
     read = read_one text (numbered_line (length lines)) lines i d front instruction h e ∙ so_far.read;
     len = length-append front (instruction ∷ []) ∙ ap (λ n. n + 1) so_far.len;

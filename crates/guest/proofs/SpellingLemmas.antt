@@ -1,5 +1,6 @@
 -- A line that reads as an instruction is the one spelling of it, and that spelling reads as it.
-use Rattle.std.proofs.Common.{◌≡◌, ◌==◌, ℕ, ◌-◌, ◌<◌, ◌≤◌, ◌^◌, Bool, true, false, if◌then◌else◌, List, [], ◌∷◌, ◌++◌, get_or, All, Option, Some, None, Result, Ok, Err, codes, decimal, bytes_eq, ◌⊎◌, inl, inr, refl, sym, ◌∙◌, ap, subst, arith, lit<, ne_eqb}
+use Rattle.std.proofs.Common.{◌≡◌, ◌==◌, ℕ, ◌-◌, ◌<◌, ◌≤◌, ◌^◌, Bool, true, false, if◌then◌else◌, List, [], ◌∷◌, ◌++◌, get_or, All, Option, Some, None, Result}
+use Rattle.std.proofs.Common.{Ok, Err, codes, decimal, bytes_eq, ◌⊎◌, inl, inr, refl, sym, ◌∙◌, ap, subst, arith, lit<, ne_eqb}
 use Rattle.std.specs.List.{slice_split, join_with_byte}
 use Rattle.std.specs.Int.{IsInRange}
 use Rattle.std.proofs.lemmas.Slice.Eq.{bytes_eq-Decides}
@@ -31,7 +32,8 @@ same_text : (a b : List ℕ) → bytes_eq a b ≡ true → a ≡ b
 same_text a b h = (bytes_eq-Decides a b).0 h
 
 -- the parts of an instruction that was read from two pieces
-two_bound : {A B : Type 0} (ra : Result A GuestFault) (rb : Result B GuestFault) (make : A → B → Instruction) (i : Instruction) → (ra >>= λ x. rb >>= λ y. Ok (make x y)) ≡ Ok i
+two_bound : {A B : Type 0} (ra : Result A GuestFault) (rb : Result B GuestFault) (make : A → B → Instruction) (i : Instruction)
+    → (ra >>= λ x. rb >>= λ y. Ok (make x y)) ≡ Ok i
     → (x : A) × (y : B) × (ra ≡ Ok x) × (rb ≡ Ok y) × (make x y ≡ i)
 two_bound (Ok x) (Ok y) make i h = (x, y, refl, refl, cc)
 two_bound (Ok x) (Err e) make i h = absurd (cc)
@@ -68,7 +70,8 @@ word_spelled piece n h =
 number_spelled : (most : ℕ) (piece : List ℕ) (n : ℕ) → most < 2 ^ 64 → number_to most piece ≡ Some n → (piece ≡ decimal n) × (n ≤ most)
 number_spelled most piece n small read = (number_to-spelling most piece n small read, (number_to-Some most piece n read).within)
 
-buffer_cases : (piece : List ℕ) (o : Option ℕ) (b : BufId) → number_to (BUFFERS - 1) piece ≡ o → (or_fault BadNumber o >>= λ n. Ok (record { 0 = n })) ≡ Ok b → (piece ≡ decimal b.0) × (b.0 < BUFFERS)
+buffer_cases : (piece : List ℕ) (o : Option ℕ) (b : BufId) → number_to (BUFFERS - 1) piece ≡ o → (or_fault BadNumber o >>= λ n. Ok (record { 0 = n })) ≡ Ok b
+    → (piece ≡ decimal b.0) × (b.0 < BUFFERS)
 buffer_cases piece None b e h = absurd (cc)
 buffer_cases piece (Some n) b e h =
     let spelled = number_spelled (BUFFERS - 1) piece n (lit< tt) e in
@@ -168,7 +171,8 @@ one_spelled count word i h =
       ]
     ]
 
-pieces_spelled : (count : ℕ) (pieces : List (List ℕ)) (i : Instruction) → 0 < count → count ≤ 2 ^ 64 → pieces_in count pieces ≡ Ok i → IsSpelledBy count pieces i
+pieces_spelled : (count : ℕ) (pieces : List (List ℕ)) (i : Instruction) → 0 < count → count ≤ 2 ^ 64 → pieces_in count pieces ≡ Ok i
+    → IsSpelledBy count pieces i
 pieces_spelled count [] i some most h = absurd (cc)
 pieces_spelled count (word ∷ []) i some most h = one_spelled count word i h
 pieces_spelled count (word ∷ a ∷ []) i some most h = absurd (cc)
@@ -219,7 +223,8 @@ name_no_space Reg3 = two_no_space 114 51 refl refl
 one_split : (word : List ℕ) → HasNoSpace word → slice_split (λ byte. byte == 32) (join_with_byte 32 (word ∷ [])) ≡ word ∷ []
 one_split word w = slice_split_none (λ byte. byte == 32) word w
 
-three_split : (word a b : List ℕ) → HasNoSpace word → HasNoSpace a → HasNoSpace b → slice_split (λ byte. byte == 32) (join_with_byte 32 (word ∷ a ∷ b ∷ [])) ≡ word ∷ a ∷ b ∷ []
+three_split : (word a b : List ℕ) → HasNoSpace word → HasNoSpace a → HasNoSpace b
+    → slice_split (λ byte. byte == 32) (join_with_byte 32 (word ∷ a ∷ b ∷ [])) ≡ word ∷ a ∷ b ∷ []
 three_split word a b w p q =
     slice_split_at (λ byte. byte == 32) word 32 (a ++ (32 ∷ b)) w refl
     ∙ ap (λ rest. word ∷ rest) (slice_split_at (λ byte. byte == 32) a 32 b p refl ∙ ap (λ rest. a ∷ rest) (slice_split_none (λ byte. byte == 32) b q))
@@ -245,7 +250,8 @@ target_again count k most below =
     let yes = is_number-spelled (decimal k) (decimal-spelled k (omega arith)) in
     rw yes (ap (or_fault BadTarget) (number_to-decimal (count - 1) k (omega arith) (omega arith)))
 
-bound_again : {A B : Type 0} (ra : Result A GuestFault) (rb : Result B GuestFault) (make : A → B → Instruction) (x : A) (y : B) → ra ≡ Ok x → rb ≡ Ok y → (ra >>= λ v. rb >>= λ w. Ok (make v w)) ≡ Ok (make x y)
+bound_again : {A B : Type 0} (ra : Result A GuestFault) (rb : Result B GuestFault) (make : A → B → Instruction) (x : A) (y : B) → ra ≡ Ok x → rb ≡ Ok y
+    → (ra >>= λ v. rb >>= λ w. Ok (make v w)) ≡ Ok (make x y)
 bound_again ra rb make x y p q = ap (λ r. r >>= λ v. rb >>= λ w. Ok (make v w)) p ∙ ap (λ r. r >>= λ w. Ok (make x w)) q
 
 -- the pieces of an instruction within the limits read as it
@@ -254,20 +260,24 @@ unfolding three_pieces one_piece
 pieces_again count (Set r n) most within = bound_again (register_in (name_of r)) (word_in (decimal n)) Set r n (register_again r) (word_again n within)
 pieces_again count (Add r q) most within = bound_again (register_in (name_of r)) (register_in (name_of q)) Add r q (register_again r) (register_again q)
 pieces_again count (Sub r q) most within = bound_again (register_in (name_of r)) (register_in (name_of q)) Sub r q (register_again r) (register_again q)
-pieces_again count (Jnz r k) most within = bound_again (register_in (name_of r)) (target_in count (decimal k)) Jnz r k (register_again r) (target_again count k most within)
+pieces_again count (Jnz r k) most within = bound_again (register_in (name_of r)) (target_in count (decimal k)) Jnz r k (register_again r)
+    (target_again count k most within)
 pieces_again count (Send b r) most within = bound_again (buffer_in (decimal b.0)) (register_in (name_of r)) Send b r (buffer_again b within) (register_again r)
 pieces_again count (Recv b r) most within = bound_again (buffer_in (decimal b.0)) (register_in (name_of r)) Recv b r (buffer_again b within) (register_again r)
 pieces_again count Yield most within = refl
 pieces_again count Exit most within = refl
 
 -- and its line has these pieces
-split_again : (count : ℕ) (i : Instruction) → count ≤ 2 ^ 64 → IsWithin count i → slice_split (λ byte. byte == 32) (join_with_byte 32 (pieces_of i)) ≡ pieces_of i
+split_again : (count : ℕ) (i : Instruction) → count ≤ 2 ^ 64 → IsWithin count i
+    → slice_split (λ byte. byte == 32) (join_with_byte 32 (pieces_of i)) ≡ pieces_of i
 split_again count (Set r n) most within = three_split _ _ _ (three_no_space 115 101 116 refl refl refl) (name_no_space r) (decimal_no_space n within)
 split_again count (Add r q) most within = three_split _ _ _ (three_no_space 97 100 100 refl refl refl) (name_no_space r) (name_no_space q)
 split_again count (Sub r q) most within = three_split _ _ _ (three_no_space 115 117 98 refl refl refl) (name_no_space r) (name_no_space q)
 split_again count (Jnz r k) most within = three_split _ _ _ (three_no_space 106 110 122 refl refl refl) (name_no_space r) (decimal_no_space k (omega arith))
-split_again count (Send b r) most within = three_split _ _ _ (four_no_space 115 101 110 100 refl refl refl refl) (decimal_no_space b.0 (omega arith)) (name_no_space r)
-split_again count (Recv b r) most within = three_split _ _ _ (four_no_space 114 101 99 118 refl refl refl refl) (decimal_no_space b.0 (omega arith)) (name_no_space r)
+split_again count (Send b r) most within = three_split _ _ _ (four_no_space 115 101 110 100 refl refl refl refl) (decimal_no_space b.0 (omega arith))
+    (name_no_space r)
+split_again count (Recv b r) most within = three_split _ _ _ (four_no_space 114 101 99 118 refl refl refl refl) (decimal_no_space b.0 (omega arith))
+    (name_no_space r)
 split_again count Yield most within = one_split _ (five_no_space 121 105 101 108 100 refl refl refl refl refl)
 split_again count Exit most within = one_split _ (four_no_space 101 120 105 116 refl refl refl refl)
 

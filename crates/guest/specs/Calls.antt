@@ -12,11 +12,16 @@ use Rattle.guest.specs.State.{State, at_start, next_of, value_in, sent_from, mov
 -- the program has made just the calls of these entries, newest first, when it stands in this state
 pub data IsProgramsCalls (program : List Instruction) : List Entry → State → Type 0 where
   starts : IsProgramsCalls program [] at_start
-  sets : {es : List Entry} {s : State} (r : Register) (n : ℕ) → IsProgramsCalls program es s → next_of program s ≡ Set r n → IsProgramsCalls program es (moved_with s r n)
-  adds : {es : List Entry} {s : State} (r q : Register) → IsProgramsCalls program es s → next_of program s ≡ Add r q → IsProgramsCalls program es (moved_with s r (wrapped_sum (value_in s r) (value_in s q)))
-  subtracts : {es : List Entry} {s : State} (r q : Register) → IsProgramsCalls program es s → next_of program s ≡ Sub r q → IsProgramsCalls program es (moved_with s r (wrapped_difference (value_in s r) (value_in s q)))
-  jumps : {es : List Entry} {s : State} (r : Register) (k : ℕ) → IsProgramsCalls program es s → next_of program s ≡ Jnz r k → value_in s r ≢ 0 → IsProgramsCalls program es (moved_to s k)
-  goes_on : {es : List Entry} {s : State} (r : Register) (k : ℕ) → IsProgramsCalls program es s → next_of program s ≡ Jnz r k → value_in s r ≡ 0 → IsProgramsCalls program es (moved_on s)
+  sets : {es : List Entry} {s : State} (r : Register) (n : ℕ) → IsProgramsCalls program es s → next_of program s ≡ Set r n
+      → IsProgramsCalls program es (moved_with s r n)
+  adds : {es : List Entry} {s : State} (r q : Register) → IsProgramsCalls program es s → next_of program s ≡ Add r q
+      → IsProgramsCalls program es (moved_with s r (wrapped_sum (value_in s r) (value_in s q)))
+  subtracts : {es : List Entry} {s : State} (r q : Register) → IsProgramsCalls program es s → next_of program s ≡ Sub r q
+      → IsProgramsCalls program es (moved_with s r (wrapped_difference (value_in s r) (value_in s q)))
+  jumps : {es : List Entry} {s : State} (r : Register) (k : ℕ) → IsProgramsCalls program es s → next_of program s ≡ Jnz r k → value_in s r ≢ 0
+      → IsProgramsCalls program es (moved_to s k)
+  goes_on : {es : List Entry} {s : State} (r : Register) (k : ℕ) → IsProgramsCalls program es s → next_of program s ≡ Jnz r k → value_in s r ≡ 0
+      → IsProgramsCalls program es (moved_on s)
   yields : {es : List Entry} {s : State} → IsProgramsCalls program es s → next_of program s ≡ Yield → IsProgramsCalls program es (moved_on s)
   sends : {es : List Entry} {s : State} (b : BufId) (r : Register) (e : Entry) → IsProgramsCalls program es s → next_of program s ≡ Send b r
       → e.kind ≡ SendKind → e.buffer ≡ b → e.value ≡ sent_from s r → IsProgramsCalls program (e ∷ es) (moved_on s)

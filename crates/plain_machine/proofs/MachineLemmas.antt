@@ -1,5 +1,6 @@
 -- Each action keeps the table of the owned machine in agreement with its log.
-use Rattle.std.proofs.Common.{◌≡◌, ℕ, ◌%◌, ◌^◌, ◌<◌, Bool, true, false, List, [], ◌∷◌, ◌==◌, Option, Some, None, IsSome, IfSome, MatchOption, option_map, if◌then◌else◌, refl, ap, sym, ◌∙◌, subst}
+use Rattle.std.proofs.Common.{◌≡◌, ℕ, ◌%◌, ◌^◌, ◌<◌, Bool, true, false, List, [], ◌∷◌, ◌==◌, Option, Some, None, IsSome, IfSome, MatchOption, option_map}
+use Rattle.std.proofs.Common.{if◌then◌else◌, refl, ap, sym, ◌∙◌, subst}
 use Rattle.event_log.specs.declared.ids.CpuId.{CpuId}
 use Rattle.event_log.specs.declared.ids.LockId.{LockId}
 use Rattle.event_log.specs.declared.ids.TheConstants.{CPUS}
@@ -38,12 +39,14 @@ opens_here o rest cells lock all later some false other =
     let found : Opens rest cells lock = later (subst (λ x. IsSome x) skips some) in
     record { block = found.block; opens = skips ∙ found.opens; is = found.is }
 
-opens_at : {B : Type 0} (blocks : List (LockId × B)) (cells : List (Option (Cell B))) (lock : LockId) → AreFresh blocks cells → IsSome (opened blocks lock) → Opens blocks cells lock
+opens_at : {B : Type 0} (blocks : List (LockId × B)) (cells : List (Option (Cell B))) (lock : LockId) → AreFresh blocks cells → IsSome (opened blocks lock)
+    → Opens blocks cells lock
 opens_at [] cells lock all some = absurd (cc some)
 opens_at (o ∷ rest) cells lock all some = opens_here o rest cells lock all (opens_at rest cells lock all.1) some (same_lock o.0 lock) refl
 
 -- a filled table agrees with an empty log
-pub fresh_sound : {E B O : Type 0} (rules : Rules E B O) (blocks : List (LockId × B)) (cells : List (Option (Cell B))) → AreFresh blocks cells → IsSound rules (opened blocks) [] cells
+pub fresh_sound : {E B O : Type 0} (rules : Rules E B O) (blocks : List (LockId × B)) (cells : List (Option (Cell B))) → AreFresh blocks cells
+    → IsSound rules (opened blocks) [] cells
 fresh_sound rules blocks cells all = record {
   legal = tt;
   fits = λ lock some.
@@ -51,7 +54,8 @@ fresh_sound rules blocks cells all = record {
       record { cell = fresh_cell found.block; is = found.is; fits = fresh rules.edited (opened blocks) lock found.block found.opens };
 }
 
-module _ {E B O : Type 0} (rules : Rules E B O) (opening : LockId → Option B) (log : List (Event (Mark E))) (cells : List (Option (Cell B))) (sound : IsSound rules opening log cells) (lock : LockId) (exists : IsSome (opening lock)) where
+module _ {E B O : Type 0} (rules : Rules E B O) (opening : LockId → Option B) (log : List (Event (Mark E))) (cells : List (Option (Cell B)))
+    (sound : IsSound rules opening log cells) (lock : LockId) (exists : IsSome (opening lock)) where
   legal : IsLegalWords log
   legal = words_legal (rules.allowed opening) log sound.legal
 
@@ -85,11 +89,13 @@ module _ {E B O : Type 0} (rules : Rules E B O) (opening : LockId → Option B) 
           record {
             cell = had.cell;
             is = cell_other cells lock after l other ∙ had.is;
-            fits = elsewhere rules.edited opening l e log may.0 (subst (λ k. same_lock l k ≡ false) (sym at) other) had.cell.next had.cell.serving had.cell.home had.fits;
+            fits = elsewhere rules.edited opening l e log may.0 (subst (λ k. same_lock l k ≡ false) (sym at) other) had.cell.next had.cell.serving had.cell.home
+                had.fits;
           }
 
   -- a draw gives the number of earlier draws
-  pub draw_sound : (cpu : CpuId) → cpu.0 < CPUS → standing cpu log ≡ Outside → IsSound rules opening (Draw cpu lock cell.next ∷ log) (with_cell cells lock (drawn_cell cell))
+  pub draw_sound : (cpu : CpuId) → cpu.0 < CPUS → standing cpu log ≡ Outside
+      → IsSound rules opening (Draw cpu lock cell.next ∷ log) (with_cell cells lock (drawn_cell cell))
   draw_sound cpu known outside =
       step_sound (Draw cpu lock cell.next) refl ((known, outside, cell_fits.next_is), tt) (drawn_cell cell)
       (drew rules.edited opening lock cpu cell.next log outside cell.next cell.serving cell.home cell_fits)
@@ -104,7 +110,8 @@ module _ {E B O : Type 0} (rules : Rules E B O) (opening : LockId → Option B) 
       step_sound (Look cpu lock ticket cell.serving) refl (look_may cpu ticket waiting) (looked_cell cell ticket) (go (cell.serving == ticket) refl)
     where
       go : (b : Bool) → (cell.serving == ticket) ≡ b
-          → LockFits rules.edited opening (Look cpu lock ticket cell.serving ∷ log) lock (looked_cell cell ticket).next (looked_cell cell ticket).serving (looked_cell cell ticket).home
+          → LockFits rules.edited opening (Look cpu lock ticket cell.serving ∷ log) lock (looked_cell cell ticket).next (looked_cell cell ticket).serving
+          (looked_cell cell ticket).home
       go true hits =
           let is : looked_cell cell ticket ≡ record cell { home = None } = ap (λ b. if b then record cell { home = None } else cell) hits in
           subst (λ c. LockFits rules.edited opening (Look cpu lock ticket cell.serving ∷ log) lock c.next c.serving c.home) (sym is)
@@ -125,26 +132,31 @@ module _ {E B O : Type 0} (rules : Rules E B O) (opening : LockId → Option B) 
       at_home : (home : Option B) → LockFits rules.edited opening log lock cell.next cell.serving home → IsSome home
           → standing cpu (Look cpu lock ticket cell.serving ∷ log) ≡ Inside lock ticket
           → MatchOption home (standing cpu (Look cpu lock ticket cell.serving ∷ log) ≡ Waiting lock ticket)
-          (λ block. (standing cpu (Look cpu lock ticket cell.serving ∷ log) ≡ Inside lock ticket) × (block_after rules.edited opening lock (sections log) ≡ Some block))
+          (λ block. (standing cpu (Look cpu lock ticket cell.serving ∷ log) ≡ Inside lock ticket)
+          × (block_after rules.edited opening lock (sections log) ≡ Some block))
       at_home None fits some entered = absurd (cc some)
       at_home (Some block) fits some entered = (entered, fits.home_is.1)
 
       go : (b : Bool) → (cell.serving == ticket) ≡ b
           → MatchOption (if cell.serving == ticket then cell.home else None)
           (standing cpu (Look cpu lock ticket cell.serving ∷ log) ≡ Waiting lock ticket)
-          (λ block. (standing cpu (Look cpu lock ticket cell.serving ∷ log) ≡ Inside lock ticket) × (block_after rules.edited opening lock (sections log) ≡ Some block))
+          (λ block. (standing cpu (Look cpu lock ticket cell.serving ∷ log) ≡ Inside lock ticket)
+          × (block_after rules.edited opening lock (sections log) ≡ Some block))
       go true hits =
           let entered : standing cpu (Look cpu lock ticket cell.serving ∷ log) ≡ Inside lock ticket
           = standing_own (Look cpu lock ticket cell.serving) log ∙ ap (λ b. if b then Inside lock ticket else Waiting lock ticket) hits in
-          let some : IsSome cell.home = hit_finds rules.edited opening lock cpu ticket cell.serving log ((look_may cpu ticket waiting).0, legal) hits cell.next cell.serving cell.home cell_fits in
+          let some : IsSome cell.home = hit_finds rules.edited opening lock cpu ticket cell.serving log ((look_may cpu ticket waiting).0, legal) hits cell.next
+          cell.serving cell.home cell_fits in
           subst (λ b. MatchOption (if b then cell.home else None) (standing cpu (Look cpu lock ticket cell.serving ∷ log) ≡ Waiting lock ticket)
-          (λ block. (standing cpu (Look cpu lock ticket cell.serving ∷ log) ≡ Inside lock ticket) × (block_after rules.edited opening lock (sections log) ≡ Some block))) (sym hits)
+          (λ block. (standing cpu (Look cpu lock ticket cell.serving ∷ log) ≡ Inside lock ticket)
+          × (block_after rules.edited opening lock (sections log) ≡ Some block))) (sym hits)
           (at_home cell.home cell_fits some entered)
       go false misses =
           let waits : standing cpu (Look cpu lock ticket cell.serving ∷ log) ≡ Waiting lock ticket
           = standing_own (Look cpu lock ticket cell.serving) log ∙ ap (λ b. if b then Inside lock ticket else Waiting lock ticket) misses in
           subst (λ b. MatchOption (if b then cell.home else None) (standing cpu (Look cpu lock ticket cell.serving ∷ log) ≡ Waiting lock ticket)
-          (λ block. (standing cpu (Look cpu lock ticket cell.serving ∷ log) ≡ Inside lock ticket) × (block_after rules.edited opening lock (sections log) ≡ Some block))) (sym misses)
+          (λ block. (standing cpu (Look cpu lock ticket cell.serving ∷ log) ≡ Inside lock ticket)
+          × (block_after rules.edited opening lock (sections log) ≡ Some block))) (sym misses)
           waits
 
   -- a free brings the edited block home
@@ -187,31 +199,38 @@ module _ {E B O : Type 0} (rules : Rules E B O) (opening : LockId → Option B) 
   look_tells cpu ticket waiting log' is =
       is ∙ ap (λ s. Look cpu lock (ticket_in s) (frees lock log % 2 ^ 64) ∷ log) waiting ∙ ap (λ r. Look cpu lock ticket r ∷ log) (sym cell_fits.serving_is)
 
-  pub look_keeps : (cpu : CpuId) (ticket : ℕ) → standing cpu log ≡ Waiting lock ticket → (found : Option B) (log' : List (Event (Mark E))) (cells' : List (Option (Cell B)))
+  pub look_keeps : (cpu : CpuId) (ticket : ℕ) → standing cpu log ≡ Waiting lock ticket
+      → (found : Option B) (log' : List (Event (Mark E))) (cells' : List (Option (Cell B)))
       → IfSome (cell_at cells lock) (λ c. (found ≡ (if c.serving == ticket then c.home else None)) × (cells' ≡ with_cell cells lock (looked_cell c ticket)))
       → log' ≡ Look cpu lock (ticket_in (standing cpu log)) (frees lock log % 2 ^ 64) ∷ log → IsSound rules opening log' cells'
   look_keeps cpu ticket waiting found log' cells' did is =
       subst (λ l. IsSound rules opening l cells') (sym (look_tells cpu ticket waiting log' is))
-      (subst (λ cs. IsSound rules opening (Look cpu lock ticket cell.serving ∷ log) cs) (sym (looked_there ticket found cells' did).1) (look_sound cpu ticket waiting))
+      (subst (λ cs. IsSound rules opening (Look cpu lock ticket cell.serving ∷ log) cs) (sym (looked_there ticket found cells' did).1)
+      (look_sound cpu ticket waiting))
 
-  pub look_hits : (cpu : CpuId) (ticket : ℕ) → standing cpu log ≡ Waiting lock ticket → (found : Option B) (log' : List (Event (Mark E))) (cells' : List (Option (Cell B)))
+  pub look_hits : (cpu : CpuId) (ticket : ℕ) → standing cpu log ≡ Waiting lock ticket
+      → (found : Option B) (log' : List (Event (Mark E))) (cells' : List (Option (Cell B)))
       → IfSome (cell_at cells lock) (λ c. (found ≡ (if c.serving == ticket then c.home else None)) × (cells' ≡ with_cell cells lock (looked_cell c ticket)))
       → log' ≡ Look cpu lock (ticket_in (standing cpu log)) (frees lock log % 2 ^ 64) ∷ log
       → MatchOption found (standing cpu log' ≡ Waiting lock ticket)
       (λ block. (standing cpu log' ≡ Inside lock ticket) × (block_after rules.edited opening lock (sections log') ≡ Some block))
   look_hits cpu ticket waiting found log' cells' did is =
       subst (λ l. MatchOption found (standing cpu l ≡ Waiting lock ticket)
-      (λ block. (standing cpu l ≡ Inside lock ticket) × (block_after rules.edited opening lock (sections l) ≡ Some block))) (sym (look_tells cpu ticket waiting log' is))
+      (λ block. (standing cpu l ≡ Inside lock ticket) × (block_after rules.edited opening lock (sections l) ≡ Some block)))
+      (sym (look_tells cpu ticket waiting log' is))
       (subst (λ f. MatchOption f (standing cpu (Look cpu lock ticket cell.serving ∷ log) ≡ Waiting lock ticket)
-      (λ block. (standing cpu (Look cpu lock ticket cell.serving ∷ log) ≡ Inside lock ticket) × (block_after rules.edited opening lock (sections log) ≡ Some block))) (sym (looked_there ticket found cells' did).0)
+      (λ block. (standing cpu (Look cpu lock ticket cell.serving ∷ log) ≡ Inside lock ticket)
+      × (block_after rules.edited opening lock (sections log) ≡ Some block))) (sym (looked_there ticket found cells' did).0)
       (look_finds cpu ticket waiting))
 
   pub free_keeps : (cpu : CpuId) (ticket : ℕ) (mark : Mark E) (block : B) → standing cpu log ≡ Inside lock ticket
       → option_map (rules.edited mark.edit) (block_after rules.edited opening lock (sections log)) ≡ Some block
       → StaysAllowed (rules.allowed opening) (sections log) (section cpu lock mark.edit) → (log' : List (Event (Mark E))) (cells' : List (Option (Cell B)))
-      → IfSome (cell_at cells lock) (λ c. cells' ≡ with_cell cells lock (freed_cell c block)) → log' ≡ Free cpu lock mark ∷ log → IsSound rules opening log' cells'
+      → IfSome (cell_at cells lock) (λ c. cells' ≡ with_cell cells lock (freed_cell c block)) → log' ≡ Free cpu lock mark ∷ log
+      → IsSound rules opening log' cells'
   free_keeps cpu ticket mark block inside edited stays log' cells' did is =
-      let there : cells' ≡ with_cell cells lock (freed_cell cell block) = subst (λ o. IfSome o (λ c. cells' ≡ with_cell cells lock (freed_cell c block))) cell_is did in
+      let there : cells' ≡ with_cell cells lock (freed_cell cell block) =
+      subst (λ o. IfSome o (λ c. cells' ≡ with_cell cells lock (freed_cell c block))) cell_is did in
       subst (λ l. IsSound rules opening l cells') (sym is)
       (subst (λ cs. IsSound rules opening (Free cpu lock mark ∷ log) cs) (sym there)
       (free_sound cpu ticket mark block inside edited (stays [] tt (sections_allowed (rules.allowed opening) log sound.legal))))

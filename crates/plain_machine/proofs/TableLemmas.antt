@@ -1,5 +1,6 @@
 -- A table of cells: what a write leaves, and that a table filled with fresh cells has them all.
-use Rattle.std.proofs.Common.{◌≡◌, ◌≢◌, ℕ, zero, suc, ◌⊎◌, inl, inr, ◌<◌, ◌≤◌, true, false, List, [], ◌∷◌, ◌++◌, length, get_or, Option, Some, None, IsSome, is_some, refl, ap, sym, ◌∙◌, subst, All, arith}
+use Rattle.std.proofs.Common.{◌≡◌, ◌≢◌, ℕ, zero, suc, ◌⊎◌, inl, inr, ◌<◌, ◌≤◌, true, false, List, [], ◌∷◌, ◌++◌, length, get_or, Option, Some, None, IsSome}
+use Rattle.std.proofs.Common.{is_some, refl, ap, sym, ◌∙◌, subst, All, arith}
 use Rattle.std.proofs.lemmas.List.{get_or-set_same, get_or-set_other}
 use Rattle.std.proofs.lemmas.List.Elements.{All-head, All-tail}
 use Rattle.event_log.specs.declared.ids.LockId.{LockId}
@@ -35,7 +36,8 @@ module _ {B : Type 0} (cells : List (Option (Cell B))) (lock : LockId) where
   pub cell_other : (cell : Cell B) (l : LockId) → same_lock l lock ≡ false → cell_at (with_cell cells lock cell) l ≡ cell_at cells l
   cell_other cell l other = get_or-set_other cells (lock_number lock) (lock_number l) (Some cell) None (lock_number_other l lock other)
 
-missing_mid : {B : Type 0} (lock : LockId) (xs : List (LockId × B)) (o : LockId × B) (ys : List (LockId × B)) → IsMissing lock (xs ++ o ∷ ys) → same_lock lock o.0 ≡ false
+missing_mid : {B : Type 0} (lock : LockId) (xs : List (LockId × B)) (o : LockId × B) (ys : List (LockId × B)) → IsMissing lock (xs ++ o ∷ ys)
+    → same_lock lock o.0 ≡ false
 missing_mid lock [] o ys missing = missing.0
 missing_mid lock (x ∷ xs) o ys missing = missing_mid lock xs o ys missing.1
 
@@ -51,8 +53,10 @@ all_mid P [] o ys all = All-head P o ys all
 all_mid P (x ∷ xs) o ys all = all_mid P xs o ys (All-tail P x (xs ++ o ∷ ys) all)
 
 -- a turn of the loop that fills the table
-pub fresh_turn : {B : Type 0} (blocks xs : List (LockId × B)) (o : LockId × B) (ys : List (LockId × B)) (cells : List (Option (Cell B))) → xs ++ o ∷ ys ≡ blocks → AreDistinct blocks
+pub fresh_turn : {B : Type 0} (blocks xs : List (LockId × B)) (o : LockId × B) (ys : List (LockId × B)) (cells : List (Option (Cell B))) → xs ++ o ∷ ys ≡ blocks
+    → AreDistinct blocks
     → All (λ entry. lock_number entry.0 < length cells) blocks → AreFresh xs cells → AreFresh (xs ++ o ∷ []) (with_cell cells o.0 (fresh_cell o.1))
 fresh_turn blocks xs o ys cells is distinct within fresh =
-    let reaches : All (λ entry. lock_number entry.0 < length cells) (xs ++ o ∷ ys) = subst (λ l. All (λ entry. lock_number entry.0 < length cells) l) (sym is) within in
+    let reaches : All (λ entry. lock_number entry.0 < length cells) (xs ++ o ∷ ys) =
+    subst (λ l. All (λ entry. lock_number entry.0 < length cells) l) (sym is) within in
     fresh_more xs o ys cells (subst (λ l. AreDistinct l) (sym is) distinct) (all_mid (λ entry. lock_number entry.0 < length cells) xs o ys reaches) fresh

@@ -47,12 +47,14 @@ abbrev pub room_left : {M : Type 0} → Notes M → ℕ
 room_left log = room_of log.notes - length (events_in log.notes)
 
 -- the lock has a cell, whose words and home are those that the log says
-pub record HasCell {E B : Type 0} (edited : E → B → B) (opening : LockId → Option B) (log : List (Event (Mark E))) (cells : List (Option (Cell B))) (lock : LockId) : Type 0 where
+pub record HasCell {E B : Type 0} (edited : E → B → B) (opening : LockId → Option B) (log : List (Event (Mark E))) (cells : List (Option (Cell B)))
+    (lock : LockId) : Type 0 where
   pub cell : Cell B
   pub is : cell_at cells lock ≡ Some cell
   pub fits : LockFits edited opening log lock cell.next cell.serving cell.home
 
 -- the log keeps the protocol, and each lock's cell is what the log says
-pub record IsSound {E B O : Type 0} (rules : Rules E B O) (opening : LockId → Option B) (log : List (Event (Mark E))) (cells : List (Option (Cell B))) : Type 0 where
-  pub legal : IsLawful (MayCome (rules.allowed opening)) log
-  pub fits : (lock : LockId) → IsSome (opening lock) → HasCell rules.edited opening log cells lock
+pub record IsSound {E B O : Type 0} (rules : Rules E B O) (opening : LockId → Option B) (log : List (Event (Mark E))) (cells : List (Option (Cell B))) : Type 0
+  where
+    pub legal : IsLawful (MayCome (rules.allowed opening)) log
+    pub fits : (lock : LockId) → IsSome (opening lock) → HasCell rules.edited opening log cells lock

@@ -1,5 +1,6 @@
 -- What one event of a machine does to the stages of sections and to the history of sections.
-use Rattle.std.proofs.Common.{◌≡◌, ◌≢◌, ℕ, Bool, true, false, List, [], ◌∷◌, ◌++◌, Option, Some, None, IsSome, MatchOption, option_map, refl, ap, sym, ◌∙◌, subst}
+use Rattle.std.proofs.Common.{◌≡◌, ◌≢◌, ℕ, Bool, true, false, List, [], ◌∷◌, ◌++◌, Option, Some, None, IsSome, MatchOption, option_map, refl, ap, sym, ◌∙◌}
+use Rattle.std.proofs.Common.{subst}
 use Rattle.event_log.specs.declared.ids.CpuId.{CpuId}
 use Rattle.event_log.specs.declared.ids.LockId.{LockId}
 use Rattle.event_log.specs.declared.events.Event.{Event}
@@ -30,7 +31,8 @@ cpu_differs a b other = go (same_cpu a b) refl
 module _ {E B O : Type 0} (rules : Rules E B O) (opening : LockId → Option B) where
   -- a section stays allowed after events of others
   allowed_stays : (cpu : CpuId) (lock : LockId) (edit : E) (more log : List (Event (Mark E))) → AreOthers actor cpu more
-      → StaysAllowed (rules.allowed opening) (sections log) (section cpu lock edit) → StaysAllowed (rules.allowed opening) (sections (more ++ log)) (section cpu lock edit)
+      → StaysAllowed (rules.allowed opening) (sections log) (section cpu lock edit)
+      → StaysAllowed (rules.allowed opening) (sections (more ++ log)) (section cpu lock edit)
   allowed_stays cpu lock edit more log others stays =
       subst (λ l. StaysAllowed (rules.allowed opening) l (section cpu lock edit)) (sym (sections-append more log))
       (stays_on (rules.allowed opening) (sections more) (sections log) (section cpu lock edit) (others_sections cpu more others) stays)
@@ -76,23 +78,29 @@ module _ {E B O : Type 0} (rules : Rules E B O) (opening opening' : LockId → O
 
   -- a CPU that drew waits with its ticket
   pub drawn_fits : (lock : LockId) (edit : E) (ticket : ℕ) → Adds ActsFor actor (Draw cpu lock ticket) old new → ActsFor cpu
-      → StaysAllowed (rules.allowed opening) (sections old) (section cpu lock edit) → IsSome (opening lock) → StageFits rules opening' new cpu (Drawn lock edit ticket)
+      → StaysAllowed (rules.allowed opening) (sections old) (section cpu lock edit) → IsSome (opening lock)
+      → StageFits rules opening' new cpu (Drawn lock edit ticket)
   drawn_fits lock edit ticket adds acts stays there =
       subst (λ o. StageFits rules o new cpu (Drawn lock edit ticket)) (sym same)
-      (subst (λ l. StageFits rules opening l cpu (Drawn lock edit ticket)) (sym adds.is)
-      (standing_own (Draw cpu lock ticket) (adds.others ++ old), allowed_stays rules opening cpu lock edit adds.others old (adds.foreign cpu acts) stays, there))
+      (subst (λ l. StageFits rules opening l cpu (Drawn lock edit ticket)) (sym adds.is) (
+        standing_own (Draw cpu lock ticket) (adds.others ++ old),
+        allowed_stays rules opening cpu lock edit adds.others old (adds.foreign cpu acts) stays,
+        there,
+      ))
 
   -- a CPU that looked waits on, or is inside with the block
   pub looked_fits : (lock : LockId) (edit : E) (ticket read : ℕ) → Adds ActsFor actor (Look cpu lock ticket read) old new → ActsFor cpu
       → StaysAllowed (rules.allowed opening) (sections old) (section cpu lock edit) → IsSome (opening lock) → (found : Option B)
       → MatchOption found (standing cpu new ≡ Waiting lock ticket)
       (λ block. (standing cpu new ≡ Inside lock ticket) × (block_after rules.edited opening' lock (sections new) ≡ Some block))
-      → (stage : Stage E B) → MatchOption found (stage ≡ Drawn lock edit ticket) (λ block. stage ≡ Held lock edit block) → StageFits rules opening' new cpu stage
+      → (stage : Stage E B) → MatchOption found (stage ≡ Drawn lock edit ticket) (λ block. stage ≡ Held lock edit block)
+      → StageFits rules opening' new cpu stage
   looked_fits lock edit ticket read adds acts stays there found hits stage is =
       let still : StaysAllowed (rules.allowed opening) (sections new) (section cpu lock edit)
       = subst (λ l. StaysAllowed (rules.allowed opening) (sections l) (section cpu lock edit)) (sym adds.is)
       (allowed_stays rules opening cpu lock edit adds.others old (adds.foreign cpu acts) stays) in
-      by_find found hits is (subst (λ o. StaysAllowed (rules.allowed o) (sections new) (section cpu lock edit)) (sym same) still) (subst (λ o. IsSome (o lock)) (sym same) there)
+      by_find found hits is (subst (λ o. StaysAllowed (rules.allowed o) (sections new) (section cpu lock edit)) (sym same) still)
+      (subst (λ o. IsSome (o lock)) (sym same) there)
     where
       by_find : (f : Option B)
           → MatchOption f (standing cpu new ≡ Waiting lock ticket)
@@ -123,7 +131,8 @@ module _ {E B O : Type 0} (rules : Rules E B O) (opening opening' : LockId → O
   }
 
   -- a look of a section that waits brings foreign sections alone
-  pub look_grows : (lock : LockId) (ticket read : ℕ) → Adds ActsFor actor (Look cpu lock ticket read) old new → Grows ActsFor section_actor (sections old) (sections new)
+  pub look_grows : (lock : LockId) (ticket read : ℕ) → Adds ActsFor actor (Look cpu lock ticket read) old new
+      → Grows ActsFor section_actor (sections old) (sections new)
   look_grows lock ticket read adds = record {
     others = sections adds.others;
     foreign = foreign_sections ActsFor adds.others adds.foreign;
@@ -131,17 +140,20 @@ module _ {E B O : Type 0} (rules : Rules E B O) (opening opening' : LockId → O
   }
 
   -- while a CPU is inside, foreign events leave its block as it was
-  found_still : (lock : LockId) (ticket : ℕ) (mark : Mark E) (adds : Adds ActsFor actor (Free cpu lock mark) old new) → ActsFor cpu → standing cpu old ≡ Inside lock ticket
+  found_still : (lock : LockId) (ticket : ℕ) (mark : Mark E) (adds : Adds ActsFor actor (Free cpu lock mark) old new) → ActsFor cpu
+      → standing cpu old ≡ Inside lock ticket
       → block_after rules.edited opening lock (sections (adds.others ++ old)) ≡ block_after rules.edited opening lock (sections old)
   found_still lock ticket mark adds acts inside =
       block_stays rules.edited opening cpu lock ticket adds.others old (grown (Free cpu lock mark) adds).1 (adds.foreign cpu acts) inside
 
   -- a free ends its section, with the answer of its edit on the block that the look gave
-  pub free_polled : (lock : LockId) (edit : E) (ticket : ℕ) (adds : Adds ActsFor actor (Free cpu lock (mark_of edit)) old new) → ActsFor cpu → standing cpu old ≡ Inside lock ticket
+  pub free_polled : (lock : LockId) (edit : E) (ticket : ℕ) (adds : Adds ActsFor actor (Free cpu lock (mark_of edit)) old new) → ActsFor cpu
+      → standing cpu old ≡ Inside lock ticket
       → (block : B) → block_after rules.edited opening lock (sections old) ≡ Some block → (out : O) → out ≡ rules.answer edit block
       → Polled rules opening ActsFor (section cpu lock edit) (Some out) (sections old) (sections new)
   free_polled lock edit ticket adds acts inside block found out answers =
-      let found_then : block_after rules.edited opening lock (sections (adds.others ++ old)) ≡ Some block = found_still lock ticket (mark_of edit) adds acts inside ∙ found in
+      let found_then : block_after rules.edited opening lock (sections (adds.others ++ old)) ≡ Some block =
+      found_still lock ticket (mark_of edit) adds acts inside ∙ found in
       record {
         others = sections adds.others;
         foreign = foreign_sections ActsFor adds.others adds.foreign;
@@ -150,7 +162,8 @@ module _ {E B O : Type 0} (rules : Rules E B O) (opening opening' : LockId → O
             (ap (option_map (rules.answer edit)) found_then ∙ ap Some (sym answers));
       }
 
-  pub free_acts : (lock : LockId) (edit : E) (ticket : ℕ) (adds : Adds ActsFor actor (Free cpu lock (mark_of edit)) old new) → ActsFor cpu → standing cpu old ≡ Inside lock ticket
+  pub free_acts : (lock : LockId) (edit : E) (ticket : ℕ) (adds : Adds ActsFor actor (Free cpu lock (mark_of edit)) old new) → ActsFor cpu
+      → standing cpu old ≡ Inside lock ticket
       → (block : B) → block_after rules.edited opening lock (sections old) ≡ Some block → (out : O) → out ≡ rules.answer edit block
       → Follows ActsFor (table_of rules) opening cpu (section_plan lock edit) (acts_of edit_of old) (acts_of edit_of new) (answered (Some out))
   free_acts lock edit ticket adds acts inside block found out answers =

@@ -32,25 +32,33 @@ board_of table start cpus = record { table = table; start = start; cpus = cpus }
 
 module _ {E B O : Type 0} (R : Rules E B O) where
   -- a key's token, at the opening blocks of its table
-  pub me_is : (cpu : CpuId) (me : Me (Home E B) (View E B)) (start : List (LockId × B)) → IsKey R cpu me → me.0.start ≡ start → me ≡ (mine start cpu me.0.seen, me.1)
+  pub me_is : (cpu : CpuId) (me : Me (Home E B) (View E B)) (start : List (LockId × B)) → IsKey R cpu me → me.0.start ≡ start
+      → me ≡ (mine start cpu me.0.seen, me.1)
   me_is cpu me start key st = ap (λ (v : View E B). (v, me.1)) (key.view ∙ ap (λ (s : List (LockId × B)). mine s cpu me.0.seen) st)
 
-  module _ (table z : TableId) (start : List (LockId × B)) (n id word : ℕ) (places : List ℕ) (locks : List LockId) (cpu : CpuId) (me : Me (Home E B) (View E B)) (laid : IsLaidOut start z.words z.slots places locks) (key : IsKey R cpu me) where
-    draw_plain : (lock : LockId) → IsOf (board_of z start n) (desk_of cpu table me) → IsSome (opened me.0.start lock) → standing cpu me.0.seen ≡ Outside → word ≡ next_at (index_of start lock)
+  module _ (table z : TableId) (start : List (LockId × B)) (n id word : ℕ) (places : List ℕ) (locks : List LockId) (cpu : CpuId) (me : Me (Home E B) (View E B))
+      (laid : IsLaidOut start z.words z.slots places locks) (key : IsKey R cpu me) where
+    draw_plain : (lock : LockId) → IsOf (board_of z start n) (desk_of cpu table me) → IsSome (opened me.0.start lock) → standing cpu me.0.seen ≡ Outside
+        → word ≡ next_at (index_of start lock)
         → (table ≡ z) × (word < z.words) × Allows (Kept R n start) z.slots id me word (λ m. (m + 1) % 2 ^ 64) (Drew R (step z.slots word 1 0 none) me)
     draw_plain lock of exists out word_is =
         let there : IsSome (opened start lock) = subst (λ s. IsSome (opened s lock)) of.1 exists in (
           of.0,
-          subst (λ (w : ℕ). w < z.words) (sym word_is) (subst (λ (w : ℕ). next_at (index_of start lock) < w) (sym laid.words_are) (next_within R.edited start lock there)),
-          subst (λ (m : Me (Home E B) (View E B)). Allows (Kept R n start) z.slots id m word (λ m. (m + 1) % 2 ^ 64) (Drew R (step z.slots word 1 0 none) m)) (sym (me_is cpu me start key of.1))
-              (subst (λ (w : ℕ). Allows (Kept R n start) z.slots id (mine start cpu me.0.seen, me.1) w (λ m. (m + 1) % 2 ^ 64) (Drew R (step z.slots w 1 0 none) (mine start cpu me.0.seen, me.1))) (sym word_is)
+          subst (λ (w : ℕ). w < z.words) (sym word_is)
+              (subst (λ (w : ℕ). next_at (index_of start lock) < w) (sym laid.words_are) (next_within R.edited start lock there)),
+          subst (λ (m : Me (Home E B) (View E B)). Allows (Kept R n start) z.slots id m word (λ m. (m + 1) % 2 ^ 64) (Drew R (step z.slots word 1 0 none) m))
+              (sym (me_is cpu me start key of.1))
+              (subst (λ (w : ℕ). Allows (Kept R n start) z.slots id (mine start cpu me.0.seen, me.1) w (λ m. (m + 1) % 2 ^ 64)
+              (Drew R (step z.slots w 1 0 none) (mine start cpu me.0.seen, me.1))) (sym word_is)
               (draws_allowed R n start z.slots id cpu me.0.seen me.1 lock there out)),
         )
 
-    pub draw_asks : (d : Desk E B) (b : Board B) (lock : LockId) → desk_of cpu table me ≡ d → board_of z start n ≡ b → IsOf b d → IsSome (opened d.start lock) → standing d.cpu d.seen ≡ Outside → word ≡ next_at (index_of b.start lock)
+    pub draw_asks : (d : Desk E B) (b : Board B) (lock : LockId) → desk_of cpu table me ≡ d → board_of z start n ≡ b → IsOf b d → IsSome (opened d.start lock)
+        → standing d.cpu d.seen ≡ Outside → word ≡ next_at (index_of b.start lock)
         → (table ≡ z) × (word < z.words) × Allows (Kept R n start) z.slots id me word (λ m. (m + 1) % 2 ^ 64) (Drew R (step z.slots word 1 0 none) me)
     draw_asks d b lock d_is b_is of exists out word_is =
-        let P : Desk E B → Board B → Type 0 = λ d b. IsOf b d → IsSome (opened d.start lock) → standing d.cpu d.seen ≡ Outside → word ≡ next_at (index_of b.start lock)
+        let P : Desk E B → Board B → Type 0 = λ d b. IsOf b d → IsSome (opened d.start lock) → standing d.cpu d.seen ≡ Outside
+        → word ≡ next_at (index_of b.start lock)
         → (table ≡ z) × (word < z.words) × Allows (Kept R n start) z.slots id me word (λ m. (m + 1) % 2 ^ 64) (Drew R (step z.slots word 1 0 none) me) in
         subst (λ d. P d b) d_is (subst (λ b. P (desk_of cpu table me) b) b_is (draw_plain lock)) of exists out word_is
 
@@ -60,7 +68,8 @@ module _ {E B O : Type 0} (R : Rules E B O) where
     pub adds : Adds (IsCpu cpu) actor e v.0.seen w.0.seen
     pub key : IsKey R cpu w
 
-  pub went : (cpu : CpuId) (v w : Me (Home E B) (View E B)) (e : Event (Mark E)) → IsKey R cpu v → Moves R v.0 w.0 e → Carries v.0.start (standing cpu w.0.seen) w.1 → Went cpu v w e
+  pub went : (cpu : CpuId) (v w : Me (Home E B) (View E B)) (e : Event (Mark E)) → IsKey R cpu v → Moves R v.0 w.0 e
+      → Carries v.0.start (standing cpu w.0.seen) w.1 → Went cpu v w e
   went cpu v w e key moves carries =
       let mine_is : owner v.0.cpus ≡ cpu = ap (λ (u : View E B). owner u.cpus) key.view in
       let view : w.0 ≡ mine v.0.start cpu w.0.seen = subst (λ c. w.0 ≡ mine v.0.start c w.0.seen) mine_is moves.view in
@@ -76,21 +85,27 @@ module _ {E B O : Type 0} (R : Rules E B O) where
       }
 
   -- where a CPU stands after its own event
-  pub stands_after : (cpu : CpuId) (e : Event (Mark E)) (v w : View E B) → actor e ≡ cpu → Moves R v w e → standing cpu w.seen ≡ Rattle.event_log.specs.WordsLog.left_by e
-  stands_after cpu e v w its moves = subst (λ c. standing c w.seen ≡ Rattle.event_log.specs.WordsLog.left_by e) its (ap (standing (actor e)) moves.adds.is ∙ standing_own e (moves.adds.others ++ v.seen))
+  pub stands_after : (cpu : CpuId) (e : Event (Mark E)) (v w : View E B) → actor e ≡ cpu → Moves R v w e
+      → standing cpu w.seen ≡ Rattle.event_log.specs.WordsLog.left_by e
+  stands_after cpu e v w its moves = subst (λ c. standing c w.seen ≡ Rattle.event_log.specs.WordsLog.left_by e) its
+      (ap (standing (actor e)) moves.adds.is ∙ standing_own e (moves.adds.others ++ v.seen))
 
-  pub draw_went : (cpu : CpuId) (v w : Me (Home E B) (View E B)) (slots word found : ℕ) (lock : LockId) → IsKey R cpu v → standing cpu v.0.seen ≡ Outside → IsSome (opened v.0.start lock) → word ≡ next_at (index_of v.0.start lock)
+  pub draw_went : (cpu : CpuId) (v w : Me (Home E B) (View E B)) (slots word found : ℕ) (lock : LockId) → IsKey R cpu v → standing cpu v.0.seen ≡ Outside
+      → IsSome (opened v.0.start lock) → word ≡ next_at (index_of v.0.start lock)
       → Drew R (step slots word 1 0 none) v found w → Went cpu v w (Draw cpu lock found)
   draw_went cpu v w slots word found lock key out exists word_is told =
       let mine_is : owner v.0.cpus ≡ cpu = ap (λ (u : View E B). owner u.cpus) key.view in
       let places_same : next_at (index_of v.0.start told.lock) ≡ next_at (index_of v.0.start lock) = sym told.word ∙ word_is in
       let index_is : index_of v.0.start told.lock ≡ index_of v.0.start lock = omega arith in
       let lock_is : told.lock ≡ lock = index_same v.0.start told.lock lock told.exists index_is in
-      let moves : Moves R v.0 w.0 (Draw cpu lock found) = subst (λ c. Moves R v.0 w.0 (Draw c lock found)) mine_is (subst (λ l. Moves R v.0 w.0 (Draw (owner v.0.cpus) l found)) lock_is told.moves) in
+      let moves : Moves R v.0 w.0 (Draw cpu lock found) =
+      subst (λ c. Moves R v.0 w.0 (Draw c lock found)) mine_is (subst (λ l. Moves R v.0 w.0 (Draw (owner v.0.cpus) l found)) lock_is told.moves) in
       let nothing : v.1 ≡ [] = subst (λ st. Carries v.0.start st v.1) out key.held in
-      went cpu v w (Draw cpu lock found) key moves (subst (λ st. Carries v.0.start st w.1) (sym (stands_after cpu (Draw cpu lock found) v.0 w.0 refl moves)) (told.held ∙ nothing))
+      went cpu v w (Draw cpu lock found) key moves
+      (subst (λ st. Carries v.0.start st w.1) (sym (stands_after cpu (Draw cpu lock found) v.0 w.0 refl moves)) (told.held ∙ nothing))
 
-  pub draw_tells : (cpu : CpuId) (table : TableId) (v w : Me (Home E B) (View E B)) (slots word found : ℕ) (lock : LockId) (d : Desk E B) (b : Board B) → desk_of cpu table v ≡ d → IsKey R cpu v
+  pub draw_tells : (cpu : CpuId) (table : TableId) (v w : Me (Home E B) (View E B)) (slots word found : ℕ) (lock : LockId) (d : Desk E B) (b : Board B)
+      → desk_of cpu table v ≡ d → IsKey R cpu v
       → IsOf b d → IsSome (opened d.start lock) → standing d.cpu d.seen ≡ Outside → word ≡ next_at (index_of b.start lock)
       → Drew R (step slots word 1 0 none) v found w → (d.start ≡ w.0.start) × Adds (IsCpu d.cpu) actor (Draw d.cpu lock found) d.seen w.0.seen × IsKey R cpu w
   draw_tells cpu table v w slots word found lock d b d_is key of exists out word_is told =
@@ -102,15 +117,19 @@ module _ {E B O : Type 0} (R : Rules E B O) where
       subst P d_is plain of exists out
 
 -- an event of the own CPU, to the holder that acts for that CPU alone
-pub acts_adds : {M : Type 0} (cpu own : CpuId) (e : CpuId → Event M) (P : Type 0) (old new : List (Event M)) → cpu ≡ own → Adds (IsCpu own) actor (e own) old new → Adds (λ c. (c ≡ own) × P) actor (e cpu) old new
+pub acts_adds : {M : Type 0} (cpu own : CpuId) (e : CpuId → Event M) (P : Type 0) (old new : List (Event M)) → cpu ≡ own
+    → Adds (IsCpu own) actor (e own) old new → Adds (λ c. (c ≡ own) × P) actor (e cpu) old new
 acts_adds cpu own e P old new same adds = record {
   others = adds.others;
   foreign = λ c acts. adds.foreign c acts.0;
   is = adds.is ∙ ap (λ c. e c ∷ (adds.others ++ old)) (sym same);
 }
 
-pub seat_adds : {E B : Type 0} (k d : Desk E B) (cpu : CpuId) (e : CpuId → Event (Mark E)) (P : Type 0) (new : List (Event (Mark E))) → k ≡ d → cpu ≡ d.cpu → Adds (IsCpu k.cpu) actor (e k.cpu) k.seen new → Adds (λ c. (c ≡ d.cpu) × P) actor (e cpu) d.seen new
-seat_adds k d cpu e P new k_is same adds = acts_adds cpu d.cpu e P d.seen new same (subst (λ (d : Desk _ _). Adds (IsCpu d.cpu) actor (e d.cpu) d.seen new) k_is adds)
+pub seat_adds : {E B : Type 0} (k d : Desk E B) (cpu : CpuId) (e : CpuId → Event (Mark E)) (P : Type 0) (new : List (Event (Mark E))) → k ≡ d → cpu ≡ d.cpu
+    → Adds (IsCpu k.cpu) actor (e k.cpu) k.seen new → Adds (λ c. (c ≡ d.cpu) × P) actor (e cpu) d.seen new
+seat_adds k d cpu e P new k_is same adds = acts_adds cpu d.cpu e P d.seen new same
+    (subst (λ (d : Desk _ _). Adds (IsCpu d.cpu) actor (e d.cpu) d.seen new) k_is adds)
 
-pub seat_grows : {E B : Type 0} (k d : Desk E B) (new : List (Event (Mark E))) → k ≡ d → Grows (IsCpu k.cpu) actor k.seen new → Grows (IsCpu d.cpu) actor d.seen new
+pub seat_grows : {E B : Type 0} (k d : Desk E B) (new : List (Event (Mark E))) → k ≡ d → Grows (IsCpu k.cpu) actor k.seen new
+    → Grows (IsCpu d.cpu) actor d.seen new
 seat_grows k d new k_is grows = subst (λ (d : Desk _ _). Grows (IsCpu d.cpu) actor d.seen new) k_is grows

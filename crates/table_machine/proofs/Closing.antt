@@ -1,5 +1,6 @@
 -- What is known once all keys are back.
-use Rattle.std.proofs.Common.{◌≡◌, ℕ, zero, suc, ◌<◌, ◌≤◌, inl, inr, ⊎_elim, List, [], ◌∷◌, ◌++◌, length, map, Some, IsSome, is_some, if◌then◌else◌, refl, ap, sym, ◌∙◌, subst, append_assoc, lt_of_not-le, arith}
+use Rattle.std.proofs.Common.{◌≡◌, ℕ, zero, suc, ◌<◌, ◌≤◌, inl, inr, ⊎_elim, List, [], ◌∷◌, ◌++◌, length, map, Some, IsSome, is_some, if◌then◌else◌, refl, ap}
+use Rattle.std.proofs.Common.{sym, ◌∙◌, subst, append_assoc, lt_of_not-le, arith}
 use mathlib.Core.Option.{none, some, some-ne-none}
 use native.Mathlib.Decide.{dec_le}
 use lib.ListN.{get_elem?, length-map}
@@ -61,7 +62,8 @@ module _ {E B O : Type 0} (R : Rules E B O) where
   gathered_none start = record { view = refl; keys = λ i d at. absurd (some-ne-none d (sym at)); quiet = λ c has. absurd has }
 
   -- one desk more
-  pub gathered_more : (start : List (LockId × B)) (v : View E B) (desks : List (Desk E B)) (d : Desk E B) (at : Step (Home E B)) (held : List (ℕ × Home E B)) (found : ℕ) (w : Me (Home E B) (View E B))
+  pub gathered_more : (start : List (LockId × B)) (v : View E B) (desks : List (Desk E B)) (d : Desk E B) (at : Step (Home E B)) (held : List (ℕ × Home E B))
+      (found : ℕ) (w : Me (Home E B) (View E B))
       → Gathered start v desks → standing d.cpu d.seen ≡ Outside
       → Met R at (record { start = v.start; cpus = v.cpus; seen = v.seen; told = d.seen; lent = d.cpu ∷ [] }, held) found w
       → Gathered start w.0 (desks ++ d ∷ [])
@@ -70,13 +72,16 @@ module _ {E B O : Type 0} (R : Rules E B O) where
       let started : v.start ≡ start = ap (λ (u : View E B). u.start) g.view in
       let has_old : (c : CpuId) → Has c v.cpus → Has c w.0.cpus = λ c has. subst (λ l. Has c l) cpus_are (inr has) in
       record {
-        view = subst (λ (l : List CpuId). w.0 ≡ viewed start l w.0.seen) cpus_are (subst (λ (l : List (LockId × B)). w.0 ≡ viewed l (d.cpu ∷ v.cpus) w.0.seen) started met.view);
+        view = subst (λ (l : List CpuId). w.0 ≡ viewed start l w.0.seen) cpus_are
+            (subst (λ (l : List (LockId × B)). w.0 ≡ viewed l (d.cpu ∷ v.cpus) w.0.seen) started met.view);
         keys = λ i e there. ⊎_elim
             (λ old. let known = g.keys i e old in (has_old e.cpu known.0, since_trans e.cpu w.0.seen v.seen e.seen (met.fits.cpus e.cpu known.0) known.1))
-            (λ (t : (i ≡ length desks) × (d ≡ e)). subst (λ (e : Desk E B). Has e.cpu w.0.cpus × IsSince w.0.seen e.seen e.cpu) t.1 (subst (λ l. Has d.cpu l) cpus_are (inl refl), met.fits.lent d.cpu (inl refl)))
+            (λ (t : (i ≡ length desks) × (d ≡ e)). subst (λ (e : Desk E B). Has e.cpu w.0.cpus × IsSince w.0.seen e.seen e.cpu) t.1
+            (subst (λ l. Has d.cpu l) cpus_are (inl refl), met.fits.lent d.cpu (inl refl)))
             (at_end desks d e i there);
         quiet = λ c has. ⊎_elim
-            (λ (same : c ≡ d.cpu). subst (λ x. standing x w.0.seen ≡ Outside) (sym same) (standing_since d.cpu w.0.seen d.seen (met.fits.lent d.cpu (inl refl)) ∙ over))
+            (λ (same : c ≡ d.cpu). subst (λ x. standing x w.0.seen ≡ Outside) (sym same)
+            (standing_since d.cpu w.0.seen d.seen (met.fits.lent d.cpu (inl refl)) ∙ over))
             (λ old. standing_since c w.0.seen v.seen (met.fits.cpus c old) ∙ g.quiet c old)
             (subst (λ l. Has c l) (sym cpus_are) has);
       }
@@ -111,13 +116,17 @@ module _ {E B O : Type 0} (R : Rules E B O) where
             let nobody : NobodyInside o.0 log = λ c t inside. absurd (let out = outside c in cc (out, inside)) in
             let found = home_of stands.home (all_home R.edited (opened board.start) o.0 log nobody _ _ (home_block stands.home) stands.is) in
             let block_there : home_block stands.home ≡ Some found.1 = ap home_block found.2 ∙ found.3 in
-            let folds = (subst (λ x. LockFits R.edited (opened board.start) log o.0 (Rattle.std.specs.Prelude.slice_index s.words (next_at (index_of board.start o.0))) (Rattle.std.specs.Prelude.slice_index s.words (serving_at (index_of board.start o.0))) x) block_there stands.is).home_is.1 in
-            let home_at : get_elem? s.homes i ≡ some (some found.0) = subst (λ k. get_elem? s.homes k ≡ some (some found.0)) place.0 (stands.at ∙ ap some found.2) in
+            let folds = (subst (λ x. LockFits R.edited (opened board.start) log o.0
+            (Rattle.std.specs.Prelude.slice_index s.words (next_at (index_of board.start o.0)))
+            (Rattle.std.specs.Prelude.slice_index s.words (serving_at (index_of board.start o.0))) x) block_there stands.is).home_is.1 in
+            let home_at : get_elem? s.homes i ≡ some (some found.0) =
+            subst (λ k. get_elem? s.homes k ≡ some (some found.0)) place.0 (stands.at ∙ ap some found.2) in
             (found.0, found.1, final.4 i found.0 home_at, found.3, folds));
       }
 
   -- a key is taken in
-  pub absorb_tells : (start : List (LockId × B)) (cpu : CpuId) (table : TableId) (v u w o : Me (Home E B) (View E B)) (slots found : ℕ) (d : Desk E B) → desk_of cpu table o ≡ d → IsKey R cpu o → standing d.cpu d.seen ≡ Outside
+  pub absorb_tells : (start : List (LockId × B)) (cpu : CpuId) (table : TableId) (v u w o : Me (Home E B) (View E B)) (slots found : ℕ) (d : Desk E B)
+      → desk_of cpu table o ≡ d → IsKey R cpu o → standing d.cpu d.seen ≡ Outside
       → u ≡ (joined v.0 o.0, v.1) → Met R (step slots 0 0 0 none) u found w
       → (desks : List (Desk E B)) → Gathered start v.0 desks → Gathered start w.0 (desks ++ d ∷ [])
   absorb_tells start cpu table v u w o slots found d d_is key over u_is met =
@@ -125,17 +134,21 @@ module _ {E B O : Type 0} (R : Rules E B O) where
       let u_at : u ≡ (record { start = v.0.start; cpus = v.0.cpus; seen = v.0.seen; told = o.0.seen; lent = cpu ∷ [] }, v.1) =
       u_is ∙ ap (λ (l : List CpuId). (record { start = v.0.start; cpus = v.0.cpus; seen = v.0.seen; told = o.0.seen; lent = l }, v.1)) cpus_are in
       let met' = subst (λ (m : Me (Home E B) (View E B)). Met R (step slots 0 0 0 none) m found w) u_at met in
-      subst (λ (d : Desk E B). standing d.cpu d.seen ≡ Outside → (desks : List (Desk E B)) → Gathered start v.0 desks → Gathered start w.0 (desks ++ d ∷ [])) d_is
+      subst (λ (d : Desk E B). standing d.cpu d.seen ≡ Outside → (desks : List (Desk E B)) → Gathered start v.0 desks → Gathered start w.0 (desks ++ d ∷ []))
+      d_is
       (λ over desks g. gathered_more start v.0 desks (desk_of cpu table o) (step slots 0 0 0 none) v.1 found w g over met') over
 
   -- a key whose CPU is outside carries no slot
-  pub absorb_carries : (cpu : CpuId) (table : TableId) (o : Me (Home E B) (View E B)) (d : Desk E B) → desk_of cpu table o ≡ d → IsKey R cpu o → standing d.cpu d.seen ≡ Outside → o.1 ≡ []
-  absorb_carries cpu table o d d_is key over = subst (λ (d : Desk E B). standing d.cpu d.seen ≡ Outside → o.1 ≡ []) d_is (λ over. subst (λ st. Carries o.0.start st o.1) over key.held) over
+  pub absorb_carries : (cpu : CpuId) (table : TableId) (o : Me (Home E B) (View E B)) (d : Desk E B) → desk_of cpu table o ≡ d → IsKey R cpu o
+      → standing d.cpu d.seen ≡ Outside → o.1 ≡ []
+  absorb_carries cpu table o d d_is key over = subst (λ (d : Desk E B). standing d.cpu d.seen ≡ Outside → o.1 ≡ []) d_is
+      (λ over. subst (λ st. Carries o.0.start st o.1) over key.held) over
 
   -- what `close` gives
   pub closes : (board : Board B) (desks : List (Desk E B)) (homes : List (Home E B)) (locks : List LockId) (blocks : List (LockId × B))
       → Settled R board desks homes → locks ≡ map (λ (o : LockId × B). o.0) board.start → length blocks ≡ length locks
-      → ((i : ℕ) (lock : LockId) (y : Home E B) (b : B) → get_elem? locks i ≡ some lock → get_elem? homes i ≡ some y → y.block ≡ Some b → get_elem? blocks i ≡ some (lock, b))
+      → ((i : ℕ) (lock : LockId) (y : Home E B) (b : B) → get_elem? locks i ≡ some lock → get_elem? homes i ≡ some y → y.block ≡ Some b
+      → get_elem? blocks i ≡ some (lock, b))
       → Closes R board desks blocks
   closes board desks homes locks blocks settled locks_are count given = record {
     log = settled.log;
@@ -150,7 +163,8 @@ module _ {E B O : Type 0} (R : Rules E B O) where
   }
 
   -- each slot has a block
-  pub all_blocks : (board : Board B) (desks : List (Desk E B)) (homes : List (Home E B)) (locks : List LockId) → Settled R board desks homes → locks ≡ map (λ (o : LockId × B). o.0) board.start
+  pub all_blocks : (board : Board B) (desks : List (Desk E B)) (homes : List (Home E B)) (locks : List LockId) → Settled R board desks homes
+      → locks ≡ map (λ (o : LockId × B). o.0) board.start
       → (i : ℕ) → i < length locks → (y : Home E B) × (get_elem? homes i ≡ some y) × IsSome y.block
   all_blocks board desks homes locks settled locks_are i below =
       let within : i < length board.start = subst (λ m. i < m) (ap length locks_are ∙ length-map board.start (λ (o : LockId × B). o.0)) below in
@@ -159,8 +173,10 @@ module _ {E B O : Type 0} (R : Rules E B O) where
       (there.0, there.2, ap is_some there.3)
 
   -- the same, as the table is seen from outside
-  pub settles_at : (z : TableId) (start : List (LockId × B)) (n : ℕ) (board : Board B) (v : View E B) (desks : List (Desk E B)) (id : ℕ) (words : List ℕ) (homes : List (Home E B)) → board_of z start n ≡ board
-      → AreDistinct start → Gathered board.start v desks → Covers board.cpus desks → Final (Seen (Kept R n start) id v) words homes → Settled R board desks homes
+  pub settles_at : (z : TableId) (start : List (LockId × B)) (n : ℕ) (board : Board B) (v : View E B) (desks : List (Desk E B)) (id : ℕ) (words : List ℕ)
+      (homes : List (Home E B)) → board_of z start n ≡ board
+      → AreDistinct start → Gathered board.start v desks → Covers board.cpus desks → Final (Seen (Kept R n start) id v) words homes
+      → Settled R board desks homes
   settles_at z start n board v desks id words homes board_is distinct g covers final =
       let P : Board B → Type 0 = λ b. Gathered b.start v desks → Covers b.cpus desks → Settled R b desks homes in
       subst P board_is (λ g covers. settles (board_of z start n) v desks id words homes distinct g covers final) g covers

@@ -1,5 +1,6 @@
 -- How a table begins, and how its keys are dealt.
-use Rattle.std.proofs.Common.{◌≡◌, ◌≢◌, ℕ, zero, suc, ◌+◌, ◌<◌, ◌≤◌, inl, inr, ⊎_elim, List, [], ◌∷◌, length, set, map, replicate, refl, ap, sym, ◌∙◌, subst, arith}
+use Rattle.std.proofs.Common.{◌≡◌, ◌≢◌, ℕ, zero, suc, ◌+◌, ◌<◌, ◌≤◌, inl, inr, ⊎_elim, List, [], ◌∷◌, length, set, map, replicate, refl, ap, sym, ◌∙◌, subst}
+use Rattle.std.proofs.Common.{arith}
 use mathlib.Core.Option.{some, some-injective, some-ne-none}
 use lib.ListN.{get_elem?}
 use Rattle.atomic_table.specs.Table.{Splits, opening}
@@ -30,7 +31,8 @@ at_one a b (suc i) e = absurd (some-ne-none b (sym e))
 
 module _ {E B O : Type 0} (R : Rules E B O) (n : ℕ) (start : List (LockId × B)) where
   -- nothing was seen yet
-  unseen : (cpus : List CpuId) (log : List (Event (Mark E))) → (v : View E B) → Fits log v → v.seen ≡ [] → ((c : CpuId) → Has c cpus → Has c v.cpus) → Fits log (viewed start cpus [])
+  unseen : (cpus : List CpuId) (log : List (Event (Mark E))) → (v : View E B) → Fits log v → v.seen ≡ [] → ((c : CpuId) → Has c cpus → Has c v.cpus)
+      → Fits log (viewed start cpus [])
   unseen cpus log v fits nothing less = record {
     front = ends_nil log;
     told = ends_nil log;
@@ -39,13 +41,15 @@ module _ {E B O : Type 0} (R : Rules E B O) (n : ℕ) (start : List (LockId × B
   }
 
   -- the first CPU of the dealer's seat goes to a seat of its own
-  pub deals_split : (id k m : ℕ) → Splits (Kept R n start) id (viewed start (cpus_from k (suc m)) []) (viewed start (cpus_from (k + 1) m) []) (mine start (record { 0 = k }) [])
+  pub deals_split : (id k m : ℕ) → Splits (Kept R n start) id (viewed start (cpus_from k (suc m)) []) (viewed start (cpus_from (k + 1) m) [])
+      (mine start (record { 0 = k }) [])
   deals_split id k m s kept at =
       let v : View E B = viewed start (cpus_from k (suc m)) [] in
       let left : View E B = viewed start (cpus_from (k + 1) m) [] in
       let right : View E B = mine start (record { 0 = k }) [] in
       let fits = kept.sees.fits id v at in
-      let mine_is : (c : CpuId) → Owns c right → c.0 ≡ k = λ c o. ⊎_elim (λ e. ap (λ (d : CpuId). d.0) e) (λ no'. absurd no') (owns_viewed {E = E} {B = B} start (record { 0 = k } ∷ []) [] c o) in
+      let mine_is : (c : CpuId) → Owns c right → c.0 ≡ k =
+      λ c o. ⊎_elim (λ e. ap (λ (d : CpuId). d.0) e) (λ no'. absurd no') (owns_viewed {E = E} {B = B} start (record { 0 = k } ∷ []) [] c o) in
       let below : k < n = kept.sees.known id v (record { 0 = k }) at (inl (inl refl)) in
       let its : id ≡ kept.sees.seat_of k = kept.sees.apart id v (record { 0 = k }) at (inl (inl refl)) in
       let nobody_else : (i : ℕ) (u : View E B) (c : CpuId) → get_elem? (set s.views id left) i ≡ some u → Owns c u → c.0 ≢ k = λ i u c there o same. ⊎_elim
@@ -67,7 +71,8 @@ module _ {E B O : Type 0} (R : Rules E B O) (n : ℕ) (start : List (LockId × B
       }
 
   -- the table that `open` makes
-  pub kept_opening : (words : List ℕ) (homes : List (Home E B)) → n ≤ CPUS → words ≡ replicate (word_count (length start)) 0 → homes ≡ map (λ (o : LockId × B). fresh_home o.1) start
+  pub kept_opening : (words : List ℕ) (homes : List (Home E B)) → n ≤ CPUS → words ≡ replicate (word_count (length start)) 0
+      → homes ≡ map (λ (o : LockId × B). fresh_home o.1) start
       → Kept R n start (opening words homes (viewed start (cpus_from 0 n) []))
   kept_opening words homes few zeros are =
       let v : View E B = viewed start (cpus_from 0 n) [] in
@@ -81,7 +86,9 @@ module _ {E B O : Type 0} (R : Rules E B O) (n : ℕ) (start : List (LockId × B
           seat_of = λ m. 0;
           apart = λ i u c there o. (at_one v u i there).0;
           known = λ i u c there o.
-              let range = has_from c 0 n (owns_viewed {E = E} {B = B} start (cpus_from 0 n) [] c (subst (λ (u : View E B). Owns c u) (sym (at_one v u i there).1) o)) in let high : c.0 < 0 + n = range.1 in omega arith;
+              let range = has_from c 0 n
+              (owns_viewed {E = E} {B = B} start (cpus_from 0 n) [] c (subst (λ (u : View E B). Owns c u) (sym (at_one v u i there).1) o)) in
+              let high : c.0 < 0 + n = range.1 in omega arith;
         };
         rest = λ c large. tt;
       }

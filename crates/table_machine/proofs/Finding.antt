@@ -1,5 +1,6 @@
 -- Where a lock lies among those of the opening.
-use Rattle.std.proofs.Common.{◌≡◌, ℕ, zero, suc, pred, ◌<◌, Bool, true, false, if◌then◌else◌, List, [], ◌∷◌, length, map, Some, IsSome, refl, ap, sym, ◌∙◌, subst, arith}
+use Rattle.std.proofs.Common.{◌≡◌, ℕ, zero, suc, pred, ◌<◌, Bool, true, false, if◌then◌else◌, List, [], ◌∷◌, length, map, Some, IsSome, refl, ap, sym, ◌∙◌}
+use Rattle.std.proofs.Common.{subst, arith}
 use mathlib.Core.Option.{some, some-injective, some-ne-none}
 use lib.ListN.{get_elem?}
 use Rattle.event_log.specs.declared.ids.LockId.{LockId}
@@ -16,8 +17,10 @@ module _ {B : Type 0} where
     where
       go : (IsSome (opened rest a) → index_of rest a ≡ index_of rest b → a ≡ b) → (p q : Bool) → same_lock o.0 a ≡ p → same_lock o.0 b ≡ q → a ≡ b
       go later true true p q = sym (same_lock_true o.0 a p) ∙ same_lock_true o.0 b q
-      go later true false p q = absurd (let f : 0 ≡ suc (index_of rest b) = (sym (ap (λ t. if t then 0 else suc (index_of rest a)) p) ∙ e) ∙ ap (λ t. if t then 0 else suc (index_of rest b)) q in omega arith)
-      go later false true p q = absurd (let f : suc (index_of rest a) ≡ 0 = (sym (ap (λ t. if t then 0 else suc (index_of rest a)) p) ∙ e) ∙ ap (λ t. if t then 0 else suc (index_of rest b)) q in omega arith)
+      go later true false p q = absurd (let f : 0 ≡ suc (index_of rest b) = (sym (ap (λ t. if t then 0 else suc (index_of rest a)) p) ∙ e)
+          ∙ ap (λ t. if t then 0 else suc (index_of rest b)) q in omega arith)
+      go later false true p q = absurd (let f : suc (index_of rest a) ≡ 0 = (sym (ap (λ t. if t then 0 else suc (index_of rest a)) p) ∙ e)
+          ∙ ap (λ t. if t then 0 else suc (index_of rest b)) q in omega arith)
       go later false false p q = later (subst (λ t. IsSome (if t then Some o.1 else opened rest a)) p there)
           (ap pred ((sym (ap (λ t. if t then 0 else suc (index_of rest a)) p) ∙ e) ∙ ap (λ t. if t then 0 else suc (index_of rest b)) q))
 
@@ -36,10 +39,19 @@ module _ {B : Type 0} where
   opened_there f [] a there = absurd cc
   opened_there f (o ∷ rest) a there = go (opened_there f rest a) (same_lock o.0 a) refl
     where
-      go : (IsSome (opened rest a) → (b : B) × (opened rest a ≡ Some b) × (get_elem? (map (λ o. f o.1) rest) (index_of rest a) ≡ some (f b))) → (p : Bool) → same_lock o.0 a ≡ p → (b : B) × (opened (o ∷ rest) a ≡ Some b) × (get_elem? (map (λ o. f o.1) (o ∷ rest)) (index_of (o ∷ rest) a) ≡ some (f b))
-      go later true p = (o.1, ap (λ t. if t then Some o.1 else opened rest a) p, ap (λ t. get_elem? (map (λ o. f o.1) (o ∷ rest)) (if t then 0 else suc (index_of rest a))) p)
-      go later false p = let more = later (subst (λ t. IsSome (if t then Some o.1 else opened rest a)) p there) in
-          (more.0, ap (λ t. if t then Some o.1 else opened rest a) p ∙ more.1, ap (λ t. get_elem? (map (λ o. f o.1) (o ∷ rest)) (if t then 0 else suc (index_of rest a))) p ∙ more.2)
+      go : (IsSome (opened rest a) → (b : B) × (opened rest a ≡ Some b) × (get_elem? (map (λ o. f o.1) rest) (index_of rest a) ≡ some (f b))) → (p : Bool)
+          → same_lock o.0 a ≡ p → (b : B) × (opened (o ∷ rest) a ≡ Some b) × (get_elem? (map (λ o. f o.1) (o ∷ rest)) (index_of (o ∷ rest) a) ≡ some (f b))
+      go later true p = (
+        o.1,
+        ap (λ t. if t then Some o.1 else opened rest a) p,
+        ap (λ t. get_elem? (map (λ o. f o.1) (o ∷ rest)) (if t then 0 else suc (index_of rest a))) p,
+      )
+      go later false p = let more = later (subst (λ t. IsSome (if t then Some o.1 else opened rest a)) p there) in (
+        more.0,
+        ap (λ t. if t then Some o.1 else opened rest a) p
+            ∙ more.1,
+        ap (λ t. get_elem? (map (λ o. f o.1) (o ∷ rest)) (if t then 0 else suc (index_of rest a))) p ∙ more.2,
+      )
 
   missing_at : (start : List (LockId × B)) (a : LockId) (i : ℕ) (o : LockId × B) → IsMissing a start → get_elem? start i ≡ some o → same_lock a o.0 ≡ false
   missing_at [] a i o h at = absurd (some-ne-none o (sym at))
@@ -47,9 +59,13 @@ module _ {B : Type 0} where
   missing_at (p ∷ rest) a (suc i) o h at = missing_at rest a i o h.1 at
 
   -- where no lock stands twice, the lock at a place has that place
-  pub place_at : (start : List (LockId × B)) (i : ℕ) (o : LockId × B) → AreDistinct start → get_elem? start i ≡ some o → (index_of start o.0 ≡ i) × IsSome (opened start o.0)
+  pub place_at : (start : List (LockId × B)) (i : ℕ) (o : LockId × B) → AreDistinct start → get_elem? start i ≡ some o
+      → (index_of start o.0 ≡ i) × IsSome (opened start o.0)
   place_at [] i o h at = absurd (some-ne-none o (sym at))
-  place_at (p ∷ rest) zero o h at = let same : same_lock p.0 o.0 ≡ true = subst (λ (q : LockId × B). same_lock p.0 q.0 ≡ true) (some-injective p o at) (same_lock_self p.0) in
+  place_at (p ∷ rest) zero o h at = let same : same_lock p.0 o.0 ≡ true =
+      subst (λ (q : LockId × B). same_lock p.0 q.0 ≡ true) (some-injective p o at) (same_lock_self p.0) in
       (ap (λ t. if t then 0 else suc (index_of rest o.0)) same, subst (λ t. IsSome (if t then Some p.1 else opened rest o.0)) (sym same) refl)
-  place_at (p ∷ rest) (suc i) o h at = let other = missing_at rest p.0 i o h.0 at in let more = place_at rest i o h.1 at in
-      (ap (λ t. if t then 0 else suc (index_of rest o.0)) other ∙ ap suc more.0, subst (λ t. IsSome (if t then Some p.1 else opened rest o.0)) (sym other) more.1)
+  place_at (p ∷ rest) (suc i) o h at = let other = missing_at rest p.0 i o h.0 at in let more = place_at rest i o h.1 at in (
+    ap (λ t. if t then 0 else suc (index_of rest o.0)) other ∙ ap suc more.0,
+    subst (λ t. IsSome (if t then Some p.1 else opened rest o.0)) (sym other) more.1,
+  )

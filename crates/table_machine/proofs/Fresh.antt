@@ -26,7 +26,8 @@ read_at (x ∷ xs) (suc k) d a at = read_at xs k d a at
 new_at : {E B : Type 0} (board : Board B) (n k : ℕ) → k < n → get_elem? (new_desks {E = E} board n) k ≡ some (new_desk board k)
 new_at board zero k below = absurd (omega arith)
 new_at {E = E} board (suc n) k below = dite (ℕ_discrete k n)
-    (λ (e : k ≡ n). subst (λ (m : ℕ). get_elem? (new_desks {E = E} board (suc n)) m ≡ some (new_desk board m)) (sym e) (at_last (new_desks board n) (new_desk board n) n (length_new E board n)))
+    (λ (e : k ≡ n). subst (λ (m : ℕ). get_elem? (new_desks {E = E} board (suc n)) m ≡ some (new_desk board m)) (sym e)
+    (at_last (new_desks board n) (new_desk board n) n (length_new E board n)))
     (λ (ne : k ≢ n). at_longer (new_desks board n) (new_desk board n ∷ []) k (new_desk board k) (new_at board n k (omega arith)))
 
 -- the new keys are those of all CPUs
@@ -37,7 +38,8 @@ new_cover board n c below = (c.0, new_desk board c.0, new_at board n c.0 below, 
 pub new_over : {E B : Type 0} (board : Board B) (n : ℕ) → All (IsOver {E = E} board) (new_desks board n)
 new_over {E = E} board n k d below =
     let under : k < n = subst (λ (m : ℕ). k < m) (length_new E board n) below in
-    subst (λ (x : Desk _ _). IsOver board x) (sym (read_at (new_desks board n) k d (new_desk board k) (new_at board n k under))) (record { table = refl; outside = refl })
+    subst (λ (x : Desk _ _). IsOver board x) (sym (read_at (new_desks board n) k d (new_desk board k) (new_at board n k under)))
+    (record { table = refl; outside = refl })
 
 -- two keys are those of all CPUs where there are two
 pub two_cover : {E B : Type 0} (d e : Desk E B) (n : ℕ) → n ≡ 2 → d.cpu.0 ≡ 0 → e.cpu.0 ≡ 1 → Covers n (d ∷ e ∷ [])
@@ -51,6 +53,7 @@ two_over board d e first second (suc zero) x below = second
 two_over board d e first second (suc (suc k)) x below = absurd (omega arith)
 
 -- a CPU that was outside is so after events of others
-pub outside_still : {E B : Type 0} (d : Desk E B) (c : CpuId) (new : List (Event (Mark E))) → d.cpu ≡ c → standing c d.seen ≡ Outside → Grows (IsCpu d.cpu) actor d.seen new → standing c new ≡ Outside
+pub outside_still : {E B : Type 0} (d : Desk E B) (c : CpuId) (new : List (Event (Mark E))) → d.cpu ≡ c → standing c d.seen ≡ Outside
+    → Grows (IsCpu d.cpu) actor d.seen new → standing c new ≡ Outside
 outside_still d c new same outside grows =
     subst (λ (l : List _). standing c l ≡ Outside) (sym grows.is) (standing_others c grows.others d.seen (grows.foreign c (sym same)) ∙ outside)

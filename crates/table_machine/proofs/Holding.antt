@@ -1,5 +1,6 @@
 -- What the looks and the frees of a key ask of the table, and what they tell.
-use Rattle.std.proofs.Common.{◌≡◌, ◌==◌, ℕ, ◌+◌, ◌<◌, ◌%◌, ◌^◌, inl, inr, true, false, if◌then◌else◌, List, [], ◌∷◌, Some, IsSome, option_map, refl, ap, sym, ◌∙◌, subst, eq-eqb, ne_eqb}
+use Rattle.std.proofs.Common.{◌≡◌, ◌==◌, ℕ, ◌+◌, ◌<◌, ◌%◌, ◌^◌, inl, inr, true, false, if◌then◌else◌, List, [], ◌∷◌, Some, IsSome, option_map, refl, ap, sym}
+use Rattle.std.proofs.Common.{◌∙◌, subst, eq-eqb, ne_eqb}
 use mathlib.Core.Option.{none}
 use Rattle.atomic_table.specs.Seated.{TableId}
 use Rattle.atomic_table.specs.Table.{Me, step, Allows, rest}
@@ -53,28 +54,36 @@ module _ {E B O : Type 0} (R : Rules E B O) where
     pub adds : Adds (IsCpu d.cpu) actor (Free d.cpu lock (mark_of edit)) d.seen w.0.seen
     pub key : IsKey R cpu w
 
-  module _ (table z : TableId) (start : List (LockId × B)) (n id word : ℕ) (places : List ℕ) (locks : List LockId) (cpu : CpuId) (me : Me (Home E B) (View E B)) (laid : IsLaidOut start z.words z.slots places locks) (key : IsKey R cpu me) where
-    look_plain : (lock : LockId) (ticket : ℕ) → IsOf (board_of z start n) (desk_of cpu table me) → IsSome (opened me.0.start lock) → standing cpu me.0.seen ≡ Waiting lock ticket → word ≡ serving_at (index_of start lock)
+  module _ (table z : TableId) (start : List (LockId × B)) (n id word : ℕ) (places : List ℕ) (locks : List LockId) (cpu : CpuId) (me : Me (Home E B) (View E B))
+      (laid : IsLaidOut start z.words z.slots places locks) (key : IsKey R cpu me) where
+    look_plain : (lock : LockId) (ticket : ℕ) → IsOf (board_of z start n) (desk_of cpu table me) → IsSome (opened me.0.start lock)
+        → standing cpu me.0.seen ≡ Waiting lock ticket → word ≡ serving_at (index_of start lock)
         → (table ≡ z) × (word < z.words) × Allows (Kept R n start) z.slots id me word (λ m. m) (Looked R (step z.slots word 0 0 none) me)
     look_plain lock ticket of exists waits word_is =
         let there : IsSome (opened start lock) = subst (λ s. IsSome (opened s lock)) of.1 exists in
         let nothing : me.1 ≡ [] = subst (λ st. Carries me.0.start st me.1) waits key.held in
-        let me_at : me ≡ (mine start cpu me.0.seen, []) = me_is R cpu me start key of.1 ∙ ap (λ (h : List (ℕ × Home E B)). (mine start cpu me.0.seen, h)) nothing in (
+        let me_at : me ≡ (mine start cpu me.0.seen, []) = me_is R cpu me start key of.1
+        ∙ ap (λ (h : List (ℕ × Home E B)). (mine start cpu me.0.seen, h)) nothing in (
           of.0,
-          subst (λ (w : ℕ). w < z.words) (sym word_is) (subst (λ (w : ℕ). serving_at (index_of start lock) < w) (sym laid.words_are) (serving_within R.edited start lock there)),
+          subst (λ (w : ℕ). w < z.words) (sym word_is)
+              (subst (λ (w : ℕ). serving_at (index_of start lock) < w) (sym laid.words_are) (serving_within R.edited start lock there)),
           subst (λ (m : Me (Home E B) (View E B)). Allows (Kept R n start) z.slots id m word (λ m. m) (Looked R (step z.slots word 0 0 none) m)) (sym me_at)
-              (subst (λ (w : ℕ). Allows (Kept R n start) z.slots id (mine start cpu me.0.seen, []) w (λ m. m) (Looked R (step z.slots w 0 0 none) (mine start cpu me.0.seen, []))) (sym word_is)
+              (subst (λ (w : ℕ). Allows (Kept R n start) z.slots id (mine start cpu me.0.seen, []) w (λ m. m)
+              (Looked R (step z.slots w 0 0 none) (mine start cpu me.0.seen, []))) (sym word_is)
               (looks_allowed R n start z.slots id cpu me.0.seen lock ticket there waits)),
         )
 
-    pub look_asks : (d : Desk E B) (b : Board B) (lock : LockId) (ticket : ℕ) → desk_of cpu table me ≡ d → board_of z start n ≡ b → IsOf b d → IsSome (opened d.start lock) → standing d.cpu d.seen ≡ Waiting lock ticket → word ≡ serving_at (index_of b.start lock)
+    pub look_asks : (d : Desk E B) (b : Board B) (lock : LockId) (ticket : ℕ) → desk_of cpu table me ≡ d → board_of z start n ≡ b → IsOf b d
+        → IsSome (opened d.start lock) → standing d.cpu d.seen ≡ Waiting lock ticket → word ≡ serving_at (index_of b.start lock)
         → (table ≡ z) × (word < z.words) × Allows (Kept R n start) z.slots id me word (λ m. m) (Looked R (step z.slots word 0 0 none) me)
     look_asks d b lock ticket d_is b_is of exists waits word_is =
-        let P : Desk E B → Board B → Type 0 = λ d b. IsOf b d → IsSome (opened d.start lock) → standing d.cpu d.seen ≡ Waiting lock ticket → word ≡ serving_at (index_of b.start lock)
+        let P : Desk E B → Board B → Type 0 = λ d b. IsOf b d → IsSome (opened d.start lock) → standing d.cpu d.seen ≡ Waiting lock ticket
+        → word ≡ serving_at (index_of b.start lock)
         → (table ≡ z) × (word < z.words) × Allows (Kept R n start) z.slots id me word (λ m. m) (Looked R (step z.slots word 0 0 none) me) in
         subst (λ d. P d b) d_is (subst (λ b. P (desk_of cpu table me) b) b_is (look_plain lock ticket)) of exists waits word_is
 
-    free_plain : (lock : LockId) (ticket : ℕ) (block : B) (edit : E) (now : TableId) (v : Me (Home E B) (View E B)) (place : ℕ) → IsOf (board_of z start n) (desk_of cpu table me) → IsSome (opened me.0.start lock) → standing cpu me.0.seen ≡ Inside lock ticket
+    free_plain : (lock : LockId) (ticket : ℕ) (block : B) (edit : E) (now : TableId) (v : Me (Home E B) (View E B)) (place : ℕ)
+        → IsOf (board_of z start n) (desk_of cpu table me) → IsSome (opened me.0.start lock) → standing cpu me.0.seen ≡ Inside lock ticket
         → option_map (R.edited edit) (block_after R.edited (opened me.0.start) lock (sections me.0.seen)) ≡ Some block
         → StaysAllowed (R.allowed (opened me.0.start)) (sections me.0.seen) (section cpu lock edit)
         → word ≡ serving_at (index_of start lock) → place ≡ index_of start lock
@@ -87,17 +96,24 @@ module _ {E B O : Type 0} (R : Rules E B O) where
         let none_left : rest me.1 ≡ [] = ap rest carries.1 in
         let v_at : v ≡ (mine start cpu me.0.seen, (index_of start lock, x) ∷ []) =
         v_is ∙ (ap (λ (l : List (ℕ × Home E B)). (me.0, (place, x) ∷ l)) none_left
-        ∙ (ap (λ (p : ℕ). (me.0, (p, x) ∷ [])) place_is ∙ ap (λ (m : Me (Home E B) (View E B)). (m.0, (index_of start lock, x) ∷ [])) (me_is R cpu me start key of.1))) in
-        let edited' : option_map (R.edited edit) (block_after R.edited (opened start) lock (sections me.0.seen)) ≡ Some block = subst (λ s. option_map (R.edited edit) (block_after R.edited (opened s) lock (sections me.0.seen)) ≡ Some block) of.1 edited in
-        let stays' : StaysAllowed (R.allowed (opened start)) (sections me.0.seen) (section cpu lock edit) = subst (λ s. StaysAllowed (R.allowed (opened s)) (sections me.0.seen) (section cpu lock edit)) of.1 stays in (
+        ∙ (ap (λ (p : ℕ). (me.0, (p, x) ∷ [])) place_is
+        ∙ ap (λ (m : Me (Home E B) (View E B)). (m.0, (index_of start lock, x) ∷ [])) (me_is R cpu me start key of.1))) in
+        let edited' : option_map (R.edited edit) (block_after R.edited (opened start) lock (sections me.0.seen)) ≡ Some block =
+        subst (λ s. option_map (R.edited edit) (block_after R.edited (opened s) lock (sections me.0.seen)) ≡ Some block) of.1 edited in
+        let stays' : StaysAllowed (R.allowed (opened start)) (sections me.0.seen) (section cpu lock edit) =
+        subst (λ s. StaysAllowed (R.allowed (opened s)) (sections me.0.seen) (section cpu lock edit)) of.1 stays in (
           now_is ∙ of.0,
-          subst (λ (w : ℕ). w < z.words) (sym word_is) (subst (λ (w : ℕ). serving_at (index_of start lock) < w) (sym laid.words_are) (serving_within R.edited start lock there)),
-          subst (λ (m : Me (Home E B) (View E B)). Allows (Kept R n start) z.slots id m word (λ m. (m + 1) % 2 ^ 64) (Freed R (step z.slots word 1 0 none) m)) (sym v_at)
-              (subst (λ (w : ℕ). Allows (Kept R n start) z.slots id (mine start cpu me.0.seen, (index_of start lock, x) ∷ []) w (λ m. (m + 1) % 2 ^ 64) (Freed R (step z.slots w 1 0 none) (mine start cpu me.0.seen, (index_of start lock, x) ∷ []))) (sym word_is)
+          subst (λ (w : ℕ). w < z.words) (sym word_is)
+              (subst (λ (w : ℕ). serving_at (index_of start lock) < w) (sym laid.words_are) (serving_within R.edited start lock there)),
+          subst (λ (m : Me (Home E B) (View E B)). Allows (Kept R n start) z.slots id m word (λ m. (m + 1) % 2 ^ 64) (Freed R (step z.slots word 1 0 none) m))
+              (sym v_at)
+              (subst (λ (w : ℕ). Allows (Kept R n start) z.slots id (mine start cpu me.0.seen, (index_of start lock, x) ∷ []) w (λ m. (m + 1) % 2 ^ 64)
+              (Freed R (step z.slots w 1 0 none) (mine start cpu me.0.seen, (index_of start lock, x) ∷ []))) (sym word_is)
               (frees_allowed R n start z.slots id cpu me.0.seen lock ticket edit block x there inside refl refl edited' stays')),
         )
 
-    pub free_asks : (d : Desk E B) (b : Board B) (lock : LockId) (ticket : ℕ) (block : B) (edit : E) (now : TableId) (v : Me (Home E B) (View E B)) (place : ℕ) → desk_of cpu table me ≡ d → board_of z start n ≡ b → IsOf b d → IsSome (opened d.start lock) → standing d.cpu d.seen ≡ Inside lock ticket
+    pub free_asks : (d : Desk E B) (b : Board B) (lock : LockId) (ticket : ℕ) (block : B) (edit : E) (now : TableId) (v : Me (Home E B) (View E B)) (place : ℕ)
+        → desk_of cpu table me ≡ d → board_of z start n ≡ b → IsOf b d → IsSome (opened d.start lock) → standing d.cpu d.seen ≡ Inside lock ticket
         → option_map (R.edited edit) (block_after R.edited (opened d.start) lock (sections d.seen)) ≡ Some block
         → StaysAllowed (R.allowed (opened d.start)) (sections d.seen) (section d.cpu lock edit)
         → word ≡ serving_at (index_of b.start lock) → place ≡ index_of b.start lock
@@ -114,7 +130,8 @@ module _ {E B O : Type 0} (R : Rules E B O) where
 
   module _ (cpu : CpuId) (table : TableId) (v w : Me (Home E B) (View E B)) (slots word found : ℕ) (lock : LockId) (ticket : ℕ) (key : IsKey R cpu v) where
     -- the event is the CPU's own look
-    look_moves : standing cpu v.0.seen ≡ Waiting lock ticket → (told : Looked R (step slots word 0 0 none) v found w) → (told.lock ≡ lock) × (told.ticket ≡ ticket) × Moves R v.0 w.0 (Look cpu lock ticket found)
+    look_moves : standing cpu v.0.seen ≡ Waiting lock ticket → (told : Looked R (step slots word 0 0 none) v found w)
+        → (told.lock ≡ lock) × (told.ticket ≡ ticket) × Moves R v.0 w.0 (Look cpu lock ticket found)
     look_moves waits told =
         let mine_is : owner v.0.cpus ≡ cpu = ap (λ (u : View E B). owner u.cpus) key.view in
         let both : Waiting told.lock told.ticket ≡ Waiting lock ticket = sym told.waits ∙ (ap (λ c. standing c v.0.seen) mine_is ∙ waits) in
@@ -123,27 +140,43 @@ module _ {E B O : Type 0} (R : Rules E B O) where
           lock_is,
           ticket_is,
           subst (λ c. Moves R v.0 w.0 (Look c lock ticket found)) mine_is
-              (subst (λ t. Moves R v.0 w.0 (Look (owner v.0.cpus) lock t found)) ticket_is (subst (λ l. Moves R v.0 w.0 (Look (owner v.0.cpus) l told.ticket found)) lock_is told.moves)),
+              (subst (λ t. Moves R v.0 w.0 (Look (owner v.0.cpus) lock t found)) ticket_is
+              (subst (λ l. Moves R v.0 w.0 (Look (owner v.0.cpus) l told.ticket found)) lock_is told.moves)),
         )
 
-    missed_plain : standing cpu v.0.seen ≡ Waiting lock ticket → (found == ticket) ≡ false → Looked R (step slots word 0 0 none) v found w → LookMissed (desk_of cpu table v) cpu lock ticket found w
+    missed_plain : standing cpu v.0.seen ≡ Waiting lock ticket → (found == ticket) ≡ false → Looked R (step slots word 0 0 none) v found w
+        → LookMissed (desk_of cpu table v) cpu lock ticket found w
     missed_plain waits other told =
         let moved = look_moves waits told in
-        let stands : standing cpu w.0.seen ≡ Waiting lock ticket = stands_after R cpu (Look cpu lock ticket found) v.0 w.0 refl moved.2 ∙ ap (λ b. if b then Inside lock ticket else Waiting lock ticket) other in
+        let stands : standing cpu w.0.seen ≡ Waiting lock ticket = stands_after R cpu (Look cpu lock ticket found) v.0 w.0 refl moved.2
+        ∙ ap (λ b. if b then Inside lock ticket else Waiting lock ticket) other in
         let nothing : v.1 ≡ [] = subst (λ st. Carries v.0.start st v.1) waits key.held in
-        let held : w.1 ≡ v.1 = elim told.finds [ inl miss ↦ miss.held | inr hit ↦ absurd (let same = hit.same in let same' : (found == ticket) ≡ true = subst (λ t. (found == t) ≡ true) moved.1 same in cc (other, same')) ] in
+        let held : w.1 ≡ v.1 = elim told.finds [
+          | inl miss ↦ miss.held
+          | inr hit ↦
+              absurd (let same = hit.same in let same' : (found == ticket) ≡ true = subst (λ t. (found == t) ≡ true) moved.1 same in cc (other, same'))
+        ] in
         let done = went R cpu v w (Look cpu lock ticket found) key moved.2 (subst (λ st. Carries v.0.start st w.1) (sym stands) (held ∙ nothing)) in
         record { start = sym done.start; adds = done.adds; waits = stands; key = done.key }
 
-    pub look_missed : (d : Desk E B) → desk_of cpu table v ≡ d → standing d.cpu d.seen ≡ Waiting lock ticket → (found ≡ ticket → ⊥) → Looked R (step slots word 0 0 none) v found w → LookMissed d cpu lock ticket found w
-    look_missed d d_is waits other told = subst (λ d. standing d.cpu d.seen ≡ Waiting lock ticket → LookMissed d cpu lock ticket found w) d_is (λ waits. missed_plain waits (ne_eqb found ticket other) told) waits
+    pub look_missed : (d : Desk E B) → desk_of cpu table v ≡ d → standing d.cpu d.seen ≡ Waiting lock ticket → (found ≡ ticket → ⊥)
+        → Looked R (step slots word 0 0 none) v found w → LookMissed d cpu lock ticket found w
+    look_missed d d_is waits other told = subst (λ d. standing d.cpu d.seen ≡ Waiting lock ticket → LookMissed d cpu lock ticket found w) d_is
+        (λ waits. missed_plain waits (ne_eqb found ticket other) told) waits
 
-    hit_plain : (place : ℕ) → standing cpu v.0.seen ≡ Waiting lock ticket → (found == ticket) ≡ true → place ≡ index_of v.0.start lock → Looked R (step slots word 0 0 none) v found w → LookHit (desk_of cpu table v) cpu lock ticket found place w
+    hit_plain : (place : ℕ) → standing cpu v.0.seen ≡ Waiting lock ticket → (found == ticket) ≡ true → place ≡ index_of v.0.start lock
+        → Looked R (step slots word 0 0 none) v found w → LookHit (desk_of cpu table v) cpu lock ticket found place w
     hit_plain place waits same place_is told =
         let moved = look_moves waits told in
-        let stands : standing cpu w.0.seen ≡ Inside lock ticket = stands_after R cpu (Look cpu lock ticket found) v.0 w.0 refl moved.2 ∙ ap (λ b. if b then Inside lock ticket else Waiting lock ticket) same in
+        let stands : standing cpu w.0.seen ≡ Inside lock ticket = stands_after R cpu (Look cpu lock ticket found) v.0 w.0 refl moved.2
+        ∙ ap (λ b. if b then Inside lock ticket else Waiting lock ticket) same in
         let nothing : v.1 ≡ [] = subst (λ st. Carries v.0.start st v.1) waits key.held in
-        let hit : Hits R told.lock told.ticket v found w = elim told.finds [ inl miss ↦ absurd (let other = miss.other in let other' : (found == ticket) ≡ false = subst (λ t. (found == t) ≡ false) moved.1 other in cc (other', same)) | inr hit ↦ hit ] in
+        let hit : Hits R told.lock told.ticket v found w =
+        elim told.finds [
+          | inl miss ↦
+              absurd (let other = miss.other in let other' : (found == ticket) ≡ false = subst (λ t. (found == t) ≡ false) moved.1 other in cc (other', same))
+          | inr hit ↦ hit
+        ] in
         let done = λ (x : Home E B). went R cpu v (w.0, (place, x) ∷ []) (Look cpu lock ticket found) key moved.2
         (subst (λ st. Carries v.0.start st ((place, x) ∷ [])) (sym stands) (x, ap (λ (p : ℕ). (p, x) ∷ []) place_is)) in
         record {
@@ -152,32 +185,42 @@ module _ {E B O : Type 0} (R : Rules E B O) where
           inside = stands;
           home = hit.home;
           block = hit.block;
-          held = hit.held ∙ (ap (λ (l : List (ℕ × Home E B)). (index_of v.0.start told.lock, hit.home) ∷ l) nothing ∙ ap (λ (p : ℕ). (p, hit.home) ∷ []) (ap (index_of v.0.start) moved.0 ∙ sym place_is));
+          held = hit.held ∙ (ap (λ (l : List (ℕ × Home E B)). (index_of v.0.start told.lock, hit.home) ∷ l) nothing
+              ∙ ap (λ (p : ℕ). (p, hit.home) ∷ []) (ap (index_of v.0.start) moved.0 ∙ sym place_is));
           is = hit.is;
           folds = subst (λ l. block_after R.edited (opened v.0.start) l (sections w.0.seen) ≡ Some hit.block) moved.0 hit.folds;
           key = λ x. (done x).key;
         }
 
-    pub look_hit : (d : Desk E B) (b : Board B) (place : ℕ) → desk_of cpu table v ≡ d → IsOf b d → standing d.cpu d.seen ≡ Waiting lock ticket → found ≡ ticket → place ≡ index_of b.start lock → Looked R (step slots word 0 0 none) v found w → LookHit d cpu lock ticket found place w
-    look_hit d b place d_is of waits same place_is told = subst (λ d. IsOf b d → standing d.cpu d.seen ≡ Waiting lock ticket → LookHit d cpu lock ticket found place w) d_is
+    pub look_hit : (d : Desk E B) (b : Board B) (place : ℕ) → desk_of cpu table v ≡ d → IsOf b d → standing d.cpu d.seen ≡ Waiting lock ticket → found ≡ ticket
+        → place ≡ index_of b.start lock → Looked R (step slots word 0 0 none) v found w → LookHit d cpu lock ticket found place w
+    look_hit d b place d_is of waits same place_is told =
+        subst (λ d. IsOf b d → standing d.cpu d.seen ≡ Waiting lock ticket → LookHit d cpu lock ticket found place w) d_is
         (λ of waits. hit_plain place waits (eq-eqb found ticket same) (place_is ∙ ap (λ s. index_of s lock) (sym of.1)) told) of waits
 
     -- the slot that a CPU inside a lock carries
-    pub carried : (d : Desk E B) (b : Board B) (place : ℕ) → desk_of cpu table v ≡ d → IsOf b d → standing d.cpu d.seen ≡ Inside lock ticket → place ≡ index_of b.start lock → (old : Home E B) × (v.1 ≡ (place, old) ∷ rest v.1)
-    carried d b place d_is of inside place_is = subst (λ d. IsOf b d → standing d.cpu d.seen ≡ Inside lock ticket → (old : Home E B) × (v.1 ≡ (place, old) ∷ rest v.1)) d_is
+    pub carried : (d : Desk E B) (b : Board B) (place : ℕ) → desk_of cpu table v ≡ d → IsOf b d → standing d.cpu d.seen ≡ Inside lock ticket
+        → place ≡ index_of b.start lock → (old : Home E B) × (v.1 ≡ (place, old) ∷ rest v.1)
+    carried d b place d_is of inside place_is =
+        subst (λ d. IsOf b d → standing d.cpu d.seen ≡ Inside lock ticket → (old : Home E B) × (v.1 ≡ (place, old) ∷ rest v.1)) d_is
         (λ of inside.
-        let carries : (home : Home E B) × (v.1 ≡ (index_of v.0.start lock, home) ∷ []) = subst (λ st. Carries v.0.start st v.1) inside key.held in
-        (carries.0, carries.1 ∙ (ap (λ (p : ℕ). (p, carries.0) ∷ []) (ap (λ s. index_of s lock) of.1 ∙ sym place_is) ∙ ap (λ (l : List (ℕ × Home E B)). (place, carries.0) ∷ l) (sym (ap rest carries.1))))) of inside
+        let carries : (home : Home E B) × (v.1 ≡ (index_of v.0.start lock, home) ∷ []) = subst (λ st. Carries v.0.start st v.1) inside key.held in (
+          carries.0,
+          carries.1 ∙ (ap (λ (p : ℕ). (p, carries.0) ∷ []) (ap (λ s. index_of s lock) of.1 ∙ sym place_is)
+              ∙ ap (λ (l : List (ℕ × Home E B)). (place, carries.0) ∷ l) (sym (ap rest carries.1))),
+        )) of inside
 
   -- the event is the free of the lock that the CPU was inside
-  free_done : (cpu : CpuId) (table : TableId) (me v w : Me (Home E B) (View E B)) (slots word found place : ℕ) (lock : LockId) (ticket : ℕ) (block : B) (edit : E) → IsKey R cpu me
+  free_done : (cpu : CpuId) (table : TableId) (me v w : Me (Home E B) (View E B)) (slots word found place : ℕ) (lock : LockId) (ticket : ℕ) (block : B)
+      (edit : E) → IsKey R cpu me
       → standing cpu me.0.seen ≡ Inside lock ticket → v ≡ (me.0, (place, record { block = Some block; edit = Some edit }) ∷ rest me.1)
       → Freed R (step slots word 1 0 none) v found w → FreeDone (desk_of cpu table me) cpu lock edit w
   free_done cpu table me v w slots word found place lock ticket block edit key inside v_is told =
       let mine_is : owner me.0.cpus ≡ cpu = ap (λ (u : View E B). owner u.cpus) key.view in
       let view_is : v.0 ≡ me.0 = ap (λ (m : Me (Home E B) (View E B)). m.0) v_is in
       let owner_is : owner v.0.cpus ≡ cpu = ap (λ (u : View E B). owner u.cpus) view_is ∙ mine_is in
-      let both : Inside told.lock told.ticket ≡ Inside lock ticket = sym told.inside ∙ (ap (λ (u : View E B). standing (owner u.cpus) u.seen) view_is ∙ (ap (λ c. standing c me.0.seen) mine_is ∙ inside)) in
+      let both : Inside told.lock told.ticket ≡ Inside lock ticket = sym told.inside
+      ∙ (ap (λ (u : View E B). standing (owner u.cpus) u.seen) view_is ∙ (ap (λ c. standing c me.0.seen) mine_is ∙ inside)) in
       let lock_is : told.lock ≡ lock = cc in
       let x : Home E B = record { block = Some block; edit = Some edit } in
       let slots_are : (told.slot, told.home) ∷ [] ≡ (place, x) ∷ rest me.1 = sym told.carried ∙ ap (λ (m : Me (Home E B) (View E B)). m.1) v_is in
@@ -186,8 +229,10 @@ module _ {E B O : Type 0} (R : Rules E B O) where
       let edit_is : told.edit ≡ edit = cc in
       let moves : Moves R me.0 w.0 (Free cpu lock (mark_of edit)) = subst (λ (u : View E B). Moves R u w.0 (Free cpu lock (mark_of edit))) view_is
       (subst (λ c. Moves R v.0 w.0 (Free c lock (mark_of edit))) owner_is
-      (subst (λ e. Moves R v.0 w.0 (Free (owner v.0.cpus) lock (mark_of e))) edit_is (subst (λ l. Moves R v.0 w.0 (Free (owner v.0.cpus) l (mark_of told.edit))) lock_is told.moves))) in
-      let done = went R cpu me w (Free cpu lock (mark_of edit)) key moves (subst (λ st. Carries me.0.start st w.1) (sym (stands_after R cpu (Free cpu lock (mark_of edit)) me.0 w.0 refl moves)) told.held) in
+      (subst (λ e. Moves R v.0 w.0 (Free (owner v.0.cpus) lock (mark_of e))) edit_is
+      (subst (λ l. Moves R v.0 w.0 (Free (owner v.0.cpus) l (mark_of told.edit))) lock_is told.moves))) in
+      let done = went R cpu me w (Free cpu lock (mark_of edit)) key moves
+      (subst (λ st. Carries me.0.start st w.1) (sym (stands_after R cpu (Free cpu lock (mark_of edit)) me.0 w.0 refl moves)) told.held) in
       record { start = sym done.start; adds = done.adds; key = done.key }
     where
       head_home : Home E B → List (ℕ × Home E B) → Home E B
@@ -197,8 +242,10 @@ module _ {E B O : Type 0} (R : Rules E B O) where
       home_in : {a b : ℕ} {p q : Home E B} {ps qs : List (ℕ × Home E B)} → (a, p) ∷ ps ≡ (b, q) ∷ qs → p ≡ q
       home_in {p = p} e = ap (head_home p) e
 
-  pub free_tells : (cpu : CpuId) (table : TableId) (me v w : Me (Home E B) (View E B)) (slots word found place : ℕ) (lock : LockId) (ticket : ℕ) (block : B) (edit : E) (d : Desk E B) → desk_of cpu table me ≡ d → IsKey R cpu me
+  pub free_tells : (cpu : CpuId) (table : TableId) (me v w : Me (Home E B) (View E B)) (slots word found place : ℕ) (lock : LockId) (ticket : ℕ) (block : B)
+      (edit : E) (d : Desk E B) → desk_of cpu table me ≡ d → IsKey R cpu me
       → standing d.cpu d.seen ≡ Inside lock ticket → v ≡ (me.0, (place, record { block = Some block; edit = Some edit }) ∷ rest me.1)
       → Freed R (step slots word 1 0 none) v found w → FreeDone d cpu lock edit w
   free_tells cpu table me v w slots word found place lock ticket block edit d d_is key inside v_is told =
-      subst (λ d. standing d.cpu d.seen ≡ Inside lock ticket → FreeDone d cpu lock edit w) d_is (λ inside. free_done cpu table me v w slots word found place lock ticket block edit key inside v_is told) inside
+      subst (λ d. standing d.cpu d.seen ≡ Inside lock ticket → FreeDone d cpu lock edit w) d_is
+      (λ inside. free_done cpu table me v w slots word found place lock ticket block edit key inside v_is told) inside

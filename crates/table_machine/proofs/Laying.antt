@@ -1,5 +1,7 @@
 -- How a table is laid out, and its keys dealt.
-use Rattle.std.proofs.Common.{◌≡◌, ◌≢◌, ℕ, suc, ◌+◌, ◌-◌, ◌<◌, ◌≤◌, Bool, true, false, if◌then◌else◌, List, [], ◌∷◌, ◌++◌, length, get_or, set, drop, map, replicate, ◌^◌, zero-add, Some, IsSome, refl, ap, sym, ◌∙◌, subst, arith, eq-eqb, add-one, get_or-set_same, get_or-set_other, drop-cons}
+use Rattle.std.proofs.Common.{◌≡◌, ◌≢◌, ℕ, suc, ◌+◌, ◌-◌, ◌<◌, ◌≤◌, Bool, true, false, if◌then◌else◌, List, [], ◌∷◌, ◌++◌, length, get_or, set, drop, map}
+use Rattle.std.proofs.Common.{replicate, ◌^◌, zero-add, Some, IsSome, refl, ap, sym, ◌∙◌, subst, arith, eq-eqb, add-one, get_or-set_same, get_or-set_other}
+use Rattle.std.proofs.Common.{drop-cons}
 use Rattle.atomic_table.specs.Seated.{TableId}
 use Rattle.atomic_table.specs.Table.{Me, Splits}
 use Rattle.event_log.specs.Locks.{lock_number}
@@ -24,7 +26,8 @@ use Rattle.table_machine.proofs.Meeting.{has_words}
 
 -- the row tells the places of the locks from this place on
 abbrev pub TellsFrom : {B : Type 0} → List ℕ → List (LockId × B) → ℕ → Type 0
-TellsFrom row blocks from = (lock : LockId) → IsSome (opened (drop from blocks) lock) → get_or row (lock_number lock) 0 ≡ from + index_of (drop from blocks) lock
+TellsFrom row blocks from = (lock : LockId) → IsSome (opened (drop from blocks) lock)
+    → get_or row (lock_number lock) 0 ≡ from + index_of (drop from blocks) lock
 
 tells_one : {B : Type 0} (row : List ℕ) (o : LockId × B) (rest : List (LockId × B)) (i : ℕ) → lock_number o.0 < length row
     → ((lock : LockId) → IsSome (opened rest lock) → get_or row (lock_number lock) 0 ≡ suc i + index_of rest lock)
@@ -34,23 +37,28 @@ tells_one row o rest i within tells lock exists = go (same_lock o.0 lock) refl
     go : (b : Bool) → same_lock o.0 lock ≡ b → get_or (set row (lock_number o.0) i) (lock_number lock) 0 ≡ i + index_of (o ∷ rest) lock
     go true same =
         let lock_is : o.0 ≡ lock = same_lock_true o.0 lock same in
-        let read : get_or (set row (lock_number o.0) i) (lock_number lock) 0 ≡ i = subst (λ (l : LockId). get_or (set row (lock_number o.0) i) (lock_number l) 0 ≡ i) lock_is (get_or-set_same row (lock_number o.0) i 0 within) in
+        let read : get_or (set row (lock_number o.0) i) (lock_number lock) 0 ≡ i =
+        subst (λ (l : LockId). get_or (set row (lock_number o.0) i) (lock_number l) 0 ≡ i) lock_is (get_or-set_same row (lock_number o.0) i 0 within) in
         let none : index_of (o ∷ rest) lock ≡ 0 = ap (λ b. if b then 0 else suc (index_of rest lock)) same in omega arith
     go false other =
         let away : lock_number lock ≢ lock_number o.0 = λ e. (let same = lock_number_same o.0 lock (sym e) in absurd (cc (other, same))) in
-        let read : get_or (set row (lock_number o.0) i) (lock_number lock) 0 ≡ get_or row (lock_number lock) 0 = get_or-set_other row (lock_number o.0) (lock_number lock) i 0 away in
-        let old : get_or row (lock_number lock) 0 ≡ suc i + index_of rest lock = tells lock (subst (λ b. IsSome (if b then Some o.1 else opened rest lock)) other exists) in
+        let read : get_or (set row (lock_number o.0) i) (lock_number lock) 0 ≡ get_or row (lock_number lock) 0 =
+        get_or-set_other row (lock_number o.0) (lock_number lock) i 0 away in
+        let old : get_or row (lock_number lock) 0 ≡ suc i + index_of rest lock =
+        tells lock (subst (λ b. IsSome (if b then Some o.1 else opened rest lock)) other exists) in
         let later : index_of (o ∷ rest) lock ≡ suc (index_of rest lock) = ap (λ b. if b then 0 else suc (index_of rest lock)) other in omega arith
 
 -- one place more, downwards
-pub tells_more : {B : Type 0} (row : List ℕ) (blocks : List (LockId × B)) (o : LockId × B) (place : ℕ) → 0 < place → place - 1 < length blocks → o ≡ get_or blocks (place - 1) o → lock_number o.0 < length row
+pub tells_more : {B : Type 0} (row : List ℕ) (blocks : List (LockId × B)) (o : LockId × B) (place : ℕ) → 0 < place → place - 1 < length blocks
+    → o ≡ get_or blocks (place - 1) o → lock_number o.0 < length row
     → TellsFrom row blocks place → TellsFrom (set row (lock_number o.0) (place - 1)) blocks (place - 1)
 tells_more {B} row blocks o place some below is within tells =
     let i : ℕ = place - 1 in
     let up : place ≡ suc i = omega arith in
     let cut : drop i blocks ≡ o ∷ drop (suc i) blocks = drop-cons blocks i o below ∙ ap (λ (x : LockId × B). x ∷ drop (suc i) blocks) (sym is) in
     let old : TellsFrom row blocks (suc i) = subst (λ (p : ℕ). TellsFrom row blocks p) up tells in
-    subst (λ (l : List (LockId × B)). (lock : LockId) → IsSome (opened l lock) → get_or (set row (lock_number o.0) i) (lock_number lock) 0 ≡ i + index_of l lock) (sym cut) (tells_one row o (drop (suc i) blocks) i within old)
+    subst (λ (l : List (LockId × B)). (lock : LockId) → IsSome (opened l lock)
+    → get_or (set row (lock_number o.0) i) (lock_number lock) 0 ≡ i + index_of l lock) (sym cut) (tells_one row o (drop (suc i) blocks) i within old)
 
 one_less : (n k : ℕ) → k < n → n - k ≡ suc (n - (k + 1))
 one_less n k below = omega arith
@@ -62,25 +70,30 @@ pub desks_more : {E B : Type 0} (b : Board B) (k : ℕ) → new_desks {E = E} b 
 desks_more b k = rw add-one refl
 
 module _ {E B O : Type 0} (R : Rules E B O) where
-  pub deal_asks : (table z : TableId) (start : List (LockId × B)) (n id : ℕ) (places : List ℕ) (locks : List LockId) (me : Me (Home E B) (View E B)) (cpu : ℕ) (b : Board B) → IsLaidOut start z.words z.slots places locks → board_of z start n ≡ b
+  pub deal_asks : (table z : TableId) (start : List (LockId × B)) (n id : ℕ) (places : List ℕ) (locks : List LockId) (me : Me (Home E B) (View E B)) (cpu : ℕ)
+      (b : Board B) → IsLaidOut start z.words z.slots places locks → board_of z start n ≡ b
       → cpu < b.cpus → table ≡ b.table → me ≡ (viewed b.start (cpus_from cpu (b.cpus - cpu)) [], [])
-      → (table ≡ z) × (0 < z.words) × Splits (Kept R n start) id me.0 (viewed me.0.start (drop 1 me.0.cpus) me.0.seen) (mine me.0.start (owner me.0.cpus) me.0.seen)
+      → (table ≡ z) × (0 < z.words) × Splits (Kept R n start) id me.0 (viewed me.0.start (drop 1 me.0.cpus) me.0.seen)
+      (mine me.0.start (owner me.0.cpus) me.0.seen)
   deal_asks table z start n id places locks me cpu b laid b_is below table_is me_is =
       let P : Board B → Type 0 = λ b. cpu < b.cpus → table ≡ b.table → me ≡ (viewed b.start (cpus_from cpu (b.cpus - cpu)) [], [])
-      → (table ≡ z) × (0 < z.words) × Splits (Kept R n start) id me.0 (viewed me.0.start (drop 1 me.0.cpus) me.0.seen) (mine me.0.start (owner me.0.cpus) me.0.seen) in
+      → (table ≡ z) × (0 < z.words) × Splits (Kept R n start) id me.0 (viewed me.0.start (drop 1 me.0.cpus) me.0.seen)
+      (mine me.0.start (owner me.0.cpus) me.0.seen) in
       let plain : P (board_of z start n) = λ below table_is me_is. (
       let m : ℕ = n - (cpu + 1) in
       let me_at : me ≡ (viewed start (cpus_from cpu (suc m)) [], []) = me_is ∙ ap (λ (k : ℕ). (viewed start (cpus_from cpu k) [], [])) (one_less n cpu below) in (
         table_is,
         has_words start z.words z.slots places locks laid,
-        subst (λ (x : Me (Home E B) (View E B)). Splits (Kept R n start) id x.0 (viewed x.0.start (drop 1 x.0.cpus) x.0.seen) (mine x.0.start (owner x.0.cpus) x.0.seen)) (sym me_at) (deals_split R n start id cpu m),
+        subst (λ (x : Me (Home E B) (View E B)). Splits (Kept R n start) id x.0 (viewed x.0.start (drop 1 x.0.cpus) x.0.seen)
+            (mine x.0.start (owner x.0.cpus) x.0.seen)) (sym me_at) (deals_split R n start id cpu m),
       )) in
       subst P b_is plain below table_is me_is
 
   pub deal_leaves : (me w : Me (Home E B) (View E B)) (cpu : ℕ) (b : Board B) → cpu < b.cpus → me ≡ (viewed b.start (cpus_from cpu (b.cpus - cpu)) [], [])
       → w ≡ (viewed me.0.start (drop 1 me.0.cpus) me.0.seen, me.1) → w ≡ (viewed b.start (cpus_from (cpu + 1) (b.cpus - (cpu + 1))) [], [])
   deal_leaves me w cpu b below me_is w_is =
-      let me_at : me ≡ (viewed b.start (cpus_from cpu (suc (b.cpus - (cpu + 1)))) [], []) = me_is ∙ ap (λ (k : ℕ). (viewed b.start (cpus_from cpu k) [], [])) (one_less b.cpus cpu below) in
+      let me_at : me ≡ (viewed b.start (cpus_from cpu (suc (b.cpus - (cpu + 1)))) [], []) = me_is
+      ∙ ap (λ (k : ℕ). (viewed b.start (cpus_from cpu k) [], [])) (one_less b.cpus cpu below) in
       w_is ∙ ap (λ (x : Me (Home E B) (View E B)). (viewed x.0.start (drop 1 x.0.cpus) x.0.seen, x.1)) me_at
 
 -- the whole row

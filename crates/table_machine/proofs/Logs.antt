@@ -1,5 +1,6 @@
 -- What events of others leave alone.
-use Rattle.std.proofs.Common.{◌≡◌, ℕ, Bool, true, false, if◌then◌else◌, List, [], ◌∷◌, ◌++◌, Option, option_map, refl, ap, sym, ◌∙◌, subst, append_assoc, append-nil, eq-eqb}
+use Rattle.std.proofs.Common.{◌≡◌, ℕ, Bool, true, false, if◌then◌else◌, List, [], ◌∷◌, ◌++◌, Option, option_map, refl, ap, sym, ◌∙◌, subst, append_assoc}
+use Rattle.std.proofs.Common.{append-nil, eq-eqb}
 use Rattle.event_log.specs.declared.ids.CpuId.{CpuId}
 use Rattle.event_log.specs.declared.ids.LockId.{LockId}
 use Rattle.event_log.specs.declared.events.Event.{Event}
@@ -90,14 +91,17 @@ module _ {E B : Type 0} (edited : E → B → B) (opening : LockId → Option B)
       → block_after edited opening lock (sections (Free d at mark ∷ log)) ≡ block_after edited opening lock (sections log)
   inside_step c d lock at mark s t log legal di ci other = go (same_lock lock at) refl
     where
-      go : (b : Bool) → same_lock lock at ≡ b → block_after edited opening lock (sections (Free d at mark ∷ log)) ≡ block_after edited opening lock (sections log)
+      go : (b : Bool) → same_lock lock at ≡ b → block_after edited opening lock (sections (Free d at mark ∷ log))
+          ≡ block_after edited opening lock (sections log)
       go true same = absurd (
           let here : standing d log ≡ Inside lock s = subst (λ l. standing d log ≡ Inside l s) (sym (same_lock_true lock at same)) di in
           let one : same_cpu d c ≡ true = eq-eqb d.0 c.0 (ap (λ x. x.0) (one_inside log legal d c lock s t here ci)) in cc)
-      go false same = ap (λ b. if b then option_map (edited mark.edit) (block_after edited opening lock (sections log)) else block_after edited opening lock (sections log)) same
+      go false same = ap (λ b. if b then option_map (edited mark.edit) (block_after edited opening lock (sections log))
+          else block_after edited opening lock (sections log)) same
 
   -- while a CPU is inside, nobody else edits the block
-  pub inside_keeps : (c : CpuId) (lock : LockId) (t : ℕ) (more log : List (Event (Mark E))) → IsLegalWords (more ++ log) → AreOthers actor c more → standing c log ≡ Inside lock t
+  pub inside_keeps : (c : CpuId) (lock : LockId) (t : ℕ) (more log : List (Event (Mark E))) → IsLegalWords (more ++ log) → AreOthers actor c more
+      → standing c log ≡ Inside lock t
       → block_after edited opening lock (sections (more ++ log)) ≡ block_after edited opening lock (sections log)
   inside_keeps c lock t [] log legal h ci = refl
   inside_keeps c lock t (Draw d l k ∷ more) log legal h ci = inside_keeps c lock t more log legal.1 h.1 ci

@@ -26,12 +26,16 @@ use Rattle.table_machine.proofs.Asking.{desk_of, board_of}
 abbrev pub joined : {E B : Type 0} → View E B → View E B → View E B
 joined v w = record { start = v.start; cpus = v.cpus; seen = v.seen; told = w.seen; lent = w.cpus }
 
-pub has_words : {B : Type 0} (start : List (LockId × B)) (words slots : ℕ) (places : List ℕ) (locks : List LockId) → IsLaidOut start words slots places locks → 0 < words
+pub has_words : {B : Type 0} (start : List (LockId × B)) (words slots : ℕ) (places : List ℕ) (locks : List LockId) → IsLaidOut start words slots places locks
+    → 0 < words
 has_words start words slots places locks laid = let are : words ≡ word_count (length start) = laid.words_are in omega arith
 
 -- the table of a desk, seen from inside
-pub one_table : {E B : Type 0} (table z : TableId) (start : List (LockId × B)) (n : ℕ) (cpu : CpuId) (me : Me (Home E B) (View E B)) (d : Desk E B) (b : Board B) → desk_of cpu table me ≡ d → board_of z start n ≡ b → IsOf b d → (table ≡ z) × (me.0.start ≡ start)
-one_table {E} {B} table z start n cpu me d b d_is b_is of = subst (λ (d : Desk E B). IsOf b d → (table ≡ z) × (me.0.start ≡ start)) d_is (subst (λ (b : Board B). IsOf b (desk_of cpu table me) → (table ≡ z) × (me.0.start ≡ start)) b_is (λ of. of)) of
+pub one_table : {E B : Type 0} (table z : TableId) (start : List (LockId × B)) (n : ℕ) (cpu : CpuId) (me : Me (Home E B) (View E B)) (d : Desk E B)
+    (b : Board B) → desk_of cpu table me ≡ d → board_of z start n ≡ b → IsOf b d → (table ≡ z) × (me.0.start ≡ start)
+one_table {E} {B} table z start n cpu me d b d_is b_is of =
+    subst (λ (d : Desk E B). IsOf b d → (table ≡ z) × (me.0.start ≡ start)) d_is
+    (subst (λ (b : Board B). IsOf b (desk_of cpu table me) → (table ≡ z) × (me.0.start ≡ start)) b_is (λ of. of)) of
 
 module _ {E B O : Type 0} (R : Rules E B O) where
   -- what a meeting leaves
@@ -62,17 +66,21 @@ module _ {E B O : Type 0} (R : Rules E B O) where
         };
       }
 
-  pub meet_tells : (cpu : CpuId) (table : TableId) (v u w : Me (Home E B) (View E B)) (o : View E B) (slots found : ℕ) (d : Desk E B) → desk_of cpu table v ≡ d → IsKey R cpu v → o.cpus ≡ []
+  pub meet_tells : (cpu : CpuId) (table : TableId) (v u w : Me (Home E B) (View E B)) (o : View E B) (slots found : ℕ) (d : Desk E B) → desk_of cpu table v ≡ d
+      → IsKey R cpu v → o.cpus ≡ []
       → u ≡ (joined v.0 o, v.1) → Met R (step slots 0 0 0 none) u found w → MeetDone d cpu o.seen w
   meet_tells cpu table v u w o slots found d d_is key nobody u_is met =
-      subst (λ (d : Desk E B). MeetDone d cpu o.seen w) d_is (meet_plain cpu table v w o slots found key nobody (subst (λ (m : Me (Home E B) (View E B)). Met R (step slots 0 0 0 none) m found w) u_is met))
+      subst (λ (d : Desk E B). MeetDone d cpu o.seen w) d_is
+      (meet_plain cpu table v w o slots found key nobody (subst (λ (m : Me (Home E B) (View E B)). Met R (step slots 0 0 0 none) m found w) u_is met))
 
   -- a load of the word that is never written
-  pub meet_asks : (table z : TableId) (start : List (LockId × B)) (n id : ℕ) (places : List ℕ) (locks : List LockId) (now : TableId) (v u : Me (Home E B) (View E B)) (o : View E B) → IsLaidOut start z.words z.slots places locks
+  pub meet_asks : (table z : TableId) (start : List (LockId × B)) (n id : ℕ) (places : List ℕ) (locks : List LockId) (now : TableId)
+      (v u : Me (Home E B) (View E B)) (o : View E B) → IsLaidOut start z.words z.slots places locks
       → (table ≡ z) × (v.0.start ≡ start) → now ≡ table → u ≡ (joined v.0 o, v.1)
       → (now ≡ z) × (0 < z.words) × Allows (Kept R n start) z.slots id u 0 (λ m. m) (Met R (step z.slots 0 0 0 none) u)
   meet_asks table z start n id places locks now v u o laid of now_is u_is = (
     now_is ∙ of.0,
     has_words start z.words z.slots places locks laid,
-    subst (λ (m : Me (Home E B) (View E B)). Allows (Kept R n start) z.slots id m 0 (λ m. m) (Met R (step z.slots 0 0 0 none) m)) (sym u_is) (meets_allowed R n start z.slots id (joined v.0 o) v.1 of.1),
+    subst (λ (m : Me (Home E B) (View E B)). Allows (Kept R n start) z.slots id m 0 (λ m. m) (Met R (step z.slots 0 0 0 none) m)) (sym u_is)
+        (meets_allowed R n start z.slots id (joined v.0 o) v.1 of.1),
   )

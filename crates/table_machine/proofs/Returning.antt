@@ -1,5 +1,6 @@
 -- The loops that take in the keys and give back the blocks.
-use Rattle.std.proofs.Common.{◌≡◌, ◌≢◌, ℕ, zero, suc, ◌+◌, ◌<◌, ◌≤◌, Bool, true, false, List, [], ◌∷◌, ◌++◌, length, get_or, set, All, Some, None, IsSome, is_some, ap, sym, ◌∙◌, subst, append_assoc, append-nil, get_or-set_same, get_or-set_other, arith}
+use Rattle.std.proofs.Common.{◌≡◌, ◌≢◌, ℕ, zero, suc, ◌+◌, ◌<◌, ◌≤◌, Bool, true, false, List, [], ◌∷◌, ◌++◌, length, get_or, set, All, Some, None, IsSome}
+use Rattle.std.proofs.Common.{is_some, ap, sym, ◌∙◌, subst, append_assoc, append-nil, get_or-set_same, get_or-set_other, arith}
 use mathlib.Core.Option.{some, some-injective, some-ne-none}
 use mathlib.Core.Logic.{dite}
 use native.Mathlib.Decide.{ℕ_discrete}
@@ -20,12 +21,14 @@ module _ {A : Type 0} where
   all_tail P xs rest x is all k d below =
       let whole : All P (x ∷ rest) = subst (λ (l : List A). All P l) is all in whole (suc k) d (omega arith)
 
-pub stays_filled : (f f' : List Bool) (i n n' : ℕ) → f' ≡ set f i false → n' ≡ n → ((k : ℕ) → i ≤ k → k < n → get_or f k false ≡ true) → (k : ℕ) → i + 1 ≤ k → k < n' → get_or f' k false ≡ true
+pub stays_filled : (f f' : List Bool) (i n n' : ℕ) → f' ≡ set f i false → n' ≡ n → ((k : ℕ) → i ≤ k → k < n → get_or f k false ≡ true) → (k : ℕ) → i + 1 ≤ k
+    → k < n' → get_or f' k false ≡ true
 stays_filled f f' i n n' is same full k above below =
     let other : k ≢ i = λ e. omega arith in
     ap (λ l. get_or l k false) is ∙ (get_or-set_other f i k false false other ∙ full k (omega arith) (omega arith))
 
-pub stays_empty : (f f' : List Bool) (i : ℕ) → f' ≡ set f i false → i < length f → ((k : ℕ) → k < i → get_or f k false ≡ false) → (k : ℕ) → k < i + 1 → get_or f' k false ≡ false
+pub stays_empty : (f f' : List Bool) (i : ℕ) → f' ≡ set f i false → i < length f → ((k : ℕ) → k < i → get_or f k false ≡ false) → (k : ℕ) → k < i + 1
+    → get_or f' k false ≡ false
 stays_empty f f' i is within empty k below = ap (λ l. get_or l k false) is ∙ dite (ℕ_discrete k i)
     (λ (e : k ≡ i). subst (λ (m : ℕ). get_or (set f i false) m false ≡ false) (sym e) (get_or-set_same f i false false within))
     (λ (ne : k ≢ i). get_or-set_other f i k false false ne ∙ empty k (omega arith))
@@ -36,7 +39,8 @@ at_read (x ∷ xs) zero a h e = ap some (sym e)
 at_read (x ∷ xs) (suc i) a h e = at_read xs i a (omega arith) e
 
 module _ {E B : Type 0} where
-  pub a_block : (homes now : List (Home E B)) (i : ℕ) (h y : Home E B) → get_elem? now i ≡ some h → now ≡ homes → get_elem? homes i ≡ some y → IsSome y.block → h.block ≡ None → ⊥
+  pub a_block : (homes now : List (Home E B)) (i : ℕ) (h y : Home E B) → get_elem? now i ≡ some h → now ≡ homes → get_elem? homes i ≡ some y → IsSome y.block
+      → h.block ≡ None → ⊥
   a_block homes now i h y at same there has nothing =
       let one : h ≡ y = some-injective h y (sym at ∙ (ap (λ l. get_elem? l i) same ∙ there)) in
       let gone : y.block ≡ None = subst (λ (x : Home E B). x.block ≡ None) one nothing in
@@ -44,13 +48,17 @@ module _ {E B : Type 0} where
 
   -- one block more
   pub given_more : (locks : List LockId) (homes now : List (Home E B)) (xs ys : List (LockId × B)) (n : ℕ) (at_n : LockId) (h : Home E B) (block : B)
-      → length xs ≡ n → ys ≡ xs ++ (at_n, block) ∷ [] → n < length locks → at_n ≡ get_or locks n at_n → get_elem? now n ≡ some h → now ≡ homes → h.block ≡ Some block
-      → ((i : ℕ) (lock : LockId) (y : Home E B) (b : B) → i < n → get_elem? locks i ≡ some lock → get_elem? homes i ≡ some y → y.block ≡ Some b → get_elem? xs i ≡ some (lock, b))
-      → (i : ℕ) (lock : LockId) (y : Home E B) (b : B) → i < n + 1 → get_elem? locks i ≡ some lock → get_elem? homes i ≡ some y → y.block ≡ Some b → get_elem? ys i ≡ some (lock, b)
+      → length xs ≡ n → ys ≡ xs ++ (at_n, block) ∷ [] → n < length locks → at_n ≡ get_or locks n at_n → get_elem? now n ≡ some h → now ≡ homes
+      → h.block ≡ Some block
+      → ((i : ℕ) (lock : LockId) (y : Home E B) (b : B) → i < n → get_elem? locks i ≡ some lock → get_elem? homes i ≡ some y → y.block ≡ Some b
+      → get_elem? xs i ≡ some (lock, b))
+      → (i : ℕ) (lock : LockId) (y : Home E B) (b : B) → i < n + 1 → get_elem? locks i ≡ some lock → get_elem? homes i ≡ some y → y.block ≡ Some b
+      → get_elem? ys i ≡ some (lock, b)
   given_more locks homes now xs ys n at_n h block count is within read at same has done i lock y b below at_lock at_home holds =
       ap (λ l. get_elem? l i) is ∙ dite (ℕ_discrete i n)
       (λ (e : i ≡ n).
-      let lock_is : at_n ≡ lock = some-injective at_n lock (sym (at_read locks n at_n within read) ∙ subst (λ (m : ℕ). get_elem? locks m ≡ some lock) e at_lock) in
+      let lock_is : at_n ≡ lock = some-injective at_n lock (sym (at_read locks n at_n within read) ∙ subst (λ (m : ℕ). get_elem? locks m ≡ some lock) e at_lock)
+      in
       let home_is : h ≡ y = some-injective h y (sym at ∙ (ap (λ l. get_elem? l n) same ∙ subst (λ (m : ℕ). get_elem? homes m ≡ some y) e at_home)) in
       let blocks : Some block ≡ Some b = sym has ∙ (ap (λ (x : Home E B). x.block) home_is ∙ holds) in
       let block_is : block ≡ b = cc in

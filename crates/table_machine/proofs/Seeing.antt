@@ -1,5 +1,6 @@
 -- How the views change with a step.
-use Rattle.std.proofs.Common.{◌≡◌, ◌≢◌, ◌==◌, ℕ, zero, suc, ◌<◌, ◌⊎◌, inl, inr, ⊎_elim, if◌then◌else◌, List, [], ◌∷◌, ◌++◌, length, set, refl, ap, sym, ◌∙◌, subst, eq-eqb, ne_eqb}
+use Rattle.std.proofs.Common.{◌≡◌, ◌≢◌, ◌==◌, ℕ, zero, suc, ◌<◌, ◌⊎◌, inl, inr, ⊎_elim, if◌then◌else◌, List, [], ◌∷◌, ◌++◌, length, set, refl, ap, sym, ◌∙◌}
+use Rattle.std.proofs.Common.{subst, eq-eqb, ne_eqb}
 use mathlib.Core.Option.{some, some-injective, some-ne-none}
 use lib.ListN.{get_elem?}
 use Rattle.atomic_table.proofs.Lists.{at_set, set_else}
@@ -47,7 +48,8 @@ module _ {E B : Type 0} where
   owns_viewed start cpus log c (inl has) = has
   owns_viewed start cpus log c (inr nothing) = absurd nothing
 
-module _ {E B : Type 0} (n : ℕ) (views : List (View E B)) (log : List (Event (Mark E))) (s : Sees n views log) (id : ℕ) (v : View E B) (here : get_elem? views id ≡ some v) where
+module _ {E B : Type 0} (n : ℕ) (views : List (View E B)) (log : List (Event (Mark E))) (s : Sees n views log) (id : ℕ) (v : View E B)
+    (here : get_elem? views id ≡ some v) where
   -- an event of a CPU of this seat is no other seat's
   pub one_event : (e : Event (Mark E)) → Owns (actor e) v → (c : CpuId) → s.seat_of c.0 ≢ id → AreOthers actor c (e ∷ [])
   one_event e owns c away = (ne_eqb (actor e).0 c.0 (λ same. away (ap s.seat_of (sym same) ∙ sym (s.apart id v (actor e) here owns))), tt)
@@ -58,7 +60,8 @@ module _ {E B : Type 0} (n : ℕ) (views : List (View E B)) (log : List (Event (
       → Sees n (set views id (viewed start cpus (es ++ log))) (es ++ log)
   sees_moved es others start cpus less =
       let w : View E B = viewed start cpus (es ++ log) in
-      let owned : (c : CpuId) (u : View E B) → w ≡ u → Owns c u → Owns c v = λ c u same o. less c (owns_viewed start cpus (es ++ log) c (subst (λ (u : View E B). Owns c u) (sym same) o)) in
+      let owned : (c : CpuId) (u : View E B) → w ≡ u → Owns c u → Owns c v =
+      λ c u same o. less c (owns_viewed start cpus (es ++ log) c (subst (λ (u : View E B). Owns c u) (sym same) o)) in
       record {
         fits = λ i u at. ⊎_elim
             (λ (t : (i ≡ id) × (w ≡ u)). subst (λ (u : View E B). Fits (es ++ log) u) t.1 (fits_viewed start cpus (es ++ log)))
@@ -101,14 +104,19 @@ module _ {E B : Type 0} (n : ℕ) (views : List (View E B)) (log : List (Event (
       → Sees n (set (set views id both) other spent) log
   sees_join other w both spent apart there both_is spent_is =
       let there' : get_elem? views other ≡ some w = sym (set_else views id other both apart) ∙ there in
-      let none : (c : CpuId) (u : View E B) → spent ≡ u → Owns c u → ⊥ = λ c u same o. owns_viewed {E = E} {B = B} [] [] [] c (subst (λ (u : View E B). Owns c u) (sym same ∙ spent_is) o) in
-      let some_of : (c : CpuId) (u : View E B) → both ≡ u → Owns c u → Has c v.cpus ⊎ Has c w.cpus = λ c u same o. subst (λ (u : View E B). Owns c u) (sym same ∙ both_is) o in
+      let none : (c : CpuId) (u : View E B) → spent ≡ u → Owns c u
+      → ⊥ = λ c u same o. owns_viewed {E = E} {B = B} [] [] [] c (subst (λ (u : View E B). Owns c u) (sym same ∙ spent_is) o) in
+      let some_of : (c : CpuId) (u : View E B) → both ≡ u → Owns c u → Has c v.cpus ⊎ Has c w.cpus =
+      λ c u same o. subst (λ (u : View E B). Owns c u) (sym same ∙ both_is) o in
       let seat : ℕ → ℕ = λ k. moved_seat other id (s.seat_of k) in
-      let from_v : (c : CpuId) → Has c v.cpus → id ≡ seat c.0 = λ c has. let e = s.apart id v c here (inl has) in e ∙ sym (moved_no other id (s.seat_of c.0) (λ same. apart (sym (e ∙ same)))) in
-      let from_w : (c : CpuId) → Has c w.cpus → id ≡ seat c.0 = λ c has. let e = s.apart other w c there' (inl has) in sym (moved_yes other id (s.seat_of c.0) (sym e)) in
+      let from_v : (c : CpuId) → Has c v.cpus → id ≡ seat c.0 = λ c has. let e = s.apart id v c here (inl has) in e
+      ∙ sym (moved_no other id (s.seat_of c.0) (λ same. apart (sym (e ∙ same)))) in
+      let from_w : (c : CpuId) → Has c w.cpus → id ≡ seat c.0 = λ c has. let e = s.apart other w c there' (inl has) in
+      sym (moved_yes other id (s.seat_of c.0) (sym e)) in
       record {
         fits = λ i u at. ⊎_elim
-            (λ (t : (i ≡ other) × (spent ≡ u)). subst (λ (u : View E B). Fits log u) (sym spent_is ∙ t.1) (record { front = ends_nil log; told = ends_nil log; cpus = λ c has. absurd has; lent = λ c has. absurd has }))
+            (λ (t : (i ≡ other) × (spent ≡ u)). subst (λ (u : View E B). Fits log u) (sym spent_is ∙ t.1)
+            (record { front = ends_nil log; told = ends_nil log; cpus = λ c has. absurd has; lent = λ c has. absurd has }))
             (λ (t : (i ≢ other) × (get_elem? (set views id both) i ≡ some u)). ⊎_elim
             (λ (q : (i ≡ id) × (both ≡ u)). subst (λ (u : View E B). Fits log u) (sym both_is ∙ q.1) (record {
               front = (s.fits id v here).front;
@@ -124,7 +132,8 @@ module _ {E B : Type 0} (n : ℕ) (views : List (View E B)) (log : List (Event (
             (λ (t : (i ≡ other) × (spent ≡ u)). absurd (none c u t.1 o))
             (λ (t : (i ≢ other) × (get_elem? (set views id both) i ≡ some u)). ⊎_elim
             (λ (q : (i ≡ id) × (both ≡ u)). q.0 ∙ ⊎_elim (from_v c) (from_w c) (some_of c u q.1 o))
-            (λ (q : (i ≢ id) × (get_elem? views i ≡ some u)). let e = s.apart i u c q.1 o in e ∙ sym (moved_no other id (s.seat_of c.0) (λ same. t.0 (e ∙ same))))
+            (λ (q : (i ≢ id) × (get_elem? views i ≡ some u)). let e = s.apart i u c q.1 o in e
+            ∙ sym (moved_no other id (s.seat_of c.0) (λ same. t.0 (e ∙ same))))
             (at_set views id i both u t.1))
             (at_set (set views id both) other i spent u at);
         known = λ i u c at o. ⊎_elim

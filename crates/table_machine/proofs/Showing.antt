@@ -1,5 +1,6 @@
 -- How the words and the slots change with a step.
-use Rattle.std.proofs.Common.{length-set, ◌≡◌, ◌≢◌, ℕ, zero, suc, ◌<◌, Bool, true, false, List, [], ◌∷◌, length, set, get_or, map, replicate, Option, Some, None, IsSome, slice_index, refl, ap, sym, ◌∙◌, subst, arith, get_or-set_other}
+use Rattle.std.proofs.Common.{length-set, ◌≡◌, ◌≢◌, ℕ, zero, suc, ◌<◌, Bool, true, false, List, [], ◌∷◌, length, set, get_or, map, replicate, Option, Some}
+use Rattle.std.proofs.Common.{None, IsSome, slice_index, refl, ap, sym, ◌∙◌, subst, arith, get_or-set_other}
 use mathlib.Core.Option.{Option as Maybe, none, some}
 use lib.ListN.{get_elem?, length-replicate, length-map}
 use Rattle.event_log.specs.declared.ids.LockId.{LockId}
@@ -46,14 +47,17 @@ module _ {E B : Type 0} where
   home_of none there = absurd cc
   home_of (some y) there = let found = some_of y.block there in (y, found.0, refl, found.1)
 
-map_both : {E B : Type 0} (start : List (LockId × B)) → map some (map (λ (o : LockId × B). fresh_home {E = E} o.1) start) ≡ map (λ (o : LockId × B). some (fresh_home {E = E} o.1)) start
+map_both : {E B : Type 0} (start : List (LockId × B)) → map some (map (λ (o : LockId × B). fresh_home {E = E} o.1) start)
+    ≡ map (λ (o : LockId × B). some (fresh_home {E = E} o.1)) start
 map_both [] = refl
 map_both {E = E} (o ∷ rest) = ap (λ l. some (fresh_home {E = E} o.1) ∷ l) (map_both {E = E} rest)
 
 module _ {E B : Type 0} (edited : E → B → B) (start : List (LockId × B)) where
   -- one lock's facts at words that read the same
-  pub reword : (log : List (Event (Mark E))) (lock : LockId) (a a' b b' : ℕ) (home : Option B) → a ≡ a' → b ≡ b' → LockFits edited (opened start) log lock a b home → LockFits edited (opened start) log lock a' b' home
-  reword log lock a a' b b' home p q fits = subst (λ y. LockFits edited (opened start) log lock a' y home) q (subst (λ x. LockFits edited (opened start) log lock x b home) p fits)
+  pub reword : (log : List (Event (Mark E))) (lock : LockId) (a a' b b' : ℕ) (home : Option B) → a ≡ a' → b ≡ b'
+      → LockFits edited (opened start) log lock a b home → LockFits edited (opened start) log lock a' b' home
+  reword log lock a a' b b' home p q fits = subst (λ y. LockFits edited (opened start) log lock a' y home) q
+      (subst (λ x. LockFits edited (opened start) log lock x b home) p fits)
 
   -- the place of a word is within the table
   pub next_within : (lock : LockId) → IsSome (opened start lock) → next_at (index_of start lock) < word_count (length start)
@@ -74,7 +78,8 @@ module _ {E B : Type 0} (edited : E → B → B) (start : List (LockId × B)) wh
     stand = λ lock exists. go lock exists (same_lock lock (event_lock e)) refl;
   }
     where
-      go : (lock : LockId) → IsSome (opened start lock) → (b : Bool) → same_lock lock (event_lock e) ≡ b → Stands edited start (set words i x) later (e ∷ log) lock
+      go : (lock : LockId) → IsSome (opened start lock) → (b : Bool) → same_lock lock (event_lock e) ≡ b
+          → Stands edited start (set words i x) later (e ∷ log) lock
       go lock exists true one = subst (λ l. Stands edited start (set words i x) later (e ∷ log) l) (sym (same_lock_true lock (event_lock e) one)) here
       go lock exists false other =
           let old = shows.stand lock exists in
@@ -86,8 +91,10 @@ module _ {E B : Type 0} (edited : E → B → B) (start : List (LockId × B)) wh
           record {
             home = old.home;
             at = same k away ∙ old.at;
-            is = elsewhere edited (opened start) lock e log may other (slice_index (set words i x) (next_at k)) (slice_index (set words i x) (serving_at k)) (home_block old.home)
-                (reword log lock (slice_index words (next_at k)) (slice_index (set words i x) (next_at k)) (slice_index words (serving_at k)) (slice_index (set words i x) (serving_at k)) (home_block old.home)
+            is = elsewhere edited (opened start) lock e log may other (slice_index (set words i x) (next_at k)) (slice_index (set words i x) (serving_at k))
+                (home_block old.home)
+                (reword log lock (slice_index words (next_at k)) (slice_index (set words i x) (next_at k)) (slice_index words (serving_at k))
+                (slice_index (set words i x) (serving_at k)) (home_block old.home)
                 (sym (get_or-set_other words i (next_at k) x 0 parted.0)) (sym (get_or-set_other words i (serving_at k) x 0 parted.1)) old.is);
           }
 
@@ -103,7 +110,9 @@ module _ {E B : Type 0} (edited : E → B → B) (start : List (LockId × B)) wh
         record {
           home = some (fresh_home found.0);
           at = ap (λ l. get_elem? l k) (ap (λ l. map some l) are ∙ map_both start) ∙ found.2;
-          is = reword [] lock 0 (slice_index (replicate (word_count (length start)) 0) (next_at k)) 0 (slice_index (replicate (word_count (length start)) 0) (serving_at k)) (Some found.0)
-              (sym (zeros_at (word_count (length start)) (next_at k))) (sym (zeros_at (word_count (length start)) (serving_at k))) (fresh edited (opened start) lock found.0 found.1);
+          is = reword [] lock 0 (slice_index (replicate (word_count (length start)) 0) (next_at k)) 0
+              (slice_index (replicate (word_count (length start)) 0) (serving_at k)) (Some found.0)
+              (sym (zeros_at (word_count (length start)) (next_at k))) (sym (zeros_at (word_count (length start)) (serving_at k)))
+              (fresh edited (opened start) lock found.0 found.1);
         };
   }

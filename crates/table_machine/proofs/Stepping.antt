@@ -1,5 +1,7 @@
 -- Each atomic step keeps the rule, and tells what it tells.
-use Rattle.std.proofs.Common.{length-set, ◌≡◌, ◌==◌, ℕ, ◌+◌, ◌<◌, ◌%◌, ◌^◌, ◌⊎◌, inl, inr, ⊎_elim, Bool, true, false, if◌then◌else◌, List, [], ◌∷◌, ◌++◌, length, set, Some, IsSome, option_map, slice_index, refl, ap, sym, ◌∙◌, subst, arith, get_or-set_same, get_or-set_other, lt_of_lt_of_le, ne_eqb}
+use Rattle.std.proofs.Common.{length-set, ◌≡◌, ◌==◌, ℕ, ◌+◌, ◌<◌, ◌%◌, ◌^◌, ◌⊎◌, inl, inr, ⊎_elim, Bool, true, false, if◌then◌else◌, List, [], ◌∷◌, ◌++◌}
+use Rattle.std.proofs.Common.{length, set, Some, IsSome, option_map, slice_index, refl, ap, sym, ◌∙◌, subst, arith, get_or-set_same, get_or-set_other}
+use Rattle.std.proofs.Common.{lt_of_lt_of_le, ne_eqb}
 use mathlib.Core.Option.{Option as Maybe, none, some}
 use lib.ListN.{get_elem?}
 use lib.Seq.{set-get_or}
@@ -26,7 +28,8 @@ use Rattle.layer_traits.proofs.OneLockLemmas.{standing_own, drew, missed, hit, f
 use Rattle.table_machine.proofs.Logs.{standing_since, legal_words, lawful_sections, sections_more, sections_others, inside_keeps, ends_nil}
 use Rattle.table_machine.proofs.Finding.{index_below}
 use Rattle.table_machine.proofs.Seeing.{sees_moved, sees_less, sees_new, sees_join, one_event, owns_viewed}
-use Rattle.table_machine.proofs.Showing.{next_apart, serving_apart, next_not_serving, serving_not_next, next_within, serving_within, reword, shows_step, home_of}
+use Rattle.table_machine.proofs.Showing.{next_apart, serving_apart, next_not_serving, serving_not_next, next_within, serving_within, reword, shows_step}
+use Rattle.table_machine.proofs.Showing.{home_of}
 
 module _ {E B O : Type 0} (R : Rules E B O) (n : ℕ) (start : List (LockId × B)) where
   -- what the step of one CPU knows of the log when it comes
@@ -35,7 +38,8 @@ module _ {E B O : Type 0} (R : Rules E B O) (n : ℕ) (start : List (LockId × B
     pub since : IsSince kept.log seen cpu
     pub below : cpu.0 < n
 
-  turn : (s : State (Home E B) (View E B)) (kept : Kept R n start s) (id : ℕ) (cpu : CpuId) (seen : List (Event (Mark E))) → get_elem? s.views id ≡ some (mine start cpu seen) → Turn s kept id cpu seen
+  turn : (s : State (Home E B) (View E B)) (kept : Kept R n start s) (id : ℕ) (cpu : CpuId) (seen : List (Event (Mark E)))
+      → get_elem? s.views id ≡ some (mine start cpu seen) → Turn s kept id cpu seen
   turn s kept id cpu seen at = record {
     at = at;
     since = (kept.sees.fits id (mine start cpu seen) at).cpus cpu (inl refl);
@@ -71,7 +75,8 @@ module _ {E B O : Type 0} (R : Rules E B O) (n : ℕ) (start : List (LockId × B
     legal = (may, kept.legal);
   }
 
-  pub draws_allowed : (slots id : ℕ) (cpu : CpuId) (seen : List (Event (Mark E))) (held : List (ℕ × Home E B)) (lock : LockId) → IsSome (opened start lock) → standing cpu seen ≡ Outside
+  pub draws_allowed : (slots id : ℕ) (cpu : CpuId) (seen : List (Event (Mark E))) (held : List (ℕ × Home E B)) (lock : LockId) → IsSome (opened start lock)
+      → standing cpu seen ≡ Outside
       → Allows (Kept R n start) slots id (mine start cpu seen, held) (next_at (index_of start lock)) (λ m. (m + 1) % 2 ^ 64)
       (Drew R (step slots (next_at (index_of start lock)) 1 0 none) (mine start cpu seen, held))
   draws_allowed slots id cpu seen held lock exists out s kept count at fits =
@@ -89,11 +94,13 @@ module _ {E B O : Type 0} (R : Rules E B O) (n : ℕ) (start : List (LockId × B
       let here : Stands R.edited start (set s.words i x) s.homes (e ∷ kept.log) lock = record {
         home = old.home;
         at = old.at;
-        is = reword R.edited start (e ∷ kept.log) lock x (slice_index (set s.words i x) i) (slice_index s.words (serving_at k)) (slice_index (set s.words i x) (serving_at k)) (home_block old.home)
+        is = reword R.edited start (e ∷ kept.log) lock x (slice_index (set s.words i x) i) (slice_index s.words (serving_at k))
+            (slice_index (set s.words i x) (serving_at k)) (home_block old.home)
             (sym (get_or-set_same s.words i x 0 within)) (sym (get_or-set_other s.words i (serving_at k) x 0 (next_not_serving k)))
             (drew R.edited (opened start) lock cpu t kept.log outside t (slice_index s.words (serving_at k)) (home_block old.home) old.is);
       } in
-      let shows = shows_step R.edited start s.words s.homes kept.log kept.shows e may.0 i x (next_apart k) s.homes kept.shows.home_length (λ j other. refl) here in (
+      let shows = shows_step R.edited start s.words s.homes kept.log kept.shows e may.0 i x (next_apart k) s.homes kept.shows.home_length (λ j other. refl) here
+      in (
         mine start cpu (e ∷ kept.log),
         keeps,
         tt,
@@ -102,9 +109,12 @@ module _ {E B O : Type 0} (R : Rules E B O) (n : ℕ) (start : List (LockId × B
       )
 
   -- what a look of a CPU that waits may do
-  look_may : (s : State (Home E B) (View E B)) (kept : Kept R n start s) (id : ℕ) (cpu : CpuId) (seen : List (Event (Mark E))) (lock : LockId) (ticket : ℕ) (exists : IsSome (opened start lock))
-      → Turn s kept id cpu seen → standing cpu seen ≡ Waiting lock ticket → MayCome (R.allowed (opened start)) kept.log (Look cpu lock ticket (slice_index s.words (serving_at (index_of start lock))))
-  look_may s kept id cpu seen lock ticket exists now waits = ((standing_since cpu kept.log seen now.since ∙ waits, (kept.shows.stand lock exists).is.serving_is), tt)
+  look_may : (s : State (Home E B) (View E B)) (kept : Kept R n start s) (id : ℕ) (cpu : CpuId) (seen : List (Event (Mark E))) (lock : LockId) (ticket : ℕ)
+      (exists : IsSome (opened start lock))
+      → Turn s kept id cpu seen → standing cpu seen ≡ Waiting lock ticket
+      → MayCome (R.allowed (opened start)) kept.log (Look cpu lock ticket (slice_index s.words (serving_at (index_of start lock))))
+  look_may s kept id cpu seen lock ticket exists now waits =
+      ((standing_since cpu kept.log seen now.since ∙ waits, (kept.shows.stand lock exists).is.serving_is), tt)
 
   -- a load writes what it found
   loaded : (s : State (Home E B) (View E B)) (i : ℕ) (homes : List (Maybe (Home E B))) (log : List (Event (Mark E))) (lock : LockId)
@@ -113,12 +123,15 @@ module _ {E B O : Type 0} (R : Rules E B O) (n : ℕ) (start : List (LockId × B
 
   -- what the step leaves, as the call of `load` asks it
   abbrev After : ℕ → Me (Home E B) (View E B) → ℕ → (ℕ → ℕ) → (ℕ → Me (Home E B) (View E B) → Type 0) → State (Home E B) (View E B) → Type 0
-  After id me i f told s = (w : View E B) × (a : Act (Home E B)) × Rattle.atomic_table.specs.Table.Valid s.homes me.1 a × Kept R n start (stepped s i (f (slice_index s.words i)) id me.1 w a)
+  After id me i f told s = (w : View E B) × (a : Act (Home E B)) × Rattle.atomic_table.specs.Table.Valid s.homes me.1 a
+      × Kept R n start (stepped s i (f (slice_index s.words i)) id me.1 w a)
       × told (slice_index s.words i) (w, Rattle.atomic_table.specs.Table.carried_after me.1 a)
 
-  look_misses : (s : State (Home E B) (View E B)) (kept : Kept R n start s) (id slots : ℕ) (cpu : CpuId) (seen : List (Event (Mark E))) (lock : LockId) (ticket : ℕ) (exists : IsSome (opened start lock))
+  look_misses : (s : State (Home E B) (View E B)) (kept : Kept R n start s) (id slots : ℕ) (cpu : CpuId) (seen : List (Event (Mark E))) (lock : LockId)
+      (ticket : ℕ) (exists : IsSome (opened start lock))
       → Turn s kept id cpu seen → standing cpu seen ≡ Waiting lock ticket → (slice_index s.words (serving_at (index_of start lock)) == ticket) ≡ false
-      → After id (mine start cpu seen, []) (serving_at (index_of start lock)) (λ m. m) (Looked R (step slots (serving_at (index_of start lock)) 0 0 none) (mine start cpu seen, [])) s
+      → After id (mine start cpu seen, []) (serving_at (index_of start lock)) (λ m. m)
+      (Looked R (step slots (serving_at (index_of start lock)) 0 0 none) (mine start cpu seen, [])) s
   look_misses s kept id slots cpu seen lock ticket exists now waits other =
       let k : ℕ = index_of start lock in
       let i : ℕ = serving_at k in
@@ -129,9 +142,11 @@ module _ {E B O : Type 0} (R : Rules E B O) (n : ℕ) (start : List (LockId × B
       let here : Stands R.edited start s.words s.homes (e ∷ kept.log) lock = record {
         home = old.home;
         at = old.at;
-        is = missed R.edited (opened start) lock cpu ticket read kept.log may.0.0 other (slice_index s.words (next_at k)) (slice_index s.words i) (home_block old.home) old.is;
+        is = missed R.edited (opened start) lock cpu ticket read kept.log may.0.0 other (slice_index s.words (next_at k)) (slice_index s.words i)
+            (home_block old.home) old.is;
       } in
-      let shows = shows_step R.edited start s.words s.homes kept.log kept.shows e may.0 i read (serving_apart k) s.homes kept.shows.home_length (λ j away. refl) (loaded s i s.homes (e ∷ kept.log) lock here) in (
+      let shows = shows_step R.edited start s.words s.homes kept.log kept.shows e may.0 i read (serving_apart k) s.homes kept.shows.home_length (λ j away. refl)
+      (loaded s i s.homes (e ∷ kept.log) lock here) in (
         mine start cpu (e ∷ kept.log),
         keeps,
         tt,
@@ -141,13 +156,19 @@ module _ {E B O : Type 0} (R : Rules E B O) (n : ℕ) (start : List (LockId × B
           ticket = ticket;
           waits = waits;
           moves = after_move s kept id e seen now may;
-          finds = inl (record { other = other; waits = standing_own e kept.log ∙ ap (λ b. if b then Inside lock ticket else Waiting lock ticket) other; held = refl });
+          finds = inl (record {
+            other = other;
+            waits = standing_own e kept.log ∙ ap (λ b. if b then Inside lock ticket else Waiting lock ticket) other;
+            held = refl;
+          });
         },
       )
 
-  look_hits : (s : State (Home E B) (View E B)) (kept : Kept R n start s) (id slots : ℕ) (cpu : CpuId) (seen : List (Event (Mark E))) (lock : LockId) (ticket : ℕ) (exists : IsSome (opened start lock))
+  look_hits : (s : State (Home E B) (View E B)) (kept : Kept R n start s) (id slots : ℕ) (cpu : CpuId) (seen : List (Event (Mark E))) (lock : LockId)
+      (ticket : ℕ) (exists : IsSome (opened start lock))
       → Turn s kept id cpu seen → standing cpu seen ≡ Waiting lock ticket → (slice_index s.words (serving_at (index_of start lock)) == ticket) ≡ true
-      → After id (mine start cpu seen, []) (serving_at (index_of start lock)) (λ m. m) (Looked R (step slots (serving_at (index_of start lock)) 0 0 none) (mine start cpu seen, [])) s
+      → After id (mine start cpu seen, []) (serving_at (index_of start lock)) (λ m. m)
+      (Looked R (step slots (serving_at (index_of start lock)) 0 0 none) (mine start cpu seen, [])) s
   look_hits s kept id slots cpu seen lock ticket exists now waits same =
       let k : ℕ = index_of start lock in
       let i : ℕ = serving_at k in
@@ -156,7 +177,9 @@ module _ {E B O : Type 0} (R : Rules E B O) (n : ℕ) (start : List (LockId × B
       let may : MayCome (R.allowed (opened start)) kept.log e = look_may s kept id cpu seen lock ticket exists now waits in
       let legal : IsLawful (MayCome (R.allowed (opened start))) (e ∷ kept.log) = (may, kept.legal) in
       let old = kept.shows.stand lock exists in
-      let found = home_of old.home (hit_finds R.edited (opened start) lock cpu ticket read kept.log (legal_words (R.allowed (opened start)) (e ∷ kept.log) legal) same (slice_index s.words (next_at k)) (slice_index s.words i) (home_block old.home) old.is) in
+      let found = home_of old.home
+      (hit_finds R.edited (opened start) lock cpu ticket read kept.log (legal_words (R.allowed (opened start)) (e ∷ kept.log) legal) same
+      (slice_index s.words (next_at k)) (slice_index s.words i) (home_block old.home) old.is) in
       let y : Home E B = found.0 in
       let b : B = found.1 in
       let block_there : home_block old.home ≡ Some b = ap home_block found.2 ∙ found.3 in
@@ -167,9 +190,11 @@ module _ {E B O : Type 0} (R : Rules E B O) (n : ℕ) (start : List (LockId × B
       let here : Stands R.edited start s.words homes (e ∷ kept.log) lock = record {
         home = none;
         at = set_here s.homes k none within;
-        is = hit R.edited (opened start) lock cpu ticket read kept.log same (slice_index s.words (next_at k)) (slice_index s.words i) (home_block old.home) old.is;
+        is = hit R.edited (opened start) lock cpu ticket read kept.log same (slice_index s.words (next_at k)) (slice_index s.words i) (home_block old.home)
+            old.is;
       } in
-      let shows = shows_step R.edited start s.words s.homes kept.log kept.shows e may.0 i read (serving_apart k) homes (length-set s.homes k none ∙ kept.shows.home_length) (λ j away. set_else s.homes k j none away) (loaded s i homes (e ∷ kept.log) lock here) in (
+      let shows = shows_step R.edited start s.words s.homes kept.log kept.shows e may.0 i read (serving_apart k) homes
+      (length-set s.homes k none ∙ kept.shows.home_length) (λ j away. set_else s.homes k j none away) (loaded s i homes (e ∷ kept.log) lock here) in (
         mine start cpu (e ∷ kept.log),
         takes k y,
         old.at ∙ ap some found.2,
@@ -191,16 +216,20 @@ module _ {E B O : Type 0} (R : Rules E B O) (n : ℕ) (start : List (LockId × B
         },
       )
 
-  pub looks_allowed : (slots id : ℕ) (cpu : CpuId) (seen : List (Event (Mark E))) (lock : LockId) (ticket : ℕ) → IsSome (opened start lock) → standing cpu seen ≡ Waiting lock ticket
+  pub looks_allowed : (slots id : ℕ) (cpu : CpuId) (seen : List (Event (Mark E))) (lock : LockId) (ticket : ℕ) → IsSome (opened start lock)
+      → standing cpu seen ≡ Waiting lock ticket
       → Allows (Kept R n start) slots id (mine start cpu seen, []) (serving_at (index_of start lock)) (λ m. m)
       (Looked R (step slots (serving_at (index_of start lock)) 0 0 none) (mine start cpu seen, []))
   looks_allowed slots id cpu seen lock ticket exists waits s kept count at fits = go (slice_index s.words (serving_at (index_of start lock)) == ticket) refl
     where
-      go : (b : Bool) → (slice_index s.words (serving_at (index_of start lock)) == ticket) ≡ b → After id (mine start cpu seen, []) (serving_at (index_of start lock)) (λ m. m) (Looked R (step slots (serving_at (index_of start lock)) 0 0 none) (mine start cpu seen, [])) s
+      go : (b : Bool) → (slice_index s.words (serving_at (index_of start lock)) == ticket) ≡ b
+          → After id (mine start cpu seen, []) (serving_at (index_of start lock)) (λ m. m)
+          (Looked R (step slots (serving_at (index_of start lock)) 0 0 none) (mine start cpu seen, [])) s
       go true same = look_hits s kept id slots cpu seen lock ticket exists (turn s kept id cpu seen at) waits same
       go false other = look_misses s kept id slots cpu seen lock ticket exists (turn s kept id cpu seen at) waits other
 
-  pub frees_allowed : (slots id : ℕ) (cpu : CpuId) (seen : List (Event (Mark E))) (lock : LockId) (ticket : ℕ) (edit : E) (block : B) (y : Home E B) → IsSome (opened start lock)
+  pub frees_allowed : (slots id : ℕ) (cpu : CpuId) (seen : List (Event (Mark E))) (lock : LockId) (ticket : ℕ) (edit : E) (block : B) (y : Home E B)
+      → IsSome (opened start lock)
       → standing cpu seen ≡ Inside lock ticket → y.block ≡ Some block → y.edit ≡ Some edit
       → option_map (R.edited edit) (block_after R.edited (opened start) lock (sections seen)) ≡ Some block
       → StaysAllowed (R.allowed (opened start)) (sections seen) (section cpu lock edit)
@@ -219,12 +248,15 @@ module _ {E B O : Type 0} (R : Rules E B O) (n : ℕ) (start : List (LockId × B
       let words_legal = legal_words Allowed kept.log kept.legal in
       let sections_are : sections kept.log ≡ sections more ++ sections seen = ap sections now.since.is ∙ sections_more more seen in
       let allowed : Allowed (sections kept.log) (section cpu lock edit) = subst (λ l. Allowed l (section cpu lock edit)) (sym sections_are)
-      (stays (sections more) (sections_others cpu more now.since.others) (subst (λ l. IsLawful Allowed l) sections_are (lawful_sections Allowed kept.log kept.legal))) in
+      (stays (sections more) (sections_others cpu more now.since.others)
+      (subst (λ l. IsLawful Allowed l) sections_are (lawful_sections Allowed kept.log kept.legal))) in
       let may : MayCome Allowed kept.log e = ((ticket, inside), allowed) in
       let unchanged : block_after R.edited (opened start) lock (sections kept.log) ≡ block_after R.edited (opened start) lock (sections seen) =
       ap (λ l. block_after R.edited (opened start) lock (sections l)) now.since.is
-      ∙ inside_keeps R.edited (opened start) cpu lock ticket more seen (subst (λ l. Rattle.event_log.specs.WordsLog.IsLegalWords l) now.since.is words_legal) now.since.others in_lock in
-      let block_is : option_map (R.edited edit) (block_after R.edited (opened start) lock (sections kept.log)) ≡ Some block = ap (option_map (R.edited edit)) unchanged ∙ is_edited in
+      ∙ inside_keeps R.edited (opened start) cpu lock ticket more seen (subst (λ l. Rattle.event_log.specs.WordsLog.IsLegalWords l) now.since.is words_legal)
+      now.since.others in_lock in
+      let block_is : option_map (R.edited edit) (block_after R.edited (opened start) lock (sections kept.log)) ≡ Some block =
+      ap (option_map (R.edited edit)) unchanged ∙ is_edited in
       let old = kept.shows.stand lock exists in
       let within : k < length s.homes = subst (λ m. k < m) (sym kept.shows.home_length) (index_below start lock exists) in
       let word_within : i < length s.words = subst (λ m. i < m) (sym kept.shows.word_length) (serving_within R.edited start lock exists) in
@@ -232,17 +264,31 @@ module _ {E B O : Type 0} (R : Rules E B O) (n : ℕ) (start : List (LockId × B
       let here : Stands R.edited start (set s.words i x) homes (e ∷ kept.log) lock = record {
         home = some y;
         at = set_here s.homes k (some y) within;
-        is = reword R.edited start (e ∷ kept.log) lock (slice_index s.words (next_at k)) (slice_index (set s.words i x) (next_at k)) x (slice_index (set s.words i x) i) y.block
+        is = reword R.edited start (e ∷ kept.log) lock (slice_index s.words (next_at k)) (slice_index (set s.words i x) (next_at k)) x
+            (slice_index (set s.words i x) i) y.block
             (sym (get_or-set_other s.words i (next_at k) x 0 (serving_not_next k))) (sym (get_or-set_same s.words i x 0 word_within))
             (subst (λ o. LockFits R.edited (opened start) (e ∷ kept.log) lock (slice_index s.words (next_at k)) x o) (sym has_block)
-            (freed R.edited (opened start) lock cpu ticket (mark_of edit) kept.log words_legal inside block block_is (slice_index s.words (next_at k)) read (home_block old.home) old.is));
+            (freed R.edited (opened start) lock cpu ticket (mark_of edit) kept.log words_legal inside block block_is (slice_index s.words (next_at k)) read
+            (home_block old.home) old.is));
       } in
-      let shows = shows_step R.edited start s.words s.homes kept.log kept.shows e may.0 i x (serving_apart k) homes (length-set s.homes k (some y) ∙ kept.shows.home_length) (λ j away. set_else s.homes k j (some y) away) here in (
+      let shows = shows_step R.edited start s.words s.homes kept.log kept.shows e may.0 i x (serving_apart k) homes
+      (length-set s.homes k (some y) ∙ kept.shows.home_length) (λ j away. set_else s.homes k j (some y) away) here in (
         mine start cpu (e ∷ kept.log),
         gives,
         tt,
         after_event s kept id e seen now may (set s.words i x) homes shows,
-        record { lock = lock; ticket = ticket; inside = in_lock; edit = edit; home = y; slot = k; carried = refl; is = has_edit; moves = after_move s kept id e seen now may; held = refl },
+        record {
+          lock = lock;
+          ticket = ticket;
+          inside = in_lock;
+          edit = edit;
+          home = y;
+          slot = k;
+          carried = refl;
+          is = has_edit;
+          moves = after_move s kept id e seen now may;
+          held = refl;
+        },
       )
 
   pub has_append : (c : CpuId) (a b : List CpuId) → Has c (a ++ b) → Has c b ⊎ Has c a
@@ -267,7 +313,12 @@ module _ {E B O : Type 0} (R : Rules E B O) (n : ℕ) (start : List (LockId × B
           sees = sees_moved n s.views kept.log kept.sees id v at [] (λ c away. tt) v.start (v.lent ++ v.cpus) (λ c has. has_append c v.lent v.cpus has);
           rest = kept.rest;
         },
-        record { view = refl; fits = kept.sees.fits id v at; legal = subst (λ l. IsLawful (MayCome (R.allowed (opened l))) kept.log) (sym started) kept.legal; held = refl },
+        record {
+          view = refl;
+          fits = kept.sees.fits id v at;
+          legal = subst (λ l. IsLawful (MayCome (R.allowed (opened l))) kept.log) (sym started) kept.legal;
+          held = refl;
+        },
       )
 
   -- a new seat that acts for nobody
@@ -281,7 +332,9 @@ module _ {E B O : Type 0} (R : Rules E B O) (n : ℕ) (start : List (LockId × B
           log = kept.log;
           legal = kept.legal;
           shows = kept.shows;
-          sees = sees_new n s.views kept.log kept.sees w (record { front = ends_nil kept.log; told = ends_nil kept.log; cpus = λ c has. absurd has; lent = λ c has. absurd has }) (λ c o. owns_viewed {E = E} {B = B} first.start [] [] c o);
+          sees = sees_new n s.views kept.log kept.sees w
+              (record { front = ends_nil kept.log; told = ends_nil kept.log; cpus = λ c has. absurd has; lent = λ c has. absurd has })
+              (λ c o. owns_viewed {E = E} {B = B} first.start [] [] c o);
           rest = kept.rest;
         },
         refl,
@@ -297,7 +350,9 @@ module _ {E B O : Type 0} (R : Rules E B O) (n : ℕ) (start : List (LockId × B
         log = kept.log;
         legal = kept.legal;
         shows = kept.shows;
-        sees = sees_new n (set s.views id v) kept.log s' (viewed v.start [] v.seen) (record { front = fits.front; told = ends_nil kept.log; cpus = λ c has. absurd has; lent = λ c has. absurd has }) (λ c o. owns_viewed {E = E} {B = B} v.start [] v.seen c o);
+        sees = sees_new n (set s.views id v) kept.log s' (viewed v.start [] v.seen)
+            (record { front = fits.front; told = ends_nil kept.log; cpus = λ c has. absurd has; lent = λ c has. absurd has })
+            (λ c o. owns_viewed {E = E} {B = B} v.start [] v.seen c o);
         rest = kept.rest;
       }
 
@@ -308,6 +363,7 @@ module _ {E B O : Type 0} (R : Rules E B O) (n : ℕ) (start : List (LockId × B
     log = kept.log;
     legal = kept.legal;
     shows = kept.shows;
-    sees = sees_join n s.views kept.log kept.sees id v at other w (record { start = v.start; cpus = v.cpus; seen = v.seen; told = w.seen; lent = w.cpus }) (viewed [] [] []) apart there refl refl;
+    sees = sees_join n s.views kept.log kept.sees id v at other w (record { start = v.start; cpus = v.cpus; seen = v.seen; told = w.seen; lent = w.cpus })
+        (viewed [] [] []) apart there refl refl;
     rest = kept.rest;
   }

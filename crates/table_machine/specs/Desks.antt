@@ -87,4 +87,5 @@ pub record Closes {E B O : Type 0} (rules : Rules E B O) (board : Board B) (desk
   pub keys : (i : ℕ) (desk : Desk E B) → get_elem? desks i ≡ some desk → IsIn log desk
   pub rest : (c : CpuId) → board.cpus ≤ c.0 → own actor c log ≡ []
   pub count : length blocks ≡ length board.start
-  pub blocks_are : (i : ℕ) (o : LockId × B) → get_elem? board.start i ≡ some o → (b : B) × (get_elem? blocks i ≡ some (o.0, b)) × (block_after rules.edited (opened board.start) o.0 (sections log) ≡ Some b)
+  pub blocks_are : (i : ℕ) (o : LockId × B) → get_elem? board.start i ≡ some o
+      → (b : B) × (get_elem? blocks i ≡ some (o.0, b)) × (block_after rules.edited (opened board.start) o.0 (sections log) ≡ Some b)

@@ -22,12 +22,13 @@ pub record Moves {E B O : Type 0} (rules : Rules E B O) (v w : View E B) (e : Ev
   pub legal : IsLawful (MayCome (rules.allowed (opened v.start))) w.seen
 
 -- a Draw of the lock whose word `next` this is
-pub record Drew {E B O : Type 0} (rules : Rules E B O) (at : Step (Home E B)) (v : Me (Home E B) (View E B)) (found : ℕ) (w : Me (Home E B) (View E B)) : Type 0 where
-  pub lock : LockId
-  pub exists : IsSome (opened v.0.start lock)
-  pub word : at.word ≡ next_at (index_of v.0.start lock)
-  pub moves : Moves rules v.0 w.0 (Draw (owner v.0.cpus) lock found)
-  pub held : w.1 ≡ v.1
+pub record Drew {E B O : Type 0} (rules : Rules E B O) (at : Step (Home E B)) (v : Me (Home E B) (View E B)) (found : ℕ) (w : Me (Home E B) (View E B)) : Type 0
+  where
+    pub lock : LockId
+    pub exists : IsSome (opened v.0.start lock)
+    pub word : at.word ≡ next_at (index_of v.0.start lock)
+    pub moves : Moves rules v.0 w.0 (Draw (owner v.0.cpus) lock found)
+    pub held : w.1 ≡ v.1
 
 -- a look that read another number than its ticket
 pub record Misses {E B : Type 0} (lock : LockId) (ticket : ℕ) (v : Me (Home E B) (View E B)) (found : ℕ) (w : Me (Home E B) (View E B)) : Type 0 where
@@ -36,7 +37,8 @@ pub record Misses {E B : Type 0} (lock : LockId) (ticket : ℕ) (v : Me (Home E 
   pub held : w.1 ≡ v.1
 
 -- a look that read its ticket: the block that it took is the fold of the lock's sections
-pub record Hits {E B O : Type 0} (rules : Rules E B O) (lock : LockId) (ticket : ℕ) (v : Me (Home E B) (View E B)) (found : ℕ) (w : Me (Home E B) (View E B)) : Type 0 where
+pub record Hits {E B O : Type 0} (rules : Rules E B O) (lock : LockId) (ticket : ℕ) (v : Me (Home E B) (View E B)) (found : ℕ)
+    (w : Me (Home E B) (View E B)) : Type 0 where
   pub same : (found == ticket) ≡ true
   pub inside : standing (owner v.0.cpus) w.0.seen ≡ Inside lock ticket
   pub home : Home E B
@@ -46,7 +48,8 @@ pub record Hits {E B O : Type 0} (rules : Rules E B O) (lock : LockId) (ticket :
   pub folds : block_after rules.edited (opened v.0.start) lock (sections w.0.seen) ≡ Some block
 
 -- a Look for the ticket that this CPU waits with; the block is taken exactly where it hits
-pub record Looked {E B O : Type 0} (rules : Rules E B O) (at : Step (Home E B)) (v : Me (Home E B) (View E B)) (found : ℕ) (w : Me (Home E B) (View E B)) : Type 0 where
+pub record Looked {E B O : Type 0} (rules : Rules E B O) (at : Step (Home E B)) (v : Me (Home E B) (View E B)) (found : ℕ) (w : Me (Home E B) (View E B)) : Type
+    0 where
   pub lock : LockId
   pub ticket : ℕ
   pub waits : standing (owner v.0.cpus) v.0.seen ≡ Waiting lock ticket
@@ -54,7 +57,8 @@ pub record Looked {E B O : Type 0} (rules : Rules E B O) (at : Step (Home E B)) 
   pub finds : Misses lock ticket v found w ⊎ Hits rules lock ticket v found w
 
 -- a Free of the lock that this CPU is inside, with the edit that lies in its slot
-pub record Freed {E B O : Type 0} (rules : Rules E B O) (at : Step (Home E B)) (v : Me (Home E B) (View E B)) (found : ℕ) (w : Me (Home E B) (View E B)) : Type 0 where
+pub record Freed {E B O : Type 0} (rules : Rules E B O) (at : Step (Home E B)) (v : Me (Home E B) (View E B)) (found : ℕ) (w : Me (Home E B) (View E B)) : Type
+    0 where
   pub lock : LockId
   pub ticket : ℕ
   pub inside : standing (owner v.0.cpus) v.0.seen ≡ Inside lock ticket
@@ -67,11 +71,12 @@ pub record Freed {E B O : Type 0} (rules : Rules E B O) (at : Step (Home E B)) (
   pub held : w.1 ≡ []
 
 -- what was told is taken in: the view is now the whole log, which goes on from both
-pub record Met {E B O : Type 0} (rules : Rules E B O) (at : Step (Home E B)) (v : Me (Home E B) (View E B)) (found : ℕ) (w : Me (Home E B) (View E B)) : Type 0 where
-  pub view : w.0 ≡ viewed v.0.start (v.0.lent ++ v.0.cpus) w.0.seen
-  pub fits : Fits w.0.seen v.0
-  pub legal : IsLawful (MayCome (rules.allowed (opened v.0.start))) w.0.seen
-  pub held : w.1 ≡ v.1
+pub record Met {E B O : Type 0} (rules : Rules E B O) (at : Step (Home E B)) (v : Me (Home E B) (View E B)) (found : ℕ) (w : Me (Home E B) (View E B)) : Type 0
+  where
+    pub view : w.0 ≡ viewed v.0.start (v.0.lent ++ v.0.cpus) w.0.seen
+    pub fits : Fits w.0.seen v.0
+    pub legal : IsLawful (MayCome (rules.allowed (opened v.0.start))) w.0.seen
+    pub held : w.1 ≡ v.1
 
 -- a new seat has seen nothing and acts for no CPU
 abbrev pub Entered : {E B : Type 0} → Step (Home E B) → Me (Home E B) (View E B) → ℕ → Me (Home E B) (View E B) → Type 0

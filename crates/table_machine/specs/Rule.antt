@@ -27,13 +27,16 @@ abbrev pub fresh_home : {E B : Type 0} → B → Home E B
 fresh_home block = record { block = Some block; edit = None }
 
 -- the words and the slot of one lock are what the log leaves of them
-pub record Stands {E B : Type 0} (edited : E → B → B) (start : List (LockId × B)) (words : List ℕ) (homes : List (Maybe (Home E B))) (log : List (Event (Mark E))) (lock : LockId) : Type 0 where
+pub record Stands {E B : Type 0} (edited : E → B → B) (start : List (LockId × B)) (words : List ℕ) (homes : List (Maybe (Home E B)))
+    (log : List (Event (Mark E))) (lock : LockId) : Type 0 where
   pub home : Maybe (Home E B)
   pub at : get_elem? homes (index_of start lock) ≡ some home
-  pub is : LockFits edited (opened start) log lock (slice_index words (next_at (index_of start lock))) (slice_index words (serving_at (index_of start lock))) (home_block home)
+  pub is : LockFits edited (opened start) log lock (slice_index words (next_at (index_of start lock))) (slice_index words (serving_at (index_of start lock)))
+      (home_block home)
 
 -- all words and slots are the replay of the log
-pub record Shows {E B : Type 0} (edited : E → B → B) (start : List (LockId × B)) (words : List ℕ) (homes : List (Maybe (Home E B))) (log : List (Event (Mark E))) : Type 0 where
+pub record Shows {E B : Type 0} (edited : E → B → B) (start : List (LockId × B)) (words : List ℕ) (homes : List (Maybe (Home E B)))
+    (log : List (Event (Mark E))) : Type 0 where
   pub word_length : length words ≡ word_count (length start)
   pub home_length : length homes ≡ length start
   pub stand : (lock : LockId) → IsSome (opened start lock) → Stands edited start words homes log lock

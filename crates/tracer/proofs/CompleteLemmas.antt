@@ -1,5 +1,6 @@
 -- The trace text of a run, and of where it ends, gets yes.
-use Rattle.std.proofs.Common.{◌≡◌, ℕ, ◌+◌, ◌<◌, ◌≤◌, ◌^◌, true, false, List, [], ◌∷◌, ◌++◌, length, get_or, drop, map, Ok, refl, sym, ap, subst, ◌∙◌, append_assoc, lt-ltb, le-ltb, arith}
+use Rattle.std.proofs.Common.{◌≡◌, ℕ, ◌+◌, ◌<◌, ◌≤◌, ◌^◌, true, false, List, [], ◌∷◌, ◌++◌, length, get_or, drop, map, Ok, refl, sym, ap, subst, ◌∙◌}
+use Rattle.std.proofs.Common.{append_assoc, lt-ltb, le-ltb, arith}
 use Rattle.std.specs.Prelude.{codes, nat_lt}
 use Rattle.std.specs.List.{AllByRecursion, flat_map, join_with_byte}
 use Rattle.std.proofs.lemmas.List.{length_push, length-drop, length-set, length-map, get_or-drop, drop-drop}
@@ -10,7 +11,8 @@ use Rattle.event_log.specs.Buffers.{items_of, empty_buffers, after_effect, IsCap
 use Rattle.event_log.specs.Runs.{after_entry, IsRunFrom, IsRun}
 use Rattle.tracer.specs.declared.stages.Stage.TheVariants as stage
 use Rattle.tracer.specs.declared.verdicts.Verdict.TheVariants.{Yes}
-use Rattle.tracer.specs.TraceText.{line_of, head_pieces, count_pieces, cap_pieces, entry_pieces, left_pieces, end_pieces, numbered, lines_of, spelling, IsEntryOf, IsSpellable, IsTraceText, AreSmall}
+use Rattle.tracer.specs.TraceText.{line_of, head_pieces, count_pieces, cap_pieces, entry_pieces, left_pieces, end_pieces, numbered, lines_of, spelling}
+use Rattle.tracer.specs.TraceText.{IsEntryOf, IsSpellable, IsTraceText, AreSmall}
 use Rattle.tracer.specs.Judging.{Progress, opening, step, lines_in, verdict_from, verdict_of}
 use Rattle.tracer.proofs.SplitLemmas.{IsLine, line_read}
 use Rattle.tracer.proofs.KnownLemmas.{known_fresh_from}
@@ -34,59 +36,82 @@ first_of contents b x xs e =
 behind_first : (contents : List (List Message)) (b : ℕ) (x : List ℕ) (xs : List (List ℕ)) → drop b contents ≡ x ∷ xs → drop (b + 1) contents ≡ xs
 behind_first contents b x xs e = sym (drop-drop 1 b contents) ∙ ap (λ (t : List (List ℕ)). drop 1 t) e
 
-complete_left : (caps : List ℕ) (earlier : List Entry) (contents : List (List Message)) (s : Progress) (b n : ℕ) (x : List ℕ) (xs : List (List ℕ)) → length contents ≡ length caps → length caps ≤ BUFFERS → b < length caps → drop b contents ≡ x ∷ xs → AllByRecursion AreSmall (x ∷ xs) → step s (join_with_byte 32 (left_pieces b (items_of contents b))) ≡ Ok (progress (behind_left b caps) caps earlier contents) → verdict_from s n (lines_in (flat_map line_of (numbered left_pieces b (x ∷ xs) ++ end_pieces ∷ []))) ≡ Yes
+complete_left : (caps : List ℕ) (earlier : List Entry) (contents : List (List Message)) (s : Progress) (b n : ℕ) (x : List ℕ) (xs : List (List ℕ))
+    → length contents ≡ length caps → length caps ≤ BUFFERS → b < length caps → drop b contents ≡ x ∷ xs → AllByRecursion AreSmall (x ∷ xs)
+    → step s (join_with_byte 32 (left_pieces b (items_of contents b))) ≡ Ok (progress (behind_left b caps) caps earlier contents)
+    → verdict_from s n (lines_in (flat_map line_of (numbered left_pieces b (x ∷ xs) ++ end_pieces ∷ []))) ≡ Yes
 complete_left caps earlier contents s b n x [] long few inside rest small taken =
     let here = first_of contents b x [] rest in
     let last : (b + 1 ≡ length caps) = omega (arith, ap length rest, length-drop b contents) in
     let stops : nat_lt (b + 1) (length caps) ≡ false = le-ltb (b + 1) (length caps) (omega arith) in
-    let next : step s (join_with_byte 32 (left_pieces b x)) ≡ Ok (progress stage.End caps earlier contents) = subst (λ (t : List ℕ). step s (join_with_byte 32 (left_pieces b t)) ≡ Ok (progress stage.End caps earlier contents)) here (taken ∙ rw stops refl) in
+    let next : step s (join_with_byte 32 (left_pieces b x)) ≡ Ok (progress stage.End caps earlier contents) =
+    subst (λ (t : List ℕ). step s (join_with_byte 32 (left_pieces b t)) ≡ Ok (progress stage.End caps earlier contents)) here (taken ∙ rw stops refl) in
     let fits : b < 2 ^ 64 = omega arith in
-    line_read s (progress stage.End caps earlier contents) n (codes "left") _ (flat_map line_of (end_pieces ∷ [])) (left_is_line b x fits small.0) next ∙ complete_end (progress stage.End caps earlier contents) (n + 1) refl
+    line_read s (progress stage.End caps earlier contents) n (codes "left") _ (flat_map line_of (end_pieces ∷ [])) (left_is_line b x fits small.0) next
+    ∙ complete_end (progress stage.End caps earlier contents) (n + 1) refl
 complete_left caps earlier contents s b n x (y ∷ ys) long few inside rest small taken =
     let here = first_of contents b x (y ∷ ys) rest in
     let more : (b + 1 < length caps) = omega (arith, ap length rest, length-drop b contents) in
     let goes : nat_lt (b + 1) (length caps) ≡ true = lt-ltb (b + 1) (length caps) more in
     let s' = progress (stage.Contents (b + 1)) caps earlier contents in
-    let next : step s (join_with_byte 32 (left_pieces b x)) ≡ Ok s' = subst (λ (t : List ℕ). step s (join_with_byte 32 (left_pieces b t)) ≡ Ok s') here (taken ∙ rw goes refl) in
+    let next : step s (join_with_byte 32 (left_pieces b x)) ≡ Ok s' =
+    subst (λ (t : List ℕ). step s (join_with_byte 32 (left_pieces b t)) ≡ Ok s') here (taken ∙ rw goes refl) in
     let behind = behind_first contents b x (y ∷ ys) rest in
     let fits : b < 2 ^ 64 = omega arith in
     let following : AreSmall (items_of contents (b + 1)) = subst AreSmall (sym (first_of contents (b + 1) y ys behind)) small.1.0 in
-    line_read s s' n (codes "left") _ (flat_map line_of (numbered left_pieces (b + 1) (y ∷ ys) ++ end_pieces ∷ [])) (left_is_line b x fits small.0) next ∙ complete_left caps earlier contents s' (b + 1) (n + 1) y ys long few more behind small.1 (step_left (b + 1) caps earlier contents more few following)
+    line_read s s' n (codes "left") _ (flat_map line_of (numbered left_pieces (b + 1) (y ∷ ys) ++ end_pieces ∷ [])) (left_is_line b x fits small.0) next
+    ∙ complete_left caps earlier contents s' (b + 1) (n + 1) y ys long few more behind small.1 (step_left (b + 1) caps earlier contents more few following)
 
 -- the entries
-complete_first : (caps : List ℕ) (earlier : List Entry) (contents left : List (List Message)) (n : ℕ) → contents ≡ left → length contents ≡ length caps → 1 ≤ length caps → length caps ≤ BUFFERS → AllByRecursion AreSmall left → verdict_from (progress stage.Entries caps earlier contents) n (lines_in (flat_map line_of (numbered left_pieces 0 left ++ end_pieces ∷ []))) ≡ Yes
+complete_first : (caps : List ℕ) (earlier : List Entry) (contents left : List (List Message)) (n : ℕ) → contents ≡ left → length contents ≡ length caps
+    → 1 ≤ length caps → length caps ≤ BUFFERS → AllByRecursion AreSmall left
+    → verdict_from (progress stage.Entries caps earlier contents) n (lines_in (flat_map line_of (numbered left_pieces 0 left ++ end_pieces ∷ []))) ≡ Yes
 complete_first caps earlier contents [] n same long some few small = absurd (omega (arith, ap length same))
 complete_first caps earlier contents (x ∷ xs) n same long some few small =
     let inside : 0 < length caps = omega arith in
     let first : AreSmall (items_of contents 0) = subst AreSmall (sym (first_of contents 0 x xs same)) small.0 in
-    complete_left caps earlier contents (progress stage.Entries caps earlier contents) 0 n x xs long few inside same small (step_first_left caps earlier contents inside first)
+    complete_left caps earlier contents (progress stage.Entries caps earlier contents) 0 n x xs long few inside same small
+    (step_first_left caps earlier contents inside first)
 
-pub complete_entries : (caps : List ℕ) (earlier : List Entry) (contents : List (List Message)) (es : List Entry) (left : List (List Message)) (n : ℕ) → IsRunFrom caps earlier contents es left → AllByRecursion (IsEntryOf (length caps)) es → length earlier + length es ≤ ENTRIES → length contents ≡ length caps → 1 ≤ length caps → length caps ≤ BUFFERS → AllByRecursion AreSmall left → verdict_from (progress stage.Entries caps earlier contents) n (lines_in (flat_map line_of (map entry_pieces es ++ (numbered left_pieces 0 left ++ end_pieces ∷ [])))) ≡ Yes
+pub complete_entries : (caps : List ℕ) (earlier : List Entry) (contents : List (List Message)) (es : List Entry) (left : List (List Message)) (n : ℕ)
+    → IsRunFrom caps earlier contents es left → AllByRecursion (IsEntryOf (length caps)) es → length earlier + length es ≤ ENTRIES
+    → length contents ≡ length caps → 1 ≤ length caps → length caps ≤ BUFFERS → AllByRecursion AreSmall left
+    → verdict_from (progress stage.Entries caps earlier contents) n
+    (lines_in (flat_map line_of (map entry_pieces es ++ (numbered left_pieces 0 left ++ end_pieces ∷ [])))) ≡ Yes
 complete_entries caps earlier contents [] left n run each room long some few small = complete_first caps earlier contents left n run long some few small
 complete_entries caps earlier contents (e ∷ es) left n run each room long some few small =
     let here : length earlier < ENTRIES = omega arith in
     let after = after_entry contents e in
     let after_long : length after ≡ length caps = length-set contents e.buffer.0 (after_effect e.kind (items_of contents e.buffer.0) e.value) ∙ long in
     let less : length (earlier ++ e ∷ []) + length es ≤ ENTRIES = omega (arith, length_push earlier e) in
-    line_read (progress stage.Entries caps earlier contents) (progress stage.Entries caps (earlier ++ e ∷ []) after) n (codes "e") (behind_e e) (flat_map line_of (map entry_pieces es ++ (numbered left_pieces 0 left ++ end_pieces ∷ []))) (entry_is_line (length caps) e few each.0) (step_entry caps earlier contents e few here long each.0 run.0)
+    line_read (progress stage.Entries caps earlier contents) (progress stage.Entries caps (earlier ++ e ∷ []) after) n (codes "e") (behind_e e)
+    (flat_map line_of (map entry_pieces es ++ (numbered left_pieces 0 left ++ end_pieces ∷ []))) (entry_is_line (length caps) e few each.0)
+    (step_entry caps earlier contents e few here long each.0 run.0)
     ∙ complete_entries caps (earlier ++ e ∷ []) after es left (n + 1) run.1 each.1 less after_long some few small
 
 -- the capacities
-complete_caps : (count : ℕ) (caps more : List ℕ) (tail : List (List (List ℕ))) (n : ℕ) → 0 < length more → length caps + length more ≡ count → count ≤ BUFFERS → AllByRecursion IsCapacity more → ((m : ℕ) → verdict_from (opened stage.Entries (caps ++ more)) m (lines_in (flat_map line_of tail)) ≡ Yes) → verdict_from (opened (stage.Capacities count) caps) n (lines_in (flat_map line_of (numbered cap_pieces (length caps) more ++ tail))) ≡ Yes
+complete_caps : (count : ℕ) (caps more : List ℕ) (tail : List (List (List ℕ))) (n : ℕ) → 0 < length more → length caps + length more ≡ count → count ≤ BUFFERS
+    → AllByRecursion IsCapacity more → ((m : ℕ) → verdict_from (opened stage.Entries (caps ++ more)) m (lines_in (flat_map line_of tail)) ≡ Yes)
+    → verdict_from (opened (stage.Capacities count) caps) n (lines_in (flat_map line_of (numbered cap_pieces (length caps) more ++ tail))) ≡ Yes
 complete_caps count caps [] tail n some all few small behind = absurd (let z : 0 < 0 = some in omega arith)
 complete_caps count caps (k ∷ []) tail n some all few small behind =
     let stops : nat_lt (length caps + 1) count ≡ false = le-ltb (length caps + 1) count (omega arith) in
     let next = step_cap count caps k small.0 (omega arith) ∙ rw stops refl in
-    line_read (opened (stage.Capacities count) caps) (opened stage.Entries (caps ++ k ∷ [])) n (codes "cap") _ (flat_map line_of tail) (cap_is_line (length caps) k (omega arith) small.0) next ∙ behind (n + 1)
+    line_read (opened (stage.Capacities count) caps) (opened stage.Entries (caps ++ k ∷ [])) n (codes "cap") _ (flat_map line_of tail)
+    (cap_is_line (length caps) k (omega arith) small.0) next ∙ behind (n + 1)
 complete_caps count caps (k ∷ j ∷ ks) tail n some all few small behind =
     let goes : nat_lt (length caps + 1) count ≡ true = lt-ltb (length caps + 1) count (omega arith) in
     let next = step_cap count caps k small.0 (omega arith) ∙ rw goes refl in
     let longer : length (caps ++ k ∷ []) ≡ length caps + 1 = length_push caps k in
-    let rest : (m : ℕ) → verdict_from (opened stage.Entries ((caps ++ k ∷ []) ++ (j ∷ ks))) m (lines_in (flat_map line_of tail)) ≡ Yes = λ m. rw append_assoc (behind m) in
+    let rest : (m : ℕ) → verdict_from (opened stage.Entries ((caps ++ k ∷ []) ++ (j ∷ ks))) m (lines_in (flat_map line_of tail)) ≡ Yes =
+    λ m. rw append_assoc (behind m) in
     let others : 0 < length (j ∷ ks) = omega arith in
     let counted : length (caps ++ k ∷ []) + length (j ∷ ks) ≡ count = omega arith in
-    line_read (opened (stage.Capacities count) caps) (opened (stage.Capacities count) (caps ++ k ∷ [])) n (codes "cap") _ (flat_map line_of (numbered cap_pieces (length caps + 1) (j ∷ ks) ++ tail)) (cap_is_line (length caps) k (omega arith) small.0) next
-    ∙ subst (λ (b : ℕ). verdict_from (opened (stage.Capacities count) (caps ++ k ∷ [])) (n + 1) (lines_in (flat_map line_of (numbered cap_pieces b (j ∷ ks) ++ tail))) ≡ Yes) longer (complete_caps count (caps ++ k ∷ []) (j ∷ ks) tail (n + 1) others counted few small.1 rest)
+    line_read (opened (stage.Capacities count) caps) (opened (stage.Capacities count) (caps ++ k ∷ [])) n (codes "cap")
+    _ (flat_map line_of (numbered cap_pieces (length caps + 1) (j ∷ ks) ++ tail)) (cap_is_line (length caps) k (omega arith) small.0) next
+    ∙ subst (λ (b : ℕ). verdict_from (opened (stage.Capacities count) (caps ++ k ∷ [])) (n + 1)
+    (lines_in (flat_map line_of (numbered cap_pieces b (j ∷ ks) ++ tail))) ≡ Yes) longer
+    (complete_caps count (caps ++ k ∷ []) (j ∷ ks) tail (n + 1) others counted few small.1 rest)
 
 head_is_line : IsLine head_pieces
 head_is_line = record {
@@ -94,19 +119,24 @@ head_is_line = record {
   feeds = ((refl, (refl, (refl, (refl, (refl, (refl, (refl, (refl, (refl, (refl, (refl, (refl, (refl, tt))))))))))))), ((refl, tt), tt));
 }
 
-complete_lines : (caps : List ℕ) (es : List Entry) (left : List (List Message)) → IsSpellable caps es left → IsRun caps es left → verdict_from opening 1 (lines_in (spelling caps es left)) ≡ Yes
+complete_lines : (caps : List ℕ) (es : List Entry) (left : List (List Message)) → IsSpellable caps es left → IsRun caps es left
+    → verdict_from opening 1 (lines_in (spelling caps es left)) ≡ Yes
 unfolding spelling lines_of
 complete_lines caps es left fits run =
     let tail = map entry_pieces es ++ (numbered left_pieces 0 left ++ end_pieces ∷ []) in
     let long : length (empty_buffers caps) ≡ length caps = length-map caps (λ (k : ℕ). []) in
     let room : length {A = Entry} [] + length es ≤ ENTRIES = (let h = fits.few_entries in omega arith) in
     let entries : (m : ℕ) → verdict_from (opened stage.Entries caps) m (lines_in (flat_map line_of tail)) ≡ Yes = λ m.
-    subst (λ (s : Progress). verdict_from s m (lines_in (flat_map line_of tail)) ≡ Yes) (ap (λ buffers. record { at = stage.Entries; buffers = buffers; entries = 0 }) (known_fresh_from 0 caps caps))
+    subst (λ (s : Progress). verdict_from s m (lines_in (flat_map line_of tail)) ≡ Yes)
+    (ap (λ buffers. record { at = stage.Entries; buffers = buffers; entries = 0 }) (known_fresh_from 0 caps caps))
     (complete_entries caps [] (empty_buffers caps) es left m run fits.entries room long fits.some_buffer fits.few_buffers fits.values) in
     let some : 0 < length caps = (let h = fits.some_buffer in omega arith) in
     let none : 0 + length caps ≡ length caps = omega arith in
-    line_read opening (record opening { at = stage.Count }) 1 (codes "mctower-trace") (codes "1" ∷ []) (line_of (count_pieces (length caps)) ++ flat_map line_of (numbered cap_pieces 0 caps ++ tail)) head_is_line (step_head opening refl)
-    ∙ line_read (record opening { at = stage.Count }) (opened (stage.Capacities (length caps)) []) (1 + 1) (codes "buffers") _ (flat_map line_of (numbered cap_pieces 0 caps ++ tail)) (count_is_line_of (length caps) fits.few_buffers) (step_count (length caps) (record opening { at = stage.Count }) refl fits.some_buffer fits.few_buffers)
+    line_read opening (record opening { at = stage.Count }) 1 (codes "mctower-trace") (codes "1" ∷ [])
+    (line_of (count_pieces (length caps)) ++ flat_map line_of (numbered cap_pieces 0 caps ++ tail)) head_is_line (step_head opening refl)
+    ∙ line_read (record opening { at = stage.Count }) (opened (stage.Capacities (length caps)) []) (1 + 1) (codes "buffers")
+    _ (flat_map line_of (numbered cap_pieces 0 caps ++ tail)) (count_is_line_of (length caps) fits.few_buffers)
+    (step_count (length caps) (record opening { at = stage.Count }) refl fits.some_buffer fits.few_buffers)
     ∙ complete_caps (length caps) [] caps tail (1 + 1 + 1) some none fits.few_buffers fits.capacities entries
 
 pub complete : (text caps : List ℕ) (es : List Entry) (left : List (List Message)) → IsTraceText text caps es left → IsRun caps es left → verdict_of text ≡ Yes

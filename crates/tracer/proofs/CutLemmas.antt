@@ -4,7 +4,8 @@ use Rattle.std.specs.List.{slice_split}
 use Rattle.std.proofs.lemmas.List.{take-append-drop, drop_more, get_or-take, length-take, get_or_default}
 use Rattle.std.proofs.lemmas.List.Splits.{slice_split_at, slice_split_none}
 
-pub cut_at : (at : ℕ) (text : List ℕ) (i : ℕ) → i < length text → ((k : ℕ) → k < i → (get_or text k 0 == at) ≡ false) → (get_or text i 0 == at) ≡ true → slice_split (λ b. b == at) text ≡ take i text ∷ slice_split (λ b. b == at) (drop (i + 1) text)
+pub cut_at : (at : ℕ) (text : List ℕ) (i : ℕ) → i < length text → ((k : ℕ) → k < i → (get_or text k 0 == at) ≡ false) → (get_or text i 0 == at) ≡ true
+    → slice_split (λ b. b == at) text ≡ take i text ∷ slice_split (λ b. b == at) (drop (i + 1) text)
 cut_at at text i lt before here =
     let whole : take i text ++ get_or text i 0 ∷ drop (i + 1) text ≡ text = rw (← drop_more text i 0 lt) (take-append-drop i text) in
     let none : (k : ℕ) (d : ℕ) → k < length (take i text) → (get_or (take i text) k d == at) ≡ false = λ k d inside.

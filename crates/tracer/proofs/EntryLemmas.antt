@@ -28,15 +28,26 @@ abbrev pub behind_e : Entry → List (List ℕ)
 behind_e e = decimal e.cpu.0 ∷ decimal e.thread.0 ∷ kind_word e.kind ∷ decimal e.buffer.0 ∷ decimal e.value ∷ decimal e.op ∷ decimal e.pos ∷ []
 
 abbrev pub digits_in : Entry → Digits
-digits_in e = record { cpu = decimal e.cpu.0; thread = decimal e.thread.0; kind = e.kind; buffer = decimal e.buffer.0; value = decimal e.value; op = decimal e.op; pos = decimal e.pos }
+digits_in e = record {
+  cpu = decimal e.cpu.0;
+  thread = decimal e.thread.0;
+  kind = e.kind;
+  buffer = decimal e.buffer.0;
+  value = decimal e.value;
+  op = decimal e.op;
+  pos = decimal e.pos;
+}
 
 kind_again : (kind : Kind) → kind_in (kind_word kind) ≡ Ok kind
 kind_again Send = refl
 kind_again Recv = refl
 
-kind_cases : (word : List ℕ) (sends receives : Bool) (kind : Kind) → bytes_eq word (codes "send") ≡ sends → bytes_eq word (codes "recv") ≡ receives → cond sends (Ok Send) (cond receives (Ok Recv) (Err Spelling)) ≡ Ok kind → word ≡ kind_word kind
-kind_cases word true receives kind s r e = let same : Send ≡ kind = cc in subst (λ (k : Kind). word ≡ kind_word k) same ((bytes_eq-Decides word (codes "send")).0 s)
-kind_cases word false true kind s r e = let same : Recv ≡ kind = cc in subst (λ (k : Kind). word ≡ kind_word k) same ((bytes_eq-Decides word (codes "recv")).0 r)
+kind_cases : (word : List ℕ) (sends receives : Bool) (kind : Kind) → bytes_eq word (codes "send") ≡ sends → bytes_eq word (codes "recv") ≡ receives
+    → cond sends (Ok Send) (cond receives (Ok Recv) (Err Spelling)) ≡ Ok kind → word ≡ kind_word kind
+kind_cases word true receives kind s r e = let same : Send ≡ kind = cc in
+    subst (λ (k : Kind). word ≡ kind_word k) same ((bytes_eq-Decides word (codes "send")).0 s)
+kind_cases word false true kind s r e = let same : Recv ≡ kind = cc in
+    subst (λ (k : Kind). word ≡ kind_word k) same ((bytes_eq-Decides word (codes "recv")).0 r)
 kind_cases word false false kind s r e = absurd (cc)
 
 kind_taken : (word : List ℕ) (kind : Kind) → kind_in word ≡ Ok kind → word ≡ kind_word kind
@@ -48,59 +59,103 @@ spelled_as cpu thread kind buffer value op pos = record { cpu = cpu; thread = th
 abbrev pub shape_of : Digits → List (List ℕ)
 shape_of d = d.cpu ∷ d.thread ∷ kind_word d.kind ∷ d.buffer ∷ d.value ∷ d.op ∷ d.pos ∷ []
 
-digits_test : {B : Type 0} (test : Bool) (x : List ℕ × List (List ℕ)) (f : List ℕ × List (List ℕ) → Result B Reason) (y : B) → (wanted test Spelling (Ok x) >>= f) ≡ Ok y → f x ≡ Ok y
+digits_test : {B : Type 0} (test : Bool) (x : List ℕ × List (List ℕ)) (f : List ℕ × List (List ℕ) → Result B Reason) (y : B)
+    → (wanted test Spelling (Ok x) >>= f) ≡ Ok y → f x ≡ Ok y
 digits_test true x f y e = e
 digits_test false x f y e = absurd (cc)
 
 -- a piece of digits, and what is read behind it
-digits_then : {B : Type 0} (p : List ℕ) (ps : List (List ℕ)) (f : List ℕ × List (List ℕ) → Result B Reason) (y : B) → (digits_at (p ∷ ps) >>= f) ≡ Ok y → f (p, ps) ≡ Ok y
+digits_then : {B : Type 0} (p : List ℕ) (ps : List (List ℕ)) (f : List ℕ × List (List ℕ) → Result B Reason) (y : B) → (digits_at (p ∷ ps) >>= f) ≡ Ok y
+    → f (p, ps) ≡ Ok y
 digits_then p ps f y e = digits_test (is_number p) (p, ps) f y e
 
-six : (cpu thread buffer value op pos cpu' thread' buffer' value' op' pos' : List ℕ) (kind : Kind) → cpu ≡ cpu' → thread ≡ thread' → buffer ≡ buffer' → value ≡ value' → op ≡ op' → pos ≡ pos' → spelled_as cpu thread kind buffer value op pos ≡ spelled_as cpu' thread' kind buffer' value' op' pos'
+six : (cpu thread buffer value op pos cpu' thread' buffer' value' op' pos' : List ℕ) (kind : Kind) → cpu ≡ cpu' → thread ≡ thread' → buffer ≡ buffer'
+    → value ≡ value' → op ≡ op' → pos ≡ pos' → spelled_as cpu thread kind buffer value op pos ≡ spelled_as cpu' thread' kind buffer' value' op' pos'
 six cpu thread buffer value op pos cpu' thread' buffer' value' op' pos' kind e1 e2 e3 e4 e5 e6 = rw (e1, e2, e3, e4, e5, e6) refl
 
-entry_7 : (cpu : List ℕ) (thread : List ℕ) (kind : Kind) (buffer : List ℕ) (value : List ℕ) (op : List ℕ) (pos : List ℕ) (ps : List (List ℕ)) (d : Digits) → (ended ps >>= λ _. Ok (spelled_as cpu thread kind buffer value op pos)) ≡ Ok d → cpu ∷ thread ∷ kind_word kind ∷ buffer ∷ value ∷ op ∷ pos ∷ ps ≡ shape_of d
+entry_7 : (cpu : List ℕ) (thread : List ℕ) (kind : Kind) (buffer : List ℕ) (value : List ℕ) (op : List ℕ) (pos : List ℕ) (ps : List (List ℕ)) (d : Digits)
+    → (ended ps >>= λ _. Ok (spelled_as cpu thread kind buffer value op pos)) ≡ Ok d
+    → cpu ∷ thread ∷ kind_word kind ∷ buffer ∷ value ∷ op ∷ pos ∷ ps ≡ shape_of d
 entry_7 cpu thread kind buffer value op pos [] d e = ap shape_of (same_ok (spelled_as cpu thread kind buffer value op pos) d e)
 entry_7 cpu thread kind buffer value op pos (p ∷ ps) d e = absurd (cc)
 
-entry_6 : (cpu : List ℕ) (thread : List ℕ) (kind : Kind) (buffer : List ℕ) (value : List ℕ) (op : List ℕ) (ps : List (List ℕ)) (d : Digits) → (digits_at ps >>= λ pos. ended pos.1 >>= λ _. Ok (spelled_as cpu thread kind buffer value op pos.0)) ≡ Ok d → cpu ∷ thread ∷ kind_word kind ∷ buffer ∷ value ∷ op ∷ ps ≡ shape_of d
+entry_6 : (cpu : List ℕ) (thread : List ℕ) (kind : Kind) (buffer : List ℕ) (value : List ℕ) (op : List ℕ) (ps : List (List ℕ)) (d : Digits)
+    → (digits_at ps >>= λ pos. ended pos.1 >>= λ _. Ok (spelled_as cpu thread kind buffer value op pos.0)) ≡ Ok d
+    → cpu ∷ thread ∷ kind_word kind ∷ buffer ∷ value ∷ op ∷ ps ≡ shape_of d
 entry_6 cpu thread kind buffer value op [] d e = absurd (cc)
-entry_6 cpu thread kind buffer value op (p ∷ ps) d e = entry_7 cpu thread kind buffer value op p ps d (digits_then p ps (λ pos. ended pos.1 >>= λ _. Ok (spelled_as cpu thread kind buffer value op pos.0)) d e)
+entry_6 cpu thread kind buffer value op (p ∷ ps) d e =
+    entry_7 cpu thread kind buffer value op p ps d (digits_then p ps (λ pos. ended pos.1 >>= λ _. Ok (spelled_as cpu thread kind buffer value op pos.0)) d e)
 
-entry_5 : (cpu : List ℕ) (thread : List ℕ) (kind : Kind) (buffer : List ℕ) (value : List ℕ) (ps : List (List ℕ)) (d : Digits) → (digits_at ps >>= λ op. digits_at op.1 >>= λ pos. ended pos.1 >>= λ _. Ok (spelled_as cpu thread kind buffer value op.0 pos.0)) ≡ Ok d → cpu ∷ thread ∷ kind_word kind ∷ buffer ∷ value ∷ ps ≡ shape_of d
+entry_5 : (cpu : List ℕ) (thread : List ℕ) (kind : Kind) (buffer : List ℕ) (value : List ℕ) (ps : List (List ℕ)) (d : Digits)
+    → (digits_at ps >>= λ op. digits_at op.1 >>= λ pos. ended pos.1 >>= λ _. Ok (spelled_as cpu thread kind buffer value op.0 pos.0)) ≡ Ok d
+    → cpu ∷ thread ∷ kind_word kind ∷ buffer ∷ value ∷ ps ≡ shape_of d
 entry_5 cpu thread kind buffer value [] d e = absurd (cc)
-entry_5 cpu thread kind buffer value (p ∷ ps) d e = entry_6 cpu thread kind buffer value p ps d (digits_then p ps (λ op. digits_at op.1 >>= λ pos. ended pos.1 >>= λ _. Ok (spelled_as cpu thread kind buffer value op.0 pos.0)) d e)
+entry_5 cpu thread kind buffer value (p ∷ ps) d e = entry_6 cpu thread kind buffer value p ps d
+    (digits_then p ps (λ op. digits_at op.1 >>= λ pos. ended pos.1 >>= λ _. Ok (spelled_as cpu thread kind buffer value op.0 pos.0)) d e)
 
-entry_4 : (cpu : List ℕ) (thread : List ℕ) (kind : Kind) (buffer : List ℕ) (ps : List (List ℕ)) (d : Digits) → (digits_at ps >>= λ value. digits_at value.1 >>= λ op. digits_at op.1 >>= λ pos. ended pos.1 >>= λ _. Ok (spelled_as cpu thread kind buffer value.0 op.0 pos.0)) ≡ Ok d → cpu ∷ thread ∷ kind_word kind ∷ buffer ∷ ps ≡ shape_of d
+entry_4 : (cpu : List ℕ) (thread : List ℕ) (kind : Kind) (buffer : List ℕ) (ps : List (List ℕ)) (d : Digits)
+    → (digits_at ps >>= λ value. digits_at value.1 >>= λ op. digits_at op.1 >>= λ pos. ended pos.1 >>= λ _.
+    Ok (spelled_as cpu thread kind buffer value.0 op.0 pos.0)) ≡ Ok d → cpu ∷ thread ∷ kind_word kind ∷ buffer ∷ ps ≡ shape_of d
 entry_4 cpu thread kind buffer [] d e = absurd (cc)
-entry_4 cpu thread kind buffer (p ∷ ps) d e = entry_5 cpu thread kind buffer p ps d (digits_then p ps (λ value. digits_at value.1 >>= λ op. digits_at op.1 >>= λ pos. ended pos.1 >>= λ _. Ok (spelled_as cpu thread kind buffer value.0 op.0 pos.0)) d e)
+entry_4 cpu thread kind buffer (p ∷ ps) d e = entry_5 cpu thread kind buffer p ps d
+    (digits_then p ps (λ value. digits_at value.1 >>= λ op. digits_at op.1 >>= λ pos. ended pos.1 >>= λ _.
+    Ok (spelled_as cpu thread kind buffer value.0 op.0 pos.0)) d e)
 
-entry_3 : (cpu : List ℕ) (thread : List ℕ) (kind : Kind) (ps : List (List ℕ)) (d : Digits) → (digits_at ps >>= λ buffer. digits_at buffer.1 >>= λ value. digits_at value.1 >>= λ op. digits_at op.1 >>= λ pos. ended pos.1 >>= λ _. Ok (spelled_as cpu thread kind buffer.0 value.0 op.0 pos.0)) ≡ Ok d → cpu ∷ thread ∷ kind_word kind ∷ ps ≡ shape_of d
+entry_3 : (cpu : List ℕ) (thread : List ℕ) (kind : Kind) (ps : List (List ℕ)) (d : Digits)
+    → (digits_at ps >>= λ buffer. digits_at buffer.1 >>= λ value. digits_at value.1 >>= λ op. digits_at op.1 >>= λ pos. ended pos.1 >>= λ _.
+    Ok (spelled_as cpu thread kind buffer.0 value.0 op.0 pos.0)) ≡ Ok d → cpu ∷ thread ∷ kind_word kind ∷ ps ≡ shape_of d
 entry_3 cpu thread kind [] d e = absurd (cc)
-entry_3 cpu thread kind (p ∷ ps) d e = entry_4 cpu thread kind p ps d (digits_then p ps (λ buffer. digits_at buffer.1 >>= λ value. digits_at value.1 >>= λ op. digits_at op.1 >>= λ pos. ended pos.1 >>= λ _. Ok (spelled_as cpu thread kind buffer.0 value.0 op.0 pos.0)) d e)
+entry_3 cpu thread kind (p ∷ ps) d e =
+    entry_4 cpu thread kind p ps d
+    (digits_then p ps (λ buffer. digits_at buffer.1 >>= λ value. digits_at value.1 >>= λ op. digits_at op.1 >>= λ pos. ended pos.1 >>= λ _.
+    Ok (spelled_as cpu thread kind buffer.0 value.0 op.0 pos.0)) d e)
 
-entry_2 : (cpu : List ℕ) (thread : List ℕ) (ps : List (List ℕ)) (d : Digits) → (piece_at ps >>= λ word. kind_in word.0 >>= λ kind. digits_at word.1 >>= λ buffer. digits_at buffer.1 >>= λ value. digits_at value.1 >>= λ op. digits_at op.1 >>= λ pos. ended pos.1 >>= λ _. Ok (spelled_as cpu thread kind buffer.0 value.0 op.0 pos.0)) ≡ Ok d → cpu ∷ thread ∷ ps ≡ shape_of d
+entry_2 : (cpu : List ℕ) (thread : List ℕ) (ps : List (List ℕ)) (d : Digits)
+    → (piece_at ps >>= λ word. kind_in word.0 >>= λ kind. digits_at word.1 >>= λ buffer. digits_at buffer.1 >>= λ value. digits_at value.1 >>= λ op.
+    digits_at op.1 >>= λ pos. ended pos.1 >>= λ _. Ok (spelled_as cpu thread kind buffer.0 value.0 op.0 pos.0)) ≡ Ok d → cpu ∷ thread ∷ ps ≡ shape_of d
 entry_2 cpu thread [] d e = absurd (cc)
 entry_2 cpu thread (p ∷ ps) d e =
-    let read = bind_ok (kind_in p) (λ kind. digits_at ps >>= λ buffer. digits_at buffer.1 >>= λ value. digits_at value.1 >>= λ op. digits_at op.1 >>= λ pos. ended pos.1 >>= λ _. Ok (spelled_as cpu thread kind buffer.0 value.0 op.0 pos.0)) d e in
+    let read = bind_ok (kind_in p) (λ kind. digits_at ps >>= λ buffer. digits_at buffer.1 >>= λ value. digits_at value.1 >>= λ op. digits_at op.1 >>= λ pos.
+    ended pos.1 >>= λ _. Ok (spelled_as cpu thread kind buffer.0 value.0 op.0 pos.0)) d e in
     rw (kind_taken p read.0 read.1) (entry_3 cpu thread read.0 ps d read.2)
 
-entry_1 : (cpu : List ℕ) (ps : List (List ℕ)) (d : Digits) → (digits_at ps >>= λ thread. piece_at thread.1 >>= λ word. kind_in word.0 >>= λ kind. digits_at word.1 >>= λ buffer. digits_at buffer.1 >>= λ value. digits_at value.1 >>= λ op. digits_at op.1 >>= λ pos. ended pos.1 >>= λ _. Ok (spelled_as cpu thread.0 kind buffer.0 value.0 op.0 pos.0)) ≡ Ok d → cpu ∷ ps ≡ shape_of d
+entry_1 : (cpu : List ℕ) (ps : List (List ℕ)) (d : Digits)
+    → (digits_at ps >>= λ thread. piece_at thread.1 >>= λ word. kind_in word.0 >>= λ kind. digits_at word.1 >>= λ buffer. digits_at buffer.1 >>= λ value.
+    digits_at value.1 >>= λ op. digits_at op.1 >>= λ pos. ended pos.1 >>= λ _. Ok (spelled_as cpu thread.0 kind buffer.0 value.0 op.0 pos.0)) ≡ Ok d
+    → cpu ∷ ps ≡ shape_of d
 entry_1 cpu [] d e = absurd (cc)
-entry_1 cpu (p ∷ ps) d e = entry_2 cpu p ps d (digits_then p ps (λ thread. piece_at thread.1 >>= λ word. kind_in word.0 >>= λ kind. digits_at word.1 >>= λ buffer. digits_at buffer.1 >>= λ value. digits_at value.1 >>= λ op. digits_at op.1 >>= λ pos. ended pos.1 >>= λ _. Ok (spelled_as cpu thread.0 kind buffer.0 value.0 op.0 pos.0)) d e)
+entry_1 cpu (p ∷ ps) d e =
+    entry_2 cpu p ps d (digits_then p ps (λ thread. piece_at thread.1 >>= λ word. kind_in word.0 >>= λ kind. digits_at word.1 >>= λ buffer.
+    digits_at buffer.1 >>= λ value. digits_at value.1 >>= λ op. digits_at op.1 >>= λ pos. ended pos.1 >>= λ _.
+    Ok (spelled_as cpu thread.0 kind buffer.0 value.0 op.0 pos.0)) d e)
 
-entry_0 : (ps : List (List ℕ)) (d : Digits) → (digits_at ps >>= λ cpu. digits_at cpu.1 >>= λ thread. piece_at thread.1 >>= λ word. kind_in word.0 >>= λ kind. digits_at word.1 >>= λ buffer. digits_at buffer.1 >>= λ value. digits_at value.1 >>= λ op. digits_at op.1 >>= λ pos. ended pos.1 >>= λ _. Ok (spelled_as cpu.0 thread.0 kind buffer.0 value.0 op.0 pos.0)) ≡ Ok d → ps ≡ shape_of d
+entry_0 : (ps : List (List ℕ)) (d : Digits)
+    → (digits_at ps >>= λ cpu. digits_at cpu.1 >>= λ thread. piece_at thread.1 >>= λ word. kind_in word.0 >>= λ kind. digits_at word.1 >>= λ buffer.
+    digits_at buffer.1 >>= λ value. digits_at value.1 >>= λ op. digits_at op.1 >>= λ pos. ended pos.1 >>= λ _.
+    Ok (spelled_as cpu.0 thread.0 kind buffer.0 value.0 op.0 pos.0)) ≡ Ok d → ps ≡ shape_of d
 entry_0 [] d e = absurd (cc)
-entry_0 (p ∷ ps) d e = entry_1 p ps d (digits_then p ps (λ cpu. digits_at cpu.1 >>= λ thread. piece_at thread.1 >>= λ word. kind_in word.0 >>= λ kind. digits_at word.1 >>= λ buffer. digits_at buffer.1 >>= λ value. digits_at value.1 >>= λ op. digits_at op.1 >>= λ pos. ended pos.1 >>= λ _. Ok (spelled_as cpu.0 thread.0 kind buffer.0 value.0 op.0 pos.0)) d e)
+entry_0 (p ∷ ps) d e = entry_1 p ps d
+    (digits_then p ps (λ cpu. digits_at cpu.1 >>= λ thread. piece_at thread.1 >>= λ word. kind_in word.0 >>= λ kind. digits_at word.1 >>= λ buffer.
+    digits_at buffer.1 >>= λ value. digits_at value.1 >>= λ op. digits_at op.1 >>= λ pos. ended pos.1 >>= λ _.
+    Ok (spelled_as cpu.0 thread.0 kind buffer.0 value.0 op.0 pos.0)) d e)
 
 pub entry_digits_taken : (pieces : List (List ℕ)) (d : Digits) → entry_digits pieces ≡ Ok d → pieces ≡ shape_of d
 unfolding entry_digits
 entry_digits_taken pieces d e = entry_0 pieces d e
 
-pub entry_digits_again : (e : Entry) → e.cpu.0 < 2 ^ 64 → e.thread.0 < 2 ^ 64 → e.buffer.0 < 2 ^ 64 → e.value < 2 ^ 64 → e.op < 2 ^ 64 → e.pos < 2 ^ 64 → entry_digits (behind_e e) ≡ Ok (digits_in e)
+pub entry_digits_again : (e : Entry) → e.cpu.0 < 2 ^ 64 → e.thread.0 < 2 ^ 64 → e.buffer.0 < 2 ^ 64 → e.value < 2 ^ 64 → e.op < 2 ^ 64 → e.pos < 2 ^ 64
+    → entry_digits (behind_e e) ≡ Ok (digits_in e)
 unfolding entry_digits
 entry_digits_again e cpu thread buffer value op pos =
-    rw (decimal_is_number e.cpu.0 cpu, decimal_is_number e.thread.0 thread, kind_again e.kind, decimal_is_number e.buffer.0 buffer, decimal_is_number e.value value, decimal_is_number e.op op, decimal_is_number e.pos pos) refl
+    rw (
+      decimal_is_number e.cpu.0 cpu,
+      decimal_is_number e.thread.0 thread,
+      kind_again e.kind,
+      decimal_is_number e.buffer.0 buffer,
+      decimal_is_number e.value value,
+      decimal_is_number e.op op,
+      decimal_is_number e.pos pos,
+    ) refl
 
 -- the numbers of an entry, where there may be so many buffers as there can be
 pub record IsSmall (digits : Digits) (e : Entry) : Type 0 where
@@ -114,23 +169,103 @@ pub record IsSmall (digits : Digits) (e : Entry) : Type 0 where
 pub entry_in_taken : (digits : Digits) (e : Entry) → entry_in digits ≡ Ok e → IsSmall digits e
 unfolding entry_in
 entry_in_taken digits e taken =
-    let a0 = bind_ok (in_range (CPUS - 1) digits.cpu) (λ cpu. in_range (THREADS - 1) digits.thread >>= λ thread. in_range (BUFFERS - 1) digits.buffer >>= λ buffer. in_range 18446744073709551615 digits.value >>= λ value. in_range (ENTRIES - 1) digits.op >>= λ op. in_range (ENTRIES - 1) digits.pos >>= λ pos. Ok (record { cpu = record { 0 = cpu }; thread = record { 0 = thread }; kind = digits.kind; buffer = record { 0 = buffer }; value = value; op = op; pos = pos })) e taken in
-    let a1 = bind_ok (in_range (THREADS - 1) digits.thread) (λ thread. in_range (BUFFERS - 1) digits.buffer >>= λ buffer. in_range 18446744073709551615 digits.value >>= λ value. in_range (ENTRIES - 1) digits.op >>= λ op. in_range (ENTRIES - 1) digits.pos >>= λ pos. Ok (record { cpu = record { 0 = a0.0 }; thread = record { 0 = thread }; kind = digits.kind; buffer = record { 0 = buffer }; value = value; op = op; pos = pos })) e a0.2 in
-    let a2 = bind_ok (in_range (BUFFERS - 1) digits.buffer) (λ buffer. in_range 18446744073709551615 digits.value >>= λ value. in_range (ENTRIES - 1) digits.op >>= λ op. in_range (ENTRIES - 1) digits.pos >>= λ pos. Ok (record { cpu = record { 0 = a0.0 }; thread = record { 0 = a1.0 }; kind = digits.kind; buffer = record { 0 = buffer }; value = value; op = op; pos = pos })) e a1.2 in
-    let a3 = bind_ok (in_range 18446744073709551615 digits.value) (λ value. in_range (ENTRIES - 1) digits.op >>= λ op. in_range (ENTRIES - 1) digits.pos >>= λ pos. Ok (record { cpu = record { 0 = a0.0 }; thread = record { 0 = a1.0 }; kind = digits.kind; buffer = record { 0 = a2.0 }; value = value; op = op; pos = pos })) e a2.2 in
-    let a4 = bind_ok (in_range (ENTRIES - 1) digits.op) (λ op. in_range (ENTRIES - 1) digits.pos >>= λ pos. Ok (record { cpu = record { 0 = a0.0 }; thread = record { 0 = a1.0 }; kind = digits.kind; buffer = record { 0 = a2.0 }; value = a3.0; op = op; pos = pos })) e a3.2 in
-    let a5 = bind_ok (in_range (ENTRIES - 1) digits.pos) (λ pos. Ok (record { cpu = record { 0 = a0.0 }; thread = record { 0 = a1.0 }; kind = digits.kind; buffer = record { 0 = a2.0 }; value = a3.0; op = a4.0; pos = pos })) e a4.2 in
+    let a0 = bind_ok (in_range (CPUS - 1) digits.cpu)
+    (λ cpu. in_range (THREADS - 1) digits.thread >>= λ thread. in_range (BUFFERS - 1) digits.buffer >>= λ buffer.
+    in_range 18446744073709551615 digits.value >>= λ value. in_range (ENTRIES - 1) digits.op >>= λ op. in_range (ENTRIES - 1) digits.pos >>= λ pos.
+    Ok (record {
+      cpu = record { 0 = cpu };
+      thread = record { 0 = thread };
+      kind = digits.kind;
+      buffer = record { 0 = buffer };
+      value = value;
+      op = op;
+      pos = pos;
+    })) e taken in
+    let a1 = bind_ok (in_range (THREADS - 1) digits.thread)
+    (λ thread. in_range (BUFFERS - 1) digits.buffer >>= λ buffer. in_range 18446744073709551615 digits.value >>= λ value.
+    in_range (ENTRIES - 1) digits.op >>= λ op. in_range (ENTRIES - 1) digits.pos >>= λ pos.
+    Ok (record {
+      cpu = record { 0 = a0.0 };
+      thread = record { 0 = thread };
+      kind = digits.kind;
+      buffer = record { 0 = buffer };
+      value = value;
+      op = op;
+      pos = pos;
+    })) e a0.2 in
+    let a2 = bind_ok (in_range (BUFFERS - 1) digits.buffer)
+    (λ buffer. in_range 18446744073709551615 digits.value >>= λ value. in_range (ENTRIES - 1) digits.op >>= λ op.
+    in_range (ENTRIES - 1) digits.pos >>= λ pos.
+    Ok (record {
+      cpu = record { 0 = a0.0 };
+      thread = record { 0 = a1.0 };
+      kind = digits.kind;
+      buffer = record { 0 = buffer };
+      value = value;
+      op = op;
+      pos = pos;
+    })) e a1.2 in
+    let a3 = bind_ok (in_range 18446744073709551615 digits.value)
+    (λ value. in_range (ENTRIES - 1) digits.op >>= λ op. in_range (ENTRIES - 1) digits.pos >>= λ pos.
+    Ok (record {
+      cpu = record { 0 = a0.0 };
+      thread = record { 0 = a1.0 };
+      kind = digits.kind;
+      buffer = record { 0 = a2.0 };
+      value = value;
+      op = op;
+      pos = pos;
+    })) e a2.2 in
+    let a4 = bind_ok (in_range (ENTRIES - 1) digits.op)
+    (λ op. in_range (ENTRIES - 1) digits.pos >>= λ pos.
+    Ok (record {
+      cpu = record { 0 = a0.0 };
+      thread = record { 0 = a1.0 };
+      kind = digits.kind;
+      buffer = record { 0 = a2.0 };
+      value = a3.0;
+      op = op;
+      pos = pos;
+    })) e a3.2 in
+    let a5 = bind_ok (in_range (ENTRIES - 1) digits.pos)
+    (λ pos. Ok (record {
+      cpu = record { 0 = a0.0 };
+      thread = record { 0 = a1.0 };
+      kind = digits.kind;
+      buffer = record { 0 = a2.0 };
+      value = a3.0;
+      op = a4.0;
+      pos = pos;
+    })) e a4.2 in
     let r0 = in_range_taken (CPUS - 1) digits.cpu a0.0 (lit< tt) a0.1 in
     let r1 = in_range_taken (THREADS - 1) digits.thread a1.0 (lit< tt) a1.1 in
     let r2 = in_range_taken (BUFFERS - 1) digits.buffer a2.0 (lit< tt) a2.1 in
     let r3 = in_range_taken 18446744073709551615 digits.value a3.0 (lit< tt) a3.1 in
     let r4 = in_range_taken (ENTRIES - 1) digits.op a4.0 (lit< tt) a4.1 in
     let r5 = in_range_taken (ENTRIES - 1) digits.pos a5.0 (lit< tt) a5.1 in
-    let made : Entry = record { cpu = record { 0 = a0.0 }; thread = record { 0 = a1.0 }; kind = digits.kind; buffer = record { 0 = a2.0 }; value = a3.0; op = a4.0; pos = a5.0 } in
-    let shape : digits ≡ digits_in made = six digits.cpu digits.thread digits.buffer digits.value digits.op digits.pos (decimal a0.0) (decimal a1.0) (decimal a2.0) (decimal a3.0) (decimal a4.0) (decimal a5.0) digits.kind r0.spelled r1.spelled r2.spelled r3.spelled r4.spelled r5.spelled in
-    subst (λ (x : Entry). IsSmall digits x) (same_ok made e a5.2) (record { spelled = shape; cpu = r0.within; thread = r1.within; value = r3.within; op = r4.within; pos = r5.within })
+    let made : Entry = record {
+      cpu = record { 0 = a0.0 };
+      thread = record { 0 = a1.0 };
+      kind = digits.kind;
+      buffer = record { 0 = a2.0 };
+      value = a3.0;
+      op = a4.0;
+      pos = a5.0;
+    } in
+    let shape : digits ≡ digits_in made = six digits.cpu digits.thread digits.buffer digits.value digits.op digits.pos (decimal a0.0) (decimal a1.0)
+    (decimal a2.0) (decimal a3.0) (decimal a4.0) (decimal a5.0) digits.kind r0.spelled r1.spelled r2.spelled r3.spelled r4.spelled r5.spelled in
+    subst (λ (x : Entry). IsSmall digits x) (same_ok made e a5.2)
+    (record { spelled = shape; cpu = r0.within; thread = r1.within; value = r3.within; op = r4.within; pos = r5.within })
 
-pub entry_in_again : (e : Entry) → e.cpu.0 ≤ CPUS - 1 → e.thread.0 ≤ THREADS - 1 → e.buffer.0 ≤ BUFFERS - 1 → e.value ≤ 18446744073709551615 → e.op ≤ ENTRIES - 1 → e.pos ≤ ENTRIES - 1 → entry_in (digits_in e) ≡ Ok e
+pub entry_in_again : (e : Entry) → e.cpu.0 ≤ CPUS - 1 → e.thread.0 ≤ THREADS - 1 → e.buffer.0 ≤ BUFFERS - 1 → e.value ≤ 18446744073709551615
+    → e.op ≤ ENTRIES - 1 → e.pos ≤ ENTRIES - 1 → entry_in (digits_in e) ≡ Ok e
 unfolding entry_in
 entry_in_again e cpu thread buffer value op pos =
-    rw (number_to-decimal (CPUS - 1) e.cpu.0 (omega arith) cpu, number_to-decimal (THREADS - 1) e.thread.0 (omega arith) thread, number_to-decimal (BUFFERS - 1) e.buffer.0 (omega arith) buffer, number_to-decimal 18446744073709551615 e.value (omega arith) value, number_to-decimal (ENTRIES - 1) e.op (omega arith) op, number_to-decimal (ENTRIES - 1) e.pos (omega arith) pos) refl
+    rw (
+      number_to-decimal (CPUS - 1) e.cpu.0 (omega arith) cpu,
+      number_to-decimal (THREADS - 1) e.thread.0 (omega arith) thread,
+      number_to-decimal (BUFFERS - 1) e.buffer.0 (omega arith) buffer,
+      number_to-decimal 18446744073709551615 e.value (omega arith) value,
+      number_to-decimal (ENTRIES - 1) e.op (omega arith) op,
+      number_to-decimal (ENTRIES - 1) e.pos (omega arith) pos,
+    ) refl

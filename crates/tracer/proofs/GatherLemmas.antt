@@ -1,6 +1,8 @@
 -- What a gathering keeps: the entries taken so far, and what is left of each trace.
-use Rattle.std.proofs.Common.{◌≡◌, ◌≢◌, ℕ, zero, suc, ◌+◌, ◌<◌, List, [], ◌∷◌, ◌++◌, length, get_or, set, drop, replicate, sum_by, Option, Some, None, refl, sym, ap, ◌∙◌, subst, inl, inr, arith, add-one, append_assoc, Vec, Global}
-use Rattle.std.proofs.lemmas.List.{get_or-map, drop_more, drop_all, drop-drop, get_or-set_other, get_or-set_same, get_or_past, nil_from_length, length-replicate, length-set, length-append, append-nil}
+use Rattle.std.proofs.Common.{◌≡◌, ◌≢◌, ℕ, zero, suc, ◌+◌, ◌<◌, List, [], ◌∷◌, ◌++◌, length, get_or, set, drop, replicate, sum_by, Option, Some, None, refl}
+use Rattle.std.proofs.Common.{sym, ap, ◌∙◌, subst, inl, inr, arith, add-one, append_assoc, Vec, Global}
+use Rattle.std.proofs.lemmas.List.{get_or-map, drop_more, drop_all, drop-drop, get_or-set_other, get_or-set_same, get_or_past, nil_from_length}
+use Rattle.std.proofs.lemmas.List.{length-replicate, length-set, length-append, append-nil}
 use Rattle.std.proofs.lemmas.List.Sums.{sum_by-cons, sum_by-set, get_or-le-sum_by}
 use Rattle.std.proofs.lemmas.Bool.{cases_eq, cases_lt}
 use Rattle.std.proofs.lemmas.Option.{get_or_from_slice_get, slice_get_within}
@@ -12,7 +14,8 @@ use Rattle.tracer.specs.Gather.{traces_in, IsOrder, IsReady, TakesFirstReadyFrom
 use Rattle.tracer.proofs.OrderLemmas.{at_head, head_at, head_within, count_more_same, count_more_other, CameFirst, may_come_first}
 
 -- what a look at a vector's place says of the next entry of its trace
-pub next_here : (vectors : List (Vec Entry Global)) (taken : List ℕ) (k : ℕ) (v : Vec Entry Global) (n : ℕ) (next : Option Entry) → k < length vectors → v ≡ get_or vectors k v → n ≡ get_or taken k 0 → next ≡ slice_get v.items n → next_entry (traces_in vectors) taken k ≡ next
+pub next_here : (vectors : List (Vec Entry Global)) (taken : List ℕ) (k : ℕ) (v : Vec Entry Global) (n : ℕ) (next : Option Entry) → k < length vectors
+    → v ≡ get_or vectors k v → n ≡ get_or taken k 0 → next ≡ slice_get v.items n → next_entry (traces_in vectors) taken k ≡ next
 next_here vectors taken k v n next within here place look =
     let items : get_or (traces_in vectors) k [] ≡ v.items = get_or-map (λ trace. trace.items) vectors k v [] within ∙ ap (λ trace. trace.items) (sym here) in
     ap (λ trace. slice_get trace (get_or taken k 0)) items ∙ (ap (slice_get v.items) (sym place) ∙ sym look)
@@ -38,7 +41,8 @@ rests_none (trace ∷ traces) (suc n) = ap (λ ts. trace ∷ ts) (rests_none tra
 behind_head : (trace : List Entry) (n : ℕ) (e : Entry) (rest : List Entry) → drop n trace ≡ e ∷ rest → drop (n + 1) trace ≡ rest
 behind_head trace n e rest at = sym (drop-drop 1 n trace) ∙ ap (drop 1) at
 
-rests_more : (traces : List (List Entry)) (taken : List ℕ) (k : ℕ) (e : Entry) (rest : List Entry) → k < length taken → get_or (rests traces taken) k [] ≡ e ∷ rest → rests traces (set taken k (get_or taken k 0 + 1)) ≡ set (rests traces taken) k rest
+rests_more : (traces : List (List Entry)) (taken : List ℕ) (k : ℕ) (e : Entry) (rest : List Entry) → k < length taken
+    → get_or (rests traces taken) k [] ≡ e ∷ rest → rests traces (set taken k (get_or taken k 0 + 1)) ≡ set (rests traces taken) k rest
 rests_more [] taken k e rest within at = absurd (cc)
 rests_more (trace ∷ traces) [] k e rest within at = absurd (omega arith)
 rests_more (trace ∷ traces) (n ∷ taken) zero e rest within at = ap (λ r. r ∷ rests traces taken) (behind_head trace n e rest at)
@@ -49,13 +53,16 @@ first_of_drop [] n e rest at = let bad : [] ≡ e ∷ rest = sym (drop_all n [] 
 first_of_drop (x ∷ trace) zero e rest at = cc
 first_of_drop (x ∷ trace) (suc n) e rest at = first_of_drop trace n e rest at
 
-next_is_head : (traces : List (List Entry)) (taken : List ℕ) (k : ℕ) (e : Entry) → next_entry traces taken k ≡ Some e → get_or (rests traces taken) k [] ≡ e ∷ drop (get_or taken k 0 + 1) (get_or traces k [])
+next_is_head : (traces : List (List Entry)) (taken : List ℕ) (k : ℕ) (e : Entry) → next_entry traces taken k ≡ Some e
+    → get_or (rests traces taken) k [] ≡ e ∷ drop (get_or taken k 0 + 1) (get_or traces k [])
 next_is_head traces taken k e next =
     let trace = get_or traces k [] in
     let n = get_or taken k 0 in
-    rests_at traces taken k ∙ (drop_more trace n e (slice_get_within trace n e next) ∙ ap (λ x. x ∷ drop (n + 1) trace) (get_or_from_slice_get trace n e e next))
+    rests_at traces taken k ∙ (drop_more trace n e (slice_get_within trace n e next)
+    ∙ ap (λ x. x ∷ drop (n + 1) trace) (get_or_from_slice_get trace n e e next))
 
-head_is_next : (traces : List (List Entry)) (taken : List ℕ) (k : ℕ) (e : Entry) (rest : List Entry) → get_or (rests traces taken) k [] ≡ e ∷ rest → next_entry traces taken k ≡ Some e
+head_is_next : (traces : List (List Entry)) (taken : List ℕ) (k : ℕ) (e : Entry) (rest : List Entry) → get_or (rests traces taken) k [] ≡ e ∷ rest
+    → next_entry traces taken k ≡ Some e
 head_is_next traces taken k e rest at = first_of_drop (get_or traces k []) (get_or taken k 0) e rest (sym (rests_at traces taken k) ∙ at)
 
 -- what is left of all traces together
@@ -65,7 +72,8 @@ left_of traces = sum_by length traces
 pub left_of_vectors : (vectors : List (Vec Entry Global)) → left_of (traces_in vectors) ≡ sum_by (λ trace. length trace.items) vectors
 left_of_vectors [] = refl
 left_of_vectors (v ∷ vectors) =
-    sum_by-cons length v.items (traces_in vectors) ∙ (ap (λ n. length v.items + n) (left_of_vectors vectors) ∙ sym (sum_by-cons (λ trace. length trace.items) v vectors))
+    sum_by-cons length v.items (traces_in vectors)
+    ∙ (ap (λ n. length v.items + n) (left_of_vectors vectors) ∙ sym (sum_by-cons (λ trace. length trace.items) v vectors))
 
 -- nothing is left where each trace is used up, and only there
 none_left : (traces : List (List Entry)) → left_of traces ≡ 0 → (k : ℕ) → get_or traces k [] ≡ []
@@ -76,9 +84,11 @@ none_left traces none k = elim (cases_lt k (length traces)) [
 
 all_used : (traces : List (List Entry)) → ((k : ℕ) → get_or traces k [] ≡ []) → left_of traces ≡ 0
 all_used [] used = refl
-all_used (trace ∷ traces) used = sum_by-cons length trace traces ∙ (ap (λ t. length t + left_of traces) (used 0) ∙ omega (arith, all_used traces (λ k. used (suc k))))
+all_used (trace ∷ traces) used = sum_by-cons length trace traces
+    ∙ (ap (λ t. length t + left_of traces) (used 0) ∙ omega (arith, all_used traces (λ k. used (suc k))))
 
-left_of_more : (traces : List (List Entry)) (k : ℕ) (e : Entry) (rest : List Entry) → get_or traces k [] ≡ e ∷ rest → left_of (set traces k rest) + 1 ≡ left_of traces
+left_of_more : (traces : List (List Entry)) (k : ℕ) (e : Entry) (rest : List Entry) → get_or traces k [] ≡ e ∷ rest
+    → left_of (set traces k rest) + 1 ≡ left_of traces
 left_of_more traces k e rest at =
     let one : length (get_or traces k []) ≡ length rest + 1 = ap length at ∙ sym (add-one (length rest)) in
     omega (arith, one, sum_by-set length traces k rest [] (head_within traces k e rest at))
@@ -101,7 +111,8 @@ pub record Gathers (traces : List (List Entry)) (total : ℕ) (taken counts : Li
   pub greedy : (es : List Entry) → TakesFirstReadyFrom done (rests traces taken) es → TakesFirstReady traces (done ++ es)
   pub loses : (order : List Entry) → IsOrder traces order → (es : List Entry) × IsInterleaving (rests traces taken) es × HasOpOrderFrom done es
 
-gathers_none : (traces : List (List Entry)) (n total : ℕ) (taken counts : List ℕ) → n ≡ length traces → taken ≡ replicate n 0 → counts ≡ replicate 256 0 → total ≡ left_of traces → Gathers traces total taken counts []
+gathers_none : (traces : List (List Entry)) (n total : ℕ) (taken counts : List ℕ) → n ≡ length traces → taken ≡ replicate n 0 → counts ≡ replicate 256 0
+    → total ≡ left_of traces → Gathers traces total taken counts []
 gathers_none traces n total taken counts size fresh zeros all =
     let whole : rests traces taken ≡ traces = ap (rests traces) fresh ∙ rests_none traces n in
     record {
@@ -116,20 +127,25 @@ gathers_none traces n total taken counts size fresh zeros all =
       loses = λ order it. (order, subst (λ ts. IsInterleaving ts order) (sym whole) it.0, it.1);
     }
 
-pub gathers_start : (traces : List (List Entry)) (n total : ℕ) (taken counts : List ℕ) (done : List Entry) → n ≡ length traces → taken ≡ replicate n 0 → counts ≡ replicate 256 0 → total ≡ left_of traces → done ≡ [] → Gathers traces total taken counts done
+pub gathers_start : (traces : List (List Entry)) (n total : ℕ) (taken counts : List ℕ) (done : List Entry) → n ≡ length traces → taken ≡ replicate n 0
+    → counts ≡ replicate 256 0 → total ≡ left_of traces → done ≡ [] → Gathers traces total taken counts done
 gathers_start traces n total taken counts done size fresh zeros all none =
     subst (Gathers traces total taken counts) (sym none) (gathers_none traces n total taken counts size fresh zeros all)
 
-none_ready_in : (traces : List (List Entry)) (taken counts : List ℕ) (done : List Entry) (j : ℕ) (rest : List Entry) → get_or (rests traces taken) j [] ≡ rest → ((b : ℕ) → get_or counts b 0 ≡ count_of done b) → ((e : Entry) → next_entry traces taken j ≡ Some e → ¬ IsDue counts e) → ¬ IsReady done rest
+none_ready_in : (traces : List (List Entry)) (taken counts : List ℕ) (done : List Entry) (j : ℕ) (rest : List Entry) → get_or (rests traces taken) j [] ≡ rest
+    → ((b : ℕ) → get_or counts b 0 ≡ count_of done b) → ((e : Entry) → next_entry traces taken j ≡ Some e → ¬ IsDue counts e) → ¬ IsReady done rest
 none_ready_in traces taken counts done j [] at counted none ready = ready
 none_ready_in traces taken counts done j (e ∷ rest) at counted none ready = none e (head_is_next traces taken j e rest at) (ready ∙ sym (counted e.buffer.0))
 
 -- below the first trace that is due none is ready
-none_ready : (traces : List (List Entry)) (total : ℕ) (taken counts : List ℕ) (done : List Entry) (k : ℕ) → Gathers traces total taken counts done → NoneDueBelow traces taken counts k → (j : ℕ) → j < k → ¬ IsReady done (get_or (rests traces taken) j [])
-none_ready traces total taken counts done k g below j under ready = none_ready_in traces taken counts done j (get_or (rests traces taken) j []) refl g.counted (λ e. below j e under) ready
+none_ready : (traces : List (List Entry)) (total : ℕ) (taken counts : List ℕ) (done : List Entry) (k : ℕ) → Gathers traces total taken counts done
+    → NoneDueBelow traces taken counts k → (j : ℕ) → j < k → ¬ IsReady done (get_or (rests traces taken) j [])
+none_ready traces total taken counts done k g below j under ready =
+    none_ready_in traces taken counts done j (get_or (rests traces taken) j []) refl g.counted (λ e. below j e under) ready
 
 -- a trace that has a next entry is one of the traces
-pub next_within : (traces : List (List Entry)) (taken : List ℕ) (k : ℕ) (e : Entry) → length taken ≡ length traces → next_entry traces taken k ≡ Some e → k < length taken
+pub next_within : (traces : List (List Entry)) (taken : List ℕ) (k : ℕ) (e : Entry) → length taken ≡ length traces → next_entry traces taken k ≡ Some e
+    → k < length taken
 next_within traces taken k e same next = elim (cases_lt k (length taken)) [
   | inl within ↦ within
   | inr past ↦
@@ -138,7 +154,8 @@ next_within traces taken k e same next = elim (cases_lt k (length taken)) [
 ]
 
 -- the counts with one entry more
-counted_more : (counts : List ℕ) (done : List Entry) (e : Entry) → ((b : ℕ) → get_or counts b 0 ≡ count_of done b) → e.buffer.0 < length counts → (b : ℕ) → get_or (set counts e.buffer.0 (get_or counts e.buffer.0 0 + 1)) b 0 ≡ count_of (done ++ e ∷ []) b
+counted_more : (counts : List ℕ) (done : List Entry) (e : Entry) → ((b : ℕ) → get_or counts b 0 ≡ count_of done b) → e.buffer.0 < length counts → (b : ℕ)
+    → get_or (set counts e.buffer.0 (get_or counts e.buffer.0 0 + 1)) b 0 ≡ count_of (done ++ e ∷ []) b
 counted_more counts done e counted within b = elim (cases_eq b e.buffer.0) [
   | inl same ↦
       ap (λ n. get_or (set counts e.buffer.0 (get_or counts e.buffer.0 0 + 1)) n 0) same
@@ -149,12 +166,14 @@ counted_more counts done e counted within b = elim (cases_eq b e.buffer.0) [
 ]
 
 -- where a trace has a next entry, fewer than all are taken
-pub some_left : (traces : List (List Entry)) (total : ℕ) (taken counts : List ℕ) (done : List Entry) (k : ℕ) (e : Entry) → Gathers traces total taken counts done → next_entry traces taken k ≡ Some e → length done < total
+pub some_left : (traces : List (List Entry)) (total : ℕ) (taken counts : List ℕ) (done : List Entry) (k : ℕ) (e : Entry)
+    → Gathers traces total taken counts done → next_entry traces taken k ≡ Some e → length done < total
 some_left traces total taken counts done k e g next =
     let rest = drop (get_or taken k 0 + 1) (get_or traces k []) in
     omega (arith, g.left, left_of_more (rests traces taken) k e rest (next_is_head traces taken k e next))
 
-pub some_left_in : (traces : List (List Entry)) (total : ℕ) (taken counts : List ℕ) (done : List Entry) (k : ℕ) (e : Entry) → Gathers traces total taken counts done → next_entry traces taken k ≡ Some e → get_or taken k 0 < total
+pub some_left_in : (traces : List (List Entry)) (total : ℕ) (taken counts : List ℕ) (done : List Entry) (k : ℕ) (e : Entry)
+    → Gathers traces total taken counts done → next_entry traces taken k ≡ Some e → get_or taken k 0 < total
 some_left_in traces total taken counts done k e g next =
     omega (
       arith,
@@ -164,7 +183,8 @@ some_left_in traces total taken counts done k e g next =
     )
 
 -- one entry more
-gathers_more : (traces : List (List Entry)) (total : ℕ) (taken counts : List ℕ) (done : List Entry) (k : ℕ) (e : Entry) → Gathers traces total taken counts done → e.buffer.0 < 256 → next_entry traces taken k ≡ Some e → IsDue counts e → NoneDueBelow traces taken counts k
+gathers_more : (traces : List (List Entry)) (total : ℕ) (taken counts : List ℕ) (done : List Entry) (k : ℕ) (e : Entry) → Gathers traces total taken counts done
+    → e.buffer.0 < 256 → next_entry traces taken k ≡ Some e → IsDue counts e → NoneDueBelow traces taken counts k
     → Gathers traces total (set taken k (get_or taken k 0 + 1)) (set counts e.buffer.0 (get_or counts e.buffer.0 0 + 1)) (done ++ e ∷ [])
 gathers_more traces total taken counts done k e g small next due below =
     let rest = drop (get_or taken k 0 + 1) (get_or traces k []) in
@@ -180,26 +200,41 @@ gathers_more traces total taken counts done k e g small next due below =
       left = omega (arith, g.left, ap left_of others, left_of_more (rests traces taken) k e rest at, length-append done (e ∷ []));
       keeps = λ es kept. rw append_assoc (g.keeps (e ∷ es) (k, rest, head_at (rests traces taken) k e rest at, subst (λ ts. IsInterleaving ts es) others kept));
       ops = λ es ops. rw append_assoc (g.ops (e ∷ es) (ready, ops));
-      greedy = λ es first. rw append_assoc (g.greedy (e ∷ es) (k, rest, head_at (rests traces taken) k e rest at, ready, none_ready traces total taken counts done k g below, subst (λ ts. TakesFirstReadyFrom (done ++ e ∷ []) ts es) others first));
+      greedy = λ es first. rw append_assoc
+          (g.greedy (e ∷ es) (
+            k,
+            rest,
+            head_at (rests traces taken) k e rest at,
+            ready,
+            none_ready traces total taken counts done k g below,
+            subst (λ ts. TakesFirstReadyFrom (done ++ e ∷ []) ts es) others first,
+          ));
       loses = λ order it.
           let went = g.loses order it in
-          let first : CameFirst done (set (rests traces taken) k rest) went.0 e = may_come_first done (rests traces taken) went.0 k e rest went.1 went.2 at ready in
+          let first : CameFirst done (set (rests traces taken) k rest) went.0 e =
+          may_come_first done (rests traces taken) went.0 k e rest went.1 went.2 at ready in
           (first.later, subst (λ ts. IsInterleaving ts first.later) (sym others) first.keeps, first.ops);
     }
 
-pub gathers_next : (traces : List (List Entry)) (total : ℕ) (taken counts : List ℕ) (done : List Entry) (k : ℕ) (e : Entry) (count buffer : ℕ) (after : List Entry) → Gathers traces total taken counts done → buffer < 256 → next_entry traces taken k ≡ Some e → IsDue counts e → NoneDueBelow traces taken counts k
+pub gathers_next : (traces : List (List Entry)) (total : ℕ) (taken counts : List ℕ) (done : List Entry) (k : ℕ) (e : Entry) (count buffer : ℕ)
+    (after : List Entry) → Gathers traces total taken counts done → buffer < 256 → next_entry traces taken k ≡ Some e → IsDue counts e
+    → NoneDueBelow traces taken counts k
     → count ≡ get_or taken k 0 → buffer ≡ e.buffer.0 → after ≡ done ++ e ∷ []
     → Gathers traces total (set taken k (count + 1)) (set counts buffer (get_or counts buffer 0 + 1)) after
 gathers_next traces total taken counts done k e count buffer after g small next due below same_count same_buffer same_done =
     rw (same_count, same_buffer, same_done) (gathers_more traces total taken counts done k e g (omega (arith, small, same_buffer)) next due below)
 
 -- at the end the entries taken are an order, by first choice
-pub gathered_all : (traces : List (List Entry)) (total : ℕ) (taken counts : List ℕ) (done : List Entry) → Gathers traces total taken counts done → length done ≡ total → IsOrder traces done × TakesFirstReady traces done
+pub gathered_all : (traces : List (List Entry)) (total : ℕ) (taken counts : List ℕ) (done : List Entry) → Gathers traces total taken counts done
+    → length done ≡ total → IsOrder traces done × TakesFirstReady traces done
 gathered_all traces total taken counts done g all =
-    let used : (k : ℕ) → get_or (rests traces taken) k [] ≡ [] = none_left (rests traces taken) (omega (arith, g.left, all)) in
-    ((subst (IsInterleaving traces) (append-nil done) (g.keeps [] used), subst HasOpOrder (append-nil done) (g.ops [] tt)), subst (TakesFirstReady traces) (append-nil done) (g.greedy [] tt))
+    let used : (k : ℕ) → get_or (rests traces taken) k [] ≡ [] = none_left (rests traces taken) (omega (arith, g.left, all)) in (
+      (subst (IsInterleaving traces) (append-nil done) (g.keeps [] used), subst HasOpOrder (append-nil done) (g.ops [] tt)),
+      subst (TakesFirstReady traces) (append-nil done) (g.greedy [] tt),
+    )
 
-no_later : (traces : List (List Entry)) (total : ℕ) (taken counts : List ℕ) (done es : List Entry) → Gathers traces total taken counts done → length done ≢ total → NoneDueBelow traces taken counts (length traces) → IsInterleaving (rests traces taken) es → HasOpOrderFrom done es → ⊥
+no_later : (traces : List (List Entry)) (total : ℕ) (taken counts : List ℕ) (done es : List Entry) → Gathers traces total taken counts done
+    → length done ≢ total → NoneDueBelow traces taken counts (length traces) → IsInterleaving (rests traces taken) es → HasOpOrderFrom done es → ⊥
 no_later traces total taken counts done [] g some none keeps ops = some (omega (arith, g.left, all_used (rests traces taken) keeps))
 no_later traces total taken counts done (e ∷ es) g some none keeps ops =
     let at : get_or (rests traces taken) keeps.0 [] ≡ e ∷ keeps.1 = at_head (rests traces taken) keeps.0 e keeps.1 keeps.2 in
@@ -207,7 +242,8 @@ no_later traces total taken counts done (e ∷ es) g some none keeps ops =
     none keeps.0 e (omega (arith, next_within traces taken keeps.0 e g.places next, g.places)) next (ops.0 ∙ sym (g.counted e.buffer.0))
 
 -- where something is left and no trace is ready, there is no order
-pub gathered_no_order : (traces : List (List Entry)) (total : ℕ) (taken counts : List ℕ) (done : List Entry) → Gathers traces total taken counts done → length done ≢ total → NoneDueBelow traces taken counts (length traces) → HasNoOrder traces
+pub gathered_no_order : (traces : List (List Entry)) (total : ℕ) (taken counts : List ℕ) (done : List Entry) → Gathers traces total taken counts done
+    → length done ≢ total → NoneDueBelow traces taken counts (length traces) → HasNoOrder traces
 gathered_no_order traces total taken counts done g some none order it =
     let went = g.loses order it in
     no_later traces total taken counts done went.0 g some none went.1 went.2

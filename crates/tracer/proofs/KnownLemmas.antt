@@ -1,5 +1,6 @@
 -- What the judge knows of the buffers is what the earlier entries and the contents say.
-use Rattle.std.proofs.Common.{◌≡◌, ◌≢◌, ℕ, zero, suc, ◌+◌, ◌<◌, ◌==◌, ◌&&◌, Bool, true, false, cond, List, [], ◌∷◌, ◌++◌, length, get_or, set, map, drop, Option, Some, None, Ok, refl, sym, ap, ◌∙◌, eq-eqb, ne_eqb, eqb-true, ltb-true, lt-ltb, add-zero, inl, inr, arith}
+use Rattle.std.proofs.Common.{◌≡◌, ◌≢◌, ℕ, zero, suc, ◌+◌, ◌<◌, ◌==◌, ◌&&◌, Bool, true, false, cond, List, [], ◌∷◌, ◌++◌, length, get_or, set, map, drop}
+use Rattle.std.proofs.Common.{Option, Some, None, Ok, refl, sym, ap, ◌∙◌, eq-eqb, ne_eqb, eqb-true, ltb-true, lt-ltb, add-zero, inl, inr, arith}
 use Rattle.std.specs.Prelude.{slice_get, slice_set, nat_lt}
 use Rattle.std.proofs.lemmas.Bool.{cases_eq}
 use Rattle.std.proofs.lemmas.List.{get_or-set_same, get_or-set_other, length-set, same_lists}
@@ -18,30 +19,40 @@ use Rattle.tracer.proofs.ReadLemmas.{bind_ok, wanted_ok, same_ok}
 
 -- what is known of buffer b, behind the earlier entries
 abbrev pub seen_of : List Entry → List (List ℕ) → ℕ → ℕ → Seen
-seen_of earlier contents b capacity = record { capacity = capacity; items = items_of contents b; ops = count_of earlier b; sends = count_of_kind earlier b Send; recvs = count_of_kind earlier b Recv }
+seen_of earlier contents b capacity = record {
+  capacity = capacity;
+  items = items_of contents b;
+  ops = count_of earlier b;
+  sends = count_of_kind earlier b Send;
+  recvs = count_of_kind earlier b Recv;
+}
 
 -- what is known of the buffers from b on
 abbrev pub known_from : List Entry → List (List ℕ) → ℕ → List ℕ → List Seen
 known_from earlier contents b [] = []
 known_from earlier contents b (k ∷ ks) = seen_of earlier contents b k ∷ known_from earlier contents (b + 1) ks
 
-pub length-known_from : (earlier : List Entry) (contents : List (List Message)) (b : ℕ) (caps : List ℕ) → length (known_from earlier contents b caps) ≡ length caps
+pub length-known_from : (earlier : List Entry) (contents : List (List Message)) (b : ℕ) (caps : List ℕ)
+    → length (known_from earlier contents b caps) ≡ length caps
 length-known_from earlier contents b [] = refl
 length-known_from earlier contents b (k ∷ ks) = ap suc (length-known_from earlier contents (b + 1) ks)
 
-get_or-known_from : (earlier : List Entry) (contents : List (List Message)) (b : ℕ) (caps : List ℕ) (i : ℕ) (d : Seen) → i < length caps → get_or (known_from earlier contents b caps) i d ≡ seen_of earlier contents (b + i) (get_or caps i 0)
+get_or-known_from : (earlier : List Entry) (contents : List (List Message)) (b : ℕ) (caps : List ℕ) (i : ℕ) (d : Seen) → i < length caps
+    → get_or (known_from earlier contents b caps) i d ≡ seen_of earlier contents (b + i) (get_or caps i 0)
 get_or-known_from earlier contents b [] i d lt = absurd (omega arith)
 get_or-known_from earlier contents b (k ∷ ks) zero d lt = rw (add-zero b) refl
 get_or-known_from earlier contents b (k ∷ ks) (suc i) d lt =
     let shift : b + 1 + i ≡ b + suc i = omega arith in
     get_or-known_from earlier contents (b + 1) ks i d (omega arith) ∙ ap (λ (j : ℕ). seen_of earlier contents j (get_or ks i 0)) shift
 
-get_or-known : (earlier : List Entry) (contents : List (List Message)) (caps : List ℕ) (i : ℕ) (d : Seen) → i < length caps → get_or (known_from earlier contents 0 caps) i d ≡ seen_of earlier contents i (get_or caps i 0)
+get_or-known : (earlier : List Entry) (contents : List (List Message)) (caps : List ℕ) (i : ℕ) (d : Seen) → i < length caps
+    → get_or (known_from earlier contents 0 caps) i d ≡ seen_of earlier contents i (get_or caps i 0)
 get_or-known earlier contents caps i d lt =
     let none : 0 + i ≡ i = omega arith in
     get_or-known_from earlier contents 0 caps i d lt ∙ ap (λ (j : ℕ). seen_of earlier contents j (get_or caps i 0)) none
 
-pub slice_get-known : (earlier : List Entry) (contents : List (List Message)) (caps : List ℕ) (i : ℕ) → i < length caps → slice_get (known_from earlier contents 0 caps) i ≡ Some (seen_of earlier contents i (get_or caps i 0))
+pub slice_get-known : (earlier : List Entry) (contents : List (List Message)) (caps : List ℕ) (i : ℕ) → i < length caps
+    → slice_get (known_from earlier contents 0 caps) i ≡ Some (seen_of earlier contents i (get_or caps i 0))
 slice_get-known earlier contents caps i lt =
     let inside : i < length (known_from earlier contents 0 caps) = omega (arith, length-known_from earlier contents 0 caps) in
     slice_get-get_or (known_from earlier contents 0 caps) i (fresh 0) inside ∙ ap Some (get_or-known earlier contents caps i (fresh 0) lt)
@@ -53,28 +64,44 @@ bumped counts n = n + cond counts 1 0
 
 -- a buffer after an effect on it
 abbrev after_seen : Kind → Message → Seen → Seen
-after_seen kind value seen = record { capacity = seen.capacity; items = after_effect kind seen.items value; ops = seen.ops + 1; sends = bumped (kind_eq kind Send) seen.sends; recvs = bumped (kind_eq kind Recv) seen.recvs }
+after_seen kind value seen = record {
+  capacity = seen.capacity;
+  items = after_effect kind seen.items value;
+  ops = seen.ops + 1;
+  sends = bumped (kind_eq kind Send) seen.sends;
+  recvs = bumped (kind_eq kind Recv) seen.recvs;
+}
 
-seen_here : (earlier : List Entry) (contents : List (List Message)) (e : Entry) (capacity : ℕ) → e.buffer.0 < length contents → seen_of (earlier ++ e ∷ []) (after_entry contents e) e.buffer.0 capacity ≡ after_seen e.kind e.value (seen_of earlier contents e.buffer.0 capacity)
+seen_here : (earlier : List Entry) (contents : List (List Message)) (e : Entry) (capacity : ℕ) → e.buffer.0 < length contents
+    → seen_of (earlier ++ e ∷ []) (after_entry contents e) e.buffer.0 capacity ≡ after_seen e.kind e.value (seen_of earlier contents e.buffer.0 capacity)
 seen_here earlier contents e capacity lt =
     let same : (e.buffer.0 == e.buffer.0) ≡ true = eq-eqb e.buffer.0 e.buffer.0 refl in
-    let items : items_of (after_entry contents e) e.buffer.0 ≡ after_effect e.kind (items_of contents e.buffer.0) e.value = get_or-set_same contents e.buffer.0 (after_effect e.kind (items_of contents e.buffer.0) e.value) [] lt in
+    let items : items_of (after_entry contents e) e.buffer.0 ≡ after_effect e.kind (items_of contents e.buffer.0) e.value =
+    get_or-set_same contents e.buffer.0 (after_effect e.kind (items_of contents e.buffer.0) e.value) [] lt in
     let ops : count_of (earlier ++ e ∷ []) e.buffer.0 ≡ count_of earlier e.buffer.0 + 1 = count_more earlier e e.buffer.0 ∙ rw same refl in
-    let sends : count_of_kind (earlier ++ e ∷ []) e.buffer.0 Send ≡ bumped (kind_eq e.kind Send) (count_of_kind earlier e.buffer.0 Send) = count_kind_more earlier e e.buffer.0 Send ∙ rw same refl in
-    let recvs : count_of_kind (earlier ++ e ∷ []) e.buffer.0 Recv ≡ bumped (kind_eq e.kind Recv) (count_of_kind earlier e.buffer.0 Recv) = count_kind_more earlier e e.buffer.0 Recv ∙ rw same refl in
+    let sends : count_of_kind (earlier ++ e ∷ []) e.buffer.0 Send ≡ bumped (kind_eq e.kind Send) (count_of_kind earlier e.buffer.0 Send) =
+    count_kind_more earlier e e.buffer.0 Send ∙ rw same refl in
+    let recvs : count_of_kind (earlier ++ e ∷ []) e.buffer.0 Recv ≡ bumped (kind_eq e.kind Recv) (count_of_kind earlier e.buffer.0 Recv) =
+    count_kind_more earlier e e.buffer.0 Recv ∙ rw same refl in
     rw (items, ops, sends, recvs) refl
 
-seen_elsewhere : (earlier : List Entry) (contents : List (List Message)) (e : Entry) (b capacity : ℕ) → b ≢ e.buffer.0 → seen_of (earlier ++ e ∷ []) (after_entry contents e) b capacity ≡ seen_of earlier contents b capacity
+seen_elsewhere : (earlier : List Entry) (contents : List (List Message)) (e : Entry) (b capacity : ℕ) → b ≢ e.buffer.0
+    → seen_of (earlier ++ e ∷ []) (after_entry contents e) b capacity ≡ seen_of earlier contents b capacity
 seen_elsewhere earlier contents e b capacity other =
     let apart : (e.buffer.0 == b) ≡ false = ne_eqb e.buffer.0 b (λ h. other (sym h)) in
-    let items : items_of (after_entry contents e) b ≡ items_of contents b = get_or-set_other contents e.buffer.0 b (after_effect e.kind (items_of contents e.buffer.0) e.value) [] other in
+    let items : items_of (after_entry contents e) b ≡ items_of contents b =
+    get_or-set_other contents e.buffer.0 b (after_effect e.kind (items_of contents e.buffer.0) e.value) [] other in
     let ops : count_of (earlier ++ e ∷ []) b ≡ count_of earlier b = count_more earlier e b ∙ rw (apart, add-zero (count_of earlier b)) refl in
-    let sends : count_of_kind (earlier ++ e ∷ []) b Send ≡ count_of_kind earlier b Send = count_kind_more earlier e b Send ∙ rw (apart, add-zero (count_of_kind earlier b Send)) refl in
-    let recvs : count_of_kind (earlier ++ e ∷ []) b Recv ≡ count_of_kind earlier b Recv = count_kind_more earlier e b Recv ∙ rw (apart, add-zero (count_of_kind earlier b Recv)) refl in
+    let sends : count_of_kind (earlier ++ e ∷ []) b Send ≡ count_of_kind earlier b Send = count_kind_more earlier e b Send
+    ∙ rw (apart, add-zero (count_of_kind earlier b Send)) refl in
+    let recvs : count_of_kind (earlier ++ e ∷ []) b Recv ≡ count_of_kind earlier b Recv = count_kind_more earlier e b Recv
+    ∙ rw (apart, add-zero (count_of_kind earlier b Recv)) refl in
     rw (items, ops, sends, recvs) refl
 
 -- the buffers after an entry
-known_after : (caps : List ℕ) (earlier : List Entry) (contents : List (List Message)) (e : Entry) → length contents ≡ length caps → e.buffer.0 < length caps → slice_set (known_from earlier contents 0 caps) e.buffer.0 (after_seen e.kind e.value (seen_of earlier contents e.buffer.0 (get_or caps e.buffer.0 0))) ≡ known_from (earlier ++ e ∷ []) (after_entry contents e) 0 caps
+known_after : (caps : List ℕ) (earlier : List Entry) (contents : List (List Message)) (e : Entry) → length contents ≡ length caps → e.buffer.0 < length caps
+    → slice_set (known_from earlier contents 0 caps) e.buffer.0 (after_seen e.kind e.value (seen_of earlier contents e.buffer.0 (get_or caps e.buffer.0 0)))
+    ≡ known_from (earlier ++ e ∷ []) (after_entry contents e) 0 caps
 known_after caps earlier contents e long known =
     let old = known_from earlier contents 0 caps in
     let new = known_from (earlier ++ e ∷ []) (after_entry contents e) 0 caps in
@@ -85,48 +112,59 @@ known_after caps earlier contents e long known =
     let each : (k : ℕ) (d : Seen) → k < length (set old e.buffer.0 here) → get_or (set old e.buffer.0 here) k d ≡ get_or new k d = λ k d inside.
     let within : k < length caps = omega arith in
     elim (cases_eq k e.buffer.0) [
-      | inl same ↦ rw same (get_or-set_same old e.buffer.0 here d (omega arith) ∙ sym (get_or-known (earlier ++ e ∷ []) (after_entry contents e) caps e.buffer.0 d known ∙ seen_here earlier contents e (get_or caps e.buffer.0 0) (omega arith)))
-      | inr other ↦ get_or-set_other old e.buffer.0 k here d other ∙ get_or-known earlier contents caps k d within ∙ sym (get_or-known (earlier ++ e ∷ []) (after_entry contents e) caps k d within ∙ seen_elsewhere earlier contents e k (get_or caps k 0) other)
+      | inl same ↦ rw same (get_or-set_same old e.buffer.0 here d (omega arith)
+          ∙ sym (get_or-known (earlier ++ e ∷ []) (after_entry contents e) caps e.buffer.0 d known
+          ∙ seen_here earlier contents e (get_or caps e.buffer.0 0) (omega arith)))
+      | inr other ↦ get_or-set_other old e.buffer.0 k here d other ∙ get_or-known earlier contents caps k d within
+          ∙ sym (get_or-known (earlier ++ e ∷ []) (after_entry contents e) caps k d within ∙ seen_elsewhere earlier contents e k (get_or caps k 0) other)
     ] in
     same_lists (set old e.buffer.0 here) new (set_long ∙ sym new_long) each
 
 -- ---- an effect
 
-take_again : (value : Message) (items : List Message) (seen : Seen) → slice_get items 0 ≡ Some value → take_first value items seen ≡ Ok (record seen { items = drop 1 items; ops = seen.ops + 1; recvs = seen.recvs + 1 })
+take_again : (value : Message) (items : List Message) (seen : Seen) → slice_get items 0 ≡ Some value
+    → take_first value items seen ≡ Ok (record seen { items = drop 1 items; ops = seen.ops + 1; recvs = seen.recvs + 1 })
 take_again value [] seen first = absurd (cc)
 take_again value (x ∷ xs) seen first =
     let same : x ≡ value = cc in
     rw (eq-eqb x value same) refl
 
-take_taken : (value : Message) (items : List Message) (seen after : Seen) → take_first value items seen ≡ Ok after → (slice_get items 0 ≡ Some value) × (after ≡ record seen { items = drop 1 items; ops = seen.ops + 1; recvs = seen.recvs + 1 })
+take_taken : (value : Message) (items : List Message) (seen after : Seen) → take_first value items seen ≡ Ok after
+    → (slice_get items 0 ≡ Some value) × (after ≡ record seen { items = drop 1 items; ops = seen.ops + 1; recvs = seen.recvs + 1 })
 take_taken value [] seen after e = absurd (cc)
 take_taken value (x ∷ xs) seen after e =
     let test = wanted_ok (x == value) WrongValue (Ok (record seen { items = xs; ops = seen.ops + 1; recvs = seen.recvs + 1 })) after e in
     (ap Some (eqb-true x value test.0), sym (same_ok _ after test.1))
 
-effect_again : (kind : Kind) (value : Message) (seen : Seen) → IsAllowedEffect kind seen.capacity seen.items value → effect_of kind value seen ≡ Ok (after_seen kind value seen)
+effect_again : (kind : Kind) (value : Message) (seen : Seen) → IsAllowedEffect kind seen.capacity seen.items value
+    → effect_of kind value seen ≡ Ok (after_seen kind value seen)
 effect_again Send value seen room = rw (lt-ltb (length seen.items) seen.capacity room, add-zero seen.recvs) refl
 effect_again Recv value seen first = take_again value seen.items seen first ∙ rw (add-zero seen.sends) refl
 
-effect_taken : (kind : Kind) (value : Message) (seen after : Seen) → effect_of kind value seen ≡ Ok after → IsAllowedEffect kind seen.capacity seen.items value × (after ≡ after_seen kind value seen)
+effect_taken : (kind : Kind) (value : Message) (seen after : Seen) → effect_of kind value seen ≡ Ok after
+    → IsAllowedEffect kind seen.capacity seen.items value × (after ≡ after_seen kind value seen)
 effect_taken Send value seen after e =
-    let test = wanted_ok (nat_lt (length seen.items) seen.capacity) Full (Ok (record seen { items = seen.items ++ value ∷ []; ops = seen.ops + 1; sends = seen.sends + 1 })) after e in
+    let test = wanted_ok (nat_lt (length seen.items) seen.capacity) Full
+    (Ok (record seen { items = seen.items ++ value ∷ []; ops = seen.ops + 1; sends = seen.sends + 1 })) after e in
     (ltb-true (length seen.items) seen.capacity test.0, sym (same_ok _ after test.1) ∙ rw (add-zero seen.recvs) refl)
 effect_taken Recv value seen after e =
     let taken = take_taken value seen.items seen after e in
     (taken.0, taken.1 ∙ rw (add-zero seen.sends) refl)
 
-pos_of : (earlier : List Entry) (contents : List (List Message)) (b capacity : ℕ) (kind : Kind) → next_pos kind (seen_of earlier contents b capacity) ≡ count_of_kind earlier b kind
+pos_of : (earlier : List Entry) (contents : List (List Message)) (b capacity : ℕ) (kind : Kind)
+    → next_pos kind (seen_of earlier contents b capacity) ≡ count_of_kind earlier b kind
 pos_of earlier contents b capacity Send = refl
 pos_of earlier contents b capacity Recv = refl
 
 -- an entry that may come is taken
-pub among_again : (caps : List ℕ) (earlier : List Entry) (contents : List (List Message)) (e : Entry) → length contents ≡ length caps → IsNext caps earlier contents e → entry_among e (known_from earlier contents 0 caps) ≡ Ok (known_from (earlier ++ e ∷ []) (after_entry contents e) 0 caps)
+pub among_again : (caps : List ℕ) (earlier : List Entry) (contents : List (List Message)) (e : Entry) → length contents ≡ length caps
+    → IsNext caps earlier contents e → entry_among e (known_from earlier contents 0 caps) ≡ Ok (known_from (earlier ++ e ∷ []) (after_entry contents e) 0 caps)
 unfolding entry_among entry_on
 among_again caps earlier contents e long next =
     let seen = seen_of earlier contents e.buffer.0 (get_or caps e.buffer.0 0) in
     let op : (e.op == seen.ops) ≡ true = eq-eqb e.op seen.ops next.op in
-    let pos : (e.pos == next_pos e.kind seen) ≡ true = eq-eqb e.pos (next_pos e.kind seen) (next.pos ∙ sym (pos_of earlier contents e.buffer.0 (get_or caps e.buffer.0 0) e.kind)) in
+    let pos : (e.pos == next_pos e.kind seen) ≡ true =
+    eq-eqb e.pos (next_pos e.kind seen) (next.pos ∙ sym (pos_of earlier contents e.buffer.0 (get_or caps e.buffer.0 0) e.kind)) in
     let effect = effect_again e.kind e.value seen next.allowed in
     rw (slice_get-known earlier contents caps e.buffer.0 next.known, op, pos, effect) (ap Ok (known_after caps earlier contents e long next.known))
 
@@ -138,12 +176,16 @@ same_some : (x y : Seen) → Some x ≡ Some y → x ≡ y
 same_some x y e = cc
 
 -- an entry that is taken may come
-pub among_taken : (caps : List ℕ) (earlier : List Entry) (contents : List (List Message)) (e : Entry) (after : List Seen) → length contents ≡ length caps → entry_among e (known_from earlier contents 0 caps) ≡ Ok after → IsNext caps earlier contents e × (after ≡ known_from (earlier ++ e ∷ []) (after_entry contents e) 0 caps)
+pub among_taken : (caps : List ℕ) (earlier : List Entry) (contents : List (List Message)) (e : Entry) (after : List Seen) → length contents ≡ length caps
+    → entry_among e (known_from earlier contents 0 caps) ≡ Ok after → IsNext caps earlier contents e
+    × (after ≡ known_from (earlier ++ e ∷ []) (after_entry contents e) 0 caps)
 unfolding entry_among entry_on
 among_taken caps earlier contents e after long taken =
-    let found = bind_ok (or_range (slice_get (known_from earlier contents 0 caps) e.buffer.0)) (λ seen. entry_on e seen >>= λ next. Ok (slice_set (known_from earlier contents 0 caps) e.buffer.0 next)) after taken in
+    let found = bind_ok (or_range (slice_get (known_from earlier contents 0 caps) e.buffer.0))
+    (λ seen. entry_on e seen >>= λ next. Ok (slice_set (known_from earlier contents 0 caps) e.buffer.0 next)) after taken in
     let at = some_range (slice_get (known_from earlier contents 0 caps) e.buffer.0) found.0 found.1 in
-    let inside : e.buffer.0 < length caps = omega (arith, slice_get_within (known_from earlier contents 0 caps) e.buffer.0 found.0 at, length-known_from earlier contents 0 caps) in
+    let inside : e.buffer.0 < length caps =
+    omega (arith, slice_get_within (known_from earlier contents 0 caps) e.buffer.0 found.0 at, length-known_from earlier contents 0 caps) in
     let seen = seen_of earlier contents e.buffer.0 (get_or caps e.buffer.0 0) in
     let same : found.0 ≡ seen = same_some found.0 seen (sym at ∙ slice_get-known earlier contents caps e.buffer.0 inside) in
     let stepped = bind_ok (entry_on e found.0) (λ next. Ok (slice_set (known_from earlier contents 0 caps) e.buffer.0 next)) after found.2 in
@@ -157,7 +199,8 @@ among_taken caps earlier contents e after long taken =
         op = eqb-true e.op seen.ops op.0;
         pos = eqb-true e.pos (next_pos e.kind seen) pos.0 ∙ pos_of earlier contents e.buffer.0 (get_or caps e.buffer.0 0) e.kind;
       },
-      sym (same_ok _ after stepped.2) ∙ ap (λ (next : Seen). slice_set (known_from earlier contents 0 caps) e.buffer.0 next) effect.1 ∙ known_after caps earlier contents e long inside,
+      sym (same_ok _ after stepped.2) ∙ ap (λ (next : Seen). slice_set (known_from earlier contents 0 caps) e.buffer.0 next) effect.1
+          ∙ known_after caps earlier contents e long inside,
     )
 
 nothing_in : (all : List ℕ) (b : ℕ) → items_of (empty_buffers all) b ≡ []

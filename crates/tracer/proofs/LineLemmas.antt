@@ -1,5 +1,6 @@
 -- A line's text as it is written, and lines that have the number of their item.
-use Rattle.std.proofs.Common.{◌≡◌, ℕ, zero, suc, ◌+◌, ◌<◌, Bool, true, List, [], ◌∷◌, ◌++◌, Option, length, get_or, take, drop, map, refl, sym, ap, ◌∙◌, append_assoc, add-zero, zero-add, arith}
+use Rattle.std.proofs.Common.{◌≡◌, ℕ, zero, suc, ◌+◌, ◌<◌, Bool, true, List, [], ◌∷◌, ◌++◌, Option, length, get_or, take, drop, map, refl, sym, ap, ◌∙◌}
+use Rattle.std.proofs.Common.{append_assoc, add-zero, zero-add, arith}
 use Rattle.std.specs.Io.KnownBytes.{Appends}
 use Rattle.tracer.specs.Sinks.{Outs}
 use Rattle.tracer.proofs.SinkLemmas.{appends_then, outs_then, outs_before}
@@ -22,57 +23,88 @@ flat_map-map f g [] = refl
 flat_map-map f g (x ∷ xs) = ap (λ (t : List ℕ). f (g x) ++ t) (flat_map-map f g xs)
 
 -- a line as its first word, its pieces, its numbers and a line feed
-pub line_text : (w : List ℕ) (ps : List Piece) (ns : List ℕ) → line_of (w ∷ (map text_of ps ++ map decimal ns)) ≡ w ++ (flat_map (λ p. spaced (text_of p)) ps ++ (flat_map (λ n. spaced (decimal n)) ns ++ 10 ∷ []))
+pub line_text : (w : List ℕ) (ps : List Piece) (ns : List ℕ) → line_of (w ∷ (map text_of ps ++ map decimal ns))
+    ≡ w ++ (flat_map (λ p. spaced (text_of p)) ps ++ (flat_map (λ n. spaced (decimal n)) ns ++ 10 ∷ []))
 line_text w ps ns =
-    let front : join_with_byte 32 (w ∷ (map text_of ps ++ map decimal ns)) ≡ w ++ flat_map spaced (map text_of ps ++ map decimal ns) = join_spaced w (map text_of ps ++ map decimal ns) in
-    let both : flat_map spaced (map text_of ps ++ map decimal ns) ≡ flat_map (λ p. spaced (text_of p)) ps ++ flat_map (λ n. spaced (decimal n)) ns = flat_map-append spaced (map text_of ps) (map decimal ns) ∙ rw (flat_map-map spaced text_of ps, flat_map-map spaced decimal ns) refl in
-    ap (λ (t : List ℕ). t ++ 10 ∷ []) (front ∙ ap (λ (t : List ℕ). w ++ t) both) ∙ append_assoc w _ (10 ∷ []) ∙ ap (λ (t : List ℕ). w ++ t) (append_assoc (flat_map (λ p. spaced (text_of p)) ps) (flat_map (λ n. spaced (decimal n)) ns) (10 ∷ []))
+    let front : join_with_byte 32 (w ∷ (map text_of ps ++ map decimal ns)) ≡ w ++ flat_map spaced (map text_of ps ++ map decimal ns) =
+    join_spaced w (map text_of ps ++ map decimal ns) in
+    let both : flat_map spaced (map text_of ps ++ map decimal ns) ≡ flat_map (λ p. spaced (text_of p)) ps ++ flat_map (λ n. spaced (decimal n)) ns =
+    flat_map-append spaced (map text_of ps) (map decimal ns) ∙ rw (flat_map-map spaced text_of ps, flat_map-map spaced decimal ns) refl in
+    ap (λ (t : List ℕ). t ++ 10 ∷ []) (front ∙ ap (λ (t : List ℕ). w ++ t) both) ∙ append_assoc w _ (10 ∷ [])
+    ∙ ap (λ (t : List ℕ). w ++ t) (append_assoc (flat_map (λ p. spaced (text_of p)) ps) (flat_map (λ n. spaced (decimal n)) ns) (10 ∷ []))
 
 -- numbered lines, cut round the item at i
-pub numbered_at : {X : Type 0} (line : ℕ → X → List (List ℕ)) (b : ℕ) (xs : List X) (i : ℕ) (d : X) → i < length xs → numbered line b xs ≡ numbered line b (take i xs) ++ (line (b + i) (get_or xs i d) ∷ numbered line (b + i + 1) (drop (i + 1) xs))
+pub numbered_at : {X : Type 0} (line : ℕ → X → List (List ℕ)) (b : ℕ) (xs : List X) (i : ℕ) (d : X) → i < length xs
+    → numbered line b xs ≡ numbered line b (take i xs) ++ (line (b + i) (get_or xs i d) ∷ numbered line (b + i + 1) (drop (i + 1) xs))
 numbered_at line b [] i d lt = absurd (omega arith)
 numbered_at line b (x ∷ xs) zero d lt =
     rw (add-zero b) refl
 numbered_at line b (x ∷ xs) (suc i) d lt =
     let shift : b + 1 + i ≡ b + suc i = omega arith in
-    let below : numbered line (b + 1) xs ≡ numbered line (b + 1) (take i xs) ++ (line (b + 1 + i) (get_or xs i d) ∷ numbered line (b + 1 + i + 1) (drop (i + 1) xs)) = numbered_at line (b + 1) xs i d (omega arith) in
+    let below : numbered line (b + 1) xs ≡ numbered line (b + 1) (take i xs)
+    ++ (line (b + 1 + i) (get_or xs i d) ∷ numbered line (b + 1 + i + 1) (drop (i + 1) xs)) = numbered_at line (b + 1) xs i d (omega arith) in
     let next : suc i + 1 ≡ suc (i + 1) = omega arith in
     rw next (ap (λ (t : List (List (List ℕ))). line b x ∷ t) (rw (← shift) below))
 
 -- one item more
-pub numbered_more : {X : Type 0} (line : ℕ → X → List (List ℕ)) (b : ℕ) (xs : List X) (i : ℕ) (d : X) → i < length xs → numbered line b (take (i + 1) xs) ≡ numbered line b (take i xs) ++ line (b + i) (get_or xs i d) ∷ []
+pub numbered_more : {X : Type 0} (line : ℕ → X → List (List ℕ)) (b : ℕ) (xs : List X) (i : ℕ) (d : X) → i < length xs
+    → numbered line b (take (i + 1) xs) ≡ numbered line b (take i xs) ++ line (b + i) (get_or xs i d) ∷ []
 numbered_more line b [] i d lt = absurd (omega arith)
 numbered_more line b (x ∷ xs) zero d lt = rw (add-zero b) refl
 numbered_more line b (x ∷ xs) (suc i) d lt =
     let shift : b + 1 + i ≡ b + suc i = omega arith in
-    let below : numbered line (b + 1) (take (i + 1) xs) ≡ numbered line (b + 1) (take i xs) ++ line (b + 1 + i) (get_or xs i d) ∷ [] = numbered_more line (b + 1) xs i d (omega arith) in
+    let below : numbered line (b + 1) (take (i + 1) xs) ≡ numbered line (b + 1) (take i xs) ++ line (b + 1 + i) (get_or xs i d) ∷ [] =
+    numbered_more line (b + 1) xs i d (omega arith) in
     let next : suc i + 1 ≡ suc (i + 1) = omega arith in
     rw next (ap (λ (t : List (List (List ℕ))). line b x ∷ t) (rw (← shift) below))
 
-pub numbered-map : {X Y : Type 0} (line : ℕ → Y → List (List ℕ)) (f : X → Y) (b : ℕ) (xs : List X) → numbered line b (map f xs) ≡ numbered (λ k x. line k (f x)) b xs
+pub numbered-map : {X Y : Type 0} (line : ℕ → Y → List (List ℕ)) (f : X → Y) (b : ℕ) (xs : List X)
+    → numbered line b (map f xs) ≡ numbered (λ k x. line k (f x)) b xs
 numbered-map line f b [] = refl
 numbered-map line f b (x ∷ xs) = ap (λ (t : List (List (List ℕ))). line b (f x) ∷ t) (numbered-map line f (b + 1) xs)
 
 -- the lines before are out, and this one
-pub numbered_out : {X : Type 0} (line : ℕ → X → List (List ℕ)) (xs : List X) (i : ℕ) (d : X) (old mid new : Option (List ℕ)) → i < length xs → Appends old mid (flat_map line_of (numbered line 0 (take i xs))) → Appends mid new (line_of (line i (get_or xs i d))) → Appends old new (flat_map line_of (numbered line 0 (take (i + 1) xs)))
+pub numbered_out : {X : Type 0} (line : ℕ → X → List (List ℕ)) (xs : List X) (i : ℕ) (d : X) (old mid new : Option (List ℕ)) → i < length xs
+    → Appends old mid (flat_map line_of (numbered line 0 (take i xs))) → Appends mid new (line_of (line i (get_or xs i d)))
+    → Appends old new (flat_map line_of (numbered line 0 (take (i + 1) xs)))
 numbered_out line xs i d old mid new lt front here =
-    let more : numbered line 0 (take (i + 1) xs) ≡ numbered line 0 (take i xs) ++ line i (get_or xs i d) ∷ [] = numbered_more line 0 xs i d lt ∙ rw (zero-add i) refl in
-    let text : flat_map line_of (numbered line 0 (take (i + 1) xs)) ≡ flat_map line_of (numbered line 0 (take i xs)) ++ line_of (line i (get_or xs i d)) = ap (flat_map line_of) more ∙ flat_map-append line_of (numbered line 0 (take i xs)) (line i (get_or xs i d) ∷ []) ∙ ap (λ (t : List ℕ). flat_map line_of (numbered line 0 (take i xs)) ++ t) (append-nil (line_of (line i (get_or xs i d)))) in
+    let more : numbered line 0 (take (i + 1) xs) ≡ numbered line 0 (take i xs) ++ line i (get_or xs i d) ∷ [] = numbered_more line 0 xs i d lt
+    ∙ rw (zero-add i) refl in
+    let text : flat_map line_of (numbered line 0 (take (i + 1) xs)) ≡ flat_map line_of (numbered line 0 (take i xs)) ++ line_of (line i (get_or xs i d)) =
+    ap (flat_map line_of) more ∙ flat_map-append line_of (numbered line 0 (take i xs)) (line i (get_or xs i d) ∷ [])
+    ∙ ap (λ (t : List ℕ). flat_map line_of (numbered line 0 (take i xs)) ++ t) (append-nil (line_of (line i (get_or xs i d)))) in
     rw text (appends_then old mid new _ _ front here)
 
 -- the lines before are out, and this one failed
-pub numbered_failed : {X : Type 0} (line : ℕ → X → List (List ℕ)) (xs : List X) (i : ℕ) (d : X) (failed : Bool) (old mid new : Option (List ℕ)) → i < length xs → Appends old mid (flat_map line_of (numbered line 0 (take i xs))) → failed ≡ true → Outs failed mid new (line_of (line i (get_or xs i d))) → Outs failed old new (flat_map line_of (numbered line 0 xs))
+pub numbered_failed : {X : Type 0} (line : ℕ → X → List (List ℕ)) (xs : List X) (i : ℕ) (d : X) (failed : Bool) (old mid new : Option (List ℕ)) → i < length xs
+    → Appends old mid (flat_map line_of (numbered line 0 (take i xs))) → failed ≡ true → Outs failed mid new (line_of (line i (get_or xs i d)))
+    → Outs failed old new (flat_map line_of (numbered line 0 xs))
 numbered_failed line xs i d failed old mid new lt front e here =
     let rest = numbered line (0 + i + 1) (drop (i + 1) xs) in
     let cut : numbered line 0 xs ≡ numbered line 0 (take i xs) ++ (line i (get_or xs i d) ∷ rest) = numbered_at line 0 xs i d lt ∙ rw (zero-add i) refl in
-    let text : flat_map line_of (numbered line 0 xs) ≡ flat_map line_of (numbered line 0 (take i xs)) ++ (line_of (line i (get_or xs i d)) ++ flat_map line_of rest) = ap (flat_map line_of) cut ∙ flat_map-append line_of (numbered line 0 (take i xs)) (line i (get_or xs i d) ∷ rest) in
+    let text : flat_map line_of (numbered line 0 xs) ≡ flat_map line_of (numbered line 0 (take i xs))
+    ++ (line_of (line i (get_or xs i d)) ++ flat_map line_of rest) = ap (flat_map line_of) cut
+    ∙ flat_map-append line_of (numbered line 0 (take i xs)) (line i (get_or xs i d) ∷ rest) in
     rw text (outs_then failed old mid new _ _ front (outs_before failed mid new (line_of (line i (get_or xs i d))) (flat_map line_of rest) e here))
 
 -- the text of a trace in the parts in which it is written
-pub spelling_parts : {V : Type 0} (items : V → List ℕ) (caps : List ℕ) (es : List Entry) (left : List V) → spelling caps es (map items left) ≡ line_of head_pieces ++ (line_of (count_pieces (length caps)) ++ (flat_map line_of (numbered cap_pieces 0 caps) ++ (flat_map (λ e. line_of (entry_pieces e)) es ++ (flat_map line_of (numbered (λ b v. left_pieces b (items v)) 0 left) ++ line_of end_pieces))))
+pub spelling_parts : {V : Type 0} (items : V → List ℕ) (caps : List ℕ) (es : List Entry) (left : List V)
+    → spelling caps es (map items left) ≡ line_of head_pieces
+    ++ (line_of (count_pieces (length caps))
+    ++ (flat_map line_of (numbered cap_pieces 0 caps)
+    ++ (flat_map (λ e. line_of (entry_pieces e)) es ++ (flat_map line_of (numbered (λ b v. left_pieces b (items v)) 0 left) ++ line_of end_pieces))))
 unfolding spelling lines_of
 spelling_parts items caps es left =
-    let last : flat_map line_of (numbered left_pieces 0 (map items left) ++ end_pieces ∷ []) ≡ flat_map line_of (numbered (λ b v. left_pieces b (items v)) 0 left) ++ line_of end_pieces = flat_map-append line_of (numbered left_pieces 0 (map items left)) (end_pieces ∷ []) ∙ ap (λ (t : List (List (List ℕ))). flat_map line_of t ++ line_of end_pieces) (numbered-map left_pieces items 0 left) in
-    let middle : flat_map line_of (map entry_pieces es ++ (numbered left_pieces 0 (map items left) ++ end_pieces ∷ [])) ≡ flat_map (λ e. line_of (entry_pieces e)) es ++ (flat_map line_of (numbered (λ b v. left_pieces b (items v)) 0 left) ++ line_of end_pieces) = flat_map-append line_of (map entry_pieces es) (numbered left_pieces 0 (map items left) ++ end_pieces ∷ []) ∙ rw (flat_map-map line_of entry_pieces es, last) refl in
-    let front : flat_map line_of (numbered cap_pieces 0 caps ++ (map entry_pieces es ++ (numbered left_pieces 0 (map items left) ++ end_pieces ∷ []))) ≡ flat_map line_of (numbered cap_pieces 0 caps) ++ (flat_map (λ e. line_of (entry_pieces e)) es ++ (flat_map line_of (numbered (λ b v. left_pieces b (items v)) 0 left) ++ line_of end_pieces)) = flat_map-append line_of (numbered cap_pieces 0 caps) _ ∙ ap (λ (t : List ℕ). flat_map line_of (numbered cap_pieces 0 caps) ++ t) middle in
+    let last : flat_map line_of (numbered left_pieces 0 (map items left) ++ end_pieces ∷ [])
+    ≡ flat_map line_of (numbered (λ b v. left_pieces b (items v)) 0 left) ++ line_of end_pieces =
+    flat_map-append line_of (numbered left_pieces 0 (map items left)) (end_pieces ∷ [])
+    ∙ ap (λ (t : List (List (List ℕ))). flat_map line_of t ++ line_of end_pieces) (numbered-map left_pieces items 0 left) in
+    let middle : flat_map line_of (map entry_pieces es ++ (numbered left_pieces 0 (map items left) ++ end_pieces ∷ []))
+    ≡ flat_map (λ e. line_of (entry_pieces e)) es ++ (flat_map line_of (numbered (λ b v. left_pieces b (items v)) 0 left) ++ line_of end_pieces) =
+    flat_map-append line_of (map entry_pieces es) (numbered left_pieces 0 (map items left) ++ end_pieces ∷ [])
+    ∙ rw (flat_map-map line_of entry_pieces es, last) refl in
+    let front : flat_map line_of (numbered cap_pieces 0 caps ++ (map entry_pieces es ++ (numbered left_pieces 0 (map items left) ++ end_pieces ∷ [])))
+    ≡ flat_map line_of (numbered cap_pieces 0 caps)
+    ++ (flat_map (λ e. line_of (entry_pieces e)) es ++ (flat_map line_of (numbered (λ b v. left_pieces b (items v)) 0 left) ++ line_of end_pieces)) =
+    flat_map-append line_of (numbered cap_pieces 0 caps) _ ∙ ap (λ (t : List ℕ). flat_map line_of (numbered cap_pieces 0 caps) ++ t) middle in
     ap (λ (t : List ℕ). line_of head_pieces ++ (line_of (count_pieces (length caps)) ++ t)) front

@@ -13,13 +13,16 @@ use Rattle.tracer.specs.declared.verdicts.Reason.TheVariants.{Spelling, Range}
 use Rattle.tracer.specs.declared.stages.Stage.{Stage}
 use Rattle.tracer.specs.declared.stages.Stage.TheVariants as stage
 use Rattle.tracer.specs.TraceText.{cap_pieces, count_pieces}
-use Rattle.tracer.specs.Judging.{Progress, fresh, wanted, piece_at, word_at, digits_at, ended, in_range, is_value, count_digits, count_line, capacity_digits, capacity_line, whole_line, step}
+use Rattle.tracer.specs.Judging.{Progress, fresh, wanted, piece_at, word_at, digits_at, ended, in_range, is_value, count_digits, count_line, capacity_digits}
+use Rattle.tracer.specs.Judging.{capacity_line, whole_line, step}
 use Rattle.tracer.proofs.SplitLemmas.{IsLine, decimal_lacks, pieces_again}
-use Rattle.tracer.proofs.ReadLemmas.{bind_ok, wanted_ok, same_ok, piece_taken, word_taken, digits_taken, ended_taken, IsInRange, in_range_taken, is_value_taken, decimal_is_number, is_value_again}
+use Rattle.tracer.proofs.ReadLemmas.{bind_ok, wanted_ok, same_ok, piece_taken, word_taken, digits_taken, ended_taken, IsInRange, in_range_taken, is_value_taken}
+use Rattle.tracer.proofs.ReadLemmas.{decimal_is_number, is_value_again}
 
 -- ---- lines of one spelling
 
-pub whole_taken : (want : List ℕ) (next : Stage) (line : List ℕ) (s after : Progress) → whole_line want next line s ≡ Ok after → (line ≡ want) × (after ≡ record s { at = next })
+pub whole_taken : (want : List ℕ) (next : Stage) (line : List ℕ) (s after : Progress) → whole_line want next line s ≡ Ok after
+    → (line ≡ want) × (after ≡ record s { at = next })
 unfolding whole_line
 whole_taken want next line s after taken =
     let test = wanted_ok (bytes_eq line want) Spelling (Ok (record s { at = next })) after taken in
@@ -43,7 +46,8 @@ pub count_line_again : (n : ℕ) (s : Progress) → 1 ≤ n → n ≤ BUFFERS �
 unfolding count_line
 count_line_again n s some few = rw (count_digits_again n (omega arith), number_to-decimal BUFFERS n (omega arith) few, lt-ltb 0 n (omega arith)) refl
 
-two_shape : (word : List ℕ) (ps rest : List (List ℕ)) (p q : List ℕ) (behind : List (List ℕ)) → ps ≡ word ∷ rest → rest ≡ p ∷ behind → behind ≡ [] → p ≡ q → ps ≡ word ∷ q ∷ []
+two_shape : (word : List ℕ) (ps rest : List (List ℕ)) (p q : List ℕ) (behind : List (List ℕ)) → ps ≡ word ∷ rest → rest ≡ p ∷ behind → behind ≡ [] → p ≡ q
+    → ps ≡ word ∷ q ∷ []
 two_shape word ps rest p q behind e1 e2 e3 e4 = e1 ∙ ap (λ (t : List (List ℕ)). word ∷ t) (e2 ∙ rw (e3, e4) refl)
 
 count_digits_taken : (ps : List (List ℕ)) (digits : List ℕ) → count_digits ps ≡ Ok digits → ps ≡ codes "buffers" ∷ digits ∷ []
@@ -52,7 +56,8 @@ count_digits_taken ps digits taken =
     let word = bind_ok (word_at (codes "buffers") ps) (λ rest. digits_at rest >>= λ n. ended n.1 >>= λ _. Ok n.0) digits taken in
     let number = bind_ok (digits_at word.0) (λ n. ended n.1 >>= λ _. Ok n.0) digits word.2 in
     let last = bind_ok (ended number.0.1) (λ _. Ok number.0.0) digits number.2 in
-    two_shape (codes "buffers") ps word.0 number.0.0 digits number.0.1 (word_taken (codes "buffers") ps word.0 word.1) (digits_taken word.0 number.0 number.1) (ended_taken number.0.1 last.0 last.1) (same_ok number.0.0 digits last.2)
+    two_shape (codes "buffers") ps word.0 number.0.0 digits number.0.1 (word_taken (codes "buffers") ps word.0 word.1) (digits_taken word.0 number.0 number.1)
+    (ended_taken number.0.1 last.0 last.1) (same_ok number.0.0 digits last.2)
 
 -- what it says that the number of buffers was taken
 pub record CountTaken (ps : List (List ℕ)) (s after : Progress) (n : ℕ) : Type 0 where
@@ -61,16 +66,23 @@ pub record CountTaken (ps : List (List ℕ)) (s after : Progress) (n : ℕ) : Ty
   pub few : n ≤ BUFFERS
   pub is : after ≡ record s { at = stage.Capacities n; buffers = [] }
 
-count_found : (ps : List (List ℕ)) (digits : List ℕ) (n : ℕ) (s after : Progress) → ps ≡ codes "buffers" ∷ digits ∷ [] → IsInRange BUFFERS digits n → 0 < n → record s { at = stage.Capacities n; buffers = [] } ≡ after → CountTaken ps s after n
-count_found ps digits n s after shape range some is = record { spelled = shape ∙ ap (λ (d : List ℕ). codes "buffers" ∷ d ∷ []) range.spelled; some = omega arith; few = range.within; is = sym is }
+count_found : (ps : List (List ℕ)) (digits : List ℕ) (n : ℕ) (s after : Progress) → ps ≡ codes "buffers" ∷ digits ∷ [] → IsInRange BUFFERS digits n → 0 < n
+    → record s { at = stage.Capacities n; buffers = [] } ≡ after → CountTaken ps s after n
+count_found ps digits n s after shape range some is =
+    record { spelled = shape ∙ ap (λ (d : List ℕ). codes "buffers" ∷ d ∷ []) range.spelled; some = omega arith; few = range.within; is = sym is }
 
 pub count_line_taken : (ps : List (List ℕ)) (s after : Progress) → count_line ps s ≡ Ok after → (n : ℕ) × CountTaken ps s after n
 unfolding count_line
 count_line_taken ps s after taken =
-    let digits = bind_ok (count_digits ps) (λ digits. in_range BUFFERS digits >>= λ count. wanted (nat_lt 0 count) Range (Ok (record s { at = stage.Capacities count; buffers = [] }))) after taken in
-    let count = bind_ok (in_range BUFFERS digits.0) (λ count. wanted (nat_lt 0 count) Range (Ok (record s { at = stage.Capacities count; buffers = [] }))) after digits.2 in
-    let some = wanted_ok (nat_lt 0 count.0) Range (Ok (record s { at = stage.Capacities count.0; buffers = [] })) after count.2 in
-    (count.0, count_found ps digits.0 count.0 s after (count_digits_taken ps digits.0 digits.1) (in_range_taken BUFFERS digits.0 count.0 (lit< tt) count.1) (ltb-true 0 count.0 some.0) (same_ok _ after some.1))
+    let digits = bind_ok (count_digits ps) (λ digits. in_range BUFFERS digits >>= λ count.
+    wanted (nat_lt 0 count) Range (Ok (record s { at = stage.Capacities count; buffers = [] }))) after taken in
+    let count = bind_ok (in_range BUFFERS digits.0) (λ count. wanted (nat_lt 0 count) Range (Ok (record s { at = stage.Capacities count; buffers = [] }))) after
+    digits.2 in
+    let some = wanted_ok (nat_lt 0 count.0) Range (Ok (record s { at = stage.Capacities count.0; buffers = [] })) after count.2 in (
+      count.0,
+      count_found ps digits.0 count.0 s after (count_digits_taken ps digits.0 digits.1) (in_range_taken BUFFERS digits.0 count.0 (lit< tt) count.1)
+          (ltb-true 0 count.0 some.0) (same_ok _ after some.1),
+    )
 
 count_is_line : (n : ℕ) → n < 2 ^ 64 → IsLine (count_pieces n)
 count_is_line n small = record {
@@ -81,10 +93,12 @@ count_is_line n small = record {
 pub count_is_line_of : (n : ℕ) → n ≤ BUFFERS → IsLine (count_pieces n)
 count_is_line_of n few = count_is_line n (omega arith)
 
-pub step_count : (n : ℕ) (s : Progress) → s.at ≡ stage.Count → 1 ≤ n → n ≤ BUFFERS → step s (join_with_byte 32 (count_pieces n)) ≡ Ok (record s { at = stage.Capacities n; buffers = [] })
+pub step_count : (n : ℕ) (s : Progress) → s.at ≡ stage.Count → 1 ≤ n → n ≤ BUFFERS
+    → step s (join_with_byte 32 (count_pieces n)) ≡ Ok (record s { at = stage.Capacities n; buffers = [] })
 unfolding step count_line
 step_count n s at some few =
-    rw at (ap (λ (ps : List (List ℕ)). count_line ps s) (pieces_again (codes "buffers") (decimal n ∷ []) (count_is_line_of n few)) ∙ count_line_again n s some few)
+    rw at (ap (λ (ps : List (List ℕ)). count_line ps s) (pieces_again (codes "buffers") (decimal n ∷ []) (count_is_line_of n few))
+    ∙ count_line_again n s some few)
 
 -- ---- a capacity
 
@@ -100,25 +114,38 @@ capacity_digits_again : (b capacity : ℕ) → b < 2 ^ 64 → capacity < 2 ^ 64 
 unfolding capacity_digits
 capacity_digits_again b capacity fits small = rw (is_value_again b fits, decimal_is_number capacity small) refl
 
-pub capacity_line_again : (at : Stage) (count : ℕ) (caps : List ℕ) (capacity : ℕ) → IsCapacity capacity → length caps ≤ BUFFERS → capacity_line count (cap_pieces (length caps) capacity) (opened at caps) ≡ Ok (opened (behind_cap (length caps + 1) count) (caps ++ capacity ∷ []))
+pub capacity_line_again : (at : Stage) (count : ℕ) (caps : List ℕ) (capacity : ℕ) → IsCapacity capacity → length caps ≤ BUFFERS
+    → capacity_line count (cap_pieces (length caps) capacity) (opened at caps) ≡ Ok (opened (behind_cap (length caps + 1) count) (caps ++ capacity ∷ []))
 unfolding capacity_line
 capacity_line_again at count caps capacity small few =
     let below : capacity < 2 ^ 64 = (let h = small.1 in omega arith) in
     let some : 0 < capacity = (let h = small.0 in omega arith) in
-    rw (length-map caps fresh, capacity_digits_again (length caps) capacity (omega arith) below, number_to-decimal CAPACITY capacity below small.1, lt-ltb 0 capacity some, map_push fresh caps capacity) refl
+    rw (
+      length-map caps fresh,
+      capacity_digits_again (length caps) capacity (omega arith) below,
+      number_to-decimal CAPACITY capacity below small.1,
+      lt-ltb 0 capacity some,
+      map_push fresh caps capacity,
+    ) refl
 
-three_shape : (word : List ℕ) (ps rest behind last : List (List ℕ)) (p p' q q' : List ℕ) → ps ≡ word ∷ rest → rest ≡ p ∷ behind → p ≡ p' → behind ≡ q ∷ last → last ≡ [] → q ≡ q' → ps ≡ word ∷ p' ∷ q' ∷ []
+three_shape : (word : List ℕ) (ps rest behind last : List (List ℕ)) (p p' q q' : List ℕ) → ps ≡ word ∷ rest → rest ≡ p ∷ behind → p ≡ p' → behind ≡ q ∷ last
+    → last ≡ [] → q ≡ q' → ps ≡ word ∷ p' ∷ q' ∷ []
 three_shape word ps rest behind last p p' q q' e1 e2 e3 e4 e5 e6 = e1 ∙ ap (λ (t : List (List ℕ)). word ∷ t) (e2 ∙ rw (e3, e4, e5, e6) refl)
 
 capacity_digits_taken : (b : ℕ) (ps : List (List ℕ)) (digits : List ℕ) → capacity_digits b ps ≡ Ok digits → ps ≡ codes "cap" ∷ decimal b ∷ digits ∷ []
 unfolding capacity_digits
 capacity_digits_taken b ps digits taken =
-    let word = bind_ok (word_at (codes "cap") ps) (λ rest. piece_at rest >>= λ number. wanted (is_value number.0 b) Spelling (digits_at number.1) >>= λ capacity. ended capacity.1 >>= λ _. Ok capacity.0) digits taken in
-    let number = bind_ok (piece_at word.0) (λ number. wanted (is_value number.0 b) Spelling (digits_at number.1) >>= λ capacity. ended capacity.1 >>= λ _. Ok capacity.0) digits word.2 in
-    let capacity = bind_ok (wanted (is_value number.0.0 b) Spelling (digits_at number.0.1)) (λ capacity. ended capacity.1 >>= λ _. Ok capacity.0) digits number.2 in
+    let word = bind_ok (word_at (codes "cap") ps) (λ rest. piece_at rest >>= λ number.
+    wanted (is_value number.0 b) Spelling (digits_at number.1) >>= λ capacity. ended capacity.1 >>= λ _. Ok capacity.0) digits taken in
+    let number = bind_ok (piece_at word.0) (λ number. wanted (is_value number.0 b) Spelling (digits_at number.1) >>= λ capacity. ended capacity.1 >>= λ _.
+    Ok capacity.0) digits word.2 in
+    let capacity = bind_ok (wanted (is_value number.0.0 b) Spelling (digits_at number.0.1)) (λ capacity. ended capacity.1 >>= λ _. Ok capacity.0) digits
+    number.2 in
     let value = wanted_ok (is_value number.0.0 b) Spelling (digits_at number.0.1) capacity.0 capacity.1 in
     let last = bind_ok (ended capacity.0.1) (λ _. Ok capacity.0.0) digits capacity.2 in
-    three_shape (codes "cap") ps word.0 number.0.1 capacity.0.1 number.0.0 (decimal b) capacity.0.0 digits (word_taken (codes "cap") ps word.0 word.1) (piece_taken word.0 number.0 number.1) (is_value_taken number.0.0 b value.0) (digits_taken number.0.1 capacity.0 value.1) (ended_taken capacity.0.1 last.0 last.1) (same_ok capacity.0.0 digits last.2)
+    three_shape (codes "cap") ps word.0 number.0.1 capacity.0.1 number.0.0 (decimal b) capacity.0.0 digits (word_taken (codes "cap") ps word.0 word.1)
+    (piece_taken word.0 number.0 number.1) (is_value_taken number.0.0 b value.0) (digits_taken number.0.1 capacity.0 value.1)
+    (ended_taken capacity.0.1 last.0 last.1) (same_ok capacity.0.0 digits last.2)
 
 -- what it says that a capacity was taken
 pub record CapacityTaken (count : ℕ) (caps : List ℕ) (ps : List (List ℕ)) (after : Progress) (capacity : ℕ) : Type 0 where
@@ -126,21 +153,33 @@ pub record CapacityTaken (count : ℕ) (caps : List ℕ) (ps : List (List ℕ)) 
   pub small : IsCapacity capacity
   pub is : after ≡ opened (behind_cap (length caps + 1) count) (caps ++ capacity ∷ [])
 
-capacity_found : (count : ℕ) (caps : List ℕ) (ps : List (List ℕ)) (digits : List ℕ) (capacity : ℕ) (after : Progress) → ps ≡ codes "cap" ∷ decimal (length (map fresh caps)) ∷ digits ∷ [] → IsInRange CAPACITY digits capacity → 0 < capacity → record { at = behind_cap (length (map fresh caps) + 1) count; buffers = map fresh caps ++ fresh capacity ∷ []; entries = 0 } ≡ after → CapacityTaken count caps ps after capacity
+capacity_found : (count : ℕ) (caps : List ℕ) (ps : List (List ℕ)) (digits : List ℕ) (capacity : ℕ) (after : Progress)
+    → ps ≡ codes "cap" ∷ decimal (length (map fresh caps)) ∷ digits ∷ [] → IsInRange CAPACITY digits capacity → 0 < capacity
+    → record { at = behind_cap (length (map fresh caps) + 1) count; buffers = map fresh caps ++ fresh capacity ∷ []; entries = 0 } ≡ after
+    → CapacityTaken count caps ps after capacity
 capacity_found count caps ps digits capacity after shape range some is = record {
   spelled = shape ∙ rw (length-map caps fresh, range.spelled) refl;
   small = (omega arith, range.within);
   is = sym is ∙ rw (length-map caps fresh, map_push fresh caps capacity) refl;
 }
 
-pub capacity_line_taken : (at : Stage) (count : ℕ) (caps : List ℕ) (ps : List (List ℕ)) (after : Progress) → capacity_line count ps (opened at caps) ≡ Ok after → (capacity : ℕ) × CapacityTaken count caps ps after capacity
+pub capacity_line_taken : (at : Stage) (count : ℕ) (caps : List ℕ) (ps : List (List ℕ)) (after : Progress) → capacity_line count ps (opened at caps) ≡ Ok after
+    → (capacity : ℕ) × CapacityTaken count caps ps after capacity
 unfolding capacity_line
 capacity_line_taken at count caps ps after taken =
     let s = opened at caps in
-    let digits = bind_ok (capacity_digits (length s.buffers) ps) (λ digits. in_range CAPACITY digits >>= λ capacity. wanted (nat_lt 0 capacity) Range (Ok (record s { at = behind_cap (length s.buffers + 1) count; buffers = s.buffers ++ fresh capacity ∷ [] }))) after taken in
-    let capacity = bind_ok (in_range CAPACITY digits.0) (λ capacity. wanted (nat_lt 0 capacity) Range (Ok (record s { at = behind_cap (length s.buffers + 1) count; buffers = s.buffers ++ fresh capacity ∷ [] }))) after digits.2 in
-    let some = wanted_ok (nat_lt 0 capacity.0) Range (Ok (record s { at = behind_cap (length s.buffers + 1) count; buffers = s.buffers ++ fresh capacity.0 ∷ [] })) after capacity.2 in
-    (capacity.0, capacity_found count caps ps digits.0 capacity.0 after (capacity_digits_taken (length s.buffers) ps digits.0 digits.1) (in_range_taken CAPACITY digits.0 capacity.0 (lit< tt) capacity.1) (ltb-true 0 capacity.0 some.0) (same_ok _ after some.1))
+    let digits = bind_ok (capacity_digits (length s.buffers) ps)
+    (λ digits. in_range CAPACITY digits >>= λ capacity. wanted (nat_lt 0 capacity) Range
+    (Ok (record s { at = behind_cap (length s.buffers + 1) count; buffers = s.buffers ++ fresh capacity ∷ [] }))) after taken in
+    let capacity = bind_ok (in_range CAPACITY digits.0)
+    (λ capacity. wanted (nat_lt 0 capacity) Range
+    (Ok (record s { at = behind_cap (length s.buffers + 1) count; buffers = s.buffers ++ fresh capacity ∷ [] }))) after digits.2 in
+    let some = wanted_ok (nat_lt 0 capacity.0) Range
+    (Ok (record s { at = behind_cap (length s.buffers + 1) count; buffers = s.buffers ++ fresh capacity.0 ∷ [] })) after capacity.2 in (
+      capacity.0,
+      capacity_found count caps ps digits.0 capacity.0 after (capacity_digits_taken (length s.buffers) ps digits.0 digits.1)
+          (in_range_taken CAPACITY digits.0 capacity.0 (lit< tt) capacity.1) (ltb-true 0 capacity.0 some.0) (same_ok _ after some.1),
+    )
 
 pub cap_is_line : (b capacity : ℕ) → b ≤ BUFFERS → IsCapacity capacity → IsLine (cap_pieces b capacity)
 cap_is_line b capacity few small =
@@ -151,8 +190,12 @@ cap_is_line b capacity few small =
       feeds = ((refl, (refl, (refl, tt))), (decimal_lacks 10 b (lit< tt) fits, (decimal_lacks 10 capacity (lit< tt) below, tt)));
     }
 
-pub step_cap : (count : ℕ) (caps : List ℕ) (capacity : ℕ) → IsCapacity capacity → length caps ≤ BUFFERS → step (opened (stage.Capacities count) caps) (join_with_byte 32 (cap_pieces (length caps) capacity)) ≡ Ok (opened (behind_cap (length caps + 1) count) (caps ++ capacity ∷ []))
+pub step_cap : (count : ℕ) (caps : List ℕ) (capacity : ℕ) → IsCapacity capacity → length caps ≤ BUFFERS
+    → step (opened (stage.Capacities count) caps) (join_with_byte 32 (cap_pieces (length caps) capacity))
+    ≡ Ok (opened (behind_cap (length caps + 1) count) (caps ++ capacity ∷ []))
 unfolding step
 step_cap count caps capacity small few =
     let s = opened (stage.Capacities count) caps in
-    ap (λ (ps : List (List ℕ)). capacity_line count ps s) (pieces_again (codes "cap") (decimal (length caps) ∷ decimal capacity ∷ []) (cap_is_line (length caps) capacity few small)) ∙ capacity_line_again (stage.Capacities count) count caps capacity small few
+    ap (λ (ps : List (List ℕ)). capacity_line count ps s)
+    (pieces_again (codes "cap") (decimal (length caps) ∷ decimal capacity ∷ []) (cap_is_line (length caps) capacity few small))
+    ∙ capacity_line_again (stage.Capacities count) count caps capacity small few

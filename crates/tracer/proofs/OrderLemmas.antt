@@ -1,5 +1,6 @@
 -- Orders of traces: an entry that is due at the head of its trace may come first.
-use Rattle.std.proofs.Common.{◌≡◌, ◌≢◌, ℕ, ◌+◌, ◌<◌, ◌≤◌, Bool, cond, eqb, ◌&&◌, List, [], ◌∷◌, ◌++◌, length, get_or, set, Some, sym, ap, ◌∙◌, subst, inl, inr, arith, count_by}
+use Rattle.std.proofs.Common.{◌≡◌, ◌≢◌, ℕ, ◌+◌, ◌<◌, ◌≤◌, Bool, cond, eqb, ◌&&◌, List, [], ◌∷◌, ◌++◌, length, get_or, set, Some, sym, ap, ◌∙◌, subst, inl, inr}
+use Rattle.std.proofs.Common.{arith, count_by}
 use Rattle.std.proofs.lemmas.List.{set_comm, get_or-set_other}
 use Rattle.std.proofs.lemmas.List.Sums.{sum_by_push}
 use Rattle.std.proofs.lemmas.Bool.{cases_eq, cases_lt}
@@ -37,11 +38,13 @@ count_more_same earlier e b same = grind (arith, nat_tests, count_more earlier e
 pub count_more_other : (earlier : List Entry) (e : Entry) (b : ℕ) → e.buffer.0 ≢ b → count_of (earlier ++ e ∷ []) b ≡ count_of earlier b
 count_more_other earlier e b differ = grind (arith, nat_tests, count_more earlier e b)
 
-kind_more_other : (earlier : List Entry) (e : Entry) (b : ℕ) (kind : Kind) → e.buffer.0 ≢ b → count_of_kind (earlier ++ e ∷ []) b kind ≡ count_of_kind earlier b kind
+kind_more_other : (earlier : List Entry) (e : Entry) (b : ℕ) (kind : Kind) → e.buffer.0 ≢ b
+    → count_of_kind (earlier ++ e ∷ []) b kind ≡ count_of_kind earlier b kind
 kind_more_other earlier e b kind differ = grind (arith, nat_tests, count_kind_more earlier e b kind)
 
 -- an entry whose op number has gone by is never taken
-stuck : (earlier : List Entry) (traces : List (List Entry)) (order : List Entry) (k : ℕ) (e : Entry) (rest : List Entry) → IsInterleaving traces order → HasOpOrderFrom earlier order → get_or traces k [] ≡ e ∷ rest → e.op < count_of earlier e.buffer.0 → ⊥
+stuck : (earlier : List Entry) (traces : List (List Entry)) (order : List Entry) (k : ℕ) (e : Entry) (rest : List Entry) → IsInterleaving traces order
+    → HasOpOrderFrom earlier order → get_or traces k [] ≡ e ∷ rest → e.op < count_of earlier e.buffer.0 → ⊥
 stuck earlier traces [] k e rest keeps ops at gone = let bad : [] ≡ e ∷ rest = sym (keeps k) ∙ at in (cc)
 stuck earlier traces (f ∷ order) k e rest keeps ops at gone =
     elim (cases_eq k keeps.0) [
@@ -52,7 +55,8 @@ stuck earlier traces (f ∷ order) k e rest keeps ops at gone =
           omega (arith, now, gone)
       | inr differ ↦
           let still : count_of earlier e.buffer.0 ≤ count_of (earlier ++ f ∷ []) e.buffer.0 = omega (arith, count_more earlier f e.buffer.0) in
-          stuck (earlier ++ f ∷ []) (set traces keeps.0 keeps.1) order k e rest keeps.3 ops.1 (get_or-set_other traces keeps.0 k keeps.1 [] differ ∙ at) (omega (arith, gone, still))
+          stuck (earlier ++ f ∷ []) (set traces keeps.0 keeps.1) order k e rest keeps.3 ops.1 (get_or-set_other traces keeps.0 k keeps.1 [] differ ∙ at)
+          (omega (arith, gone, still))
     ]
 
 -- two lists of earlier entries that count the same for every test
@@ -60,7 +64,10 @@ record SameCounts (a b : List Entry) : Type 0 where
   pub same : (p : Entry → Bool) → count_by p a ≡ count_by p b
 
 counts_more : (a b : List Entry) (e : Entry) → SameCounts a b → SameCounts (a ++ e ∷ []) (b ++ e ∷ [])
-counts_more a b e s = record { same = λ p. sum_by_push (λ x. cond (p x) 1 0) a e ∙ (ap (λ n. n + cond (p e) 1 0) (s.same p) ∙ sym (sum_by_push (λ x. cond (p x) 1 0) b e)) }
+counts_more a b e s = record {
+  same = λ p. sum_by_push (λ x. cond (p x) 1 0) a e
+      ∙ (ap (λ n. n + cond (p e) 1 0) (s.same p) ∙ sym (sum_by_push (λ x. cond (p x) 1 0) b e));
+}
 
 counts_swap : (a : List Entry) (e f : Entry) → SameCounts ((a ++ f ∷ []) ++ e ∷ []) ((a ++ e ∷ []) ++ f ∷ [])
 counts_swap a e f = record {
@@ -78,7 +85,8 @@ ops_like : (a b order : List Entry) → SameCounts a b → HasOpOrderFrom a orde
 ops_like a b [] s ops = tt
 ops_like a b (e ∷ order) s ops = (ops.0 ∙ s.same (λ x. eqb x.buffer.0 e.buffer.0), ops_like (a ++ e ∷ []) (b ++ e ∷ []) order (counts_more a b e s) ops.1)
 
-next_like : (caps : List ℕ) (a b : List Entry) (contents : List (List Message)) (e : Entry) → SameCounts a b → IsNext caps a contents e → IsNext caps b contents e
+next_like : (caps : List ℕ) (a b : List Entry) (contents : List (List Message)) (e : Entry) → SameCounts a b → IsNext caps a contents e
+    → IsNext caps b contents e
 next_like caps a b contents e s n = record {
   known = n.known;
   allowed = n.allowed;
@@ -86,7 +94,8 @@ next_like caps a b contents e s n = record {
   pos = n.pos ∙ s.same (λ x. eqb x.buffer.0 e.buffer.0 && kind_eq x.kind e.kind);
 }
 
-run_like : (caps : List ℕ) (a b : List Entry) (contents : List (List Message)) (order : List Entry) (left : List (List Message)) → SameCounts a b → IsRunFrom caps a contents order left → IsRunFrom caps b contents order left
+run_like : (caps : List ℕ) (a b : List Entry) (contents : List (List Message)) (order : List Entry) (left : List (List Message)) → SameCounts a b
+    → IsRunFrom caps a contents order left → IsRunFrom caps b contents order left
 run_like caps a b contents [] left s run = run
 run_like caps a b contents (e ∷ order) left s run =
     (next_like caps a b contents e s run.0, run_like caps (a ++ e ∷ []) (b ++ e ∷ []) (after_entry contents e) order left (counts_more a b e s) run.1)
@@ -96,26 +105,32 @@ items_other : (contents : List (List Message)) (e : Entry) (b : ℕ) → b ≢ e
 items_other contents e b differ = get_or-set_other contents e.buffer.0 b (after_effect e.kind (items_of contents e.buffer.0) e.value) [] differ
 
 -- entries of two buffers may change places
-next_before : (caps : List ℕ) (earlier : List Entry) (contents : List (List Message)) (e f : Entry) → f.buffer.0 ≢ e.buffer.0 → IsNext caps (earlier ++ f ∷ []) (after_entry contents f) e → IsNext caps earlier contents e
+next_before : (caps : List ℕ) (earlier : List Entry) (contents : List (List Message)) (e f : Entry) → f.buffer.0 ≢ e.buffer.0
+    → IsNext caps (earlier ++ f ∷ []) (after_entry contents f) e → IsNext caps earlier contents e
 next_before caps earlier contents e f differ n = record {
   known = n.known;
-  allowed = subst (λ items. IsAllowedEffect e.kind (slice_index caps e.buffer.0) items e.value) (items_other contents f e.buffer.0 (λ same. differ (sym same))) n.allowed;
+  allowed = subst (λ items. IsAllowedEffect e.kind (slice_index caps e.buffer.0) items e.value) (items_other contents f e.buffer.0 (λ same. differ (sym same)))
+      n.allowed;
   op = n.op ∙ count_more_other earlier f e.buffer.0 differ;
   pos = n.pos ∙ kind_more_other earlier f e.buffer.0 e.kind differ;
 }
 
-next_behind : (caps : List ℕ) (earlier : List Entry) (contents : List (List Message)) (e f : Entry) → f.buffer.0 ≢ e.buffer.0 → IsNext caps earlier contents e → IsNext caps (earlier ++ f ∷ []) (after_entry contents f) e
+next_behind : (caps : List ℕ) (earlier : List Entry) (contents : List (List Message)) (e f : Entry) → f.buffer.0 ≢ e.buffer.0 → IsNext caps earlier contents e
+    → IsNext caps (earlier ++ f ∷ []) (after_entry contents f) e
 next_behind caps earlier contents e f differ n = record {
   known = n.known;
-  allowed = subst (λ items. IsAllowedEffect e.kind (slice_index caps e.buffer.0) items e.value) (sym (items_other contents f e.buffer.0 (λ same. differ (sym same)))) n.allowed;
+  allowed = subst (λ items. IsAllowedEffect e.kind (slice_index caps e.buffer.0) items e.value)
+      (sym (items_other contents f e.buffer.0 (λ same. differ (sym same)))) n.allowed;
   op = n.op ∙ sym (count_more_other earlier f e.buffer.0 differ);
   pos = n.pos ∙ sym (kind_more_other earlier f e.buffer.0 e.kind differ);
 }
 
-after_swap : (contents : List (List Message)) (e f : Entry) → f.buffer.0 ≢ e.buffer.0 → after_entry (after_entry contents f) e ≡ after_entry (after_entry contents e) f
+after_swap : (contents : List (List Message)) (e f : Entry) → f.buffer.0 ≢ e.buffer.0
+    → after_entry (after_entry contents f) e ≡ after_entry (after_entry contents e) f
 after_swap contents e f differ =
     ap (λ items. set (after_entry contents f) e.buffer.0 (after_effect e.kind items e.value)) (items_other contents f e.buffer.0 (λ same. differ (sym same)))
-    ∙ (set_comm contents f.buffer.0 e.buffer.0 (after_effect f.kind (items_of contents f.buffer.0) f.value) (after_effect e.kind (items_of contents e.buffer.0) e.value) differ
+    ∙ (set_comm contents f.buffer.0 e.buffer.0 (after_effect f.kind (items_of contents f.buffer.0) f.value)
+    (after_effect e.kind (items_of contents e.buffer.0) e.value) differ
     ∙ sym (ap (λ items. set (after_entry contents e) f.buffer.0 (after_effect f.kind items f.value)) (items_other contents e f.buffer.0 differ)))
 
 -- the traces without e at the head of one have an order behind e; and where the order is a run, e and then that order are one, which ends in the same contents
@@ -123,10 +138,13 @@ pub record CameFirst (earlier : List Entry) (others : List (List Entry)) (order 
   pub later : List Entry
   pub keeps : IsInterleaving others later
   pub ops : HasOpOrderFrom (earlier ++ e ∷ []) later
-  pub runs : (caps : List ℕ) (contents left : List (List Message)) → IsRunFrom caps earlier contents order left → IsRunFrom caps earlier contents (e ∷ later) left
+  pub runs : (caps : List ℕ) (contents left : List (List Message)) → IsRunFrom caps earlier contents order left
+      → IsRunFrom caps earlier contents (e ∷ later) left
 
 -- what is due at the head of a trace may come first
-pub may_come_first : (earlier : List Entry) (traces : List (List Entry)) (order : List Entry) (k : ℕ) (e : Entry) (rest : List Entry) → IsInterleaving traces order → HasOpOrderFrom earlier order → get_or traces k [] ≡ e ∷ rest → e.op ≡ count_of earlier e.buffer.0 → CameFirst earlier (set traces k rest) order e
+pub may_come_first : (earlier : List Entry) (traces : List (List Entry)) (order : List Entry) (k : ℕ) (e : Entry) (rest : List Entry)
+    → IsInterleaving traces order → HasOpOrderFrom earlier order → get_or traces k [] ≡ e ∷ rest → e.op ≡ count_of earlier e.buffer.0
+    → CameFirst earlier (set traces k rest) order e
 may_come_first earlier traces [] k e rest keeps ops at due = let bad : [] ≡ e ∷ rest = sym (keeps k) ∙ at in absurd (cc)
 may_come_first earlier traces (f ∷ order) k e rest keeps ops at due =
     elim (cases_eq k keeps.0) [
@@ -142,16 +160,19 @@ may_come_first earlier traces (f ∷ order) k e rest keeps ops at due =
           }
       | inr differ ↦ elim (cases_eq f.buffer.0 e.buffer.0) [
         | inl alike ↦
-            absurd (stuck (earlier ++ f ∷ []) (set traces keeps.0 keeps.1) order k e rest keeps.3 ops.1 (get_or-set_other traces keeps.0 k keeps.1 [] differ ∙ at) (omega (arith, due, count_more_same earlier f e.buffer.0 alike)))
+            absurd (stuck (earlier ++ f ∷ []) (set traces keeps.0 keeps.1) order k e rest keeps.3 ops.1
+            (get_or-set_other traces keeps.0 k keeps.1 [] differ ∙ at) (omega (arith, due, count_more_same earlier f e.buffer.0 alike)))
         | inr apart ↦
             let r : CameFirst (earlier ++ f ∷ []) (set (set traces keeps.0 keeps.1) k rest) order e
-            = may_come_first (earlier ++ f ∷ []) (set traces keeps.0 keeps.1) order k e rest keeps.3 ops.1 (get_or-set_other traces keeps.0 k keeps.1 [] differ ∙ at) (due ∙ sym (count_more_other earlier f e.buffer.0 apart)) in
+            = may_come_first (earlier ++ f ∷ []) (set traces keeps.0 keeps.1) order k e rest keeps.3 ops.1
+            (get_or-set_other traces keeps.0 k keeps.1 [] differ ∙ at) (due ∙ sym (count_more_other earlier f e.buffer.0 apart)) in
             record {
               later = f ∷ r.later;
               keeps = (
                 keeps.0,
                 keeps.1,
-                head_at (set traces k rest) keeps.0 f keeps.1 (get_or-set_other traces k keeps.0 rest [] (λ same. differ (sym same)) ∙ at_head traces keeps.0 f keeps.1 keeps.2),
+                head_at (set traces k rest) keeps.0 f keeps.1 (get_or-set_other traces k keeps.0 rest [] (λ same. differ (sym same))
+                    ∙ at_head traces keeps.0 f keeps.1 keeps.2),
                 subst (λ ts. IsInterleaving ts r.later) (set_comm traces keeps.0 k keeps.1 rest (λ same. differ (sym same))) r.keeps,
               );
               ops = (
@@ -159,11 +180,13 @@ may_come_first earlier traces (f ∷ order) k e rest keeps ops at due =
                 ops_like ((earlier ++ f ∷ []) ++ e ∷ []) ((earlier ++ e ∷ []) ++ f ∷ []) r.later (counts_swap earlier e f) r.ops,
               );
               runs = λ caps contents left run.
-                  let behind : IsRunFrom caps (earlier ++ f ∷ []) (after_entry contents f) (e ∷ r.later) left = r.runs caps (after_entry contents f) left run.1 in (
+                  let behind : IsRunFrom caps (earlier ++ f ∷ []) (after_entry contents f) (e ∷ r.later) left =
+                  r.runs caps (after_entry contents f) left run.1 in (
                     next_before caps earlier contents e f apart behind.0,
                     (
                       next_behind caps earlier contents f e (λ same. apart (sym same)) run.0,
-                      run_like caps ((earlier ++ f ∷ []) ++ e ∷ []) ((earlier ++ e ∷ []) ++ f ∷ []) (after_entry (after_entry contents e) f) r.later left (counts_swap earlier e f)
+                      run_like caps ((earlier ++ f ∷ []) ++ e ∷ []) ((earlier ++ e ∷ []) ++ f ∷ []) (after_entry (after_entry contents e) f) r.later left
+                          (counts_swap earlier e f)
                           (subst (λ c. IsRunFrom caps ((earlier ++ f ∷ []) ++ e ∷ []) c r.later left) (after_swap contents e f apart) behind.1),
                     ),
                   );
@@ -172,15 +195,21 @@ may_come_first earlier traces (f ∷ order) k e rest keeps ops at due =
     ]
 
 -- behind a run of some order each other order is a run too
-run_alike_from : (caps : List ℕ) (earlier : List Entry) (contents : List (List Message)) (traces : List (List Entry)) (order other : List Entry) (left : List (List Message)) → IsInterleaving traces order → IsRunFrom caps earlier contents order left → IsInterleaving traces other → HasOpOrderFrom earlier other → IsRunFrom caps earlier contents other left
+run_alike_from : (caps : List ℕ) (earlier : List Entry) (contents : List (List Message)) (traces : List (List Entry)) (order other : List Entry)
+    (left : List (List Message)) → IsInterleaving traces order → IsRunFrom caps earlier contents order left → IsInterleaving traces other
+    → HasOpOrderFrom earlier other → IsRunFrom caps earlier contents other left
 run_alike_from caps earlier contents traces [] [] left keeps run others ops = run
 run_alike_from caps earlier contents traces (f ∷ order) [] left keeps run others ops =
     let bad : [] ≡ f ∷ keeps.1 = sym (others keeps.0) ∙ at_head traces keeps.0 f keeps.1 keeps.2 in absurd (cc)
 run_alike_from caps earlier contents traces order (e ∷ other) left keeps run others ops =
     let first : CameFirst earlier (set traces others.0 others.1) order e
-    = may_come_first earlier traces order others.0 e others.1 keeps (op_order_from caps earlier contents order left run) (at_head traces others.0 e others.1 others.2) ops.0 in
-    let now : IsRunFrom caps earlier contents (e ∷ first.later) left = first.runs caps contents left run in
-    (now.0, run_alike_from caps (earlier ++ e ∷ []) (after_entry contents e) (set traces others.0 others.1) first.later other left first.keeps now.1 others.3 ops.1)
+    = may_come_first earlier traces order others.0 e others.1 keeps (op_order_from caps earlier contents order left run)
+    (at_head traces others.0 e others.1 others.2) ops.0 in
+    let now : IsRunFrom caps earlier contents (e ∷ first.later) left = first.runs caps contents left run in (
+      now.0,
+      run_alike_from caps (earlier ++ e ∷ []) (after_entry contents e) (set traces others.0 others.1) first.later other left first.keeps now.1 others.3
+          ops.1,
+    )
 
 pub runs_have_order : (traces : List (List Entry)) → RunsHaveOrder traces
 runs_have_order traces caps order left keeps run none = none order (keeps, op_order_from caps [] (empty_buffers caps) order left run)

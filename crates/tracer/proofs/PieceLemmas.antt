@@ -1,5 +1,6 @@
 -- What it says of the pieces of a line that one was read, or that none was left.
-use Rattle.std.proofs.Common.{◌≡◌, ℕ, ◌<◌, ◌≤◌, ◌==◌, Bool, true, false, not, List, [], ◌∷◌, length, drop, Option, Some, None, Ok, Err, refl, sym, ap, ◌∙◌, arith}
+use Rattle.std.proofs.Common.{◌≡◌, ℕ, ◌<◌, ◌≤◌, ◌==◌, Bool, true, false, not, List, [], ◌∷◌, length, drop, Option, Some, None, Ok, Err, refl, sym, ap, ◌∙◌}
+use Rattle.std.proofs.Common.{arith}
 use Rattle.std.specs.Prelude.{is_none, is_some}
 use denote.Ref.{Bor}
 use Rattle.std.proofs.lemmas.List.{drop_more, drop_all}
@@ -19,7 +20,8 @@ no_piece [] reason e = refl
 no_piece (p ∷ ps) reason e = absurd (cc)
 
 -- a number is wanted, and no piece is left
-pub piece_missing : (ps : List (List ℕ)) (reason : Reason) (ns : List Message) (i : ℕ) → piece_at ps ≡ Err reason → i < length ns → are_values ps (drop i ns) ≡ false
+pub piece_missing : (ps : List (List ℕ)) (reason : Reason) (ns : List Message) (i : ℕ) → piece_at ps ≡ Err reason → i < length ns
+    → are_values ps (drop i ns) ≡ false
 piece_missing ps reason ns i e lt = rw (no_piece ps reason e, drop_more ns i 0 lt) refl
 
 -- a line has a piece
@@ -29,7 +31,11 @@ no_pieces line (p ∷ ps) e = refl
 
 -- all numbers are read
 pieces_end : (pieces : Pieces) (ns : List Message) (i : ℕ) → length ns ≤ i → are_values (left_of pieces) (drop i ns) ≡ is_none pieces.rest
-pieces_end pieces ns i le = rw (drop_all i ns le) (elim pieces.rest as (λ r. are_values (elim r [ None ↦ [] | Some line ↦ pieces_of line.now ]) [] ≡ is_none r) [ None ↦ refl | Some line ↦ no_pieces line.now (pieces_of line.now) refl ])
+pieces_end pieces ns i le =
+    rw (drop_all i ns le) (elim pieces.rest as (λ r. are_values (elim r [ None ↦ [] | Some line ↦ pieces_of line.now ]) [] ≡ is_none r) [
+      | None ↦ refl
+      | Some line ↦ no_pieces line.now (pieces_of line.now) refl
+    ])
 
 same_none : (line : Option (Bor (List ℕ))) (b : Bool) → is_some line ≡ not b → b ≡ is_none line
 same_none None true e = refl
@@ -37,5 +43,6 @@ same_none None false e = absurd (cc)
 same_none (Some line) true e = absurd (cc)
 same_none (Some line) false e = refl
 
-pub none_left : (pieces : Pieces) (ns : List Message) (i : ℕ) (b : Bool) → length ns ≤ i → is_some pieces.rest ≡ not b → b ≡ are_values (left_of pieces) (drop i ns)
+pub none_left : (pieces : Pieces) (ns : List Message) (i : ℕ) (b : Bool) → length ns ≤ i → is_some pieces.rest ≡ not b
+    → b ≡ are_values (left_of pieces) (drop i ns)
 none_left pieces ns i b le e = same_none pieces.rest b e ∙ sym (pieces_end pieces ns i le)

@@ -1,5 +1,6 @@
 -- One write after another.
-use Rattle.std.proofs.Common.{◌≡◌, ℕ, ◌+◌, ◌<◌, Bool, true, false, List, [], ◌∷◌, ◌++◌, length, get_or, take, drop, Option, Some, None, sym, ap, ◌∙◌, append_assoc}
+use Rattle.std.proofs.Common.{◌≡◌, ℕ, ◌+◌, ◌<◌, Bool, true, false, List, [], ◌∷◌, ◌++◌, length, get_or, take, drop, Option, Some, None, sym, ap, ◌∙◌}
+use Rattle.std.proofs.Common.{append_assoc}
 use Rattle.std.proofs.lemmas.List.{append-nil, take-append-drop, drop_more}
 use Rattle.std.proofs.lemmas.List.Concat.{flat_map-append}
 use Rattle.std.specs.List.{flat_map}
@@ -40,12 +41,16 @@ all_out false old new a e out = out
 all_out true old new a e out = absurd cc
 
 -- a text of pieces, cut round the piece at i
-pub flat_map_at : {X : Type 0} (f : X → List ℕ) (xs : List X) (i : ℕ) (d : X) → i < length xs → flat_map f xs ≡ flat_map f (take i xs) ++ (f (get_or xs i d) ++ flat_map f (drop (i + 1) xs))
+pub flat_map_at : {X : Type 0} (f : X → List ℕ) (xs : List X) (i : ℕ) (d : X) → i < length xs
+    → flat_map f xs ≡ flat_map f (take i xs) ++ (f (get_or xs i d) ++ flat_map f (drop (i + 1) xs))
 flat_map_at f xs i d lt =
     let cut : take i xs ++ get_or xs i d ∷ drop (i + 1) xs ≡ xs = rw (← drop_more xs i d lt) (take-append-drop i xs) in
     ap (flat_map f) (sym cut) ∙ flat_map-append f (take i xs) (get_or xs i d ∷ drop (i + 1) xs)
 
 -- the pieces before are out, and this one failed
-pub failed_in : {X : Type 0} (f : X → List ℕ) (xs : List X) (i : ℕ) (d : X) (failed : Bool) (old mid new : Option (List ℕ)) → i < length xs → Appends old mid (flat_map f (take i xs)) → failed ≡ true → Outs failed mid new (f (get_or xs i d)) → Outs failed old new (flat_map f xs)
+pub failed_in : {X : Type 0} (f : X → List ℕ) (xs : List X) (i : ℕ) (d : X) (failed : Bool) (old mid new : Option (List ℕ)) → i < length xs
+    → Appends old mid (flat_map f (take i xs)) → failed ≡ true → Outs failed mid new (f (get_or xs i d)) → Outs failed old new (flat_map f xs)
 failed_in f xs i d failed old mid new lt front e out =
-    rw (flat_map_at f xs i d lt) (outs_then failed old mid new (flat_map f (take i xs)) (f (get_or xs i d) ++ flat_map f (drop (i + 1) xs)) front (outs_before failed mid new (f (get_or xs i d)) (flat_map f (drop (i + 1) xs)) e out))
+    rw (flat_map_at f xs i d lt)
+    (outs_then failed old mid new (flat_map f (take i xs)) (f (get_or xs i d) ++ flat_map f (drop (i + 1) xs)) front
+    (outs_before failed mid new (f (get_or xs i d)) (flat_map f (drop (i + 1) xs)) e out))

@@ -1,5 +1,6 @@
 -- A text that gets yes is the trace text of a run, and of where it ends.
-use Rattle.std.proofs.Common.{◌≡◌, inl, inr, ℕ, ◌+◌, ◌<◌, ◌≤◌, ◌^◌, ◌==◌, ◌&&◌, Bool, true, false, cond, List, [], ◌∷◌, ◌++◌, length, drop, map, Result, Ok, Err, refl, sym, ap, subst, ◌∙◌, append_assoc, eqb-true, ltb-true, ltb-false, arith}
+use Rattle.std.proofs.Common.{◌≡◌, inl, inr, ℕ, ◌+◌, ◌<◌, ◌≤◌, ◌^◌, ◌==◌, ◌&&◌, Bool, true, false, cond, List, [], ◌∷◌, ◌++◌, length, drop, map, Result, Ok}
+use Rattle.std.proofs.Common.{Err, refl, sym, ap, subst, ◌∙◌, append_assoc, eqb-true, ltb-true, ltb-false, arith}
 use Rattle.std.specs.Prelude.{codes, nat_lt}
 use Rattle.std.specs.List.{AllByRecursion, flat_map, join_with_byte}
 use Rattle.std.proofs.lemmas.List.{append-nil, length_push, length-set, length-map, drop_more, drop_all, nil_from_length}
@@ -14,9 +15,11 @@ use Rattle.tracer.specs.declared.stages.Stage.TheVariants as stage
 use Rattle.tracer.specs.declared.verdicts.Reason.{Reason}
 use Rattle.tracer.specs.declared.verdicts.Verdict.{Verdict}
 use Rattle.tracer.specs.declared.verdicts.Verdict.TheVariants.{Yes, No}
-use Rattle.tracer.specs.TraceText.{line_of, head_pieces, count_pieces, cap_pieces, entry_pieces, left_pieces, end_pieces, numbered, lines_of, spelling, IsEntryOf, IsSpellable, AreSmall}
+use Rattle.tracer.specs.TraceText.{line_of, head_pieces, count_pieces, cap_pieces, entry_pieces, left_pieces, end_pieces, numbered, lines_of, spelling}
+use Rattle.tracer.specs.TraceText.{IsEntryOf, IsSpellable, AreSmall}
 use Rattle.tracer.specs.Verdicts.{IsTraceOfRun}
-use Rattle.tracer.specs.Judging.{Progress, opening, step, after_line, pieces_of, lines_in, verdict_from, verdict_of, whole_line, count_line, capacity_line, entries_line, left_line}
+use Rattle.tracer.specs.Judging.{Progress, opening, step, after_line, pieces_of, lines_in, verdict_from, verdict_of, whole_line, count_line, capacity_line}
+use Rattle.tracer.specs.Judging.{entries_line, left_line}
 use Rattle.tracer.proofs.KnownLemmas.{known_fresh_from}
 use Rattle.tracer.proofs.EntryLemmas.{progress}
 use Rattle.tracer.proofs.StepLemmas.{left_line_taken, entries_taken}
@@ -41,13 +44,15 @@ done_test true true n reason e = refl
 done_test true false n reason e = absurd (cc)
 done_test false empty n reason e = absurd (cc)
 
-done_end : (buffers : _) (entries n : ℕ) (lines : List (List ℕ)) → verdict_from (record { at = stage.Done; buffers = buffers; entries = entries }) n lines ≡ Yes → join_with_byte 10 lines ≡ []
+done_end : (buffers : _) (entries n : ℕ) (lines : List (List ℕ)) → verdict_from (record { at = stage.Done; buffers = buffers; entries = entries }) n lines ≡ Yes
+    → join_with_byte 10 lines ≡ []
 unfolding step
 done_end buffers entries n [] e = absurd (cc)
 done_end buffers entries n (rest ∷ []) e = nil_from_length rest (eqb-true (length rest) 0 (done_test true (length rest == 0) n _ e))
 done_end buffers entries n (line ∷ next ∷ more) e = absurd (cc)
 
-sound_end : (buffers : _) (entries n : ℕ) (lines : List (List ℕ)) → verdict_from (record { at = stage.End; buffers = buffers; entries = entries }) n lines ≡ Yes → join_with_byte 10 lines ≡ flat_map line_of (end_pieces ∷ [])
+sound_end : (buffers : _) (entries n : ℕ) (lines : List (List ℕ)) → verdict_from (record { at = stage.End; buffers = buffers; entries = entries }) n lines ≡ Yes
+    → join_with_byte 10 lines ≡ flat_map line_of (end_pieces ∷ [])
 unfolding step
 sound_end buffers entries n [] e = absurd (cc)
 sound_end buffers entries n (rest ∷ []) e = absurd (cc)
@@ -61,22 +66,33 @@ sound_end buffers entries n (line ∷ next ∷ more) e =
 -- ---- what is left
 
 abbrev LeftText : ℕ → List (List ℕ) → List (List ℕ) → Type 0
-LeftText b contents lines = (join_with_byte 10 lines ≡ flat_map line_of (numbered left_pieces b (drop b contents) ++ end_pieces ∷ [])) × AllByRecursion AreSmall (drop b contents)
+LeftText b contents lines = (join_with_byte 10 lines ≡ flat_map line_of (numbered left_pieces b (drop b contents) ++ end_pieces ∷ []))
+    × AllByRecursion AreSmall (drop b contents)
 
-behind_cases : (b : ℕ) (caps : List ℕ) (earlier : List Entry) (contents : List (List Message)) (n : ℕ) (lines : List (List ℕ)) (more : Bool) → nat_lt (b + 1) (length caps) ≡ more → length contents ≡ length caps → (b + 1 < length caps → verdict_from (progress (stage.Contents (b + 1)) caps earlier contents) n lines ≡ Yes → LeftText (b + 1) contents lines) → verdict_from (progress (cond more (stage.Contents (b + 1)) stage.End) caps earlier contents) n lines ≡ Yes → LeftText (b + 1) contents lines
+behind_cases : (b : ℕ) (caps : List ℕ) (earlier : List Entry) (contents : List (List Message)) (n : ℕ) (lines : List (List ℕ)) (more : Bool)
+    → nat_lt (b + 1) (length caps) ≡ more → length contents ≡ length caps
+    → (b + 1 < length caps → verdict_from (progress (stage.Contents (b + 1)) caps earlier contents) n lines ≡ Yes → LeftText (b + 1) contents lines)
+    → verdict_from (progress (cond more (stage.Contents (b + 1)) stage.End) caps earlier contents) n lines ≡ Yes → LeftText (b + 1) contents lines
 behind_cases b caps earlier contents n lines true is long again e = again (ltb-true (b + 1) (length caps) is) e
 behind_cases b caps earlier contents n lines false is long again e =
     let past : length contents ≤ b + 1 = (let h = ltb-false (b + 1) (length caps) is in omega arith) in
     rw (drop_all (b + 1) contents past) (sound_end _ _ n lines e, tt)
 
 -- a line of what is left of buffer b, and the lines behind it
-left_text : (b : ℕ) (contents : List (List Message)) (line : List ℕ) (ps : List (List ℕ)) (next : List ℕ) (more : List (List ℕ)) → pieces_of line ≡ ps → b < length contents → ps ≡ left_pieces b (items_of contents b) → AreSmall (items_of contents b) → LeftText (b + 1) contents (next ∷ more) → LeftText b contents (line ∷ next ∷ more)
+left_text : (b : ℕ) (contents : List (List Message)) (line : List ℕ) (ps : List (List ℕ)) (next : List ℕ) (more : List (List ℕ)) → pieces_of line ≡ ps
+    → b < length contents → ps ≡ left_pieces b (items_of contents b) → AreSmall (items_of contents b) → LeftText (b + 1) contents (next ∷ more)
+    → LeftText b contents (line ∷ next ∷ more)
 left_text b contents line ps next more is inside spelled small behind =
     let cut : drop b contents ≡ items_of contents b ∷ drop (b + 1) contents = drop_more contents b [] inside in
-    let text : line ++ 10 ∷ join_with_byte 10 (next ∷ more) ≡ line_of (left_pieces b (items_of contents b)) ++ flat_map line_of (numbered left_pieces (b + 1) (drop (b + 1) contents) ++ end_pieces ∷ []) = line_spelled line (left_pieces b (items_of contents b)) (join_with_byte 10 (next ∷ more)) (is ∙ spelled) ∙ ap (λ (t : List ℕ). line_of (left_pieces b (items_of contents b)) ++ t) behind.0 in
-    subst (λ (all : List (List ℕ)). (line ++ 10 ∷ join_with_byte 10 (next ∷ more) ≡ flat_map line_of (numbered left_pieces b all ++ end_pieces ∷ [])) × AllByRecursion AreSmall all) (sym cut) (text, (small, behind.1))
+    let text : line ++ 10 ∷ join_with_byte 10 (next ∷ more) ≡ line_of (left_pieces b (items_of contents b))
+    ++ flat_map line_of (numbered left_pieces (b + 1) (drop (b + 1) contents) ++ end_pieces ∷ []) =
+    line_spelled line (left_pieces b (items_of contents b)) (join_with_byte 10 (next ∷ more)) (is ∙ spelled)
+    ∙ ap (λ (t : List ℕ). line_of (left_pieces b (items_of contents b)) ++ t) behind.0 in
+    subst (λ (all : List (List ℕ)). (line ++ 10 ∷ join_with_byte 10 (next ∷ more) ≡ flat_map line_of (numbered left_pieces b all ++ end_pieces ∷ []))
+    × AllByRecursion AreSmall all) (sym cut) (text, (small, behind.1))
 
-sound_left : (b : ℕ) (caps : List ℕ) (earlier : List Entry) (contents : List (List Message)) (n : ℕ) (lines : List (List ℕ)) → length contents ≡ length caps → verdict_from (progress (stage.Contents b) caps earlier contents) n lines ≡ Yes → LeftText b contents lines
+sound_left : (b : ℕ) (caps : List ℕ) (earlier : List Entry) (contents : List (List Message)) (n : ℕ) (lines : List (List ℕ)) → length contents ≡ length caps
+    → verdict_from (progress (stage.Contents b) caps earlier contents) n lines ≡ Yes → LeftText b contents lines
 unfolding step
 sound_left b caps earlier contents n [] long e = absurd (cc)
 sound_left b caps earlier contents n (rest ∷ []) long e = absurd (cc)
@@ -84,13 +100,16 @@ sound_left b caps earlier contents n (line ∷ next ∷ more) long e =
     let s = progress (stage.Contents b) caps earlier contents in
     let go = went (left_line b (pieces_of line) s) n (λ after. verdict_from after (n + 1) (next ∷ more)) e in
     let taken = left_line_taken (stage.Contents b) b caps earlier contents (pieces_of line) go.0 go.1 in
-    let behind = behind_cases b caps earlier contents (n + 1) (next ∷ more) (nat_lt (b + 1) (length caps)) refl long (λ _ again. sound_left (b + 1) caps earlier contents (n + 1) (next ∷ more) long again) (subst (λ (a : Progress). verdict_from a (n + 1) (next ∷ more) ≡ Yes) taken.is go.2) in
+    let behind = behind_cases b caps earlier contents (n + 1) (next ∷ more) (nat_lt (b + 1) (length caps)) refl long
+    (λ _ again. sound_left (b + 1) caps earlier contents (n + 1) (next ∷ more) long again)
+    (subst (λ (a : Progress). verdict_from a (n + 1) (next ∷ more) ≡ Yes) taken.is go.2) in
     left_text b contents line (pieces_of line) next more refl (let h = taken.known in omega arith) taken.spelled taken.small behind
 
 -- ---- the entries
 
 -- what it says that the lines behind the capacities get yes
-pub record Judged (caps : List ℕ) (earlier : List Entry) (contents : List (List Message)) (lines : List (List ℕ)) (es : List Entry) (left : List (List Message)) : Type 0 where
+pub record Judged (caps : List ℕ) (earlier : List Entry) (contents : List (List Message)) (lines : List (List ℕ)) (es : List Entry)
+    (left : List (List Message)) : Type 0 where
   pub run : IsRunFrom caps earlier contents es left
   pub small : AllByRecursion (IsEntryOf (length caps)) es
   pub few : length earlier + length es ≤ ENTRIES
@@ -102,7 +121,9 @@ abbrev IsJudged : List ℕ → List Entry → List (List ℕ) → List (List ℕ
 IsJudged caps earlier contents lines = (es : List Entry) × (left : List (List Message)) × Judged caps earlier contents lines es left
 
 -- an entry, and the lines behind it
-judged_more : (caps : List ℕ) (earlier : List Entry) (contents : List (List Message)) (line next : List ℕ) (more : List (List ℕ)) (e : Entry) → pieces_of line ≡ entry_pieces e → IsEntryOf (length caps) e → IsNext caps earlier contents e → IsJudged caps (earlier ++ e ∷ []) (after_entry contents e) (next ∷ more) → IsJudged caps earlier contents (line ∷ next ∷ more)
+judged_more : (caps : List ℕ) (earlier : List Entry) (contents : List (List Message)) (line next : List ℕ) (more : List (List ℕ)) (e : Entry)
+    → pieces_of line ≡ entry_pieces e → IsEntryOf (length caps) e → IsNext caps earlier contents e
+    → IsJudged caps (earlier ++ e ∷ []) (after_entry contents e) (next ∷ more) → IsJudged caps earlier contents (line ∷ next ∷ more)
 judged_more caps earlier contents line next more e spelled small can behind =
     let rest = behind.2 in (
       e ∷ behind.0,
@@ -117,10 +138,13 @@ judged_more caps earlier contents line next more e spelled small can behind =
       },
     )
 
-judged_left : (caps : List ℕ) (earlier : List Entry) (contents : List (List Message)) (lines : List (List ℕ)) → length earlier ≤ ENTRIES → length contents ≡ length caps → LeftText 0 contents lines → IsJudged caps earlier contents lines
-judged_left caps earlier contents lines few long left = ([], contents, record { run = refl; small = tt; few = omega arith; each = long; values = left.1; text = left.0 })
+judged_left : (caps : List ℕ) (earlier : List Entry) (contents : List (List Message)) (lines : List (List ℕ)) → length earlier ≤ ENTRIES
+    → length contents ≡ length caps → LeftText 0 contents lines → IsJudged caps earlier contents lines
+judged_left caps earlier contents lines few long left =
+    ([], contents, record { run = refl; small = tt; few = omega arith; each = long; values = left.1; text = left.0 })
 
-sound_entries : (caps : List ℕ) (earlier : List Entry) (contents : List (List Message)) (n : ℕ) (lines : List (List ℕ)) → length earlier ≤ ENTRIES → length contents ≡ length caps → verdict_from (progress stage.Entries caps earlier contents) n lines ≡ Yes → IsJudged caps earlier contents lines
+sound_entries : (caps : List ℕ) (earlier : List Entry) (contents : List (List Message)) (n : ℕ) (lines : List (List ℕ)) → length earlier ≤ ENTRIES
+    → length contents ≡ length caps → verdict_from (progress stage.Entries caps earlier contents) n lines ≡ Yes → IsJudged caps earlier contents lines
 unfolding step
 sound_entries caps earlier contents n [] few long e = absurd (cc)
 sound_entries caps earlier contents n (rest ∷ []) few long e = absurd (cc)
@@ -130,11 +154,15 @@ sound_entries caps earlier contents n (line ∷ next ∷ more) few long e =
     elim (entries_taken caps earlier contents (pieces_of line) go.0 long go.1) [
       | inl entry ↦
           judged_more caps earlier contents line next more entry.0 entry.1 entry.2 entry.3
-          (sound_entries caps (earlier ++ entry.0 ∷ []) (after_entry contents entry.0) (n + 1) (next ∷ more) (let room = entry.4 in omega (arith, length_push earlier entry.0)) (length-set contents entry.0.buffer.0 _ ∙ long) (subst (λ (a : Progress). verdict_from a (n + 1) (next ∷ more) ≡ Yes) entry.5 go.2))
+          (sound_entries caps (earlier ++ entry.0 ∷ []) (after_entry contents entry.0) (n + 1) (next ∷ more)
+          (let room = entry.4 in omega (arith, length_push earlier entry.0)) (length-set contents entry.0.buffer.0 _ ∙ long)
+          (subst (λ (a : Progress). verdict_from a (n + 1) (next ∷ more) ≡ Yes) entry.5 go.2))
       | inr left ↦
           judged_left caps earlier contents (line ∷ next ∷ more) few long
           (left_text 0 contents line (pieces_of line) next more refl (let h = left.known in omega arith) left.spelled left.small
-          (behind_cases 0 caps earlier contents (n + 1) (next ∷ more) (nat_lt (0 + 1) (length caps)) refl long (λ _ again. sound_left (0 + 1) caps earlier contents (n + 1) (next ∷ more) long again) (subst (λ (a : Progress). verdict_from a (n + 1) (next ∷ more) ≡ Yes) left.is go.2)))
+          (behind_cases 0 caps earlier contents (n + 1) (next ∷ more) (nat_lt (0 + 1) (length caps)) refl long
+          (λ _ again. sound_left (0 + 1) caps earlier contents (n + 1) (next ∷ more) long again)
+          (subst (λ (a : Progress). verdict_from a (n + 1) (next ∷ more) ≡ Yes) left.is go.2)))
     ]
 
 -- ---- the capacities
@@ -149,13 +177,16 @@ pub record CapsJudged (count : ℕ) (caps : List ℕ) (lines : List (List ℕ)) 
 abbrev AreCaps : ℕ → List ℕ → List (List ℕ) → Type 0
 AreCaps count caps lines = (more : List ℕ) × (m : ℕ) × (rest : List (List ℕ)) × CapsJudged count caps lines more m rest
 
-caps_cases : (count : ℕ) (caps : List ℕ) (n : ℕ) (lines : List (List ℕ)) (goes : Bool) → nat_lt (length caps) count ≡ goes → length caps ≤ count → (length caps < count → verdict_from (opened (stage.Capacities count) caps) n lines ≡ Yes → AreCaps count caps lines) → verdict_from (opened (cond goes (stage.Capacities count) stage.Entries) caps) n lines ≡ Yes → AreCaps count caps lines
+caps_cases : (count : ℕ) (caps : List ℕ) (n : ℕ) (lines : List (List ℕ)) (goes : Bool) → nat_lt (length caps) count ≡ goes → length caps ≤ count
+    → (length caps < count → verdict_from (opened (stage.Capacities count) caps) n lines ≡ Yes → AreCaps count caps lines)
+    → verdict_from (opened (cond goes (stage.Capacities count) stage.Entries) caps) n lines ≡ Yes → AreCaps count caps lines
 caps_cases count caps n lines true is le again e = again (ltb-true (length caps) count is) e
 caps_cases count caps n lines false is le again e =
     let past = ltb-false (length caps) count is in
     ([], n, lines, record { counted = omega arith; small = tt; judged = rw (append-nil caps) e; text = refl })
 
-caps_more : (count : ℕ) (caps : List ℕ) (line next : List ℕ) (more : List (List ℕ)) (k : ℕ) → pieces_of line ≡ cap_pieces (length caps) k → IsCapacity k → AreCaps count (caps ++ k ∷ []) (next ∷ more) → AreCaps count caps (line ∷ next ∷ more)
+caps_more : (count : ℕ) (caps : List ℕ) (line next : List ℕ) (more : List (List ℕ)) (k : ℕ) → pieces_of line ≡ cap_pieces (length caps) k → IsCapacity k
+    → AreCaps count (caps ++ k ∷ []) (next ∷ more) → AreCaps count caps (line ∷ next ∷ more)
 caps_more count caps line next more k spelled small behind =
     let rest = behind.3 in
     let others = behind.0 in
@@ -167,11 +198,16 @@ caps_more count caps line next more k spelled small behind =
         counted = (let h = rest.counted in omega arith);
         small = (small, rest.small);
         judged = rw (← append_assoc caps (k ∷ []) others) rest.judged;
-        text = line_spelled line (cap_pieces (length caps) k) (join_with_byte 10 (next ∷ more)) spelled ∙ ap (λ (t : List ℕ). line_of (cap_pieces (length caps) k) ++ t) (rest.text ∙ ap (λ (b : ℕ). flat_map line_of (numbered cap_pieces b others) ++ join_with_byte 10 behind.2) longer) ∙ sym (append_assoc (line_of (cap_pieces (length caps) k)) (flat_map line_of (numbered cap_pieces (length caps + 1) others)) (join_with_byte 10 behind.2));
+        text = line_spelled line (cap_pieces (length caps) k) (join_with_byte 10 (next ∷ more)) spelled
+            ∙ ap (λ (t : List ℕ). line_of (cap_pieces (length caps) k) ++ t)
+            (rest.text ∙ ap (λ (b : ℕ). flat_map line_of (numbered cap_pieces b others) ++ join_with_byte 10 behind.2) longer)
+            ∙ sym (append_assoc (line_of (cap_pieces (length caps) k)) (flat_map line_of (numbered cap_pieces (length caps + 1) others))
+            (join_with_byte 10 behind.2));
       },
     )
 
-sound_caps : (count : ℕ) (caps : List ℕ) (n : ℕ) (lines : List (List ℕ)) → length caps < count → verdict_from (opened (stage.Capacities count) caps) n lines ≡ Yes → AreCaps count caps lines
+sound_caps : (count : ℕ) (caps : List ℕ) (n : ℕ) (lines : List (List ℕ)) → length caps < count
+    → verdict_from (opened (stage.Capacities count) caps) n lines ≡ Yes → AreCaps count caps lines
 unfolding step
 sound_caps count caps n [] lt e = absurd (cc)
 sound_caps count caps n (rest ∷ []) lt e = absurd (cc)
@@ -181,17 +217,24 @@ sound_caps count caps n (line ∷ next ∷ more) lt e =
     let taken = capacity_line_taken (stage.Capacities count) count caps (pieces_of line) go.0 go.1 in
     let k = taken.0 in
     let longer : length (caps ++ k ∷ []) ≡ length caps + 1 = length_push caps k in
-    let judged : verdict_from (opened (behind_cap (length (caps ++ k ∷ [])) count) (caps ++ k ∷ [])) (n + 1) (next ∷ more) ≡ Yes = rw longer (subst (λ (a : Progress). verdict_from a (n + 1) (next ∷ more) ≡ Yes) taken.1.is go.2) in
+    let judged : verdict_from (opened (behind_cap (length (caps ++ k ∷ [])) count) (caps ++ k ∷ [])) (n + 1) (next ∷ more) ≡ Yes =
+    rw longer (subst (λ (a : Progress). verdict_from a (n + 1) (next ∷ more) ≡ Yes) taken.1.is go.2) in
     caps_more count caps line next more k taken.1.spelled taken.1.small
-    (caps_cases count (caps ++ k ∷ []) (n + 1) (next ∷ more) (nat_lt (length (caps ++ k ∷ [])) count) refl (omega arith) (λ less again. sound_caps count (caps ++ k ∷ []) (n + 1) (next ∷ more) less again) judged)
+    (caps_cases count (caps ++ k ∷ []) (n + 1) (next ∷ more) (nat_lt (length (caps ++ k ∷ [])) count) refl (omega arith)
+    (λ less again. sound_caps count (caps ++ k ∷ []) (n + 1) (next ∷ more) less again) judged)
 
 -- ---- the whole text
 
 -- what it says that the lines from the number of buffers on get yes
 abbrev IsTail : List ℕ → Type 0
-IsTail text = (caps : List ℕ) × (es : List Entry) × (left : List (List Message)) × IsSpellable caps es left × IsRun caps es left × (text ≡ line_of (count_pieces (length caps)) ++ flat_map line_of (numbered cap_pieces 0 caps ++ (map entry_pieces es ++ (numbered left_pieces 0 left ++ end_pieces ∷ []))))
+IsTail text = (caps : List ℕ) × (es : List Entry) × (left : List (List Message)) × IsSpellable caps es left × IsRun caps es left
+    × (text ≡ line_of (count_pieces (length caps)) ++ flat_map line_of
+    (numbered cap_pieces 0 caps ++ (map entry_pieces es ++ (numbered left_pieces 0 left ++ end_pieces ∷ []))))
 
-tail_of : (line next : List ℕ) (more : List (List ℕ)) (n : ℕ) (caps : List ℕ) (rest : List (List ℕ)) (es : List Entry) (left : List (List Message)) → pieces_of line ≡ count_pieces n → 1 ≤ n → n ≤ BUFFERS → length caps ≡ n → AllByRecursion IsCapacity caps → join_with_byte 10 (next ∷ more) ≡ flat_map line_of (numbered cap_pieces 0 caps) ++ join_with_byte 10 rest → Judged caps [] (empty_buffers caps) rest es left → IsTail (join_with_byte 10 (line ∷ next ∷ more))
+tail_of : (line next : List ℕ) (more : List (List ℕ)) (n : ℕ) (caps : List ℕ) (rest : List (List ℕ)) (es : List Entry) (left : List (List Message))
+    → pieces_of line ≡ count_pieces n → 1 ≤ n → n ≤ BUFFERS → length caps ≡ n → AllByRecursion IsCapacity caps
+    → join_with_byte 10 (next ∷ more) ≡ flat_map line_of (numbered cap_pieces 0 caps) ++ join_with_byte 10 rest
+    → Judged caps [] (empty_buffers caps) rest es left → IsTail (join_with_byte 10 (line ∷ next ∷ more))
 tail_of line next more n caps rest es left spelled some few counted small text judged = (
   caps,
   es,
@@ -206,7 +249,8 @@ tail_of line next more n caps rest es left spelled some few counted small text j
     values = judged.values;
   },
   judged.run,
-  line_spelled line (count_pieces n) (join_with_byte 10 (next ∷ more)) spelled ∙ rw (counted, text, judged.text) (ap (λ (t : List ℕ). line_of (count_pieces n) ++ t) (sym (flat_map-append line_of (numbered cap_pieces 0 caps) _))),
+  line_spelled line (count_pieces n) (join_with_byte 10 (next ∷ more)) spelled
+      ∙ rw (counted, text, judged.text) (ap (λ (t : List ℕ). line_of (count_pieces n) ++ t) (sym (flat_map-append line_of (numbered cap_pieces 0 caps) _))),
 )
 
 sound_count : (n : ℕ) (lines : List (List ℕ)) → verdict_from (record opening { at = stage.Count }) n lines ≡ Yes → IsTail (join_with_byte 10 lines)
@@ -218,14 +262,18 @@ sound_count n (line ∷ next ∷ more) e =
     let go = went (count_line (pieces_of line) s) n (λ after. verdict_from after (n + 1) (next ∷ more)) e in
     let taken = count_line_taken (pieces_of line) s go.0 go.1 in
     let count = taken.0 in
-    let judged : verdict_from (opened (stage.Capacities count) []) (n + 1) (next ∷ more) ≡ Yes = subst (λ (a : Progress). verdict_from a (n + 1) (next ∷ more) ≡ Yes) taken.1.is go.2 in
+    let judged : verdict_from (opened (stage.Capacities count) []) (n + 1) (next ∷ more) ≡ Yes =
+    subst (λ (a : Progress). verdict_from a (n + 1) (next ∷ more) ≡ Yes) taken.1.is go.2 in
     let some : 0 < count = (let h = taken.1.some in omega arith) in
     let all = sound_caps count [] (n + 1) (next ∷ more) some judged in
     let caps = all.0 in
     let long : length (empty_buffers caps) ≡ length caps = length-map caps (λ (k : ℕ). []) in
-    let opens : opened stage.Entries caps ≡ progress stage.Entries caps [] (empty_buffers caps) = ap (λ buffers. record { at = stage.Entries; buffers = buffers; entries = 0 }) (sym (known_fresh_from 0 caps caps)) in
-    let entries = sound_entries caps [] (empty_buffers caps) all.1 all.2 (omega arith) long (subst (λ (a : Progress). verdict_from a all.1 all.2 ≡ Yes) opens all.3.judged) in
-    tail_of line next more count caps all.2 entries.0 entries.1 taken.1.spelled taken.1.some taken.1.few (let h = all.3.counted in omega arith) all.3.small all.3.text entries.2
+    let opens : opened stage.Entries caps ≡ progress stage.Entries caps [] (empty_buffers caps) =
+    ap (λ buffers. record { at = stage.Entries; buffers = buffers; entries = 0 }) (sym (known_fresh_from 0 caps caps)) in
+    let entries = sound_entries caps [] (empty_buffers caps) all.1 all.2 (omega arith) long
+    (subst (λ (a : Progress). verdict_from a all.1 all.2 ≡ Yes) opens all.3.judged) in
+    tail_of line next more count caps all.2 entries.0 entries.1 taken.1.spelled taken.1.some taken.1.few (let h = all.3.counted in omega arith) all.3.small
+    all.3.text entries.2
 
 head_text : (line rest body : List ℕ) → line ≡ codes "mctower-trace 1" → rest ≡ body → line ++ 10 ∷ rest ≡ line_of head_pieces ++ body
 head_text line rest body e1 e2 = rw (e1, e2) refl

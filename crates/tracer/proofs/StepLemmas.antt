@@ -1,5 +1,6 @@
 -- Each line behind the capacities is taken where it may stand, and a line that is taken is spelled so.
-use Rattle.std.proofs.Common.{◌-◌, ◌≡◌, ℕ, ◌+◌, ◌<◌, ◌≤◌, ◌^◌, ◌&&◌, Bool, true, false, cond, List, [], ◌∷◌, ◌++◌, length, get_or, map, Option, Some, None, Ok, refl, sym, ap, ◌∙◌, eqb-true, inl, inr, ◌⊎◌, lt-ltb, ltb-true, lit<, arith}
+use Rattle.std.proofs.Common.{◌-◌, ◌≡◌, ℕ, ◌+◌, ◌<◌, ◌≤◌, ◌^◌, ◌&&◌, Bool, true, false, cond, List, [], ◌∷◌, ◌++◌, length, get_or, map, Option, Some, None, Ok}
+use Rattle.std.proofs.Common.{refl, sym, ap, ◌∙◌, eqb-true, inl, inr, ◌⊎◌, lt-ltb, ltb-true, lit<, arith}
 use Rattle.std.specs.Prelude.{decimal, codes, nat_lt, slice_get}
 use Rattle.std.specs.Str.{bytes_eq}
 use Rattle.std.specs.List.{AllByRecursion, list_all, join_with_byte}
@@ -20,7 +21,8 @@ use Rattle.tracer.specs.declared.verdicts.Reason.TheVariants.{Spelling, Range, L
 use Rattle.tracer.specs.declared.stages.Stage.{Stage}
 use Rattle.tracer.specs.declared.stages.Stage.TheVariants as stage
 use Rattle.tracer.specs.TraceText.{kind_word, entry_pieces, left_pieces, IsEntryOf, AreSmall}
-use Rattle.tracer.specs.Judging.{Digits, Seen, Progress, wanted, piece_at, word_at, is_just, is_value, is_within, are_values, is_left, entry_digits, entry_in, entry_among, entry_line, left_digits, left_line, entries_line, step}
+use Rattle.tracer.specs.Judging.{Digits, Seen, Progress, wanted, piece_at, word_at, is_just, is_value, is_within, are_values, is_left, entry_digits, entry_in}
+use Rattle.tracer.specs.Judging.{entry_among, entry_line, left_digits, left_line, entries_line, step}
 use Rattle.tracer.proofs.SplitLemmas.{Lacks, IsLine, decimal_lacks, pieces_again}
 use Rattle.tracer.proofs.ReadLemmas.{bind_ok, wanted_ok, same_ok, piece_taken, word_taken, is_value_taken, decimal_is_number, is_value_again}
 use Rattle.tracer.proofs.KnownLemmas.{seen_of, known_from, length-known_from, slice_get-known, among_again, among_taken}
@@ -45,11 +47,43 @@ entry_is_line n e few small =
     let op : e.op < 2 ^ 64 = (let h = small.op in omega arith) in
     let pos : e.pos < 2 ^ 64 = (let h = small.pos in omega arith) in
     record {
-      spaces = ((refl, tt), (decimal_lacks 32 e.cpu.0 (lit< tt) cpu, (decimal_lacks 32 e.thread.0 (lit< tt) thread, (kind_spaces e.kind, (decimal_lacks 32 e.buffer.0 (lit< tt) buffer, (decimal_lacks 32 e.value (lit< tt) small.value, (decimal_lacks 32 e.op (lit< tt) op, (decimal_lacks 32 e.pos (lit< tt) pos, tt))))))));
-      feeds = ((refl, tt), (decimal_lacks 10 e.cpu.0 (lit< tt) cpu, (decimal_lacks 10 e.thread.0 (lit< tt) thread, (kind_feeds e.kind, (decimal_lacks 10 e.buffer.0 (lit< tt) buffer, (decimal_lacks 10 e.value (lit< tt) small.value, (decimal_lacks 10 e.op (lit< tt) op, (decimal_lacks 10 e.pos (lit< tt) pos, tt))))))));
+      spaces = (
+        (refl, tt),
+        (
+          decimal_lacks 32 e.cpu.0 (lit< tt) cpu,
+          (
+            decimal_lacks 32 e.thread.0 (lit< tt) thread,
+            (
+              kind_spaces e.kind,
+              (
+                decimal_lacks 32 e.buffer.0 (lit< tt) buffer,
+                (decimal_lacks 32 e.value (lit< tt) small.value, (decimal_lacks 32 e.op (lit< tt) op, (decimal_lacks 32 e.pos (lit< tt) pos, tt))),
+              ),
+            ),
+          ),
+        ),
+      );
+      feeds = (
+        (refl, tt),
+        (
+          decimal_lacks 10 e.cpu.0 (lit< tt) cpu,
+          (
+            decimal_lacks 10 e.thread.0 (lit< tt) thread,
+            (
+              kind_feeds e.kind,
+              (
+                decimal_lacks 10 e.buffer.0 (lit< tt) buffer,
+                (decimal_lacks 10 e.value (lit< tt) small.value, (decimal_lacks 10 e.op (lit< tt) op, (decimal_lacks 10 e.pos (lit< tt) pos, tt))),
+              ),
+            ),
+          ),
+        ),
+      );
     }
 
-entry_line_again : (at : Stage) (caps : List ℕ) (earlier : List Entry) (contents : List (List Message)) (e : Entry) → length caps ≤ BUFFERS → length earlier < ENTRIES → length contents ≡ length caps → IsEntryOf (length caps) e → IsNext caps earlier contents e → entry_line (behind_e e) (progress at caps earlier contents) ≡ Ok (progress at caps (earlier ++ e ∷ []) (after_entry contents e))
+entry_line_again : (at : Stage) (caps : List ℕ) (earlier : List Entry) (contents : List (List Message)) (e : Entry) → length caps ≤ BUFFERS
+    → length earlier < ENTRIES → length contents ≡ length caps → IsEntryOf (length caps) e → IsNext caps earlier contents e
+    → entry_line (behind_e e) (progress at caps earlier contents) ≡ Ok (progress at caps (earlier ++ e ∷ []) (after_entry contents e))
 unfolding entry_line
 entry_line_again at caps earlier contents e few room long small next =
     let cpu : e.cpu.0 ≤ CPUS - 1 = (let h = small.cpu in omega arith) in
@@ -59,46 +93,76 @@ entry_line_again at caps earlier contents e few room long small next =
     let op : e.op ≤ ENTRIES - 1 = (let h = small.op in omega arith) in
     let pos : e.pos ≤ ENTRIES - 1 = (let h = small.pos in omega arith) in
     let digits = entry_digits_again e (omega arith) (omega arith) (omega arith) (omega arith) (omega arith) (omega arith) in
-    rw (digits, entry_in_again e cpu thread buffer value op pos, lt-ltb (length earlier) ENTRIES room, among_again caps earlier contents e long next, length_push earlier e) refl
+    rw (
+      digits,
+      entry_in_again e cpu thread buffer value op pos,
+      lt-ltb (length earlier) ENTRIES room,
+      among_again caps earlier contents e long next,
+      length_push earlier e,
+    ) refl
 
 entries_e : (ps : List (List ℕ)) (s : Progress) → entries_line (codes "e" ∷ ps) s ≡ entry_line ps s
 unfolding entries_line
 entries_e ps s = refl
 
-pub step_entry : (caps : List ℕ) (earlier : List Entry) (contents : List (List Message)) (e : Entry) → length caps ≤ BUFFERS → length earlier < ENTRIES → length contents ≡ length caps → IsEntryOf (length caps) e → IsNext caps earlier contents e → step (progress stage.Entries caps earlier contents) (join_with_byte 32 (entry_pieces e)) ≡ Ok (progress stage.Entries caps (earlier ++ e ∷ []) (after_entry contents e))
+pub step_entry : (caps : List ℕ) (earlier : List Entry) (contents : List (List Message)) (e : Entry) → length caps ≤ BUFFERS → length earlier < ENTRIES
+    → length contents ≡ length caps → IsEntryOf (length caps) e → IsNext caps earlier contents e
+    → step (progress stage.Entries caps earlier contents) (join_with_byte 32 (entry_pieces e))
+    ≡ Ok (progress stage.Entries caps (earlier ++ e ∷ []) (after_entry contents e))
 unfolding step
 step_entry caps earlier contents e few room long small next =
     let s = progress stage.Entries caps earlier contents in
-    ap (λ (ps : List (List ℕ)). entries_line ps s) (pieces_again (codes "e") (behind_e e) (entry_is_line (length caps) e few small)) ∙ entries_e (behind_e e) s ∙ entry_line_again stage.Entries caps earlier contents e few room long small next
+    ap (λ (ps : List (List ℕ)). entries_line ps s) (pieces_again (codes "e") (behind_e e) (entry_is_line (length caps) e few small)) ∙ entries_e (behind_e e) s
+    ∙ entry_line_again stage.Entries caps earlier contents e few room long small next
 
 -- what it says that an entry was taken
-pub record EntryTaken (at : Stage) (caps : List ℕ) (earlier : List Entry) (contents : List (List Message)) (ps : List (List ℕ)) (after : Progress) (e : Entry) : Type 0 where
+pub record EntryTaken (at : Stage) (caps : List ℕ) (earlier : List Entry) (contents : List (List Message)) (ps : List (List ℕ)) (after : Progress)
+    (e : Entry) : Type 0 where
   pub spelled : ps ≡ behind_e e
   pub small : IsEntryOf (length caps) e
   pub next : IsNext caps earlier contents e
   pub room : length earlier < ENTRIES
   pub is : after ≡ progress at caps (earlier ++ e ∷ []) (after_entry contents e)
 
-entry_found : (at : Stage) (caps : List ℕ) (earlier : List Entry) (contents : List (List Message)) (ps : List (List ℕ)) (digits : Digits) (e : Entry) (buffers : List Seen) (after : Progress) → length contents ≡ length caps → ps ≡ shape_of digits → IsSmall digits e → length earlier < ENTRIES → entry_among e (known_from earlier contents 0 caps) ≡ Ok buffers → record { at = at; buffers = buffers; entries = length earlier + 1 } ≡ after → EntryTaken at caps earlier contents ps after e
+entry_found : (at : Stage) (caps : List ℕ) (earlier : List Entry) (contents : List (List Message)) (ps : List (List ℕ)) (digits : Digits) (e : Entry)
+    (buffers : List Seen) (after : Progress) → length contents ≡ length caps → ps ≡ shape_of digits → IsSmall digits e → length earlier < ENTRIES
+    → entry_among e (known_from earlier contents 0 caps) ≡ Ok buffers → record { at = at; buffers = buffers; entries = length earlier + 1 } ≡ after
+    → EntryTaken at caps earlier contents ps after e
 entry_found at caps earlier contents ps digits e buffers after long shape small room among is =
     let taken = among_taken caps earlier contents e buffers long among in
     record {
       spelled = shape ∙ ap shape_of small.spelled;
-      small = record { cpu = (let h = small.cpu in omega arith); thread = (let h = small.thread in omega arith); buffer = taken.0.known; value = (let h = small.value in omega arith); op = (let h = small.op in omega arith); pos = (let h = small.pos in omega arith) };
+      small = record {
+        cpu = (let h = small.cpu in omega arith);
+        thread = (let h = small.thread in omega arith);
+        buffer = taken.0.known;
+        value = (let h = small.value in omega arith);
+        op = (let h = small.op in omega arith);
+        pos = (let h = small.pos in omega arith);
+      };
       next = taken.0;
       room = room;
       is = sym is ∙ rw (taken.1, length_push earlier e) refl;
     }
 
-entry_line_taken : (at : Stage) (caps : List ℕ) (earlier : List Entry) (contents : List (List Message)) (ps : List (List ℕ)) (after : Progress) → length contents ≡ length caps → entry_line ps (progress at caps earlier contents) ≡ Ok after → (e : Entry) × EntryTaken at caps earlier contents ps after e
+entry_line_taken : (at : Stage) (caps : List ℕ) (earlier : List Entry) (contents : List (List Message)) (ps : List (List ℕ)) (after : Progress)
+    → length contents ≡ length caps → entry_line ps (progress at caps earlier contents) ≡ Ok after
+    → (e : Entry) × EntryTaken at caps earlier contents ps after e
 unfolding entry_line
 entry_line_taken at caps earlier contents ps after long taken =
     let s = progress at caps earlier contents in
-    let digits = bind_ok (entry_digits ps) (λ digits. entry_in digits >>= λ e. wanted (nat_lt (length earlier) ENTRIES) Range (entry_among e s.buffers) >>= λ buffers. Ok (record s { buffers = buffers; entries = length earlier + 1 })) after taken in
-    let entry = bind_ok (entry_in digits.0) (λ e. wanted (nat_lt (length earlier) ENTRIES) Range (entry_among e s.buffers) >>= λ buffers. Ok (record s { buffers = buffers; entries = length earlier + 1 })) after digits.2 in
-    let among = bind_ok (wanted (nat_lt (length earlier) ENTRIES) Range (entry_among entry.0 s.buffers)) (λ buffers. Ok (record s { buffers = buffers; entries = length earlier + 1 })) after entry.2 in
-    let room = wanted_ok (nat_lt (length earlier) ENTRIES) Range (entry_among entry.0 s.buffers) among.0 among.1 in
-    (entry.0, entry_found at caps earlier contents ps digits.0 entry.0 among.0 after long (entry_digits_taken ps digits.0 digits.1) (entry_in_taken digits.0 entry.0 entry.1) (ltb-true (length earlier) ENTRIES room.0) room.1 (same_ok _ after among.2))
+    let digits = bind_ok (entry_digits ps) (λ digits. entry_in digits >>= λ e.
+    wanted (nat_lt (length earlier) ENTRIES) Range (entry_among e s.buffers) >>= λ buffers.
+    Ok (record s { buffers = buffers; entries = length earlier + 1 })) after taken in
+    let entry = bind_ok (entry_in digits.0) (λ e. wanted (nat_lt (length earlier) ENTRIES) Range (entry_among e s.buffers) >>= λ buffers.
+    Ok (record s { buffers = buffers; entries = length earlier + 1 })) after digits.2 in
+    let among = bind_ok (wanted (nat_lt (length earlier) ENTRIES) Range (entry_among entry.0 s.buffers))
+    (λ buffers. Ok (record s { buffers = buffers; entries = length earlier + 1 })) after entry.2 in
+    let room = wanted_ok (nat_lt (length earlier) ENTRIES) Range (entry_among entry.0 s.buffers) among.0 among.1 in (
+      entry.0,
+      entry_found at caps earlier contents ps digits.0 entry.0 among.0 after long (entry_digits_taken ps digits.0 digits.1)
+          (entry_in_taken digits.0 entry.0 entry.1) (ltb-true (length earlier) ENTRIES room.0) room.1 (same_ok _ after among.2),
+    )
 
 -- ---- what is left
 
@@ -122,10 +186,18 @@ left_digits_again b items lt small = rw (is_value_again b lt, numbers_again item
 abbrev pub behind_left : ℕ → List ℕ → Stage
 behind_left b caps = cond (nat_lt (b + 1) (length caps)) (stage.Contents (b + 1)) stage.End
 
-pub left_line_again : (at : Stage) (b : ℕ) (caps : List ℕ) (earlier : List Entry) (contents : List (List Message)) → b < length caps → b < 2 ^ 64 → AreSmall (items_of contents b) → left_line b (left_pieces b (items_of contents b)) (progress at caps earlier contents) ≡ Ok (progress (behind_left b caps) caps earlier contents)
+pub left_line_again : (at : Stage) (b : ℕ) (caps : List ℕ) (earlier : List Entry) (contents : List (List Message)) → b < length caps → b < 2 ^ 64
+    → AreSmall (items_of contents b) → left_line b (left_pieces b (items_of contents b)) (progress at caps earlier contents)
+    ≡ Ok (progress (behind_left b caps) caps earlier contents)
 unfolding left_line
 left_line_again at b caps earlier contents lt fits small =
-    rw (left_digits_again b (items_of contents b) fits small, within_again (items_of contents b) small, slice_get-known earlier contents caps b lt, values_again (items_of contents b) small, length-known_from earlier contents 0 caps) refl
+    rw (
+      left_digits_again b (items_of contents b) fits small,
+      within_again (items_of contents b) small,
+      slice_get-known earlier contents caps b lt,
+      values_again (items_of contents b) small,
+      length-known_from earlier contents 0 caps,
+    ) refl
 
 just_some : (read : Option ℕ) (n : ℕ) → is_just read n ≡ true → read ≡ Some n
 just_some None n e = absurd (cc)
@@ -143,17 +215,21 @@ values_taken (p ∷ ps) (v ∷ vs) e =
     let rest = values_taken ps vs parts.1 in
     (rw (is_value_taken p v parts.0, rest.0) refl, (small_value p v parts.0, rest.1))
 
-left_shape : (ps rest : List (List ℕ)) (number : List ℕ) (behind values : List (List ℕ)) (b : ℕ) → ps ≡ codes "left" ∷ rest → rest ≡ number ∷ behind → number ≡ decimal b → behind ≡ values → ps ≡ codes "left" ∷ decimal b ∷ values
+left_shape : (ps rest : List (List ℕ)) (number : List ℕ) (behind values : List (List ℕ)) (b : ℕ) → ps ≡ codes "left" ∷ rest → rest ≡ number ∷ behind
+    → number ≡ decimal b → behind ≡ values → ps ≡ codes "left" ∷ decimal b ∷ values
 left_shape ps rest number behind values b e1 e2 e3 e4 = e1 ∙ ap (λ (t : List (List ℕ)). codes "left" ∷ t) (e2 ∙ rw (e3, e4) refl)
 
 left_digits_taken : (b : ℕ) (ps values : List (List ℕ)) → left_digits b ps ≡ Ok values → ps ≡ codes "left" ∷ decimal b ∷ values
 unfolding left_digits
 left_digits_taken b ps values taken =
-    let word = bind_ok (word_at (codes "left") ps) (λ rest. piece_at rest >>= λ number. wanted (is_value number.0 b) Spelling (wanted (list_all is_number number.1) Spelling (Ok number.1))) values taken in
-    let number = bind_ok (piece_at word.0) (λ number. wanted (is_value number.0 b) Spelling (wanted (list_all is_number number.1) Spelling (Ok number.1))) values word.2 in
+    let word = bind_ok (word_at (codes "left") ps) (λ rest. piece_at rest >>= λ number.
+    wanted (is_value number.0 b) Spelling (wanted (list_all is_number number.1) Spelling (Ok number.1))) values taken in
+    let number = bind_ok (piece_at word.0) (λ number. wanted (is_value number.0 b) Spelling (wanted (list_all is_number number.1) Spelling (Ok number.1)))
+    values word.2 in
     let value = wanted_ok (is_value number.0.0 b) Spelling (wanted (list_all is_number number.0.1) Spelling (Ok number.0.1)) values number.2 in
     let rest = wanted_ok (list_all is_number number.0.1) Spelling (Ok number.0.1) values value.1 in
-    left_shape ps word.0 number.0.0 number.0.1 values b (word_taken (codes "left") ps word.0 word.1) (piece_taken word.0 number.0 number.1) (is_value_taken number.0.0 b value.0) (same_ok number.0.1 values rest.1)
+    left_shape ps word.0 number.0.0 number.0.1 values b (word_taken (codes "left") ps word.0 word.1) (piece_taken word.0 number.0 number.1)
+    (is_value_taken number.0.0 b value.0) (same_ok number.0.1 values rest.1)
 
 -- what it says that what is left of buffer b was taken
 pub record LeftTaken (b : ℕ) (caps : List ℕ) (earlier : List Entry) (contents : List (List Message)) (ps : List (List ℕ)) (after : Progress) : Type 0 where
@@ -162,16 +238,24 @@ pub record LeftTaken (b : ℕ) (caps : List ℕ) (earlier : List Entry) (content
   pub small : AreSmall (items_of contents b)
   pub is : after ≡ progress (behind_left b caps) caps earlier contents
 
-holds_of : (values : List (List ℕ)) (found : Option Seen) → is_left values found ≡ true → (seen : Seen) × (found ≡ Some seen) × (are_values values seen.items ≡ true)
+holds_of : (values : List (List ℕ)) (found : Option Seen) → is_left values found ≡ true
+    → (seen : Seen) × (found ≡ Some seen) × (are_values values seen.items ≡ true)
 holds_of values None e = absurd (cc)
 holds_of values (Some seen) e = (seen, refl, e)
 
 some_seen : (x y : Seen) → Some x ≡ Some y → x ≡ y
 some_seen x y e = cc
 
-left_found : (at : Stage) (b : ℕ) (caps : List ℕ) (earlier : List Entry) (contents : List (List Message)) (ps values : List (List ℕ)) (after : Progress) (seen : Seen) → ps ≡ codes "left" ∷ decimal b ∷ values → slice_get (known_from earlier contents 0 caps) b ≡ Some seen → are_values values seen.items ≡ true → record { at = cond (nat_lt (b + 1) (length (known_from earlier contents 0 caps))) (stage.Contents (b + 1)) stage.End; buffers = known_from earlier contents 0 caps; entries = length earlier } ≡ after → LeftTaken b caps earlier contents ps after
+left_found : (at : Stage) (b : ℕ) (caps : List ℕ) (earlier : List Entry) (contents : List (List Message)) (ps values : List (List ℕ)) (after : Progress)
+    (seen : Seen) → ps ≡ codes "left" ∷ decimal b ∷ values → slice_get (known_from earlier contents 0 caps) b ≡ Some seen → are_values values seen.items ≡ true
+    → record {
+      at = cond (nat_lt (b + 1) (length (known_from earlier contents 0 caps))) (stage.Contents (b + 1)) stage.End;
+      buffers = known_from earlier contents 0 caps;
+      entries = length earlier;
+    } ≡ after → LeftTaken b caps earlier contents ps after
 left_found at b caps earlier contents ps values after seen shape found holds is =
-    let inside : b < length caps = omega (arith, slice_get_within (known_from earlier contents 0 caps) b seen found, length-known_from earlier contents 0 caps) in
+    let inside : b < length caps = omega (arith, slice_get_within (known_from earlier contents 0 caps) b seen found, length-known_from earlier contents 0 caps)
+    in
     let same : seen ≡ seen_of earlier contents b (get_or caps b 0) = some_seen seen _ (sym found ∙ slice_get-known earlier contents caps b inside) in
     let items : seen.items ≡ items_of contents b = ap (λ (x : Seen). x.items) same in
     let read = values_taken values (items_of contents b) (ap (are_values values) (sym items) ∙ holds) in
@@ -182,12 +266,14 @@ left_found at b caps earlier contents ps values after seen shape found holds is 
       is = sym is ∙ rw (length-known_from earlier contents 0 caps) refl;
     }
 
-pub left_line_taken : (at : Stage) (b : ℕ) (caps : List ℕ) (earlier : List Entry) (contents : List (List Message)) (ps : List (List ℕ)) (after : Progress) → left_line b ps (progress at caps earlier contents) ≡ Ok after → LeftTaken b caps earlier contents ps after
+pub left_line_taken : (at : Stage) (b : ℕ) (caps : List ℕ) (earlier : List Entry) (contents : List (List Message)) (ps : List (List ℕ)) (after : Progress)
+    → left_line b ps (progress at caps earlier contents) ≡ Ok after → LeftTaken b caps earlier contents ps after
 unfolding left_line
 left_line_taken at b caps earlier contents ps after taken =
     let s = progress at caps earlier contents in
     let next : Progress = record s { at = cond (nat_lt (b + 1) (length s.buffers)) (stage.Contents (b + 1)) stage.End } in
-    let digits = bind_ok (left_digits b ps) (λ values. wanted (list_all is_within values) Range (wanted (is_left values (slice_get s.buffers b)) Left (Ok next))) after taken in
+    let digits = bind_ok (left_digits b ps)
+    (λ values. wanted (list_all is_within values) Range (wanted (is_left values (slice_get s.buffers b)) Left (Ok next))) after taken in
     let range = wanted_ok (list_all is_within digits.0) Range (wanted (is_left digits.0 (slice_get s.buffers b)) Left (Ok next)) after digits.2 in
     let left = wanted_ok (is_left digits.0 (slice_get s.buffers b)) Left (Ok next) after range.1 in
     let holds = holds_of digits.0 (slice_get s.buffers b) left.0 in
@@ -212,23 +298,35 @@ unfolding entries_line
 entries_left ps s = refl
 
 -- what is left of the first buffer, behind the entries
-pub step_first_left : (caps : List ℕ) (earlier : List Entry) (contents : List (List Message)) → 0 < length caps → AreSmall (items_of contents 0) → step (progress stage.Entries caps earlier contents) (join_with_byte 32 (left_pieces 0 (items_of contents 0))) ≡ Ok (progress (behind_left 0 caps) caps earlier contents)
+pub step_first_left : (caps : List ℕ) (earlier : List Entry) (contents : List (List Message)) → 0 < length caps → AreSmall (items_of contents 0)
+    → step (progress stage.Entries caps earlier contents) (join_with_byte 32 (left_pieces 0 (items_of contents 0)))
+    ≡ Ok (progress (behind_left 0 caps) caps earlier contents)
 unfolding step
 step_first_left caps earlier contents lt small =
     let s = progress stage.Entries caps earlier contents in
-    ap (λ (ps : List (List ℕ)). entries_line ps s) (pieces_again (codes "left") (decimal 0 ∷ map decimal (items_of contents 0)) (left_is_line 0 (items_of contents 0) (lit< tt) small)) ∙ entries_left (decimal 0 ∷ map decimal (items_of contents 0)) s ∙ left_line_again stage.Entries 0 caps earlier contents lt (lit< tt) small
+    ap (λ (ps : List (List ℕ)). entries_line ps s)
+    (pieces_again (codes "left") (decimal 0 ∷ map decimal (items_of contents 0)) (left_is_line 0 (items_of contents 0) (lit< tt) small))
+    ∙ entries_left (decimal 0 ∷ map decimal (items_of contents 0)) s ∙ left_line_again stage.Entries 0 caps earlier contents lt (lit< tt) small
 
-pub step_left : (b : ℕ) (caps : List ℕ) (earlier : List Entry) (contents : List (List Message)) → b < length caps → length caps ≤ BUFFERS → AreSmall (items_of contents b) → step (progress (stage.Contents b) caps earlier contents) (join_with_byte 32 (left_pieces b (items_of contents b))) ≡ Ok (progress (behind_left b caps) caps earlier contents)
+pub step_left : (b : ℕ) (caps : List ℕ) (earlier : List Entry) (contents : List (List Message)) → b < length caps → length caps ≤ BUFFERS
+    → AreSmall (items_of contents b) → step (progress (stage.Contents b) caps earlier contents) (join_with_byte 32 (left_pieces b (items_of contents b)))
+    ≡ Ok (progress (behind_left b caps) caps earlier contents)
 unfolding step
 step_left b caps earlier contents lt few small =
     let s = progress (stage.Contents b) caps earlier contents in
     let fits : b < 2 ^ 64 = omega arith in
-    ap (λ (ps : List (List ℕ)). left_line b ps s) (pieces_again (codes "left") (decimal b ∷ map decimal (items_of contents b)) (left_is_line b (items_of contents b) fits small)) ∙ left_line_again (stage.Contents b) b caps earlier contents lt fits small
+    ap (λ (ps : List (List ℕ)). left_line b ps s)
+    (pieces_again (codes "left") (decimal b ∷ map decimal (items_of contents b)) (left_is_line b (items_of contents b) fits small))
+    ∙ left_line_again (stage.Contents b) b caps earlier contents lt fits small
 
 same_pieces : (p w : List ℕ) (ps qs : List (List ℕ)) → p ≡ w → ps ≡ qs → p ∷ ps ≡ w ∷ qs
 same_pieces p w ps qs e1 e2 = rw (e1, e2) refl
 
-entries_cases : (caps : List ℕ) (earlier : List Entry) (contents : List (List Message)) (p : List ℕ) (ps : List (List ℕ)) (after : Progress) → length contents ≡ length caps → (first : Bool) → bytes_eq p (codes "e") ≡ first → cond first (entry_line ps (progress stage.Entries caps earlier contents)) (left_line 0 (p ∷ ps) (progress stage.Entries caps earlier contents)) ≡ Ok after → ((e : Entry) × (p ∷ ps ≡ entry_pieces e) × IsEntryOf (length caps) e × IsNext caps earlier contents e × (length earlier < ENTRIES) × (after ≡ progress stage.Entries caps (earlier ++ e ∷ []) (after_entry contents e))) ⊎ LeftTaken 0 caps earlier contents (p ∷ ps) after
+entries_cases : (caps : List ℕ) (earlier : List Entry) (contents : List (List Message)) (p : List ℕ) (ps : List (List ℕ)) (after : Progress)
+    → length contents ≡ length caps → (first : Bool) → bytes_eq p (codes "e") ≡ first
+    → cond first (entry_line ps (progress stage.Entries caps earlier contents)) (left_line 0 (p ∷ ps) (progress stage.Entries caps earlier contents)) ≡ Ok after
+    → ((e : Entry) × (p ∷ ps ≡ entry_pieces e) × IsEntryOf (length caps) e × IsNext caps earlier contents e × (length earlier < ENTRIES)
+    × (after ≡ progress stage.Entries caps (earlier ++ e ∷ []) (after_entry contents e))) ⊎ LeftTaken 0 caps earlier contents (p ∷ ps) after
 entries_cases caps earlier contents p ps after long true first taken =
     let found = entry_line_taken stage.Entries caps earlier contents ps after long taken in
     let word : p ≡ codes "e" = (bytes_eq-Decides p (codes "e")).0 first in
@@ -236,7 +334,10 @@ entries_cases caps earlier contents p ps after long true first taken =
 entries_cases caps earlier contents p ps after long false first taken = inr (left_line_taken stage.Entries 0 caps earlier contents (p ∷ ps) after taken)
 
 -- a line behind the entries is an entry, or what is left of the first buffer
-pub entries_taken : (caps : List ℕ) (earlier : List Entry) (contents : List (List Message)) (ps : List (List ℕ)) (after : Progress) → length contents ≡ length caps → entries_line ps (progress stage.Entries caps earlier contents) ≡ Ok after → ((e : Entry) × (ps ≡ entry_pieces e) × IsEntryOf (length caps) e × IsNext caps earlier contents e × (length earlier < ENTRIES) × (after ≡ progress stage.Entries caps (earlier ++ e ∷ []) (after_entry contents e))) ⊎ LeftTaken 0 caps earlier contents ps after
+pub entries_taken : (caps : List ℕ) (earlier : List Entry) (contents : List (List Message)) (ps : List (List ℕ)) (after : Progress)
+    → length contents ≡ length caps → entries_line ps (progress stage.Entries caps earlier contents) ≡ Ok after
+    → ((e : Entry) × (ps ≡ entry_pieces e) × IsEntryOf (length caps) e × IsNext caps earlier contents e × (length earlier < ENTRIES)
+    × (after ≡ progress stage.Entries caps (earlier ++ e ∷ []) (after_entry contents e))) ⊎ LeftTaken 0 caps earlier contents ps after
 unfolding entries_line
 entries_taken caps earlier contents [] after long taken = absurd (cc)
 entries_taken caps earlier contents (p ∷ ps) after long taken = entries_cases caps earlier contents p ps after long (bytes_eq p (codes "e")) refl taken

@@ -18,17 +18,20 @@ seen_at ts b d lt = slice_get-map seen_in ts b ∙ ap (option_map seen_in) (slic
 abbrev among : Entry → List Seen → Option Seen → Result (List Seen) Reason
 among e buffers seen = or_range seen >>= λ here. entry_on e here >>= λ next. Ok (slice_set buffers e.buffer.0 next)
 
-stepped : (e : Entry) (ts : List Tally) (seen : Seen) (new : Tally) (r : Result (Unit {0}) Reason) → StepsTo (entry_on e seen) r (seen_in new) → StepsTo (among e (map seen_in ts) (Some seen)) r (map seen_in (set ts e.buffer.0 new))
+stepped : (e : Entry) (ts : List Tally) (seen : Seen) (new : Tally) (r : Result (Unit {0}) Reason) → StepsTo (entry_on e seen) r (seen_in new)
+    → StepsTo (among e (map seen_in ts) (Some seen)) r (map seen_in (set ts e.buffer.0 new))
 stepped e ts seen new (Ok done) steps = rw steps (ap Ok (sym (map-set seen_in ts e.buffer.0 new)))
 stepped e ts seen new (Err reason) steps = rw steps refl
 
-pub entered : (e : Entry) (ts : List Tally) (b : ℕ) (d new : Tally) (r : Result (Unit {0}) Reason) → b ≡ e.buffer.0 → b < length ts → StepsTo (entry_on e (seen_in (get_or ts b d))) r (seen_in new) → StepsTo (entry_among e (map seen_in ts)) r (map seen_in (set ts b new))
+pub entered : (e : Entry) (ts : List Tally) (b : ℕ) (d new : Tally) (r : Result (Unit {0}) Reason) → b ≡ e.buffer.0 → b < length ts
+    → StepsTo (entry_on e (seen_in (get_or ts b d))) r (seen_in new) → StepsTo (entry_among e (map seen_in ts)) r (map seen_in (set ts b new))
 unfolding entry_among
 entered e ts b d new r same lt steps =
     let here : b < length ts = lt in
     let at : slice_get (map seen_in ts) e.buffer.0 ≡ Some (seen_in (get_or ts b d)) = rw (← same) (seen_at ts b d lt) in
     subst (λ (seen : Option Seen). StepsTo (among e (map seen_in ts) seen) r (map seen_in (set ts b new))) (sym at)
-    (subst (λ (k : ℕ). StepsTo (among e (map seen_in ts) (Some (seen_in (get_or ts b d)))) r (map seen_in (set ts k new))) (sym same) (stepped e ts (seen_in (get_or ts b d)) new r steps))
+    (subst (λ (k : ℕ). StepsTo (among e (map seen_in ts) (Some (seen_in (get_or ts b d)))) r (map seen_in (set ts k new))) (sym same)
+    (stepped e ts (seen_in (get_or ts b d)) new r steps))
 
 -- where there is no such buffer
 pub entered_nowhere : (e : Entry) (ts : List Tally) (b : ℕ) → b ≡ e.buffer.0 → length ts ≤ b → entry_among e (map seen_in ts) ≡ Err Range

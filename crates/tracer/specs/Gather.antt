@@ -36,7 +36,8 @@ HasNoOrder traces = (order : List Entry) → ¬ IsOrder traces order
 
 -- traces of which some order is a run have an order
 abbrev pub RunsHaveOrder : List (List Entry) → Type 0
-RunsHaveOrder traces = (caps : List ℕ) (order : List Entry) (left : List (List Message)) → IsInterleaving traces order → IsRun caps order left → ¬ HasNoOrder traces
+RunsHaveOrder traces = (caps : List ℕ) (order : List Entry) (left : List (List Message)) → IsInterleaving traces order → IsRun caps order left
+    → ¬ HasNoOrder traces
 
 -- where some order of the traces is a run, each order of them is a run that ends in the same contents
 abbrev pub OrdersRunAlike : List (List Entry) → Type 0

@@ -1,5 +1,6 @@
 -- How a trace text is judged: line by line, up to the first fault.
-use Rattle.std.specs.Prelude.{◌-◌, ◌≡◌, ℕ, ◌+◌, Bool, true, false, ◌&&◌, ◌==◌, nat_lt, List, [], ◌∷◌, ◌++◌, length, codes, is_some, Option, Some, None, Result, Ok, Err, slice_get, slice_set, if◌then◌else◌}
+use Rattle.std.specs.Prelude.{◌-◌, ◌≡◌, ℕ, ◌+◌, Bool, true, false, ◌&&◌, ◌==◌, nat_lt, List, [], ◌∷◌, ◌++◌, length, codes, is_some, Option, Some, None, Result}
+use Rattle.std.specs.Prelude.{Ok, Err, slice_get, slice_set, if◌then◌else◌}
 use Rattle.std.specs.List.{list_all, slice_split}
 use Rattle.std.specs.Str.{bytes_eq}
 use Rattle.event_log.specs.Messages.{Message}
@@ -95,7 +96,8 @@ next_pos Recv seen = seen.recvs
 
 -- a send wants room
 abbrev pub put_in : Message → Seen → Result Seen Reason
-put_in value seen = wanted (nat_lt (length seen.items) seen.capacity) Full (Ok (record seen { items = seen.items ++ value ∷ []; ops = seen.ops + 1; sends = seen.sends + 1 }))
+put_in value seen = wanted (nat_lt (length seen.items) seen.capacity) Full
+    (Ok (record seen { items = seen.items ++ value ∷ []; ops = seen.ops + 1; sends = seen.sends + 1 }))
 
 -- a receive wants its value as the first item
 abbrev pub take_first : Message → List Message → Seen → Result Seen Reason
@@ -146,7 +148,15 @@ entry_in digits = in_range (CPUS - 1) digits.cpu
     >>= λ buffer. in_range 18446744073709551615 digits.value
     >>= λ value. in_range (ENTRIES - 1) digits.op
     >>= λ op. in_range (ENTRIES - 1) digits.pos
-    >>= λ pos. Ok (record { cpu = record { 0 = cpu }; thread = record { 0 = thread }; kind = digits.kind; buffer = record { 0 = buffer }; value = value; op = op; pos = pos })
+    >>= λ pos. Ok (record {
+      cpu = record { 0 = cpu };
+      thread = record { 0 = thread };
+      kind = digits.kind;
+      buffer = record { 0 = buffer };
+      value = value;
+      op = op;
+      pos = pos;
+    })
 
 -- the buffers after an entry of one of them
 unfoldable pub entry_among : Entry → List Seen → Result (List Seen) Reason
@@ -183,7 +193,11 @@ capacity_digits b pieces = word_at (codes "cap") pieces
 unfoldable pub capacity_line : ℕ → List (List ℕ) → Progress → Result Progress Reason
 capacity_line count pieces s = capacity_digits (length s.buffers) pieces
     >>= λ digits. in_range CAPACITY digits
-    >>= λ capacity. wanted (nat_lt 0 capacity) Range (Ok (record s { at = if nat_lt (length s.buffers + 1) count then stage.Capacities count else stage.Entries; buffers = s.buffers ++ fresh capacity ∷ [] }))
+    >>= λ capacity. wanted (nat_lt 0 capacity) Range
+    (Ok (record s {
+      at = if nat_lt (length s.buffers + 1) count then stage.Capacities count else stage.Entries;
+      buffers = s.buffers ++ fresh capacity ∷ [];
+    }))
 
 -- the pieces of the items of buffer b
 unfoldable pub left_digits : ℕ → List (List ℕ) → Result (List (List ℕ)) Reason
@@ -208,7 +222,9 @@ is_left values (Some seen) = are_values values seen.items
 
 unfoldable pub left_line : ℕ → List (List ℕ) → Progress → Result Progress Reason
 left_line b pieces s = left_digits b pieces
-    >>= λ values. wanted (list_all is_within values) Range (wanted (is_left values (slice_get s.buffers b)) Left (Ok (record s { at = if nat_lt (b + 1) (length s.buffers) then stage.Contents (b + 1) else stage.End })))
+    >>= λ values. wanted (list_all is_within values) Range
+    (wanted (is_left values (slice_get s.buffers b)) Left
+    (Ok (record s { at = if nat_lt (b + 1) (length s.buffers) then stage.Contents (b + 1) else stage.End })))
 
 -- a line whose first piece is `e` is an entry; any other is what is left of the first buffer
 unfoldable pub entries_line : List (List ℕ) → Progress → Result Progress Reason

@@ -47,7 +47,8 @@ numbered line b (x ∷ xs) = line b x ∷ numbered line (b + 1) xs
 
 -- all lines of a trace, each as its pieces
 unfoldable pub lines_of : List ℕ → List Entry → List (List Message) → List (List (List ℕ))
-lines_of caps es left = head_pieces ∷ count_pieces (length caps) ∷ (numbered cap_pieces 0 caps ++ (map entry_pieces es ++ (numbered left_pieces 0 left ++ end_pieces ∷ [])))
+lines_of caps es left = head_pieces ∷ count_pieces
+    (length caps) ∷ (numbered cap_pieces 0 caps ++ (map entry_pieces es ++ (numbered left_pieces 0 left ++ end_pieces ∷ [])))
 
 -- the one spelling
 unfoldable pub spelling : List ℕ → List Entry → List (List Message) → List ℕ

@@ -5,4 +5,5 @@ use Rattle.boot.proofs.TasksLemmas.{TasksSoFar}
 use Rattle.boot.proofs.tasks.tasks_of.Given as goal
 
 abbrev pub invariant-loop-index : goal.invariant-loop-index
-invariant-loop-index l = (length l.tasks.items ≡ l.index) × TasksSoFar (λ table. table_view table.now) l.cpus l.buffers l.tables l.index (tasks_of l.tasks.items)
+invariant-loop-index l = (length l.tasks.items ≡ l.index)
+    × TasksSoFar (λ table. table_view table.now) l.cpus l.buffers l.tables l.index (tasks_of l.tasks.items)

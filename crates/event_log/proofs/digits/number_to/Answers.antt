@@ -20,24 +20,28 @@ returns-then-text-gt1-clause-number c = sym (number_to-leading_zero c.args.most 
 
 pub returns-then-not-is_ascii_digit-clause-number : goal.returns-then-not-is_ascii_digit-clause-number
 returns-then-not-is_ascii_digit-clause-number c =
-    sym (number_to-not_a_digit c.args.most c.args.text.now c.loop-byte.byte-index c.loop-byte-test.true (sym c.is_ascii_digit.ensures.value ∙ c.if-not-is_ascii_digit.true))
+    sym (number_to-not_a_digit c.args.most c.args.text.now c.loop-byte.byte-index c.loop-byte-test.true
+    (sym c.is_ascii_digit.ensures.value ∙ c.if-not-is_ascii_digit.true))
 
 pub returns-then-most-digit-clause-number : goal.returns-then-most-digit-clause-number
 returns-then-most-digit-clause-number c =
     let large : c.args.most < c.loop-byte.number * 10 + (get_or c.args.text.now c.loop-byte.byte-index 0 - 48) = omega arith in
-    sym (number_to-too_large c.args.most c.args.text.now c.loop-byte.byte-index c.loop-byte.number c.loop-byte.invariant c.loop-byte-test.true (sym c.is_ascii_digit.ensures.value ∙ c.if-not-is_ascii_digit.false) large)
+    sym (number_to-too_large c.args.most c.args.text.now c.loop-byte.byte-index c.loop-byte.number c.loop-byte.invariant c.loop-byte-test.true
+    (sym c.is_ascii_digit.ensures.value ∙ c.if-not-is_ascii_digit.false) large)
 
 pub returns-then-number-most-clause-number : goal.returns-then-number-most-clause-number
 returns-then-number-most-clause-number c =
     let large : c.args.most < c.loop-byte.number * 10 + (get_or c.args.text.now c.loop-byte.byte-index 0 - 48) =
     omega (arith, above c.args.most c.from-digit.result c.loop-byte.number c.if-number-most.true) in
-    sym (number_to-too_large c.args.most c.args.text.now c.loop-byte.byte-index c.loop-byte.number c.loop-byte.invariant c.loop-byte-test.true (sym c.is_ascii_digit.ensures.value ∙ c.if-not-is_ascii_digit.false) large)
+    sym (number_to-too_large c.args.most c.args.text.now c.loop-byte.byte-index c.loop-byte.number c.loop-byte.invariant c.loop-byte-test.true
+    (sym c.is_ascii_digit.ensures.value ∙ c.if-not-is_ascii_digit.false) large)
 
 pub loop-byte-preserved : goal.loop-byte-preserved
 loop-byte-preserved c =
     let fits : c.loop-byte.number * 10 + (get_or c.args.text.now c.loop-byte.byte-index 0 - 48) ≤ c.args.most =
     omega (arith, within c.args.most c.from-digit.result c.loop-byte.number c.if-most-digit.false c.if-number-most.false) in
-    rw c.from-digit.ensures (reads_one_more c.args.most c.args.text.now c.loop-byte.byte-index c.loop-byte.number c.loop-byte.invariant c.loop-byte-test.true (sym c.is_ascii_digit.ensures.value ∙ c.if-not-is_ascii_digit.false) fits)
+    rw c.from-digit.ensures (reads_one_more c.args.most c.args.text.now c.loop-byte.byte-index c.loop-byte.number c.loop-byte.invariant c.loop-byte-test.true
+    (sym c.is_ascii_digit.ensures.value ∙ c.if-not-is_ascii_digit.false) fits)
 
 some : (c : goal.After-loop-byte) → 0 < length c.args.text.now
 some c = grind (arith, nat_tests)
@@ -51,4 +55,5 @@ lead c e =
     ]
 
 pub returns-clause-number : goal.returns-clause-number
-returns-clause-number c = sym (reads_all c.args.most c.args.text.now c.loop-byte.byte-index c.loop-byte.number c.loop-byte.invariant c.loop-byte-test.false (some c) (lead c))
+returns-clause-number c =
+    sym (reads_all c.args.most c.args.text.now c.loop-byte.byte-index c.loop-byte.number c.loop-byte.invariant c.loop-byte-test.false (some c) (lead c))

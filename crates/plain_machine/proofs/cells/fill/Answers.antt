@@ -13,12 +13,15 @@ loop-lock-preserved g c =
     let rest = c.next.new.self.rest.items in
     let cells = c.loop-lock.cells.items in
     let blocks = c.args.blocks.items in
-    let all : c.loop-lock.yielded ++ (o ∷ rest) ≡ blocks = ap (λ l. c.loop-lock.yielded ++ l) (sym c.in-Some.ensures.steps.0) ∙ turn.all ∙ c.into_iter-lock-iterator.ensures.into_iter_gives.0 in
-    let within : All (λ entry. lock_number entry.0 < length cells) blocks = subst (λ n. All (λ entry. lock_number entry.0 < n) blocks) (sym turn.length_is) c.requires.within in
+    let all : c.loop-lock.yielded ++ (o ∷ rest) ≡ blocks = ap (λ l. c.loop-lock.yielded ++ l) (sym c.in-Some.ensures.steps.0) ∙ turn.all
+    ∙ c.into_iter-lock-iterator.ensures.into_iter_gives.0 in
+    let within : All (λ entry. lock_number entry.0 < length cells) blocks =
+    subst (λ n. All (λ entry. lock_number entry.0 < n) blocks) (sym turn.length_is) c.requires.within in
     record {
       can_next = tt;
       ends = tt;
       all = append_assoc c.loop-lock.yielded (o ∷ []) rest ∙ ap (λ l. c.loop-lock.yielded ++ l) (sym c.in-Some.ensures.steps.0) ∙ turn.all;
       length_is = ap length c.put.ensures ∙ length-set cells (lock_number o.0) _ ∙ turn.length_is;
-      fresh = subst (λ l. AreFresh (c.loop-lock.yielded ++ o ∷ []) l) (sym c.put.ensures) (fresh_turn blocks c.loop-lock.yielded o rest cells all c.requires.distinct within turn.fresh);
+      fresh = subst (λ l. AreFresh (c.loop-lock.yielded ++ o ∷ []) l) (sym c.put.ensures)
+          (fresh_turn blocks c.loop-lock.yielded o rest cells all c.requires.distinct within turn.fresh);
     }

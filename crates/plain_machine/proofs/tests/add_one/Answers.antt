@@ -13,4 +13,5 @@ look-requires-clause-lock g c = subst (λ o. IsSome (o c.args.lock)) (sym c.draw
 pub look-requires-clause-waiting : goal.look-requires-clause-waiting
 look-requires-clause-waiting g c =
     let said = c.draw-ticket.ensures.adds in
-    subst (λ l. standing c.args.cpu l ≡ Waiting c.args.lock c.draw-ticket.result) (sym said.is) (standing_own (Draw c.args.cpu c.args.lock c.draw-ticket.result) _)
+    subst (λ l. standing c.args.cpu l ≡ Waiting c.args.lock c.draw-ticket.result) (sym said.is)
+    (standing_own (Draw c.args.cpu c.args.lock c.draw-ticket.result) _)

@@ -10,7 +10,8 @@ returns-clause-acts g c =
     let n = c.poll.new.m in
     let cpu = L.cpu_of c.args.part.now in
     let said = c.poll.ensures in
-    (acts_alone (L.ActsFor m) (table_of g.E.Edit.rules) (L.opening m) cpu c.args.lock c.args.edit answered (L.acts m) (L.acts n) (answered c.poll.result) c.requires.all
+    (acts_alone (L.ActsFor m) (table_of g.E.Edit.rules) (L.opening m) cpu c.args.lock c.args.edit answered (L.acts m) (L.acts n) (answered c.poll.result)
+    c.requires.all
     (g.met.L.LockLayer.legal n cpu (said.acts cpu (g.met.L.LockLayer.own c.args.part.now m c.requires.fits))) (said.follows c.requires.stepwise)).0
 
 pub returns-clause-answer : goal.returns-clause-answer
@@ -20,5 +21,6 @@ returns-clause-answer g c =
     let n = c.poll.new.m in
     let cpu = L.cpu_of c.args.part.now in
     let said = c.poll.ensures in
-    ap (λ left. left.answer) (acts_alone (L.ActsFor m) (table_of g.E.Edit.rules) (L.opening m) cpu c.args.lock c.args.edit answered (L.acts m) (L.acts n) (answered c.poll.result) c.requires.all
+    ap (λ left. left.answer) (acts_alone (L.ActsFor m) (table_of g.E.Edit.rules) (L.opening m) cpu c.args.lock c.args.edit answered (L.acts m) (L.acts n)
+    (answered c.poll.result) c.requires.all
     (g.met.L.LockLayer.legal n cpu (said.acts cpu (g.met.L.LockLayer.own c.args.part.now m c.requires.fits))) (said.follows c.requires.stepwise)).1

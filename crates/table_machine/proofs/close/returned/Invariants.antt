@@ -15,5 +15,6 @@ invariant-loop-i g l = record {
   count : slots_len l.closed.slots ≡ length l.locks.items;
   given : length l.blocks.items ≡ l.i;
   room : length l.locks.items ≤ vec_capacity l.blocks;
-  done : (i : ℕ) (lock : LockId) (y : Home _ _) (b : _) → i < l.i → get_elem? l.locks.items i ≡ some lock → get_elem? (slots_items l.initial.closed.slots) i ≡ some y → y.block ≡ Some b → get_elem? l.blocks.items i ≡ some (lock, b);
+  done : (i : ℕ) (lock : LockId) (y : Home _ _) (b : _) → i < l.i → get_elem? l.locks.items i ≡ some lock
+      → get_elem? (slots_items l.initial.closed.slots) i ≡ some y → y.block ≡ Some b → get_elem? l.blocks.items i ≡ some (lock, b);
 }

@@ -19,4 +19,5 @@ furnished-requires-clause-laid g c = laid_fits _ c.args.blocks.items _ _ c.as_sl
     c.in_ok-words.ensures.small c.in_ok-words.ensures.row c.in_ok-words.ensures.places c.in_ok-words.ensures.locks
 
 pub furnished-requires-clause-distinct : goal.furnished-requires-clause-distinct
-furnished-requires-clause-distinct g c = subst (λ l. AreDistinct l) (sym (ap (λ k. k.blocks.value.items) c.in-Ok.ensures.ok.5 ∙ ap (λ v. v.items) c.of.ensures)) c.requires.distinct
+furnished-requires-clause-distinct g c = subst (λ l. AreDistinct l) (sym (ap (λ k. k.blocks.value.items) c.in-Ok.ensures.ok.5 ∙ ap (λ v. v.items) c.of.ensures))
+    c.requires.distinct

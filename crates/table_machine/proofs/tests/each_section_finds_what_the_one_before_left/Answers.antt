@@ -7,4 +7,5 @@ use Rattle.table_machine.proofs.tests.each_section_finds_what_the_one_before_lef
 pub adds_one-requires-2-clause-outside : goal.adds_one-requires-2-clause-outside
 adds_one-requires-2-clause-outside g c =
     let b_is : c.seat-b.result ≡ new_desk c.in_ok-shared.shared 1 = c.seat-b.ensures.seat ∙ c.in_ok-shared.ensures.second in
-    outside_still c.seat-b.result (record { 0 = 1 }) c.meet.new.second.seen (ap (λ d. d.cpu) b_is) (ap (λ d. standing (record { 0 = 1 }) d.seen) b_is) c.meet.ensures.grows
+    outside_still c.seat-b.result (record { 0 = 1 }) c.meet.new.second.seen (ap (λ d. d.cpu) b_is) (ap (λ d. standing (record { 0 = 1 }) d.seen) b_is)
+    c.meet.ensures.grows

@@ -6,4 +6,5 @@ pub returns-then-b-buffers : goal.returns-then-b-buffers
 returns-then-b-buffers c = entered_nowhere c.args.entry c.args.buffers.now c.from-b.result c.from-b.ensures (omega arith)
 
 pub returns : goal.returns
-returns c = entered c.args.entry c.args.buffers.now c.from-b.result c.index-buffers-b.result c.enter.new.self c.enter.result c.from-b.ensures (omega arith) c.enter.ensures
+returns c = entered c.args.entry c.args.buffers.now c.from-b.result c.index-buffers-b.result c.enter.new.self c.enter.result c.from-b.ensures (omega arith)
+    c.enter.ensures

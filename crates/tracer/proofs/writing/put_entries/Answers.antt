@@ -4,4 +4,5 @@ use Rattle.tracer.proofs.SinkLemmas.{failed_in}
 use Rattle.tracer.proofs.writing.put_entries.Goals as goal
 
 pub returns-in_err-put_entry-clause-out : goal.returns-in_err-put_entry-clause-out
-returns-in_err-put_entry-clause-out g c = failed_in (λ e. line_of (entry_pieces e)) c.args.entries.now c.loop-entry.entry-index _ _ _ _ _ c.loop-entry-test.true c.loop-entry.invariant.out (sym c.in_err-put_entry.ensures.failed) c.in_err-put_entry.ensures.out
+returns-in_err-put_entry-clause-out g c = failed_in (λ e. line_of (entry_pieces e)) c.args.entries.now c.loop-entry.entry-index _ _ _ _ _ c.loop-entry-test.true
+    c.loop-entry.invariant.out (sym c.in_err-put_entry.ensures.failed) c.in_err-put_entry.ensures.out

@@ -7,5 +7,6 @@ use Rattle.tracer.proofs.writing.put_entries.Given as goal
 abbrev pub invariant-loop-entry : goal.invariant-loop-entry
 invariant-loop-entry g l = record {
   live : l.sink.failed ≡ false;
-  out : Appends (g.W.Write.contents l.fn.sink.writer) (g.W.Write.contents l.sink.writer) (flat_map (λ e. line_of (entry_pieces e)) (take l.entry-index l.entries));
+  out : Appends (g.W.Write.contents l.fn.sink.writer) (g.W.Write.contents l.sink.writer)
+      (flat_map (λ e. line_of (entry_pieces e)) (take l.entry-index l.entries));
 }

@@ -9,10 +9,12 @@ loop-b-preserved g c =
     let here = rw (c.deref.ensures.0, c.index-left-b.is) at c.in_ok-put_line.ensures.out in
     record {
       live = sym c.in_ok-put_line.ensures.failed;
-      out = numbered_out (λ b v. left_pieces b v.items) c.args.left.now c.loop-b.b c.index-left-b.result _ _ _ c.loop-b-test.true c.loop-b.invariant.out (all_out _ _ _ _ (sym c.in_ok-put_line.ensures.failed) here);
+      out = numbered_out (λ b v. left_pieces b v.items) c.args.left.now c.loop-b.b c.index-left-b.result _ _ _ c.loop-b-test.true c.loop-b.invariant.out
+          (all_out _ _ _ _ (sym c.in_ok-put_line.ensures.failed) here);
     }
 
 pub returns-in_err-put_line-clause-out : goal.returns-in_err-put_line-clause-out
 returns-in_err-put_line-clause-out g c =
     let here = rw (c.deref.ensures.0, c.index-left-b.is) at c.in_err-put_line.ensures.out in
-    numbered_failed (λ b v. left_pieces b v.items) c.args.left.now c.loop-b.b c.index-left-b.result _ _ _ _ c.loop-b-test.true c.loop-b.invariant.out (sym c.in_err-put_line.ensures.failed) here
+    numbered_failed (λ b v. left_pieces b v.items) c.args.left.now c.loop-b.b c.index-left-b.result _ _ _ _ c.loop-b-test.true c.loop-b.invariant.out
+    (sym c.in_err-put_line.ensures.failed) here

@@ -7,5 +7,6 @@ use Rattle.tracer.proofs.writing.put_left.Given as goal
 abbrev pub invariant-loop-b : goal.invariant-loop-b
 invariant-loop-b g l = record {
   live : l.sink.failed ≡ false;
-  out : Appends (g.W.Write.contents l.fn.sink.writer) (g.W.Write.contents l.sink.writer) (flat_map line_of (numbered (λ b v. left_pieces b v.items) 0 (take l.b l.left)));
+  out : Appends (g.W.Write.contents l.fn.sink.writer) (g.W.Write.contents l.sink.writer)
+      (flat_map line_of (numbered (λ b v. left_pieces b v.items) 0 (take l.b l.left)));
 }

@@ -17,5 +17,6 @@ returns-clause-acts g c = λ cpu known.
     let cells = c.fill.new.cells.items in (
       known,
       subst (λ blocks. IsSound rules (opened blocks.items) (history c.in_ok-log.log) cells) (sym c.of-opening.ensures)
-          (subst (λ log. IsSound rules (opened c.args.blocks.items) log cells) (sym c.in_ok-log.ensures.history) (fresh_sound rules c.args.blocks.items cells c.fill.ensures)),
+          (subst (λ log. IsSound rules (opened c.args.blocks.items) log cells) (sym c.in_ok-log.ensures.history)
+          (fresh_sound rules c.args.blocks.items cells c.fill.ensures)),
     )

@@ -19,5 +19,6 @@ returns-clause-acts g c = λ cpu acts.
     let w = c.args.self.now in (
       acts.0,
       draw_keeps g.E.Edit.rules (opened w.opening.value.items) (history w.log) w.cells.items c.requires.cpu.1 c.args.lock c.requires.lock
-          c.args.cpu c.requires.cpu.0 c.requires.outside c.draw-ticket.result (history c.draw.new.self) c.draw-ticket.new.cells.items c.draw-ticket.ensures c.draw.ensures.history,
+          c.args.cpu c.requires.cpu.0 c.requires.outside c.draw-ticket.result (history c.draw.new.self) c.draw-ticket.new.cells.items c.draw-ticket.ensures
+          c.draw.ensures.history,
     )

@@ -12,5 +12,6 @@ returns-clause-acts g c = λ cpu acts.
     let w = c.args.self.now in (
       acts.0,
       free_keeps g.E.Edit.rules (opened w.opening.value.items) (history w.log) w.cells.items c.requires.cpu.1 c.args.lock c.requires.lock
-          c.args.cpu c.requires.inside.0 c.args.mark c.args.block c.requires.inside.1 c.requires.edited c.requires.allowed (history c.free-2.new.self) c.free.new.cells.items c.free.ensures c.free-2.ensures.history,
+          c.args.cpu c.requires.inside.0 c.args.mark c.args.block c.requires.inside.1 c.requires.edited c.requires.allowed (history c.free-2.new.self)
+          c.free.new.cells.items c.free.ensures c.free-2.ensures.history,
     )

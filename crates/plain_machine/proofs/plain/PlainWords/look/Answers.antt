@@ -28,5 +28,6 @@ returns-clause-acts g c = λ cpu acts.
     let w = c.args.self.now in (
       acts.0,
       look_keeps g.E.Edit.rules (opened w.opening.value.items) (history w.log) w.cells.items c.requires.cpu.1 c.args.lock c.requires.lock
-          c.args.cpu c.args.ticket c.requires.waiting c.look-2.result (history c.look.new.self) c.look-2.new.cells.items c.look-2.ensures c.look.ensures.history,
+          c.args.cpu c.args.ticket c.requires.waiting c.look-2.result (history c.look.new.self) c.look-2.new.cells.items c.look-2.ensures
+          c.look.ensures.history,
     )

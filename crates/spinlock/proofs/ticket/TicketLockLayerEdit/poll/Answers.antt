@@ -22,7 +22,8 @@ returns-in-Out-clause-fits g c =
     let said = c.draw-ticket.ensures in
     let acts = said.acts cpu c.requires.fits.0 in
     let stays : StaysAllowed (rules.allowed (W.opening m)) (sections (W.seen m)) (section cpu c.args.lock c.args.edit)
-    = subst (λ s. MayPoll (rules.allowed (W.opening m)) (sections (W.seen m)) (stage_section cpu s) (section cpu c.args.lock c.args.edit)) c.in-Out.is c.requires.call in (
+    = subst (λ s. MayPoll (rules.allowed (W.opening m)) (sections (W.seen m)) (stage_section cpu s) (section cpu c.args.lock c.args.edit)) c.in-Out.is
+    c.requires.call in (
       acts,
       drawn_fits rules (W.opening m) (W.opening n) said.opening (W.ActsFor m) cpu (W.seen m) (W.seen n) (g.met.W.Words.legal n cpu acts)
           c.args.lock c.args.edit c.draw-ticket.result said.adds c.requires.fits.0 stays c.requires.lock,
@@ -35,7 +36,8 @@ returns-in-Out-clause-seen g c =
     let n = c.draw-ticket.new.self in
     let cpu = c.args.self.now.cpu in
     let said = c.draw-ticket.ensures in
-    draw_polled g.W.Edit.Edit.rules (W.opening m) (W.opening n) said.opening (W.ActsFor m) cpu (W.seen m) (W.seen n) (g.met.W.Words.legal n cpu (said.acts cpu c.requires.fits.0))
+    draw_polled g.W.Edit.Edit.rules (W.opening m) (W.opening n) said.opening (W.ActsFor m) cpu (W.seen m) (W.seen n)
+    (g.met.W.Words.legal n cpu (said.acts cpu c.requires.fits.0))
     c.args.lock c.args.edit c.draw-ticket.result said.adds
 
 pub returns-in-Out-clause-others : goal.returns-in-Out-clause-others
@@ -58,7 +60,8 @@ returns-in-Out-clause-follows g c = λ step.
     let n = c.draw-ticket.new.self in
     let cpu = c.args.self.now.cpu in
     let said = c.draw-ticket.ensures in
-    draw_acts g.W.Edit.Edit.rules (W.opening m) (W.opening n) said.opening (W.ActsFor m) cpu (W.seen m) (W.seen n) (g.met.W.Words.legal n cpu (said.acts cpu c.requires.fits.0))
+    draw_acts g.W.Edit.Edit.rules (W.opening m) (W.opening n) said.opening (W.ActsFor m) cpu (W.seen m) (W.seen n)
+    (g.met.W.Words.legal n cpu (said.acts cpu c.requires.fits.0))
     c.args.lock c.args.edit c.draw-ticket.result said.adds
 
 -- the look: the section goes on
@@ -75,7 +78,9 @@ returns-in-Drawn-clause-fits g c =
       acts,
       looked_fits rules (W.opening m) (W.opening n) said.opening (W.ActsFor m) cpu (W.seen m) (W.seen n) (g.met.W.Words.legal n cpu acts)
           c.in-Drawn.lock c.in-Drawn.edit c.in-Drawn.ticket said.adds.0 said.adds.1 c.requires.fits.0 fits.1 fits.2 c.look-found.result said.hits
-          c.after_look.new.self (subst (λ s. MatchOption c.look-found.result (c.after_look.new.self ≡ s) (λ block. c.after_look.new.self ≡ Held c.in-Drawn.lock c.in-Drawn.edit block)) c.in-Drawn.is c.after_look.ensures),
+          c.after_look.new.self (subst
+          (λ s. MatchOption c.look-found.result (c.after_look.new.self ≡ s) (λ block. c.after_look.new.self ≡ Held c.in-Drawn.lock c.in-Drawn.edit block))
+          c.in-Drawn.is c.after_look.ensures),
     )
 
 pub returns-in-Drawn-clause-seen : goal.returns-in-Drawn-clause-seen
@@ -87,9 +92,11 @@ returns-in-Drawn-clause-seen g c =
     let cpu = c.args.self.now.cpu in
     let said = c.look-found.ensures in
     let one : section cpu c.in-Drawn.lock c.in-Drawn.edit ≡ section cpu c.args.lock c.args.edit
-    = subst (λ s. MayPoll (rules.allowed (W.opening m)) (sections (W.seen m)) (stage_section cpu s) (section cpu c.args.lock c.args.edit)) c.in-Drawn.is c.requires.call in
+    = subst (λ s. MayPoll (rules.allowed (W.opening m)) (sections (W.seen m)) (stage_section cpu s) (section cpu c.args.lock c.args.edit)) c.in-Drawn.is
+    c.requires.call in
     subst (λ s. Polled rules (W.opening m) (W.ActsFor m) s None (sections (W.seen m)) (sections (W.seen n))) one
-    (look_polled rules (W.opening m) (W.opening n) said.opening (W.ActsFor m) cpu (W.seen m) (W.seen n) (g.met.W.Words.legal n cpu (said.acts cpu c.requires.fits.0))
+    (look_polled rules (W.opening m) (W.opening n) said.opening (W.ActsFor m) cpu (W.seen m) (W.seen n)
+    (g.met.W.Words.legal n cpu (said.acts cpu c.requires.fits.0))
     c.in-Drawn.lock c.in-Drawn.edit c.in-Drawn.ticket said.adds.0 said.adds.1)
 
 pub returns-in-Drawn-clause-others : goal.returns-in-Drawn-clause-others
@@ -114,9 +121,12 @@ returns-in-Drawn-clause-follows g c = λ step.
     let cpu = c.args.self.now.cpu in
     let said = c.look-found.ensures in
     let one : section cpu c.in-Drawn.lock c.in-Drawn.edit ≡ section cpu c.args.lock c.args.edit
-    = subst (λ s. MayPoll (rules.allowed (W.opening m)) (sections (W.seen m)) (stage_section cpu s) (section cpu c.args.lock c.args.edit)) c.in-Drawn.is c.requires.call in
-    subst (λ s. Follows (W.ActsFor m) (table_of rules) (W.opening m) cpu (section_plan s.lock s.edit) (acts_of edit_of (W.seen m)) (acts_of edit_of (W.seen n)) (answered None)) one
-    (look_acts rules (W.opening m) (W.opening n) said.opening (W.ActsFor m) cpu (W.seen m) (W.seen n) (g.met.W.Words.legal n cpu (said.acts cpu c.requires.fits.0))
+    = subst (λ s. MayPoll (rules.allowed (W.opening m)) (sections (W.seen m)) (stage_section cpu s) (section cpu c.args.lock c.args.edit)) c.in-Drawn.is
+    c.requires.call in
+    subst (λ s. Follows (W.ActsFor m) (table_of rules) (W.opening m) cpu (section_plan s.lock s.edit) (acts_of edit_of (W.seen m)) (acts_of edit_of (W.seen n))
+    (answered None)) one
+    (look_acts rules (W.opening m) (W.opening n) said.opening (W.ActsFor m) cpu (W.seen m) (W.seen n)
+    (g.met.W.Words.legal n cpu (said.acts cpu c.requires.fits.0))
     c.in-Drawn.lock c.in-Drawn.edit c.in-Drawn.ticket said.adds.0 said.adds.1)
 
 -- the free: the section ends with its answer
@@ -130,11 +140,14 @@ returns-in-Held-replace-clause-seen g c =
     let said = c.free.ensures in
     let fits = subst (λ s. StageFits rules (W.opening m) (W.seen m) cpu s) (sym c.in-Held-replace.ensures.value) c.requires.fits.1 in
     let one : section cpu c.in-Held-replace.lock c.in-Held-replace.edit ≡ section cpu c.args.lock c.args.edit
-    = subst (λ s. MayPoll (rules.allowed (W.opening m)) (sections (W.seen m)) (stage_section cpu s) (section cpu c.args.lock c.args.edit)) (sym c.in-Held-replace.ensures.value) c.requires.call in
+    = subst (λ s. MayPoll (rules.allowed (W.opening m)) (sections (W.seen m)) (stage_section cpu s) (section cpu c.args.lock c.args.edit))
+    (sym c.in-Held-replace.ensures.value) c.requires.call in
     let adds = subst (λ e. Adds (W.ActsFor m) actor (Free cpu c.in-Held-replace.lock (mark_of e)) (W.seen m) (W.seen n)) c.mark.ensures said.adds in
     subst (λ s. Polled rules (W.opening m) (W.ActsFor m) s (Some c.apply-out.result) (sections (W.seen m)) (sections (W.seen n))) one
-    (free_polled rules (W.opening m) (W.opening n) said.opening (W.ActsFor m) cpu (W.seen m) (W.seen n) (g.met.W.Words.legal n cpu (said.acts cpu c.requires.fits.0))
-    c.in-Held-replace.lock c.in-Held-replace.edit fits.0.0 adds c.requires.fits.0 fits.0.1 c.in-Held-replace.block fits.2 c.apply-out.result c.apply-out.ensures.answer)
+    (free_polled rules (W.opening m) (W.opening n) said.opening (W.ActsFor m) cpu (W.seen m) (W.seen n)
+    (g.met.W.Words.legal n cpu (said.acts cpu c.requires.fits.0))
+    c.in-Held-replace.lock c.in-Held-replace.edit fits.0.0 adds c.requires.fits.0 fits.0.1 c.in-Held-replace.block fits.2 c.apply-out.result
+    c.apply-out.ensures.answer)
 
 pub returns-in-Held-replace-clause-others : goal.returns-in-Held-replace-clause-others
 returns-in-Held-replace-clause-others g c = λ p other fits.
@@ -159,8 +172,12 @@ returns-in-Held-replace-clause-follows g c = λ step.
     let said = c.free.ensures in
     let fits = subst (λ s. StageFits rules (W.opening m) (W.seen m) cpu s) (sym c.in-Held-replace.ensures.value) c.requires.fits.1 in
     let one : section cpu c.in-Held-replace.lock c.in-Held-replace.edit ≡ section cpu c.args.lock c.args.edit
-    = subst (λ s. MayPoll (rules.allowed (W.opening m)) (sections (W.seen m)) (stage_section cpu s) (section cpu c.args.lock c.args.edit)) (sym c.in-Held-replace.ensures.value) c.requires.call in
+    = subst (λ s. MayPoll (rules.allowed (W.opening m)) (sections (W.seen m)) (stage_section cpu s) (section cpu c.args.lock c.args.edit))
+    (sym c.in-Held-replace.ensures.value) c.requires.call in
     let adds = subst (λ e. Adds (W.ActsFor m) actor (Free cpu c.in-Held-replace.lock (mark_of e)) (W.seen m) (W.seen n)) c.mark.ensures said.adds in
-    subst (λ s. Follows (W.ActsFor m) (table_of rules) (W.opening m) cpu (section_plan s.lock s.edit) (acts_of edit_of (W.seen m)) (acts_of edit_of (W.seen n)) (answered (Some c.apply-out.result))) one
-    (free_acts rules (W.opening m) (W.opening n) said.opening (W.ActsFor m) cpu (W.seen m) (W.seen n) (g.met.W.Words.legal n cpu (said.acts cpu c.requires.fits.0))
-    c.in-Held-replace.lock c.in-Held-replace.edit fits.0.0 adds c.requires.fits.0 fits.0.1 c.in-Held-replace.block fits.2 c.apply-out.result c.apply-out.ensures.answer)
+    subst (λ s. Follows (W.ActsFor m) (table_of rules) (W.opening m) cpu (section_plan s.lock s.edit) (acts_of edit_of (W.seen m)) (acts_of edit_of (W.seen n))
+    (answered (Some c.apply-out.result))) one
+    (free_acts rules (W.opening m) (W.opening n) said.opening (W.ActsFor m) cpu (W.seen m) (W.seen n)
+    (g.met.W.Words.legal n cpu (said.acts cpu c.requires.fits.0))
+    c.in-Held-replace.lock c.in-Held-replace.edit fits.0.0 adds c.requires.fits.0 fits.0.1 c.in-Held-replace.block fits.2 c.apply-out.result
+    c.apply-out.ensures.answer)

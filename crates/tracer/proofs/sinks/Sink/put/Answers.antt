@@ -12,5 +12,10 @@ loop-rest-preserved g c =
     let cut : take n rest ++ c.split_at.result.1.now ≡ rest = rw c.split_at.ensures.back (take-append-drop n rest) in
     record {
       live = c.loop-rest.invariant.live;
-      out = (so_far.0 ++ take n rest, so_far.1 ∙ ap (λ (t : List ℕ). so_far.0 ++ t) (sym cut) ∙ sym (append_assoc so_far.0 (take n rest) c.split_at.result.1.now), appends_then _ _ _ so_far.0 (take n rest) so_far.2 c.in-Ok.ensures.bytes);
+      out = (
+        so_far.0 ++ take n rest,
+        so_far.1 ∙ ap (λ (t : List ℕ). so_far.0 ++ t) (sym cut)
+            ∙ sym (append_assoc so_far.0 (take n rest) c.split_at.result.1.now),
+        appends_then _ _ _ so_far.0 (take n rest) so_far.2 c.in-Ok.ensures.bytes,
+      );
     }
