@@ -4,8 +4,7 @@ use mathlib.Core.Logic.{dite}
 use native.Mathlib.Decide.{ℕ_discrete, dec_le}
 use mathlib.Core.Option.{some, some-injective, some-ne-none}
 use lib.ListN.{get_elem?, get_or-append}
-use Rattle.atomic_table.proofs.Lists.{at_longer, at_last}
-use Rattle.table_machine.proofs.Fresh.{length_new, read_at}
+use Rattle.table_machine.proofs.Fresh.{length_new, read_at, at_longer, at_last}
 use Rattle.event_log.proofs.Foreign.{own_others}
 use Rattle.event_log.specs.declared.ids.TheConstants.{CPUS}
 use Rattle.event_log.specs.declared.ids.CpuId.{CpuId}

@@ -12,7 +12,7 @@ use Rattle.event_log.proofs.Foreign.{standing_others}
 use Rattle.layer_traits.specs.declared.edits.Mark.{Mark}
 use Rattle.table_machine.specs.Views.{IsCpu}
 use Rattle.table_machine.specs.Desks.{Board, Desk, new_desk, new_desks, Covers, IsOver}
-use Rattle.atomic_table.proofs.Lists.{at_longer, at_last}
+pub use Rattle.atomic_table.proofs.Lists.{at_longer, at_last}
 
 pub length_new : (E : Type 0) {B : Type 0} (board : Board B) (n : ℕ) → length (new_desks {E = E} board n) ≡ n
 length_new E board zero = refl
