@@ -1,1 +1,2 @@
 pub mod BootLemmas
+pub mod StepLemmas

@@ -3,6 +3,8 @@
 
 mod calls;
 mod owns;
+mod sched;
 
 pub use calls::{call_beneath, kept};
 pub use owns::OwnThreads;
+pub use sched::Sched;

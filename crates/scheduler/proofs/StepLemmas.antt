@@ -1,0 +1,499 @@
+-- One poll of a scheduler's part: a call that touches nothing shared, a poll that waits, and one that answers. In each what the CPU has of
+-- its own goes on agreeing with the places.
+use Rattle.std.proofs.Common.{◌≡◌, ℕ, zero, suc, ◌<◌, true, false, List, [], ◌∷◌, ◌++◌, Option, Some, None, IsSome, option_map, length, slice_get, refl, ap}
+use Rattle.std.proofs.Common.{sym, ◌∙◌, subst, subst₂, arith}
+use Rattle.event_log.specs.declared.ids.BufId.{BufId}
+use Rattle.event_log.specs.declared.ids.CpuId.{CpuId}
+use Rattle.event_log.specs.declared.ids.LockId.{LockId}
+use Rattle.event_log.specs.declared.ids.LockId.TheVariants.{Pending, Buffer}
+use Rattle.event_log.specs.declared.ids.Tid.{Tid}
+use Rattle.event_log.specs.declared.ids.TheConstants.{THREADS}
+use Rattle.event_log.specs.Actions.{Action}
+use Rattle.event_log.specs.History.{AreOthers, Grows, IsLawful, same_cpu}
+use Rattle.layer_traits.specs.declared.passes.Pass.TheVariants.{Switch, YieldNow, Drain, MakeReady, End}
+use Rattle.layer_traits.specs.declared.queue_edits.QueueBlock.{QueueBlock}
+use Rattle.layer_traits.specs.declared.queue_edits.QueueEdit.{QueueEdit}
+use Rattle.layer_traits.specs.declared.queues.QueueAnswer.{QueueAnswer}
+use Rattle.layer_traits.specs.declared.queues.QueueAnswer.TheVariants as told
+use Rattle.layer_traits.specs.declared.queues.QueueCall.{QueueCall}
+use Rattle.layer_traits.specs.declared.queues.QueueCall.TheVariants.{Push, TakeAll, OnBuffer}
+use Rattle.layer_traits.specs.declared.queues.QueueEvent.{QueueEvent}
+use Rattle.layer_traits.specs.declared.scheds.SchedAnswer.{SchedAnswer}
+use Rattle.layer_traits.specs.declared.scheds.SchedAnswer.TheVariants.{Done, Answer}
+use Rattle.layer_traits.specs.declared.scheds.SchedCall.{SchedCall}
+use Rattle.layer_traits.specs.declared.scheds.SchedCall.TheVariants as call
+use Rattle.layer_traits.specs.MoveRules.{MoveRules, WakesSleepers, edit_move}
+use Rattle.layer_traits.specs.Passes.{or_else, queue_for}
+use Rattle.layer_traits.specs.Places.{AreMoves, Where, Home, Hand, Pend, Asleep, MayEdit, MayMove, Stands, Threads, home_of, is_asleep, is_home, pending_by}
+use Rattle.layer_traits.specs.Places.{step, where_is}
+use Rattle.layer_traits.specs.Plans.{Follows, Table, answered}
+use Rattle.layer_traits.specs.Protocol.{Rules, section}
+use Rattle.layer_traits.specs.QueueBlocks.{StartsWell, homes_in}
+use Rattle.layer_traits.specs.Queues.{CallAllowed, Kernel, buffer_sections, MayQueue, QueueAllowed, QueuePolled, answer_of, call_move, event, event_actor}
+use Rattle.layer_traits.specs.Queues.{kernel, lock_of, moves_in, out_at, queue_plan}
+use Rattle.layer_traits.specs.Scheds.{BufferIsThere, EditStays, IsLocal, MaySched, SchedPolled, StateFor, answer_by, answer_to, events_of, left, left_by}
+use Rattle.layer_traits.specs.Scheds.{left_local, own_after, own_answered, own_by, plan_by, queue_call, sched_plan}
+use Rattle.layer_traits.proofs.CallLemmas.{follows_raised, moves_append, moves_lawful, moves_others, moves_over, woken_sleeps}
+use Rattle.layer_traits.proofs.CountLemmas.{not_counted}
+use Rattle.layer_traits.proofs.PlaceLemmas.{away_from, away_known, current_at, current_new, hand_free, hand_at, pending_at, stands_finished, stands_moved}
+use Rattle.layer_traits.proofs.PlaceLemmas.{stands_others, stands_pushed, stands_switched, stands_taken}
+use Rattle.scheduler.specs.Owns.{MayFinish, MayJoin, MaySettle, MayTake, local_after}
+use Rattle.scheduler.specs.Parts.{IsCalling, PartFits, UnderFits, sched_call, sched_under}
+
+-- a thread that has a home is one of those that the list of homes counts
+known_within : (homes : List CpuId) (n : ℕ) (c : CpuId) → slice_get homes n ≡ Some c → n < length homes
+known_within [] n c is = absurd cc
+known_within (x ∷ homes) zero c is = omega arith
+known_within (x ∷ homes) (suc n) c is = let below = known_within homes n c is in omega (arith, below)
+
+-- who sleeps is away from home
+asleep_away : (w : Where) → is_asleep w ≡ true → is_home w ≡ false
+asleep_away Home asleep = absurd cc
+asleep_away (Hand c) asleep = absurd cc
+asleep_away (Pend c) asleep = absurd cc
+asleep_away (Asleep p) asleep = refl
+
+-- Which call it is.
+
+module _ {E : Type 0} (homes : List CpuId) (c : CpuId) where
+  -- a call that is one at the shared queues touches something shared
+  pub not_local : (s : SchedCall E) (q : QueueCall E) → queue_call homes c s ≡ Some q → IsLocal s → ⊥
+  not_local (call.Pass Switch) q is local = cc
+  not_local (call.Pass YieldNow) q is local = local
+  not_local (call.Pass Drain) q is local = local
+  not_local (call.Pass (MakeReady t)) q is local = local
+  not_local (call.Pass End) q is local = cc
+  not_local (call.OnBuffer b e) q is local = local
+
+  -- and one that is none touches nothing shared
+  pub is_local : (s : SchedCall E) → queue_call homes c s ≡ None → IsLocal s
+  is_local (call.Pass Switch) is = tt
+  is_local (call.Pass YieldNow) is = absurd cc
+  is_local (call.Pass Drain) is = absurd cc
+  is_local (call.Pass (MakeReady t)) is = absurd cc
+  is_local (call.Pass End) is = tt
+  is_local (call.OnBuffer b e) is = absurd cc
+
+  -- what the CPU has of its own tells which scheduler's call it is
+  same_call : {O : Type 0} (mv : MoveRules E O) (s : SchedCall E) (q : QueueCall E) (own : Threads) → StateFor mv s own → queue_call homes c s ≡ Some q
+      → sched_call q own.current ≡ s
+  same_call mv (call.Pass Switch) q own state is = absurd cc
+  same_call mv (call.Pass YieldNow) q own state is = go own.current state.0
+    where
+      taken : q ≡ TakeAll c
+      taken = cc
+
+      go : (current : Option Tid) → IsSome current → sched_call q current ≡ call.Pass YieldNow
+      go None runs = absurd cc
+      go (Some t) runs = ap (λ x. sched_call x (Some t)) taken
+  same_call mv (call.Pass Drain) q own state is =
+      let taken : q ≡ TakeAll c = cc in
+      ap (λ x. sched_call x own.current) taken ∙ ap (sched_call (TakeAll c)) state.0
+  same_call mv (call.Pass (MakeReady t)) q own state is = let pushed : q ≡ Push (queue_for homes c t) t = cc in ap (λ x. sched_call x own.current) pushed
+  same_call mv (call.Pass End) q own state is = absurd cc
+  same_call mv (call.OnBuffer b e) q own state is = let edits : q ≡ OnBuffer b e = cc in ap (λ x. sched_call x own.current) edits
+
+module _ {E B O : Type 0} (rules : Rules E B O) (mv : MoveRules E O) (opening : LockId → Option (QueueBlock B)) (wakes : WakesSleepers rules mv)
+    (opens : StartsWell opening) where
+  abbrev K : Kernel E B O
+  K = kernel rules mv opening
+
+  abbrev H : List CpuId
+  H = homes_in opening
+
+  abbrev Lawful : List (QueueEvent E) → Type 0
+  Lawful log = IsLawful (QueueAllowed K) log
+
+  known : (t : Tid) (c : CpuId) → home_of H t ≡ Some c → t.0 < THREADS
+  known t c home =
+      let within = known_within H t.0 c home in
+      let room = opens.room in
+      omega (arith, within, room)
+
+  -- the layer above allows the edit of a call, if it is one
+  abbrev pub UpperNow : CpuId → List (QueueEvent E) → SchedCall E → Type 0
+  UpperNow c past (call.Pass p) = Unit {0}
+  UpperNow c past (call.OnBuffer b e) = rules.allowed K.opening (buffer_sections past) (section c (Buffer b) e)
+
+  upper_stays : (c : CpuId) (past more : List (QueueEvent E)) (s : SchedCall E) → EditStays K c past s → AreOthers event_actor c more → Lawful (more ++ past)
+      → UpperNow c (more ++ past) s
+  upper_stays c past more (call.Pass p) stays others lawful = tt
+  upper_stays c past more (call.OnBuffer b e) stays others lawful = stays more others lawful
+
+  home_there : (c : CpuId) (o : Option CpuId) → IsSome o → o ≡ Some (or_else c o)
+  home_there c None there = absurd cc
+  home_there c (Some d) there = refl
+
+  module _ (c : CpuId) (past : List (QueueEvent E)) (own : Threads) (lawful : Lawful past) (stands : Stands H c (moves_in K past) own) where
+    moves : AreMoves H (moves_in K past)
+    moves = moves_lawful K wakes past lawful
+
+    -- the thread that runs may end
+    pub finish_ok : MayFinish own
+    finish_ok t runs =
+        let at = current_at H c (moves_in K past) own moves stands t runs in
+        (known t c at.0, not_counted t own.ended at.3)
+
+    -- what the CPU has of its own and the layer above let a call come at the shared queues
+    allowed_now : (s : SchedCall E) (q : QueueCall E) → StateFor mv s own → queue_call H c s ≡ Some q → UpperNow c past s → CallAllowed K past c q
+    allowed_now (call.Pass Switch) q state is upper = absurd cc
+    allowed_now (call.Pass YieldNow) q state is upper = let taken : TakeAll c ≡ q = cc in subst (CallAllowed K past c) taken refl
+    allowed_now (call.Pass Drain) q state is upper = let taken : TakeAll c ≡ q = cc in subst (CallAllowed K past c) taken refl
+    allowed_now (call.Pass (MakeReady t)) q state is upper =
+        let pushed : Push (queue_for H c t) t ≡ q = cc in
+        let held = hand_at H c (moves_in K past) own moves stands t state in
+        let home = home_there c (home_of H t) (away_known H (moves_in K past) t moves (ap is_home held)) in
+        subst (CallAllowed K past c) pushed (record { held = held; home = home })
+    allowed_now (call.Pass End) q state is upper = absurd cc
+    allowed_now (call.OnBuffer b e) q state is upper =
+        let edits : OnBuffer b e ≡ q = cc in
+        let at = current_at H c (moves_in K past) own moves stands (mv.caller e) state.0 in
+        let caller : MayEdit H (moves_in K past) c (mv.caller e) =
+        record { at_home = at.1; home = at.0; empty = hand_free H c (moves_in K past) own moves stands state.1 } in
+        subst (CallAllowed K past c) edits (record { caller = caller; upper = upper })
+
+    -- a call that touches nothing shared keeps the agreement
+    local_stands : (s : SchedCall E) → StateFor mv s own → queue_call H c s ≡ None → Stands H c (moves_in K past) (local_after s own)
+    local_stands (call.Pass Switch) state is = stands_switched H c (moves_in K past) own moves stands state.0
+    local_stands (call.Pass YieldNow) state is = absurd cc
+    local_stands (call.Pass Drain) state is = absurd cc
+    local_stands (call.Pass (MakeReady t)) state is = absurd cc
+    local_stands (call.Pass End) state is = stands_finished H c (moves_in K past) own moves stands
+    local_stands (call.OnBuffer b e) state is = absurd cc
+
+  -- what others do keeps the agreement
+  stands_on : (c : CpuId) (more past : List (QueueEvent E)) (own : Threads) → AreOthers event_actor c more → Lawful (more ++ past)
+      → Stands H c (moves_in K past) own → Stands H c (moves_in K (more ++ past)) own
+  stands_on c more past own others lawful stands =
+      let joined = moves_append K more past in
+      subst (λ l. Stands H c l own) (sym joined)
+      (stands_others H c (moves_over K more past) (moves_in K past) own (moves_others K c more past others)
+      (subst (AreMoves H) joined (moves_lawful K wakes (more ++ past) lawful)) stands)
+
+  module _ (c below : CpuId) (table : List CpuId) (under : Option (QueueEvent E)) (past : List (QueueEvent E)) (own : Threads) (lawful : Lawful past)
+      (fits : PartFits rules mv opening c below table under past own) (s : SchedCall E) (may : MaySched K c past own (sched_under under own.current) s) where
+    state_of : (o : Option (QueueEvent E)) → UnderFits mv H c o own → MaySched K c past own (sched_under o own.current) s → StateFor mv s own
+    state_of None calls may = may.0
+    state_of (Some e) calls may = subst (λ x. StateFor mv x own) may calls.state
+
+    -- what the CPU has of its own lets the call come, at each of its polls
+    pub state : StateFor mv s own
+    state = state_of under fits.calls may
+
+    -- the lock of the call is there
+    pub lock_is_there : (q : QueueCall E) → queue_call H c s ≡ Some q → BufferIsThere opening s → IsSome (opening (lock_of q))
+    lock_is_there q is there = go s is there
+      where
+        queue_there : (t : Tid) (home : Option CpuId) → home_of H t ≡ home → IsSome (opening (Pending (or_else c home)))
+        queue_there t None is = fits.queue
+        queue_there t (Some home) is = opens.queues t home is
+
+        go : (s : SchedCall E) → queue_call H c s ≡ Some q → BufferIsThere opening s → IsSome (opening (lock_of q))
+        go (call.Pass Switch) is there = absurd cc
+        go (call.Pass YieldNow) is there = let taken : TakeAll c ≡ q = cc in subst (λ x. IsSome (opening (lock_of x))) taken fits.queue
+        go (call.Pass Drain) is there = let taken : TakeAll c ≡ q = cc in subst (λ x. IsSome (opening (lock_of x))) taken fits.queue
+        go (call.Pass (MakeReady t)) is there =
+            let pushed : Push (queue_for H c t) t ≡ q = cc in
+            subst (λ x. IsSome (opening (lock_of x))) pushed (queue_there t (home_of H t) refl)
+        go (call.Pass End) is there = absurd cc
+        go (call.OnBuffer b e) is there = let edits : OnBuffer b e ≡ q = cc in subst (λ x. IsSome (opening (lock_of x))) edits there
+
+    -- the call may be polled at the shared queues
+    pub call_may : (q : QueueCall E) → queue_call H c s ≡ Some q → MayQueue (QueueAllowed K) past under (event below q)
+    call_may q is = subst (λ d. MayQueue (QueueAllowed K) past under (event d q)) (sym fits.cpu) (go under fits.calls may)
+      where
+        some_same : (a b : QueueCall E) → Some a ≡ Some b → a ≡ b
+        some_same a b same = cc
+
+        go : (o : Option (QueueEvent E)) → UnderFits mv H c o own → MaySched K c past own (sched_under o own.current) s
+            → MayQueue (QueueAllowed K) past o (event c q)
+        go None calls may = λ more others legal.
+            allowed_now c (more ++ past) own legal (stands_on c more past own others legal fits.stands) s q may.0 is
+            (upper_stays c past more s may.1 others legal)
+        go (Some e) calls may =
+            let same : e.call ≡ q = some_same e.call q (sym calls.step ∙ (ap (queue_call H c) may ∙ is)) in
+            λ i. event (calls.cpu i) (same i)
+
+    -- A call that touches nothing shared.
+
+    module _ (none : queue_call H c s ≡ None) where
+      pub local_idle : under ≡ None
+      local_idle = go under fits.calls may
+        where
+          go : (o : Option (QueueEvent E)) → UnderFits mv H c o own → MaySched K c past own (sched_under o own.current) s → o ≡ None
+          go None calls may = refl
+          go (Some e) calls may = let shared : None ≡ Some e.call = sym none ∙ (sym (ap (queue_call H c) may) ∙ calls.step) in absurd cc
+
+      pub local_fits : PartFits rules mv opening c below table under past (local_after s own)
+      local_fits = record {
+        cpu = fits.cpu;
+        homes = fits.homes;
+        queue = fits.queue;
+        stands = local_stands c past own lawful fits.stands s state none;
+        calls = subst (λ o. UnderFits mv H c o (local_after s own)) (sym local_idle) tt;
+      }
+
+      pub local_polled : (ActsFor : CpuId → Type 0) → SchedPolled K ActsFor c s (Some Done) past past own (local_after s own)
+      local_polled ActsFor = record {
+        others = [];
+        foreign = λ d acts. tt;
+        is = sym (ap (λ o. events_of c o ++ past) none);
+        after = after s none;
+        answers = answers s none;
+        at_once = λ local. refl;
+      }
+        where
+          after : (s : SchedCall E) → queue_call H c s ≡ None → local_after s own ≡ own_after K c past s own
+          after (call.Pass Switch) none = refl
+          after (call.Pass YieldNow) none = absurd cc
+          after (call.Pass Drain) none = absurd cc
+          after (call.Pass (MakeReady t)) none = absurd cc
+          after (call.Pass End) none = refl
+          after (call.OnBuffer b e) none = absurd cc
+
+          answers : (s : SchedCall E) → queue_call H c s ≡ None → answer_to K past s ≡ Some Done
+          answers (call.Pass Switch) none = refl
+          answers (call.Pass YieldNow) none = refl
+          answers (call.Pass Drain) none = refl
+          answers (call.Pass (MakeReady t)) none = refl
+          answers (call.Pass End) none = refl
+          answers (call.OnBuffer b e) none = absurd cc
+
+      pub local_follows : {X : Type 0} (table : Table (QueueEdit E) X (QueueAnswer O)) (opens : LockId → Option X) (ActsFor : CpuId → Type 0) (cpu : CpuId)
+          (acts : List (Action (QueueEdit E)))
+          → Follows ActsFor table opens cpu (sched_plan mv H c s own) acts acts (left (local_after s own) (Some Done))
+      local_follows table opens ActsFor cpu acts =
+          subst (λ o. Follows ActsFor table opens cpu (plan_by mv H c s own o) acts acts (left (local_after s own) (Some Done))) (sym none)
+          (refl, leaves s none)
+        where
+          leaves : (s : SchedCall E) → queue_call H c s ≡ None → left {A = SchedAnswer O} (local_after s own) (Some Done) ≡ left_local s own
+          leaves (call.Pass Switch) none = refl
+          leaves (call.Pass YieldNow) none = absurd cc
+          leaves (call.Pass Drain) none = absurd cc
+          leaves (call.Pass (MakeReady t)) none = absurd cc
+          leaves (call.Pass End) none = refl
+          leaves (call.OnBuffer b e) none = absurd cc
+
+    -- A call that is one at the shared queues.
+
+    module _ (q : QueueCall E) (is : queue_call H c s ≡ Some q) where
+      -- a poll without an answer: the call is under way
+      pub waiting_call : sched_under (Some (event below q)) own.current ≡ Some s
+      waiting_call = ap Some (same_call H c mv s q own state is)
+
+      pub waiting_fits : (ActsFor : CpuId → Type 0) → ActsFor c → (new : List (QueueEvent E)) → QueuePolled K ActsFor (event below q) None past new → Lawful new
+          → (below' : CpuId) (under' : Option (QueueEvent E)) → below' ≡ below → under' ≡ Some (event below q)
+          → PartFits rules mv opening c below' table under' new own
+      waiting_fits ActsFor acts new polled legal below' under' same goes = record {
+        cpu = same ∙ fits.cpu;
+        homes = fits.homes;
+        queue = fits.queue;
+        stands = subst (λ l. Stands H c (moves_in K l) own) (sym polled.is)
+            (stands_on c polled.others past own (polled.foreign c acts) (subst Lawful polled.is legal) fits.stands);
+        calls = subst (λ o. UnderFits mv H c o own) (sym goes) calling;
+      }
+        where
+          one : sched_call q own.current ≡ s
+          one = same_call H c mv s q own state is
+
+          calling : IsCalling mv H c (event below q) own
+          calling = record { cpu = fits.cpu; step = ap (queue_call H c) one ∙ is; state = subst (λ x. StateFor mv x own) (sym one) state }
+
+      pub waiting_polled : (ActsFor : CpuId → Type 0) (new : List (QueueEvent E)) → QueuePolled K ActsFor (event below q) None past new
+          → SchedPolled K ActsFor c s None past new own own
+      waiting_polled ActsFor new polled = record {
+        others = polled.others;
+        foreign = polled.foreign;
+        is = polled.is;
+        after = refl;
+        answers = tt;
+        at_once = λ local. absurd (not_local H c s q is local);
+      }
+
+      pub shared_follows : {X : Type 0} (table : Table (QueueEdit E) X (QueueAnswer O)) (opens : LockId → Option X) (ActsFor : CpuId → Type 0) (cpu : CpuId)
+          (old new : List (Action (QueueEdit E)))
+          (result : Option (QueueAnswer O)) → Follows ActsFor table opens cpu (queue_plan q) old new (answered result)
+          → Follows ActsFor table opens cpu (sched_plan mv H c s own) old new (left_by mv H c own result)
+      shared_follows table opens ActsFor cpu old new result follows =
+          subst (λ o. Follows ActsFor table opens cpu (plan_by mv H c s own o) old new (left_by mv H c own result)) (sym is)
+          (follows_raised ActsFor table opens cpu (λ l. left_by mv H c own l.answer) (queue_plan q) old new (answered result) follows)
+
+      -- A poll that answers, after these calls of others.
+      module _ (answer : QueueAnswer O) (before : List (QueueEvent E)) (legal : Lawful (event c q ∷ before)) (standing : Stands H c (moves_in K before) own)
+          (answers : answer_of K before q ≡ Some answer) where
+        just : {A : Type 0} (a b : A) → Some a ≡ Some b → a ≡ b
+        just a b same = cc
+
+        legal_moves : AreMoves H (moves_in K before)
+        legal_moves = moves_lawful K wakes before legal.1
+
+        -- the answer of an edit
+        edit_out : (b : BufId) (e : E) → q ≡ OnBuffer b e → (o : O) × (out_at K before b e ≡ Some o) × (answer ≡ told.Answer o)
+        edit_out b e edits = go (out_at K before b e) refl (subst (λ x. answer_of K before x ≡ Some answer) edits answers)
+          where
+            go : (out : Option O) → out_at K before b e ≡ out → option_map told.Answer out ≡ Some answer
+                → (o : O) × (out_at K before b e ≡ Some o) × (answer ≡ told.Answer o)
+            go None is answered = absurd cc
+            go (Some o) is answered = (o, is, sym (just (told.Answer o) answer answered))
+
+        -- who was woken is away from home, and one of the threads that a machine may have
+        settles : (b : BufId) (e : E) → q ≡ OnBuffer b e → (o : O) → out_at K before b e ≡ Some o → MaySettle (mv.woke o) own
+        settles b e edits o is u woke =
+            let asleep = woken_sleeps K wakes before legal.1 c b e (subst (CallAllowed K before c) edits legal.0) o is u woke in
+            let away = asleep_away (where_is H (moves_in K before) u) asleep in
+            let home = home_there c (home_of H u) (away_known H (moves_in K before) u legal_moves away) in
+            (known u (or_else c (home_of H u)) home, not_counted u own.ready (away_from H c (moves_in K before) own legal_moves standing u away))
+
+        may_take_by : (x : QueueCall E) → q ≡ x → MayTake mv answer own
+        may_take_by (Push d t) pushes = subst (λ a. MayTake mv a own) (just told.Done answer (subst (λ x. answer_of K before x ≡ Some answer) pushes answers))
+            tt
+        may_take_by (TakeAll d) takes =
+            let mine : d ≡ c = subst (CallAllowed K before c) takes legal.0 in
+            let all : told.Taken (pending_by (moves_in K before) d) ≡ answer =
+            just (told.Taken (pending_by (moves_in K before) d)) answer (subst (λ x. answer_of K before x ≡ Some answer) takes answers) in
+            let joins : MayJoin (pending_by (moves_in K before) c) own = (
+              λ t there. (pending_at H c (moves_in K before) own legal_moves standing t there).1,
+              λ t runs. (
+                known t c (current_at H c (moves_in K before) own legal_moves standing t runs).0,
+                current_new H c (moves_in K before) own legal_moves standing t runs,
+              ),
+            ) in
+            subst (λ a. MayTake mv a own) all (subst (λ x. MayJoin (pending_by (moves_in K before) x) own) (sym mine) joins)
+        may_take_by (OnBuffer b e) edits =
+            let out = edit_out b e edits in
+            subst (λ a. MayTake mv a own) (sym out.2) (settles b e edits out.0 out.1)
+
+        -- a taking answers the pending queue
+        all_taken : q ≡ TakeAll c → told.Taken (pending_by (moves_in K before) c) ≡ answer
+        all_taken takes = just (told.Taken (pending_by (moves_in K before) c)) answer (subst (λ x. answer_of K before x ≡ Some answer) takes answers)
+
+        pushed_done : (d : CpuId) (t : Tid) → q ≡ Push d t → told.Done ≡ answer
+        pushed_done d t pushes = just told.Done answer (subst (λ x. answer_of K before x ≡ Some answer) pushes answers)
+
+        -- what the answer leaves agrees with the places after the call
+        taken_stands : q ≡ TakeAll c → Stands H c (moves_in K (event c q ∷ before)) (own_by mv H c answer own)
+        taken_stands takes = subst₂ (λ x a. Stands H c (step c (call_move K before x) ∷ moves_in K before) (own_by mv H c a own)) (sym takes) (all_taken takes)
+            (stands_taken H c (moves_in K before) own legal_moves standing)
+
+        pushed_stands : (d : CpuId) (t : Tid) → own.hand ≡ Some t → q ≡ Push d t → Stands H c (moves_in K (event c q ∷ before)) (own_by mv H c answer own)
+        pushed_stands d t held pushes = subst₂ (λ x a. Stands H c (step c (call_move K before x) ∷ moves_in K before) (own_by mv H c a own)) (sym pushes)
+            (pushed_done d t pushes)
+            (stands_pushed H c (moves_in K before) own legal_moves standing d t held)
+
+        edited_stands : (b : BufId) (e : E) → own.current ≡ Some (mv.caller e) → own.hand ≡ None → q ≡ OnBuffer b e
+            → Stands H c (moves_in K (event c q ∷ before)) (own_by mv H c answer own)
+        edited_stands b e runs empty edits =
+            let out = edit_out b e edits in
+            let all = moves_lawful K wakes (event c q ∷ before) legal in
+            let may : MayMove H (moves_in K before) c (edit_move mv (Buffer b) e (out_at K before b e)) =
+            subst (λ x. MayMove H (moves_in K before) c (call_move K before x)) edits all.0 in
+            let moved = stands_moved H c (moves_in K before) own legal_moves standing (Buffer b) (mv.caller e) (mv.slept out.0) (mv.woke out.0)
+            (subst (λ o. MayMove H (moves_in K before) c (edit_move mv (Buffer b) e o)) out.1 may) runs empty in
+            let here : Stands H c (step c (edit_move mv (Buffer b) e (out_at K before b e)) ∷ moves_in K before) (own_by mv H c (told.Answer out.0) own) =
+            subst (λ o. Stands H c (step c (edit_move mv (Buffer b) e o) ∷ moves_in K before) (own_by mv H c (told.Answer out.0) own)) (sym out.1) moved in
+            subst₂ (λ x a. Stands H c (step c (call_move K before x) ∷ moves_in K before) (own_by mv H c a own)) (sym edits) (sym out.2) here
+
+        done_stands : (s : SchedCall E) → StateFor mv s own → queue_call H c s ≡ Some q
+            → Stands H c (moves_in K (event c q ∷ before)) (own_by mv H c answer own)
+        done_stands (call.Pass Switch) state is = absurd cc
+        done_stands (call.Pass YieldNow) state is = taken_stands (cc)
+        done_stands (call.Pass Drain) state is = taken_stands (cc)
+        done_stands (call.Pass (MakeReady t)) state is = pushed_stands (queue_for H c t) t state (cc)
+        done_stands (call.Pass End) state is = absurd cc
+        done_stands (call.OnBuffer b e) state is = edited_stands b e state.0 state.1 (cc)
+
+        -- it is what the call is to leave
+        done_after : (s : SchedCall E) → queue_call H c s ≡ Some q → own_by mv H c answer own ≡ own_after K c before s own
+        done_after (call.Pass Switch) is = absurd cc
+        done_after (call.Pass YieldNow) is = sym (ap (λ a. own_by mv H c a own) (all_taken (cc)))
+        done_after (call.Pass Drain) is = sym (ap (λ a. own_by mv H c a own) (all_taken (cc)))
+        done_after (call.Pass (MakeReady t)) is = sym (ap (λ a. own_by mv H c a own) (pushed_done (queue_for H c t) t (cc)))
+        done_after (call.Pass End) is = absurd cc
+        done_after (call.OnBuffer b e) is =
+            let out = edit_out b e (cc) in
+            ap (λ a. own_by mv H c a own) out.2 ∙ sym (ap (λ o. own_answered mv H c o own) out.1)
+
+        -- and so is the answer
+        done_answer : (s : SchedCall E) → queue_call H c s ≡ Some q → answer_to K before s ≡ Some (answer_by answer)
+        done_answer (call.Pass Switch) is = absurd cc
+        done_answer (call.Pass YieldNow) is = ap (λ a. Some (answer_by a)) (all_taken (cc))
+        done_answer (call.Pass Drain) is = ap (λ a. Some (answer_by a)) (all_taken (cc))
+        done_answer (call.Pass (MakeReady t)) is = ap (λ a. Some (answer_by a)) (pushed_done (queue_for H c t) t (cc))
+        done_answer (call.Pass End) is = absurd cc
+        done_answer (call.OnBuffer b e) is =
+            let out = edit_out b e (cc) in
+            ap (option_map Answer) out.1 ∙ sym (ap (λ a. Some (answer_by a)) out.2)
+
+      module _ (ActsFor : CpuId → Type 0) (acts : ActsFor c) (new : List (QueueEvent E)) (answer : QueueAnswer O)
+          (polled : QueuePolled K ActsFor (event below q) (Some answer) past new)
+          (legal : Lawful new) where
+        abbrev joined : List (QueueEvent E)
+        joined = polled.others ++ past
+
+        last : new ≡ event c q ∷ joined
+        last = polled.is ∙ ap (λ d. event d q ∷ joined) fits.cpu
+
+        legal_last : Lawful (event c q ∷ joined)
+        legal_last = subst Lawful last legal
+
+        stands_before : Stands H c (moves_in K joined) own
+        stands_before = stands_on c polled.others past own (polled.foreign c acts) legal_last.1 fits.stands
+
+        -- the answer may be taken up
+        pub may_take : MayTake mv answer own
+        may_take = may_take_by answer joined legal_last stands_before polled.answers q refl
+
+        pub done_fits : (below' : CpuId) (under' : Option (QueueEvent E)) → below' ≡ below → under' ≡ None
+            → PartFits rules mv opening c below' table under' new (own_by mv H c answer own)
+        done_fits below' under' same ends = record {
+          cpu = same ∙ fits.cpu;
+          homes = fits.homes;
+          queue = fits.queue;
+          stands = subst (λ l. Stands H c (moves_in K l) (own_by mv H c answer own)) (sym last)
+              (done_stands answer joined legal_last stands_before polled.answers s state is);
+          calls = subst (λ o. UnderFits mv H c o (own_by mv H c answer own)) (sym ends) tt;
+        }
+
+        pub done_polled : SchedPolled K ActsFor c s (Some (answer_by answer)) past new own (own_by mv H c answer own)
+        done_polled = record {
+          others = polled.others;
+          foreign = polled.foreign;
+          is = last ∙ sym (ap (λ o. events_of c o ++ joined) is);
+          after = done_after answer joined legal_last stands_before polled.answers s is;
+          answers = done_answer answer joined legal_last stands_before polled.answers s is;
+          at_once = λ local. refl;
+        }
+
+  -- Other CPUs' parts.
+
+  -- what others do keeps a part in agreement with the machine
+  pub grown_fits : (d below : CpuId) (table : List CpuId) (under : Option (QueueEvent E)) (past : List (QueueEvent E)) (own : Threads)
+      (more new : List (QueueEvent E))
+      → AreOthers event_actor d more → new ≡ more ++ past → Lawful new → PartFits rules mv opening d below table under past own
+      → PartFits rules mv opening d below table under new own
+  grown_fits d below table under past own more new others is legal fits = record {
+    cpu = fits.cpu;
+    homes = fits.homes;
+    queue = fits.queue;
+    stands = subst (λ l. Stands H d (moves_in K l) own) (sym is) (stands_on d more past own others (subst Lawful is legal) fits.stands);
+    calls = fits.calls;
+  }
+
+  -- so does one poll of another CPU
+  pub other_fits : (ActsFor : CpuId → Type 0) (c d below : CpuId) (table : List CpuId) (under : Option (QueueEvent E)) (q : QueueCall E)
+      (result : Option (QueueAnswer O))
+      (past new : List (QueueEvent E)) (own : Threads) → ActsFor d → same_cpu c d ≡ false → QueuePolled K ActsFor (event c q) result past new → Lawful new
+      → PartFits rules mv opening d below table under past own → PartFits rules mv opening d below table under new own
+  other_fits ActsFor c d below table under q None past new own acts other polled legal fits =
+      grown_fits d below table under past own polled.others new (polled.foreign d acts) polled.is legal fits
+  other_fits ActsFor c d below table under q (Some answer) past new own acts other polled legal fits =
+      grown_fits d below table under past own (event c q ∷ polled.others) new (other, polled.foreign d acts) polled.is legal fits
+
+  -- and one more look at a section that waits
+  pub looked_fits : (ActsFor : CpuId → Type 0) (d below below' : CpuId) (table : List CpuId) (under under' : Option (QueueEvent E))
+      (past new : List (QueueEvent E)) (own : Threads)
+      → ActsFor d → Grows ActsFor event_actor past new → Lawful new → below' ≡ below → under' ≡ under
+      → PartFits rules mv opening d below table under past own → PartFits rules mv opening d below' table under' new own
+  looked_fits ActsFor d below below' table under under' past new own acts grows legal same goes fits =
+      subst₂ (λ x u. PartFits rules mv opening d x table u new own) (sym same) (sym goes)
+      (grown_fits d below table under past own grows.others new (grows.foreign d acts) grows.is legal fits)

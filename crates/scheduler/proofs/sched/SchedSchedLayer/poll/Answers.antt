@@ -1,0 +1,218 @@
+use Rattle.std.proofs.Common.{◌≡◌, false, Some, None, ap, sym, ◌∙◌, subst, subst₂}
+use Rattle.std.proofs.lemmas.Bool.{ne_eqb}
+use Rattle.event_log.specs.History.{IsLawful, same_cpu}
+use Rattle.event_log.proofs.Same.{cpu_numbered}
+use Rattle.layer_traits.specs.declared.scheds.SchedAnswer.TheVariants.{Done}
+use Rattle.layer_traits.specs.QueueBlocks.{homes_in}
+use Rattle.layer_traits.specs.Queues.{QueueAllowed, kernel}
+use Rattle.layer_traits.specs.Scheds.{SchedPolled, own_by, queue_call}
+use Rattle.scheduler.specs.Parts.{PartFits}
+use Rattle.scheduler.proofs.StepLemmas.{call_may, done_fits, finish_ok, local_fits, local_polled, may_take, other_fits, waiting_fits}
+use Rattle.scheduler.proofs.sched.SchedSchedLayer.poll.Goals as goal
+
+pub local-requires : goal.local-requires
+local-requires g c =
+    let Q = g.Q.QueueLayer in
+    let rules = g.E.Edit.rules in
+    let mv = g.E.Moves.moves in
+    let wakes = g.met.E.Moves.wakes_sleepers in
+    let self = c.args.self.now in
+    let m = c.args.m.now in
+    let fits = c.requires.fits in
+    let acts = subst (λ d. Q.ActsFor m d) fits.1.cpu (g.met.Q.QueueLayer.own self.lower m fits.0) in
+    let opens = g.met.Q.QueueLayer.opens m self.cpu acts in
+    let lawful = g.met.Q.QueueLayer.lawful m self.cpu acts in
+    finish_ok rules mv (Q.opening m) wakes opens self.cpu (Q.seen m) self.own lawful fits.1.stands
+
+pub poll-requires-clause-call : goal.poll-requires-clause-call
+poll-requires-clause-call g c =
+    let Q = g.Q.QueueLayer in
+    let rules = g.E.Edit.rules in
+    let mv = g.E.Moves.moves in
+    let wakes = g.met.E.Moves.wakes_sleepers in
+    let self = c.args.self.now in
+    let m = c.args.m.now in
+    let fits = c.requires.fits in
+    let acts = subst (λ d. Q.ActsFor m d) fits.1.cpu (g.met.Q.QueueLayer.own self.lower m fits.0) in
+    let opens = g.met.Q.QueueLayer.opens m self.cpu acts in
+    let lawful = g.met.Q.QueueLayer.lawful m self.cpu acts in
+    let is : queue_call (homes_in (Q.opening m)) self.cpu c.args.call.now ≡ Some c.in-Some.step
+    = ap (λ h. queue_call h self.cpu c.args.call.now) (fits.1.homes ∙ sym c.as_slice-homes.ensures.value) ∙ (sym c.call_beneath.ensures ∙ c.in-Some.is) in
+    call_may rules mv (Q.opening m) wakes opens self.cpu (Q.cpu_of self.lower) self.homes.items (Q.under_way self.lower) (Q.seen m) self.own lawful fits.1
+    c.args.call.now c.requires.call c.in-Some.step is
+
+pub answered-requires : goal.answered-requires
+answered-requires g c =
+    let Q = g.Q.QueueLayer in
+    let rules = g.E.Edit.rules in
+    let mv = g.E.Moves.moves in
+    let wakes = g.met.E.Moves.wakes_sleepers in
+    let self = c.args.self.now in
+    let m = c.args.m.now in
+    let fits = c.requires.fits in
+    let acts = subst (λ d. Q.ActsFor m d) fits.1.cpu (g.met.Q.QueueLayer.own self.lower m fits.0) in
+    let opens = g.met.Q.QueueLayer.opens m self.cpu acts in
+    let lawful = g.met.Q.QueueLayer.lawful m self.cpu acts in
+    let is : queue_call (homes_in (Q.opening m)) self.cpu c.args.call.now ≡ Some c.in-Some.step
+    = ap (λ h. queue_call h self.cpu c.args.call.now) (fits.1.homes ∙ sym c.as_slice-homes.ensures.value) ∙ (sym c.call_beneath.ensures ∙ c.in-Some.is) in
+    let n = c.poll.new.m in
+    let said = c.in-Some-poll.ensures in
+    let legal = subst (λ o. IsLawful (QueueAllowed (kernel rules mv o)) (Q.seen n)) said.opening
+    (g.met.Q.QueueLayer.lawful n self.cpu (said.acts self.cpu acts)) in
+    may_take rules mv (Q.opening m) wakes opens self.cpu (Q.cpu_of self.lower) self.homes.items (Q.under_way self.lower) (Q.seen m) self.own lawful fits.1
+    c.args.call.now c.requires.call c.in-Some.step is (λ d. Q.ActsFor m d) acts (Q.seen n) c.in-Some-poll.answer said.seen legal
+
+-- a call that touches nothing shared
+
+pub returns-in-None-clause-fits : goal.returns-in-None-clause-fits
+returns-in-None-clause-fits g c =
+    let Q = g.Q.QueueLayer in
+    let rules = g.E.Edit.rules in
+    let mv = g.E.Moves.moves in
+    let wakes = g.met.E.Moves.wakes_sleepers in
+    let self = c.args.self.now in
+    let m = c.args.m.now in
+    let fits = c.requires.fits in
+    let acts = subst (λ d. Q.ActsFor m d) fits.1.cpu (g.met.Q.QueueLayer.own self.lower m fits.0) in
+    let opens = g.met.Q.QueueLayer.opens m self.cpu acts in
+    let lawful = g.met.Q.QueueLayer.lawful m self.cpu acts in
+    let is : queue_call (homes_in (Q.opening m)) self.cpu c.args.call.now ≡ None
+    = ap (λ h. queue_call h self.cpu c.args.call.now) (fits.1.homes ∙ sym c.as_slice-homes.ensures.value) ∙ (sym c.call_beneath.ensures ∙ c.in-None.is) in (
+      fits.0,
+      subst (λ o. PartFits rules mv (Q.opening m) self.cpu (Q.cpu_of self.lower) self.homes.items (Q.under_way self.lower) (Q.seen m) o)
+          (sym c.local.ensures)
+          (local_fits rules mv (Q.opening m) wakes opens self.cpu (Q.cpu_of self.lower) self.homes.items (Q.under_way self.lower) (Q.seen m) self.own lawful
+          fits.1
+          c.args.call.now c.requires.call is),
+    )
+
+pub returns-in-None-clause-seen : goal.returns-in-None-clause-seen
+returns-in-None-clause-seen g c =
+    let Q = g.Q.QueueLayer in
+    let rules = g.E.Edit.rules in
+    let mv = g.E.Moves.moves in
+    let wakes = g.met.E.Moves.wakes_sleepers in
+    let self = c.args.self.now in
+    let m = c.args.m.now in
+    let fits = c.requires.fits in
+    let acts = subst (λ d. Q.ActsFor m d) fits.1.cpu (g.met.Q.QueueLayer.own self.lower m fits.0) in
+    let opens = g.met.Q.QueueLayer.opens m self.cpu acts in
+    let lawful = g.met.Q.QueueLayer.lawful m self.cpu acts in
+    let is : queue_call (homes_in (Q.opening m)) self.cpu c.args.call.now ≡ None
+    = ap (λ h. queue_call h self.cpu c.args.call.now) (fits.1.homes ∙ sym c.as_slice-homes.ensures.value) ∙ (sym c.call_beneath.ensures ∙ c.in-None.is) in
+    subst (λ o. SchedPolled (kernel rules mv (Q.opening m)) (λ d. Q.ActsFor m d) self.cpu c.args.call.now (Some Done) (Q.seen m) (Q.seen m) self.own o)
+    (sym c.local.ensures)
+    (local_polled rules mv (Q.opening m) wakes opens self.cpu (Q.cpu_of self.lower) self.homes.items (Q.under_way self.lower) (Q.seen m) self.own lawful fits.1
+    c.args.call.now c.requires.call is (λ d. Q.ActsFor m d))
+
+-- a poll that waits
+
+pub returns-in-None-poll-clause-fits : goal.returns-in-None-poll-clause-fits
+returns-in-None-poll-clause-fits g c =
+    let Q = g.Q.QueueLayer in
+    let rules = g.E.Edit.rules in
+    let mv = g.E.Moves.moves in
+    let wakes = g.met.E.Moves.wakes_sleepers in
+    let self = c.args.self.now in
+    let m = c.args.m.now in
+    let fits = c.requires.fits in
+    let acts = subst (λ d. Q.ActsFor m d) fits.1.cpu (g.met.Q.QueueLayer.own self.lower m fits.0) in
+    let opens = g.met.Q.QueueLayer.opens m self.cpu acts in
+    let lawful = g.met.Q.QueueLayer.lawful m self.cpu acts in
+    let is : queue_call (homes_in (Q.opening m)) self.cpu c.args.call.now ≡ Some c.in-Some.step
+    = ap (λ h. queue_call h self.cpu c.args.call.now) (fits.1.homes ∙ sym c.as_slice-homes.ensures.value) ∙ (sym c.call_beneath.ensures ∙ c.in-Some.is) in
+    let n = c.poll.new.m in
+    let said = c.in-None-poll.ensures in
+    let legal = subst (λ o. IsLawful (QueueAllowed (kernel rules mv o)) (Q.seen n)) said.opening
+    (g.met.Q.QueueLayer.lawful n self.cpu (said.acts self.cpu acts)) in (
+      said.fits,
+      subst (λ o. PartFits rules mv o self.cpu (Q.cpu_of c.poll.new.self) self.homes.items (Q.under_way c.poll.new.self) (Q.seen n) self.own)
+          (sym said.opening)
+          (waiting_fits rules mv (Q.opening m) wakes opens self.cpu (Q.cpu_of self.lower) self.homes.items (Q.under_way self.lower) (Q.seen m) self.own lawful
+          fits.1
+          c.args.call.now c.requires.call c.in-Some.step is (λ d. Q.ActsFor m d) acts (Q.seen n) said.seen legal
+          (Q.cpu_of c.poll.new.self) (Q.under_way c.poll.new.self) said.cpu said.call),
+    )
+
+pub returns-in-None-poll-clause-others : goal.returns-in-None-poll-clause-others
+returns-in-None-poll-clause-others g c =
+    let Q = g.Q.QueueLayer in
+    let rules = g.E.Edit.rules in
+    let mv = g.E.Moves.moves in
+    let wakes = g.met.E.Moves.wakes_sleepers in
+    let self = c.args.self.now in
+    let m = c.args.m.now in
+    let fits = c.requires.fits in
+    let acts = subst (λ d. Q.ActsFor m d) fits.1.cpu (g.met.Q.QueueLayer.own self.lower m fits.0) in
+    let opens = g.met.Q.QueueLayer.opens m self.cpu acts in
+    let lawful = g.met.Q.QueueLayer.lawful m self.cpu acts in
+    λ p other theirs.
+    let n = c.poll.new.m in
+    let said = c.in-None-poll.ensures in
+    let their = subst (λ d. Q.ActsFor m d) theirs.1.cpu (g.met.Q.QueueLayer.own p.lower m theirs.0) in
+    let legal = subst (λ o. IsLawful (QueueAllowed (kernel rules mv o)) (Q.seen n)) said.opening (g.met.Q.QueueLayer.lawful n p.cpu (said.acts p.cpu their)) in
+    let apart : same_cpu (Q.cpu_of self.lower) p.cpu ≡ false = ap (λ d. same_cpu d p.cpu) fits.1.cpu
+    ∙ ne_eqb self.cpu.0 p.cpu.0 (λ e. other (sym (ap cpu_numbered e))) in (
+      said.others p.lower (λ e. other (sym theirs.1.cpu ∙ (e ∙ fits.1.cpu))) theirs.0,
+      subst (λ o. PartFits rules mv o p.cpu (Q.cpu_of p.lower) p.homes.items (Q.under_way p.lower) (Q.seen n) p.own) (sym said.opening)
+          (other_fits rules mv (Q.opening m) wakes opens (λ d. Q.ActsFor m d) (Q.cpu_of self.lower) p.cpu (Q.cpu_of p.lower) p.homes.items (Q.under_way p.lower)
+          c.in-Some.step None
+          (Q.seen m) (Q.seen n) p.own their apart said.seen legal theirs.1),
+    )
+
+-- a poll that answers
+
+pub returns-in-Some-poll-clause-fits : goal.returns-in-Some-poll-clause-fits
+returns-in-Some-poll-clause-fits g c =
+    let Q = g.Q.QueueLayer in
+    let rules = g.E.Edit.rules in
+    let mv = g.E.Moves.moves in
+    let wakes = g.met.E.Moves.wakes_sleepers in
+    let self = c.args.self.now in
+    let m = c.args.m.now in
+    let fits = c.requires.fits in
+    let acts = subst (λ d. Q.ActsFor m d) fits.1.cpu (g.met.Q.QueueLayer.own self.lower m fits.0) in
+    let opens = g.met.Q.QueueLayer.opens m self.cpu acts in
+    let lawful = g.met.Q.QueueLayer.lawful m self.cpu acts in
+    let is : queue_call (homes_in (Q.opening m)) self.cpu c.args.call.now ≡ Some c.in-Some.step
+    = ap (λ h. queue_call h self.cpu c.args.call.now) (fits.1.homes ∙ sym c.as_slice-homes.ensures.value) ∙ (sym c.call_beneath.ensures ∙ c.in-Some.is) in
+    let n = c.poll.new.m in
+    let said = c.in-Some-poll.ensures in
+    let legal = subst (λ o. IsLawful (QueueAllowed (kernel rules mv o)) (Q.seen n)) said.opening
+    (g.met.Q.QueueLayer.lawful n self.cpu (said.acts self.cpu acts)) in
+    let own : c.answered.new.self ≡ own_by mv (homes_in (Q.opening m)) self.cpu c.in-Some-poll.answer self.own
+    = c.answered.ensures.own ∙ ap (λ h. own_by mv h self.cpu c.in-Some-poll.answer self.own) (sym (fits.1.homes ∙ sym c.as_slice-homes.ensures.value)) in (
+      said.fits,
+      subst₂ (λ o x. PartFits rules mv o self.cpu (Q.cpu_of c.poll.new.self) self.homes.items (Q.under_way c.poll.new.self) (Q.seen n) x)
+          (sym said.opening) (sym own)
+          (done_fits rules mv (Q.opening m) wakes opens self.cpu (Q.cpu_of self.lower) self.homes.items (Q.under_way self.lower) (Q.seen m) self.own lawful
+          fits.1
+          c.args.call.now c.requires.call c.in-Some.step is (λ d. Q.ActsFor m d) acts (Q.seen n) c.in-Some-poll.answer said.seen legal
+          (Q.cpu_of c.poll.new.self) (Q.under_way c.poll.new.self) said.cpu said.call),
+    )
+
+pub returns-in-Some-poll-clause-others : goal.returns-in-Some-poll-clause-others
+returns-in-Some-poll-clause-others g c =
+    let Q = g.Q.QueueLayer in
+    let rules = g.E.Edit.rules in
+    let mv = g.E.Moves.moves in
+    let wakes = g.met.E.Moves.wakes_sleepers in
+    let self = c.args.self.now in
+    let m = c.args.m.now in
+    let fits = c.requires.fits in
+    let acts = subst (λ d. Q.ActsFor m d) fits.1.cpu (g.met.Q.QueueLayer.own self.lower m fits.0) in
+    let opens = g.met.Q.QueueLayer.opens m self.cpu acts in
+    let lawful = g.met.Q.QueueLayer.lawful m self.cpu acts in
+    λ p other theirs.
+    let n = c.poll.new.m in
+    let said = c.in-Some-poll.ensures in
+    let their = subst (λ d. Q.ActsFor m d) theirs.1.cpu (g.met.Q.QueueLayer.own p.lower m theirs.0) in
+    let legal = subst (λ o. IsLawful (QueueAllowed (kernel rules mv o)) (Q.seen n)) said.opening (g.met.Q.QueueLayer.lawful n p.cpu (said.acts p.cpu their)) in
+    let apart : same_cpu (Q.cpu_of self.lower) p.cpu ≡ false = ap (λ d. same_cpu d p.cpu) fits.1.cpu
+    ∙ ne_eqb self.cpu.0 p.cpu.0 (λ e. other (sym (ap cpu_numbered e))) in (
+      said.others p.lower (λ e. other (sym theirs.1.cpu ∙ (e ∙ fits.1.cpu))) theirs.0,
+      subst (λ o. PartFits rules mv o p.cpu (Q.cpu_of p.lower) p.homes.items (Q.under_way p.lower) (Q.seen n) p.own) (sym said.opening)
+          (other_fits rules mv (Q.opening m) wakes opens (λ d. Q.ActsFor m d) (Q.cpu_of self.lower) p.cpu (Q.cpu_of p.lower) p.homes.items (Q.under_way p.lower)
+          c.in-Some.step (Some c.in-Some-poll.answer)
+          (Q.seen m) (Q.seen n) p.own their apart said.seen legal theirs.1),
+    )

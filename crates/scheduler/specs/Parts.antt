@@ -1,0 +1,67 @@
+-- A CPU's part of a scheduler: which scheduler's call is under way by the call at the shared queues, and how the part agrees with the
+-- machine.
+use Rattle.std.specs.Prelude.{◌≡◌, List, Option, Some, None, IsSome, is_some}
+use Rattle.std.proofs.Common.{refl, ap, ◌∙◌}
+use Rattle.event_log.specs.declared.ids.CpuId.{CpuId}
+use Rattle.event_log.specs.declared.ids.LockId.{LockId}
+use Rattle.event_log.specs.declared.ids.LockId.TheVariants.{Pending}
+use Rattle.event_log.specs.declared.ids.Tid.{Tid}
+use Rattle.event_log.specs.Actions.{Action, phase}
+use Rattle.layer_traits.specs.declared.passes.Pass.TheVariants.{YieldNow, Drain, MakeReady}
+use Rattle.layer_traits.specs.declared.queue_edits.QueueBlock.{QueueBlock}
+use Rattle.layer_traits.specs.declared.queues.QueueCall.{QueueCall}
+use Rattle.layer_traits.specs.declared.queues.QueueCall.TheVariants.{Push, TakeAll, OnBuffer}
+use Rattle.layer_traits.specs.declared.queues.QueueEvent.{QueueEvent}
+use Rattle.layer_traits.specs.declared.scheds.SchedCall.{SchedCall}
+use Rattle.layer_traits.specs.declared.scheds.SchedCall.TheVariants as call
+use Rattle.layer_traits.specs.MoveRules.{MoveRules}
+use Rattle.layer_traits.specs.Places.{Threads, Stands}
+use Rattle.layer_traits.specs.Plans.{is_in_section}
+use Rattle.layer_traits.specs.Protocol.{Rules}
+use Rattle.layer_traits.specs.QueueBlocks.{homes_in}
+use Rattle.layer_traits.specs.Queues.{kernel, moves_in}
+use Rattle.layer_traits.specs.Scheds.{StateFor, queue_call}
+
+-- the scheduler's call that is at the shared queues with this call: a taking is a yield where a thread runs, and else a drain
+abbrev pub sched_call : {E : Type 0} → QueueCall E → Option Tid → SchedCall E
+sched_call (Push d t) current = call.Pass (MakeReady t)
+sched_call (TakeAll d) None = call.Pass Drain
+sched_call (TakeAll d) (Some t) = call.Pass YieldNow
+sched_call (OnBuffer b e) current = call.OnBuffer b e
+
+-- the scheduler's call that is under way, by that at the shared queues
+abbrev pub sched_under : {E : Type 0} → Option (QueueEvent E) → Option Tid → Option (SchedCall E)
+sched_under None current = None
+sched_under (Some e) current = Some (sched_call e.call current)
+
+-- the call under way at the shared queues is this CPU's, is the one of its scheduler's call, and what the CPU has of its own lets it come
+pub record IsCalling {E O : Type 0} (mv : MoveRules E O) (homes : List CpuId) (c : CpuId) (e : QueueEvent E) (own : Threads) : Type 0 where
+  pub cpu : e.cpu ≡ c
+  pub step : queue_call homes c (sched_call e.call own.current) ≡ Some e.call
+  pub state : StateFor mv (sched_call e.call own.current) own
+
+-- the same of a call that may be under way
+abbrev pub UnderFits : {E O : Type 0} → MoveRules E O → List CpuId → CpuId → Option (QueueEvent E) → Threads → Type 0
+UnderFits mv homes c None own = Unit {0}
+UnderFits mv homes c (Some e) own = IsCalling mv homes c e own
+
+-- a part of this CPU agrees with the machine: the part beneath is of the same CPU, the homes are the machine's, the CPU has a pending
+-- queue, what it has of its own agrees with the places, and so does the call under way beneath
+pub record PartFits {E B O : Type 0} (rules : Rules E B O) (mv : MoveRules E O) (opening : LockId → Option (QueueBlock B)) (c below : CpuId)
+    (table : List CpuId)
+    (under : Option (QueueEvent E)) (past : List (QueueEvent E)) (own : Threads) : Type 0 where
+  pub cpu : below ≡ c
+  pub homes : homes_in opening ≡ table
+  pub queue : IsSome (opening (Pending c))
+  pub stands : Stands (homes_in opening) c (moves_in (kernel rules mv opening) past) own
+  pub calls : UnderFits mv (homes_in opening) c under own
+
+-- a call is under way exactly where one is at the shared queues
+pub under_is_some : {E : Type 0} (under : Option (QueueEvent E)) (current : Option Tid) → is_some (sched_under under current) ≡ is_some under
+under_is_some None current = refl
+under_is_some (Some e) current = refl
+
+-- so where a poll is one action, exactly while this CPU waits at a lock or holds one
+pub busy_under : {E N : Type 0} (acts : List (Action N)) (under : Option (QueueEvent E)) (current : Option Tid) (c below : CpuId) → below ≡ c
+    → is_some under ≡ is_in_section (phase below acts) → is_some (sched_under under current) ≡ is_in_section (phase c acts)
+busy_under acts under current c below is busy = under_is_some under current ∙ (busy ∙ ap (λ d. is_in_section (phase d acts)) is)

@@ -1,0 +1,119 @@
+//! The scheduler.
+
+ghost use Rattle.std.specs.Prelude.{◌≡◌};
+
+use crate::calls::{call_beneath, kept};
+use crate::owns::OwnThreads;
+use arrayvec::ArrayVec;
+use event_log::{CpuId, THREADS, Tid};
+use layer_traits::{Moves, QueueLayer, SchedAnswer, SchedCall, SchedLayer};
+
+/// One CPU's part of a scheduler over shared queues: it does its CPU's calls one by one, and keeps
+/// what the CPU has of its own. A thread that it wakes is ready at once if its home is here; else it
+/// stands in hand until it is pushed into the pending queue of its home (Gu et al., PLDI 2018).
+#[derive(Drop)]
+pub struct Sched<Q> {
+    lower: Q,
+    cpu: CpuId,
+    homes: ArrayVec<CpuId, THREADS>,
+    own: OwnThreads,
+}
+
+impl<E: Moves, Q: QueueLayer<E> + Drop> SchedLayer<E> for Sched<Q> {
+    ghost use Rattle.std.proofs.Common.{subst};
+    ghost use Rattle.scheduler.specs.Parts.{PartFits, sched_under, busy_under};
+
+    type Machine = Q::Machine;
+
+    ghost opening = { λ m. Q.opening m };
+
+    ghost seen = { λ m. Q.seen m };
+
+    ghost ActsFor = { λ m c. Q.ActsFor m c };
+
+    ghost room = { λ m. Q.room m };
+
+    ghost site = { λ m. Q.site m };
+
+    ghost IsOutside = { λ m c. Q.IsOutside m c };
+
+    ghost cpu_of = { λ p. p.cpu };
+
+    ghost threads = { λ p. p.own };
+
+    ghost under_way = { λ p. sched_under (Q.under_way p.lower) p.own.current };
+
+    ghost Fits = { λ p m. Q.Fits p.lower m × PartFits E.rules E.moves (Q.opening m) p.cpu (Q.cpu_of p.lower) p.homes.items (Q.under_way p.lower) (Q.seen m) p.own };
+
+    ghost IsStepwise = { Q.IsStepwise };
+
+    ghost acts = { λ m. Q.acts m };
+
+    fn part(cpu: CpuId, homes: &[CpuId], buffers: u8) -> Self {
+        Sched {
+            lower: Q::part(cpu, homes, buffers),
+            cpu,
+            homes: kept(homes),
+            own: OwnThreads::at_boot(homes, cpu),
+        }
+    }
+
+    fn is_busy(&self) -> bool {
+        self.lower.is_busy()
+    }
+
+    fn current(&self) -> Option<Tid> {
+        self.own.current()
+    }
+
+    fn hand(&self) -> Option<Tid> {
+        self.own.hand()
+    }
+
+    fn has_ready(&self) -> bool {
+        self.own.has_ready()
+    }
+
+    fn is_ready(&self, t: Tid) -> bool {
+        self.own.is_ready(t)
+    }
+
+    fn has_ended(&self, t: Tid) -> bool {
+        self.own.has_ended(t)
+    }
+
+    #[inline(always)]
+    fn look(&mut self, m: &mut Q::Machine) -> bool {
+        self.lower.look(m)
+    }
+
+    fn poll(&mut self, m: &mut Q::Machine, call: &SchedCall<E>) -> Option<SchedAnswer<E::Out>> {
+        let homes = self.homes.as_slice();
+        match call_beneath(homes, self.cpu, call) {
+            None => {
+                self.own.local(call);
+                Some(SchedAnswer::Done)
+            }
+            Some(step) => match self.lower.poll(m, &step) {
+                None => None,
+                Some(answer) => Some(self.own.answered::<E>(homes, self.cpu, answer)),
+            },
+        }
+    }
+
+    ghost own = { λ p m fits. subst (λ c. Q.ActsFor m c) fits.1.cpu (Q.own p.lower m fits.0) };
+
+    ghost opens = { λ m c acts. Q.opens m c acts };
+
+    ghost lawful = { λ m c acts. Q.lawful m c acts };
+
+    ghost known = { λ m c acts. Q.known m c acts };
+
+    ghost legal = { λ m c acts. Q.legal m c acts };
+
+    ghost seen_is = { λ step m. Q.seen_is step m };
+
+    ghost busy = { λ p m fits step. busy_under (Q.acts m) (Q.under_way p.lower) p.own.current p.cpu (Q.cpu_of p.lower) fits.1.cpu (Q.busy p.lower m fits.0 step) };
+
+    ghost stands = { λ p m fits. fits.1.stands };
+}
