@@ -2,6 +2,7 @@
 //! words gives, and what a layer of critical sections promises to the layer above it.
 #![tactic(auto)]
 
+mod buffer_blocks;
 mod buffer_edits;
 mod buffer_layers;
 mod calls;
@@ -25,6 +26,7 @@ mod steps;
 mod talks;
 mod words;
 
+pub use buffer_blocks::BufferBlock;
 pub use buffer_edits::{BufferEdit, BufferOut};
 pub use buffer_layers::BufferLayer;
 pub use calls::{Call, Effect, Place, Reply};

@@ -1,0 +1,216 @@
+//! A buffer's block: its lines, its items and its counters.
+
+ghost use Rattle.std.specs.Prelude.{◌≡◌, ◌≤◌, ◌++◌, ◌∷◌, [], if◌then◌else◌};
+ghost use Rattle.event_log.specs.declared.ids.TheConstants.{CAPACITY};
+ghost use Rattle.layer_traits.specs.declared.buffer_edits.BufferEdit.TheVariants.{Enter, TryPut, TryTake};
+ghost use Rattle.layer_traits.specs.declared.locked.Side.TheVariants.{Receivers, Senders};
+ghost use Rattle.layer_traits.specs.BufferBlocks.{buffer_answer, buffer_edited, empty_block, front_ready, is_first, may_go, may_join};
+
+use crate::buffer_edits::{BufferEdit, BufferOut};
+use crate::conditions::Guarded;
+use crate::locked::Side;
+use arrayvec::ArrayVec;
+use event_log::{CAPACITY, Kind, Msg, Ring, THREADS, Tid};
+use std::marker::Model;
+use thread_blocks::ThreadQueue;
+
+/// What the lock of a buffer guards: who stands in line to receive and to send, the items, and how
+/// many effects and how many entries of each line there were, modulo 2^64. No edit of it takes
+/// memory.
+#[derive(Drop)]
+pub struct BufferBlock {
+    receive_line: ThreadQueue,
+    send_line: ThreadQueue,
+    items: Ring<Msg>,
+    capacity: usize,
+    effects: u64,
+    sends: u64,
+    receives: u64,
+}
+
+impl Model for BufferBlock {
+    ghost use Rattle.std.specs.Prelude.{◌≤◌, length};
+    ghost use Rattle.event_log.specs.declared.ids.TheConstants.{CAPACITY};
+    ghost use Rattle.layer_traits.specs.BufferBlocks.{BufferState};
+
+    ghost Value = { BufferState };
+
+    ghost view = { λ b. record { receive_line = b.receive_line; send_line = b.send_line; items = b.items; capacity = b.capacity;
+        effects = b.effects; sends = b.sends; receives = b.receives } };
+
+    ghost invariant = { λ b. (b.capacity ≤ CAPACITY) × (length b.items ≤ b.capacity) };
+}
+
+impl BufferBlock {
+    /// An empty buffer with room for `capacity` items.
+    pub fn new(capacity: usize) -> BufferBlock
+        requires { capacity ≤ CAPACITY }
+        ensures { result ≡ empty_block capacity }
+    {
+        BufferBlock {
+            receive_line: ThreadQueue::new(),
+            send_line: ThreadQueue::new(),
+            items: Ring::new(0),
+            capacity,
+            effects: 0,
+            sends: 0,
+            receives: 0,
+        }
+    }
+
+    /// The items, first in front.
+    pub fn items(&self) -> ArrayVec<Msg, CAPACITY>
+        ensures { result.items ≡ self.now.items }
+    {
+        self.items.items()
+    }
+
+    /// Whether there is room for one more item.
+    fn may_put(&self) -> bool
+        ensures { result ≡ may_go Senders self.now }
+    {
+        self.items.len() < self.capacity
+    }
+
+    /// Whether there is an item.
+    fn may_take(&self) -> bool
+        ensures { result ≡ may_go Receivers self.now }
+    {
+        0 < self.items.len()
+    }
+
+    /// Lets `t` enter the line of this side, and gives its position in it.
+    fn enter(&mut self, t: Tid, side: Side) -> BufferOut
+        ensures block { self.new ≡ buffer_edited (Enter t side) self.old }
+        ensures answer { result ≡ buffer_answer (Enter t side) self.old }
+    {
+        match side {
+            Side::Receivers => {
+                let position = self.receives;
+                if join(&mut self.receive_line, t) {
+                    self.receives = position.wrapping_add(1);
+                }
+                BufferOut::Entered(position)
+            }
+            Side::Senders => {
+                let position = self.sends;
+                if join(&mut self.send_line, t) {
+                    self.sends = position.wrapping_add(1);
+                }
+                BufferOut::Entered(position)
+            }
+        }
+    }
+
+    /// Puts `message` for `t`, where it stands first in the send line and there is room.
+    fn put(&mut self, t: Tid, message: Msg) -> BufferOut
+        ensures block { self.new ≡ buffer_edited (TryPut t message) self.old }
+        ensures answer { result ≡ buffer_answer (TryPut t message) self.old }
+    {
+        if !leads(&self.send_line, t) {
+            return BufferOut::NotYet;
+        }
+        if !self.may_put() {
+            return BufferOut::NotYet;
+        }
+        let op = self.effects;
+        let _ = self.send_line.pop();
+        self.effects = op.wrapping_add(1);
+        self.items.put(message);
+        BufferOut::Done(Kind::Send, op, message)
+    }
+
+    /// Takes the first item for `t`, where it stands first in the receive line and there is one.
+    fn take(&mut self, t: Tid) -> BufferOut
+        ensures block { self.new ≡ buffer_edited (TryTake t) self.old }
+        ensures answer { result ≡ buffer_answer (TryTake t) self.old }
+    {
+        if !leads(&self.receive_line, t) {
+            return BufferOut::NotYet;
+        }
+        match self.items.take() {
+            None => BufferOut::NotYet,
+            Some(message) => {
+                let op = self.effects;
+                let _ = self.receive_line.pop();
+                self.effects = op.wrapping_add(1);
+                BufferOut::Done(Kind::Recv, op, message)
+            }
+        }
+    }
+
+    /// The front of this side's line, where it may go on.
+    fn ready(&self, side: Side) -> Option<Tid>
+        ensures { result ≡ front_ready side self.now }
+    {
+        match side {
+            Side::Receivers => {
+                if self.may_take() {
+                    self.receive_line.front()
+                } else {
+                    None
+                }
+            }
+            Side::Senders => {
+                if self.may_put() {
+                    self.send_line.front()
+                } else {
+                    None
+                }
+            }
+        }
+    }
+}
+
+/// Puts `t` at the end of `line`, where it may join it, and tells whether it did.
+fn join(line: &mut ThreadQueue, t: Tid) -> bool
+    ensures joins { result ≡ may_join t line.old }
+    ensures line { line.new ≡ (if result then line.old ++ t ∷ [] else line.old) }
+{
+    if usize::from(t.0) >= THREADS {
+        return false;
+    }
+    if line.contains(t) {
+        return false;
+    }
+    line.push(t);
+    true
+}
+
+/// Whether `t` stands first in `line`.
+fn leads(line: &ThreadQueue, t: Tid) -> bool
+    ensures { result ≡ is_first t line.now }
+{
+    match line.front() {
+        None => false,
+        Some(first) => t.0 == first.0,
+    }
+}
+
+impl Guarded for BufferEdit {
+    ghost use Rattle.layer_traits.specs.BufferProtocol.{buffer_deeds};
+
+    type Block = BufferBlock;
+
+    type Out = BufferOut;
+
+    ghost deeds = { buffer_deeds };
+
+    fn caller(self) -> Tid {
+        match self {
+            BufferEdit::Enter(t, _) | BufferEdit::TryPut(t, _) | BufferEdit::TryTake(t) => t,
+        }
+    }
+
+    fn apply(self, block: &mut BufferBlock) -> BufferOut {
+        match self {
+            BufferEdit::Enter(t, side) => block.enter(t, side),
+            BufferEdit::TryPut(t, message) => block.put(t, message),
+            BufferEdit::TryTake(t) => block.take(t),
+        }
+    }
+
+    fn ready(side: Side, block: &BufferBlock) -> Option<Tid> {
+        block.ready(side)
+    }
+}
