@@ -1,0 +1,81 @@
+//! The blocks of shared queues at boot.
+
+ghost use Rattle.std.specs.Prelude.{◌≡◌, ◌+◌, ◌≤◌, ◌<◌, ◌++◌, IsSome, IfOk, length, slice_get, vec_len, vec_capacity};
+ghost use Rattle.event_log.specs.declared.ids.LockId.TheVariants.{Pending, Buffer};
+ghost use Rattle.event_log.specs.declared.ids.TheConstants.{BUFFERS, CPUS, THREADS};
+ghost use Rattle.layer_traits.specs.OneLock.{AreDistinct, opened};
+ghost use Rattle.layer_traits.specs.QueueBlocks.{StartsWell, homes_in, inner};
+ghost use Rattle.shared_queue.specs.Opening.{AreEmptyQueues, AreQueues, buffers_from};
+
+use arrayvec::ArrayVec;
+use event_log::{BufId, CpuId, LockId, NoMemory, THREADS};
+use layer_traits::{QueueBlock, Room};
+use std::alloc::Global;
+use std::snapshot::Snapshot;
+use thread_blocks::ThreadQueue;
+
+/// A list of the homes to keep: at most `THREADS` of them.
+fn kept(homes: &[CpuId]) -> ArrayVec<CpuId, THREADS>
+    requires { length homes.now ≤ THREADS }
+    ensures { result.items ≡ homes.now }
+{
+    let mut kept = ArrayVec::new();
+    for home in homes {
+        kept.push(*home);
+    }
+    kept
+}
+
+/// The lock of each CPU's pending queue, which is empty, with room for so many locks more.
+fn empty_queues<B: Drop>(
+    alloc: Global,
+    cpus: u8,
+    homes: &[CpuId],
+    more: usize,
+) -> Result<Vec<(LockId, QueueBlock<B>)>, NoMemory>
+    requires threads { length homes.now ≤ THREADS }
+    requires few { more ≤ BUFFERS }
+    ensures queues { IfOk result (λ locks. AreEmptyQueues homes.now 0 locks.items) }
+    ensures count { IfOk result (λ locks. vec_len locks ≡ cpus) }
+    ensures room { IfOk result (λ locks. cpus + more ≤ vec_capacity locks) }
+{
+    let kept = kept(homes);
+    let Ok(mut locks) = Vec::with_capacity(alloc, usize::from(cpus) + more) else {
+        return Err(NoMemory);
+    };
+    for cpu in 0..cpus {
+        let queue = Room::new(alloc, ThreadQueue::new())?;
+        let block = QueueBlock::Queue(queue, Snapshot::of(&kept));
+        locks.push((LockId::Pending(CpuId(cpu)), block)).unwrap();
+    }
+    Ok(locks)
+}
+
+/// The locks of shared queues at boot, each with its block: an empty pending queue for each of so
+/// many CPUs, and for each of `blocks` the buffer whose number is its place. `homes` holds the home
+/// of each thread. All memory that the blocks need is taken here.
+///
+/// Errors: `NoMemory` where an allocation was refused.
+pub fn queue_blocks<B: Drop>(
+    alloc: Global,
+    mut blocks: Vec<B>,
+    cpus: u8,
+    homes: &[CpuId],
+) -> Result<Vec<(LockId, QueueBlock<B>)>, NoMemory>
+    requires { AreQueues cpus homes.now (length blocks.items) }
+    ensures distinct { IfOk result (λ locks. AreDistinct locks.items) }
+    ensures starts { IfOk result (λ locks. StartsWell (opened locks.items)) }
+    ensures homes { IfOk result (λ locks. homes_in (opened locks.items) ≡ homes.now) }
+    ensures queues { IfOk result (λ locks. (c : _) → c.0 < cpus → IsSome (opened locks.items (Pending c))) }
+    ensures blocks { IfOk result (λ locks. (b : _) → inner (opened locks.items) (Buffer b) ≡ slice_get blocks.items b.0) }
+{
+    let count = blocks.len();
+    let mut locks = empty_queues(alloc, cpus, homes, count)?;
+    for i in 0..count {
+        let block = Room::new(alloc, blocks.remove(0))?;
+        locks
+            .push((LockId::Buffer(BufId(i as u8)), QueueBlock::Above(block)))
+            .unwrap();
+    }
+    Ok(locks)
+}
