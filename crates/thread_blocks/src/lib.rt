@@ -5,3 +5,6 @@ mod links;
 mod queues;
 
 pub use queues::ThreadQueue;
+
+#[cfg(test)]
+mod tests;
