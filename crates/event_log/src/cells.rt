@@ -6,8 +6,9 @@ use std::marker::Model;
 use std::sync::ledger::{Blank, Book, Ledger, Share};
 
 /// How many cells were read or written: a count in proofs alone, which takes no bytes and no time.
-/// Only [`Cells`] adds to it, one for each cell that it reads or writes, so no call can count less
-/// than what it does with these.
+/// Only [`Cells`] adds to it, one for each cell that it reads or writes, so a call that is handed a
+/// count leaves in it at least what it read and wrote under it. What a call does under a count of
+/// its own, made by [`fresh`](Ticks::fresh), stands in that one.
 #[derive(Drop)]
 pub struct Ticks<L: Ledger> {
     book: Book<L>,

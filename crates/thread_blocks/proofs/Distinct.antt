@@ -1,5 +1,6 @@
 -- Queues as lists in which no thread stands twice.
-use Rattle.std.proofs.Common.{◌≡◌, ℕ, ◌<◌, ◌≤◌, Bool, true, false, List, [], ◌∷◌, ◌++◌, length, refl, sym, ap, ◌∙◌, arith, subst, eqb, ◌||◌, ◌⊎◌, inl, inr, suc, Some, None, if◌then◌else◌}
+use Rattle.std.proofs.Common.{◌≡◌, ℕ, ◌<◌, ◌≤◌, Bool, true, false, List, [], ◌∷◌, ◌++◌, length, refl}
+use Rattle.std.proofs.Common.{sym, ap, ◌∙◌, arith, subst, eqb, ◌||◌, ◌⊎◌, inl, inr, suc, Some, None, if◌then◌else◌}
 use Rattle.std.specs.Cmp.{IsEquivalence, nat_eq_equiv}
 use Rattle.std.specs.List.{IsDistinct, AllByRecursion, list_any}
 use Rattle.std.proofs.lemmas.Bool.{or_parts, or_cases, true≢false, cond_both}
@@ -146,7 +147,8 @@ pub without_parted : (t : Tid) (ys zs : List Tid) → is_in t ys ≡ false → i
 without_parted t [] zs before after = ap (λ b. if b then without t zs else t ∷ without t zs) (same_tid_self t) ∙ without_none t zs after
 without_parted t (y ∷ ys) zs before after =
     let parts = or_parts (same_tid t y) (is_in t ys) before in
-    ap (λ b. if b then without t (ys ++ t ∷ zs) else y ∷ without t (ys ++ t ∷ zs)) parts.0 ∙ ap (λ (xs : List Tid). y ∷ xs) (without_parted t ys zs parts.1 after)
+    ap (λ b. if b then without t (ys ++ t ∷ zs) else y ∷ without t (ys ++ t ∷ zs)) parts.0
+    ∙ ap (λ (xs : List Tid). y ∷ xs) (without_parted t ys zs parts.1 after)
 
 absent_step : (b : Bool) (t x : Tid) (queue : List Tid) → same_tid t x ≡ b → is_in t (without t queue) ≡ false
     → is_in t (if b then without t queue else x ∷ without t queue) ≡ false
@@ -185,6 +187,10 @@ parts t (y ∷ ys) zs distinct = let later = parts t ys zs distinct.1 in (or_non
 
 some_same : (t x : Tid) → Some t ≡ Some x → t ≡ x
 some_same t x same = cc
+
+-- the front is taken out as any other thread
+pub without_front : (t : Tid) (queue : List Tid) → is_in t queue ≡ false → without t (t ∷ queue) ≡ queue
+without_front t queue absent = without_parted t [] queue refl absent
 
 -- where a thread stands in a list
 pub record Parted (t : Tid) (queue : List Tid) : Type 0 where

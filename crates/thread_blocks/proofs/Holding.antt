@@ -1,5 +1,6 @@
 -- What each step on the tables makes of the queue that they hold.
-use Rattle.std.proofs.Common.{◌≡◌, ℕ, ◌+◌, ◌-◌, ◌<◌, ◌≤◌, Bool, true, false, List, [], ◌∷◌, ◌++◌, length, refl, sym, ap, ◌∙◌, subst, arith, Option, Some, None, IfSome, slice_index_or, slice_set, ◌⊎◌, inl, inr, ◌||◌, length-append, length-set}
+use Rattle.std.proofs.Common.{◌≡◌, ℕ, ◌+◌, ◌-◌, ◌<◌, ◌≤◌, Bool, true, false, List, [], ◌∷◌, ◌++◌, length, refl, sym}
+use Rattle.std.proofs.Common.{ap, ◌∙◌, subst, arith, Option, Some, None, IfSome, slice_index_or, slice_set, ◌⊎◌, inl, inr, ◌||◌, length-append, length-set}
 use Rattle.std.proofs.lemmas.Bool.{cases_Bool, eqb-false, false_from_ne_true}
 use Rattle.std.proofs.lemmas.Grind.{get_or-set_at}
 use Rattle.std.proofs.lemmas.List.{get_or-set_other, get_or_default}
@@ -9,8 +10,10 @@ use Rattle.thread_blocks.specs.declared.links.Links.{Links}
 use Rattle.thread_blocks.specs.Queues.{same_tid, is_in, first, without, IsQueue}
 use Rattle.thread_blocks.specs.Links.{to, walk, Relinked, Hold}
 use Rattle.thread_blocks.proofs.Members.{same_tid_self, same_tid_true}
-use Rattle.thread_blocks.proofs.Distinct.{none, has_room, pushed, taken_out, without_parted, taken_absent, others_stay, pushed_in, parts, off, all_off_end, all_distinct, all_below}
-use Rattle.thread_blocks.proofs.Linking.{AreBelow, walk_is, before_below, after_below, last_below, below_at, below_behind, linked_from, no_end, unlinked, linked_behind}
+use Rattle.thread_blocks.proofs.Distinct.{none, has_room, pushed, taken_out, without_parted, taken_absent}
+use Rattle.thread_blocks.proofs.Distinct.{others_stay, pushed_in, parts, off, all_off_end, all_distinct, all_below}
+use Rattle.thread_blocks.proofs.Linking.{AreBelow, walk_is, before_below, after_below, last_below}
+use Rattle.thread_blocks.proofs.Linking.{below_at, below_behind, linked_from, no_end, unlinked, linked_behind}
 
 -- the tables show the queue that they hold
 pub walk_held : {nexts prevs : Links} {members : List Bool} {count : ℕ} {queue : List Tid} → Hold nexts prevs members count queue
@@ -35,6 +38,11 @@ none_held nexts prevs members no_first no_last nexts_fit prevs_fit members_fit e
   members_are = λ t below. each t.0 below;
 }
 
+relinked_at : {old new : Option Tid → Option Tid} {at at' leads leads' : Option Tid} → at ≡ at' → leads ≡ leads'
+    → Relinked old new at leads → Relinked old new at' leads'
+relinked_at {old} {new} {at} {at'} {leads} {leads'} is goes relinked =
+    subst (λ (node : Option Tid). Relinked old new node leads') is (subst (λ (node : Option Tid). Relinked old new at node) goes relinked)
+
 -- the last thread stands in the queue, and each other one where it stood
 last_in : (t : Tid) (queue : List Tid) → (is_in t queue || (same_tid t t || false)) ≡ true
 last_in t queue = either (is_in t queue) (same_tid t t) (same_tid_self t)
@@ -55,7 +63,8 @@ beyond t past below = omega arith
 
 -- the table of members after one thread came or went
 members_after : (members : List Bool) (i : ℕ) (b : Bool) (t : Tid) (old new : List Tid) → length members ≡ THREADS → t.0 < THREADS → i ≡ t.0
-    → ((u : Tid) → u.0 < THREADS → slice_index_or members u.0 false ≡ is_in u old) → is_in t new ≡ b → ((u : Tid) → same_tid u t ≡ false → is_in u new ≡ is_in u old)
+    → ((u : Tid) → u.0 < THREADS → slice_index_or members u.0 false ≡ is_in u old) → is_in t new ≡ b
+    → ((u : Tid) → same_tid u t ≡ false → is_in u new ≡ is_in u old)
     → (u : Tid) → u.0 < THREADS → slice_index_or (slice_set members i b) u.0 false ≡ is_in u new
 members_after members i b t old new fits known at are here others u below = one_by_one (cases_Bool (same_tid u t))
   where
@@ -92,7 +101,8 @@ module _ {nexts prevs : Links} {members : List Bool} {count : ℕ} where
   room_there queue t hold known new = subst (λ n. n < THREADS) hold.counted (has_room queue t hold.queue_is known new)
 
   -- whoever is a member stands in the queue
-  pub member_is : (queue : List Tid) (t : Tid) → Hold nexts prevs members count queue → t.0 < THREADS → (found : Bool) → found ≡ slice_index_or members t.0 found
+  pub member_is : (queue : List Tid) (t : Tid) → Hold nexts prevs members count queue → t.0 < THREADS
+      → (found : Bool) → found ≡ slice_index_or members t.0 found
       → found ≡ is_in t queue
   member_is queue t hold known found is =
       is ∙ get_or_default members t.0 found false (subst (λ n. t.0 < n) (sym hold.member_length) known) ∙ hold.members_are t known
@@ -124,8 +134,8 @@ module _ {nexts prevs : Links} {members : List Bool} {count : ℕ} where
         counted = omega (arith, length-append before after, length-append before (t ∷ after), hold.counted);
         queue_is = subst IsQueue left (taken_out t queue hold.queue_is);
         linked = unlinked (to nexts) (to prevs) t
-            (subst (λ (b : Option Tid). Relinked (to nexts) (to nexts') b (to nexts (Some t))) before_is (subst (λ (a : Option Tid). Relinked (to nexts) (to nexts') before_t a) after_is ahead))
-            (subst (λ (a : Option Tid). Relinked (to prevs) (to prevs') a (to prevs (Some t))) after_is (subst (λ (b : Option Tid). Relinked (to prevs) (to prevs') after_t b) before_is back))
+            (relinked_at before_is after_is ahead)
+            (relinked_at after_is before_is back)
             None before after (all_off_end queue) (all_distinct queue hold.queue_is.0) hold.linked;
         members_are = λ u below. ap (λ (ms : List Bool). slice_index_or ms u.0 false) wrote
             ∙ members_after members i false t queue (before ++ after) hold.member_length known at hold.members_are
@@ -146,8 +156,8 @@ module _ {nexts prevs : Links} {members : List Bool} {count : ℕ} where
     counted = omega (arith, length-append queue (t ∷ []), hold.counted);
     queue_is = pushed queue t hold.queue_is known new;
     linked = linked_behind (to nexts) (to prevs) t
-        (subst (λ (node : Option Tid). Relinked (to nexts) (to nexts1) node (Some t)) last_is to_new) new_to_end
-        (subst (λ (node : Option Tid). Relinked (to prevs) (to prevs1) (Some t) node) last_is new_back) end_back
+        (relinked_at last_is refl to_new) new_to_end
+        (relinked_at refl last_is new_back) end_back
         None queue no_end (off t queue new) (all_off_end queue) (all_distinct queue hold.queue_is.0) hold.linked;
     members_are = λ u below. ap (λ (ms : List Bool). slice_index_or ms u.0 false) wrote
         ∙ members_after members i true t queue (queue ++ t ∷ []) hold.member_length known at hold.members_are

@@ -89,8 +89,11 @@ module _ (next prev : Option Tid → Option Tid) where
     stay : {p n p_leads n_leads : Option Tid} → Relinked next next' p p_leads → Relinked prev prev' n n_leads → (at : Option Tid) (xs : List Tid)
         → at ≢ p → IsOff p xs → None ≢ n → IsOff n xs → AreLinked next prev at xs → AreLinked next' prev' at xs
     stay nexts prevs at [] at_off xs_off end_off back_off linked = (nexts.there at at_off ∙ linked.0, prevs.there None end_off ∙ linked.1)
-    stay nexts prevs at (x ∷ xs) at_off xs_off end_off back_off linked =
-        (nexts.there at at_off ∙ linked.0, prevs.there (Some x) back_off.0 ∙ linked.1, stay nexts prevs (Some x) xs xs_off.0 xs_off.1 end_off back_off.1 linked.2)
+    stay nexts prevs at (x ∷ xs) at_off xs_off end_off back_off linked = (
+      nexts.there at at_off ∙ linked.0,
+      prevs.there (Some x) back_off.0 ∙ linked.1,
+      stay nexts prevs (Some x) xs xs_off.0 xs_off.1 end_off back_off.1 linked.2,
+    )
 
     module _ (t : Tid) (nexts : Relinked next next' (prev (Some t)) (next (Some t))) (prevs : Relinked prev prev' (next (Some t)) (prev (Some t))) where
       unlinked_here : (at : Option Tid) (zs : List Tid) → IsOff at zs → AreDistinct zs → AreLinked next prev at (t ∷ zs) → AreLinked next' prev' at zs

@@ -275,7 +275,8 @@ fn unlink<L: Ledger>(
     ticks: &mut Ticks<L>,
 )
     requires there { (before after : List Tid) × Hold nexts.old prevs.old members.old count.old (before ++ t ∷ after) }
-    ensures held { (before after : List Tid) → Hold nexts.old prevs.old members.old count.old (before ++ t ∷ after) → Hold nexts.new prevs.new members.new count.new (before ++ after) }
+    ensures held { (before after : List Tid) → Hold nexts.old prevs.old members.old count.old (before ++ t ∷ after)
+        → Hold nexts.new prevs.new members.new count.new (before ++ after) }
     ensures ticks { ticks.new ≤ ticks.old + 5 }
 {
     let before = prevs.get(Some(t), ticks);
@@ -297,7 +298,8 @@ fn link_behind<L: Ledger>(
 )
     requires known { t.0 < THREADS }
     requires new { (queue : List Tid) × Hold nexts.old prevs.old members.old count.old queue × (is_in t queue ≡ false) }
-    ensures held { (queue : List Tid) → Hold nexts.old prevs.old members.old count.old queue → is_in t queue ≡ false → Hold nexts.new prevs.new members.new count.new (queue ++ t ∷ []) }
+    ensures held { (queue : List Tid) → Hold nexts.old prevs.old members.old count.old queue → is_in t queue ≡ false
+        → Hold nexts.new prevs.new members.new count.new (queue ++ t ∷ []) }
     ensures ticks { ticks.new ≤ ticks.old + 6 }
 {
     let last = prevs.get(None, ticks);
