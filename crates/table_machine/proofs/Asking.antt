@@ -1,5 +1,5 @@
 -- What the steps of a key ask of the table, and what they tell.
-use Rattle.std.proofs.Common.{◌≡◌, ℕ, ◌+◌, ◌<◌, ◌%◌, ◌^◌, List, [], ◌∷◌, ◌++◌, IsSome, refl, ap, sym, ◌∙◌, subst, arith}
+use Rattle.std.proofs.Common.{◌≡◌, ℕ, ◌+◌, ◌<◌, ◌%◌, ◌^◌, List, [], ◌∷◌, ◌++◌, IsSome, refl, ap, sym, ◌∙◌, subst, arith, length}
 use mathlib.Core.Option.{none}
 use Rattle.atomic_table.specs.Seated.{TableId}
 use Rattle.atomic_table.specs.Table.{Me, step, Allows}
@@ -14,7 +14,7 @@ use Rattle.layer_traits.specs.Protocol.{Rules, MayCome}
 use Rattle.layer_traits.specs.OneLock.{opened}
 use Rattle.table_machine.specs.declared.views.Home.{Home}
 use Rattle.table_machine.specs.declared.views.View.{View}
-use Rattle.table_machine.specs.Places.{index_of, next_at, IsLaidOut}
+use Rattle.table_machine.specs.Places.{index_of, next_at, word_count}
 use Rattle.table_machine.specs.Views.{mine, owner, IsCpu}
 use Rattle.table_machine.specs.Rule.{Kept}
 use Rattle.table_machine.specs.Plays.{Moves, Drew}
@@ -36,8 +36,8 @@ module _ {E B O : Type 0} (R : Rules E B O) where
       → me ≡ (mine start cpu me.0.seen, me.1)
   me_is cpu me start key st = ap (λ (v : View E B). (v, me.1)) (key.view ∙ ap (λ (s : List (LockId × B)). mine s cpu me.0.seen) st)
 
-  module _ (table z : TableId) (start : List (LockId × B)) (n id word : ℕ) (places : List ℕ) (locks : List LockId) (cpu : CpuId) (me : Me (Home E B) (View E B))
-      (laid : IsLaidOut start z.words z.slots places locks) (key : IsKey R cpu me) where
+  module _ (table z : TableId) (start : List (LockId × B)) (n id word : ℕ) (words_are : z.words ≡ word_count (length start)) (cpu : CpuId)
+      (me : Me (Home E B) (View E B)) (key : IsKey R cpu me) where
     draw_plain : (lock : LockId) → IsOf (board_of z start n) (desk_of cpu table me) → IsSome (opened me.0.start lock) → standing cpu me.0.seen ≡ Outside
         → word ≡ next_at (index_of start lock)
         → (table ≡ z) × (word < z.words) × Allows (Kept R n start) z.slots id me word (λ m. (m + 1) % 2 ^ 64) (Drew R (step z.slots word 1 0 none) me)
@@ -45,7 +45,7 @@ module _ {E B O : Type 0} (R : Rules E B O) where
         let there : IsSome (opened start lock) = subst (λ s. IsSome (opened s lock)) of.1 exists in (
           of.0,
           subst (λ (w : ℕ). w < z.words) (sym word_is)
-              (subst (λ (w : ℕ). next_at (index_of start lock) < w) (sym laid.words_are) (next_within R.edited start lock there)),
+              (subst (λ (w : ℕ). next_at (index_of start lock) < w) (sym words_are) (next_within R.edited start lock there)),
           subst (λ (m : Me (Home E B) (View E B)). Allows (Kept R n start) z.slots id m word (λ m. (m + 1) % 2 ^ 64) (Drew R (step z.slots word 1 0 none) m))
               (sym (me_is cpu me start key of.1))
               (subst (λ (w : ℕ). Allows (Kept R n start) z.slots id (mine start cpu me.0.seen, me.1) w (λ m. (m + 1) % 2 ^ 64)

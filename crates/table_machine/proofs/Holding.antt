@@ -1,5 +1,5 @@
 -- What the looks and the frees of a key ask of the table, and what they tell.
-use Rattle.std.proofs.Common.{◌≡◌, ◌==◌, ℕ, ◌+◌, ◌<◌, ◌%◌, ◌^◌, inl, inr, true, false, if◌then◌else◌, List, [], ◌∷◌, Some, IsSome, option_map, refl, ap, sym}
+use Rattle.std.proofs.Common.{◌≡◌, ◌==◌, ℕ, ◌+◌, ◌<◌, ◌%◌, ◌^◌, inl, inr, true, false, if◌then◌else◌, List, [], ◌∷◌, Some, IsSome, option_map, refl, ap, sym, length}
 use Rattle.std.proofs.Common.{◌∙◌, subst, eq-eqb, ne_eqb}
 use mathlib.Core.Option.{none}
 use Rattle.atomic_table.specs.Seated.{TableId}
@@ -14,7 +14,7 @@ use Rattle.layer_traits.specs.Protocol.{Rules, StaysAllowed, sections, section, 
 use Rattle.layer_traits.specs.OneLock.{opened}
 use Rattle.table_machine.specs.declared.views.Home.{Home}
 use Rattle.table_machine.specs.declared.views.View.{View}
-use Rattle.table_machine.specs.Places.{index_of, serving_at, IsLaidOut}
+use Rattle.table_machine.specs.Places.{index_of, serving_at, word_count}
 use Rattle.table_machine.specs.Views.{mine, owner, IsCpu}
 use Rattle.table_machine.specs.Rule.{Kept}
 use Rattle.table_machine.specs.Plays.{Moves, Hits, Looked, Freed}
@@ -54,8 +54,8 @@ module _ {E B O : Type 0} (R : Rules E B O) where
     pub adds : Adds (IsCpu d.cpu) actor (Free d.cpu lock (mark_of edit)) d.seen w.0.seen
     pub key : IsKey R cpu w
 
-  module _ (table z : TableId) (start : List (LockId × B)) (n id word : ℕ) (places : List ℕ) (locks : List LockId) (cpu : CpuId) (me : Me (Home E B) (View E B))
-      (laid : IsLaidOut start z.words z.slots places locks) (key : IsKey R cpu me) where
+  module _ (table z : TableId) (start : List (LockId × B)) (n id word : ℕ) (words_are : z.words ≡ word_count (length start)) (cpu : CpuId)
+      (me : Me (Home E B) (View E B)) (key : IsKey R cpu me) where
     look_plain : (lock : LockId) (ticket : ℕ) → IsOf (board_of z start n) (desk_of cpu table me) → IsSome (opened me.0.start lock)
         → standing cpu me.0.seen ≡ Waiting lock ticket → word ≡ serving_at (index_of start lock)
         → (table ≡ z) × (word < z.words) × Allows (Kept R n start) z.slots id me word (λ m. m) (Looked R (step z.slots word 0 0 none) me)
@@ -66,7 +66,7 @@ module _ {E B O : Type 0} (R : Rules E B O) where
         ∙ ap (λ (h : List (ℕ × Home E B)). (mine start cpu me.0.seen, h)) nothing in (
           of.0,
           subst (λ (w : ℕ). w < z.words) (sym word_is)
-              (subst (λ (w : ℕ). serving_at (index_of start lock) < w) (sym laid.words_are) (serving_within R.edited start lock there)),
+              (subst (λ (w : ℕ). serving_at (index_of start lock) < w) (sym words_are) (serving_within R.edited start lock there)),
           subst (λ (m : Me (Home E B) (View E B)). Allows (Kept R n start) z.slots id m word (λ m. m) (Looked R (step z.slots word 0 0 none) m)) (sym me_at)
               (subst (λ (w : ℕ). Allows (Kept R n start) z.slots id (mine start cpu me.0.seen, []) w (λ m. m)
               (Looked R (step z.slots w 0 0 none) (mine start cpu me.0.seen, []))) (sym word_is)
@@ -104,7 +104,7 @@ module _ {E B O : Type 0} (R : Rules E B O) where
         subst (λ s. StaysAllowed (R.allowed (opened s)) (sections me.0.seen) (section cpu lock edit)) of.1 stays in (
           now_is ∙ of.0,
           subst (λ (w : ℕ). w < z.words) (sym word_is)
-              (subst (λ (w : ℕ). serving_at (index_of start lock) < w) (sym laid.words_are) (serving_within R.edited start lock there)),
+              (subst (λ (w : ℕ). serving_at (index_of start lock) < w) (sym words_are) (serving_within R.edited start lock there)),
           subst (λ (m : Me (Home E B) (View E B)). Allows (Kept R n start) z.slots id m word (λ m. (m + 1) % 2 ^ 64) (Freed R (step z.slots word 1 0 none) m))
               (sym v_at)
               (subst (λ (w : ℕ). Allows (Kept R n start) z.slots id (mine start cpu me.0.seen, (index_of start lock, x) ∷ []) w (λ m. (m + 1) % 2 ^ 64)

@@ -16,3 +16,7 @@ writer_of sink = sink.writer
 abbrev pub Outs : Bool → Option (List ℕ) → Option (List ℕ) → List ℕ → Type 0
 Outs false old new text = Appends old new text
 Outs true old new text = (front : List ℕ) × (rest : List ℕ) × (text ≡ front ++ rest) × Appends old new front
+
+-- from one state of a sink to the next this text went out: all of it, or a beginning where the sink failed
+abbrev pub WentOut : {W : Type 0} → (W → Option (List ℕ)) → Sink W → Sink W → List ℕ → Type 0
+WentOut contents old new text = Outs (has_failed new) (contents (writer_of old)) (contents (writer_of new)) text

@@ -1,7 +1,7 @@
 //! The text of a trace, written to a sink.
 
 ghost use Rattle.std.specs.Prelude.{◌≡◌, ◌++◌, ◌∷◌, [], length, map, is_err, false, decimal, flat_map, codes};
-ghost use Rattle.tracer.specs.Sinks.{has_failed, writer_of, Outs};
+ghost use Rattle.tracer.specs.Sinks.{WentOut, has_failed};
 ghost use Rattle.tracer.specs.TraceText.{IsSpellable, spelling, line_of, entry_pieces, cap_pieces, left_pieces, numbered, kind_word};
 ghost use Rattle.tracer.specs.Pieces.{text_of, spaced};
 
@@ -22,7 +22,7 @@ enum Piece {
 fn put_number<W: Write>(sink: &mut Sink<W>, number: u64) -> Result<(), WriteFault>
     requires { has_failed sink.old ≡ false }
     ensures failed { is_err result ≡ has_failed sink.new }
-    ensures out { Outs (has_failed sink.new) (W.contents (writer_of sink.old)) (W.contents (writer_of sink.new)) (spaced (decimal number)) }
+    ensures out { WentOut W.contents sink.old sink.new (spaced (decimal number)) }
 {
     sink.put(b" ")?;
     sink.put(Buffer::new().format(number).as_bytes())
@@ -32,7 +32,7 @@ fn put_number<W: Write>(sink: &mut Sink<W>, number: u64) -> Result<(), WriteFaul
 fn put_piece<W: Write>(sink: &mut Sink<W>, piece: Piece) -> Result<(), WriteFault>
     requires { has_failed sink.old ≡ false }
     ensures failed { is_err result ≡ has_failed sink.new }
-    ensures out { Outs (has_failed sink.new) (W.contents (writer_of sink.old)) (W.contents (writer_of sink.new)) (spaced (text_of piece)) }
+    ensures out { WentOut W.contents sink.old sink.new (spaced (text_of piece)) }
 {
     match piece {
         Piece::Number(number) => put_number(sink, number),
@@ -47,7 +47,7 @@ fn put_piece<W: Write>(sink: &mut Sink<W>, piece: Piece) -> Result<(), WriteFaul
 fn put_pieces<W: Write>(sink: &mut Sink<W>, pieces: &[Piece]) -> Result<(), WriteFault>
     requires { has_failed sink.old ≡ false }
     ensures failed { is_err result ≡ has_failed sink.new }
-    ensures out { Outs (has_failed sink.new) (W.contents (writer_of sink.old)) (W.contents (writer_of sink.new)) (flat_map (λ p. spaced (text_of p)) pieces.now) }
+    ensures out { WentOut W.contents sink.old sink.new (flat_map (λ p. spaced (text_of p)) pieces.now) }
 {
     for piece in pieces {
         put_piece(sink, *piece)?;
@@ -59,7 +59,7 @@ fn put_pieces<W: Write>(sink: &mut Sink<W>, pieces: &[Piece]) -> Result<(), Writ
 fn put_numbers<W: Write>(sink: &mut Sink<W>, numbers: &[u64]) -> Result<(), WriteFault>
     requires { has_failed sink.old ≡ false }
     ensures failed { is_err result ≡ has_failed sink.new }
-    ensures out { Outs (has_failed sink.new) (W.contents (writer_of sink.old)) (W.contents (writer_of sink.new)) (flat_map (λ n. spaced (decimal n)) numbers.now) }
+    ensures out { WentOut W.contents sink.old sink.new (flat_map (λ n. spaced (decimal n)) numbers.now) }
 {
     for number in numbers {
         put_number(sink, *number)?;
@@ -76,7 +76,7 @@ fn put_line<W: Write>(
 ) -> Result<(), WriteFault>
     requires { has_failed sink.old ≡ false }
     ensures failed { is_err result ≡ has_failed sink.new }
-    ensures out { Outs (has_failed sink.new) (W.contents (writer_of sink.old)) (W.contents (writer_of sink.new)) (line_of (word.now ∷ (map text_of pieces.now ++ map decimal numbers.now))) }
+    ensures out { WentOut W.contents sink.old sink.new (line_of (word.now ∷ (map text_of pieces.now ++ map decimal numbers.now))) }
 {
     sink.put(word)?;
     put_pieces(sink, pieces)?;
@@ -88,7 +88,7 @@ fn put_line<W: Write>(
 fn put_caps<W: Write>(sink: &mut Sink<W>, caps: &[u8]) -> Result<(), WriteFault>
     requires { has_failed sink.old ≡ false }
     ensures failed { is_err result ≡ has_failed sink.new }
-    ensures out { Outs (has_failed sink.new) (W.contents (writer_of sink.old)) (W.contents (writer_of sink.new)) (flat_map line_of (numbered cap_pieces 0 caps.now)) }
+    ensures out { WentOut W.contents sink.old sink.new (flat_map line_of (numbered cap_pieces 0 caps.now)) }
 {
     for (b, capacity) in caps.iter().enumerate() {
         let numbers = [b as u64, u64::from(*capacity)];
@@ -101,7 +101,7 @@ fn put_caps<W: Write>(sink: &mut Sink<W>, caps: &[u8]) -> Result<(), WriteFault>
 fn put_entry<W: Write>(sink: &mut Sink<W>, entry: Entry) -> Result<(), WriteFault>
     requires { has_failed sink.old ≡ false }
     ensures failed { is_err result ≡ has_failed sink.new }
-    ensures out { Outs (has_failed sink.new) (W.contents (writer_of sink.old)) (W.contents (writer_of sink.new)) (line_of (entry_pieces entry)) }
+    ensures out { WentOut W.contents sink.old sink.new (line_of (entry_pieces entry)) }
 {
     let kind: &'static [u8] = match entry.kind {
         Kind::Send => b"send",
@@ -120,7 +120,7 @@ fn put_entry<W: Write>(sink: &mut Sink<W>, entry: Entry) -> Result<(), WriteFaul
 fn put_entries<W: Write>(sink: &mut Sink<W>, entries: &[Entry]) -> Result<(), WriteFault>
     requires { has_failed sink.old ≡ false }
     ensures failed { is_err result ≡ has_failed sink.new }
-    ensures out { Outs (has_failed sink.new) (W.contents (writer_of sink.old)) (W.contents (writer_of sink.new)) (flat_map (λ e. line_of (entry_pieces e)) entries.now) }
+    ensures out { WentOut W.contents sink.old sink.new (flat_map (λ e. line_of (entry_pieces e)) entries.now) }
 {
     for entry in entries {
         put_entry(sink, *entry)?;
@@ -135,7 +135,7 @@ fn put_left<W: Write>(
 ) -> Result<(), WriteFault>
     requires { has_failed sink.old ≡ false }
     ensures failed { is_err result ≡ has_failed sink.new }
-    ensures out { Outs (has_failed sink.new) (W.contents (writer_of sink.old)) (W.contents (writer_of sink.new)) (flat_map line_of (numbered (λ b v. left_pieces b v.items) 0 left.now)) }
+    ensures out { WentOut W.contents sink.old sink.new (flat_map line_of (numbered (λ b v. left_pieces b v.items) 0 left.now)) }
 {
     for (b, items) in left.iter().enumerate() {
         put_line(sink, b"left", &[Piece::Number(b as u64)], items)?;
@@ -161,7 +161,7 @@ pub fn write_trace<W: Write>(
     requires live { has_failed sink.old ≡ false }
     requires spellable { IsSpellable caps.now entries.now (map (λ v. v.items) left.now) }
     ensures failed { is_err result ≡ has_failed sink.new }
-    ensures out { Outs (has_failed sink.new) (W.contents (writer_of sink.old)) (W.contents (writer_of sink.new)) (spelling caps.now entries.now (map (λ v. v.items) left.now)) }
+    ensures out { WentOut W.contents sink.old sink.new (spelling caps.now entries.now (map (λ v. v.items) left.now)) }
 {
     put_line(sink, b"mctower-trace", &[Piece::Word(b"1")], &[])?;
     put_line(sink, b"buffers", &[], &[caps.len() as u64])?;

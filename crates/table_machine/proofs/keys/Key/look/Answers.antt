@@ -2,7 +2,7 @@ use Rattle.table_machine.proofs.Holding.{look_asks, look_missed, look_hit}
 use Rattle.table_machine.proofs.keys.Key.look.Goals as goal
 
 pub load-found-requires : goal.load-found-requires
-load-found-requires g c = look_asks g.E.Edit.rules _ _ _ _ _ _ _ _ _ _ c.shared.invariant.0 c.self.invariant c.args.self.now c.args.shared.now c.args.lock
+load-found-requires g c = look_asks g.E.Edit.rules _ _ _ _ _ _ c.shared.invariant.0.words_are _ _ c.self.invariant c.args.self.now c.args.shared.now c.args.lock
     c.args.ticket c.self.view_is c.shared.view_is c.requires.of c.requires.lock c.requires.waiting c.serving_word-word.ensures
 
 pub returns-then-found-ticket-clause-adds : goal.returns-then-found-ticket-clause-adds
