@@ -11,7 +11,7 @@ use Rattle.std.proofs.lemmas.Str.Parse.{IsNumeralModel, numerals_by_value, tells
 use Rattle.std.proofs.lemmas.Str.{digit_value_digit}
 use Rattle.std.proofs.lemmas.Int.Digits.{digits_value_more, digits_more}
 use Rattle.std.proofs.lemmas.Fmt.{decimal-digits_value, digits_decimal, digits_value-decimal, decimal_nonempty, first_decimal, decimal_digit}
-use Rattle.event_log.proofs.Tests.{both_true}
+use Rattle.event_log.proofs.BoolLemmas.{both_true}
 use Rattle.event_log.specs.Digits.{is_number, number_to}
 
 -- the digits of the library, in the words of `is_number`

@@ -1,4 +1,4 @@
-pub mod Tests
+pub mod BoolLemmas
 pub mod RunLemmas
 pub mod Same
 pub mod Forms

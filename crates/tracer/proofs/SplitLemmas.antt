@@ -7,7 +7,7 @@ use Rattle.std.specs.List.{AllByRecursion, slice_split, join_with_byte}
 use Rattle.std.proofs.lemmas.Bool.Decides.{nat_tests}
 use Rattle.std.proofs.lemmas.List.Elements.{All-from_recursion}
 use Rattle.std.proofs.lemmas.List.Splits.{slice_split_at, slice_split_none}
-use Rattle.event_log.proofs.Tests.{both_true}
+use Rattle.event_log.proofs.BoolLemmas.{both_true}
 use Rattle.event_log.proofs.DigitsLemmas.{decimal-spelled}
 use Rattle.tracer.specs.TraceText.{line_of}
 use Rattle.tracer.specs.Judging.{Progress, pieces_of, lines_in, step, verdict_from}

@@ -1,4 +1,4 @@
--- What tests tell.
+-- What truth values tell.
 use Rattle.std.proofs.Common.{◌≡◌, Bool, true, false, ◌&&◌, refl}
 
 -- where two tests pass together, each passes
