@@ -13,3 +13,4 @@ pub mod SleepLemmas
 pub mod SleepRenaming
 pub mod CallLemmas
 pub mod NestedLemmas
+pub mod OwnedLemmas

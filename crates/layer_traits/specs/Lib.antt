@@ -25,3 +25,4 @@ pub mod BufferProtocol
 pub mod BufferEffects
 pub mod BufferLaw
 pub mod IpcLaw
+pub mod Owned

@@ -35,8 +35,15 @@ impl Model for BufferBlock {
 
     ghost Value = { BufferState };
 
-    ghost view = { λ b. record { receive_line = b.receive_line; send_line = b.send_line; items = b.items; capacity = b.capacity;
-        effects = b.effects; sends = b.sends; receives = b.receives } };
+    ghost view = { λ b. record {
+      receive_line = b.receive_line;
+      send_line = b.send_line;
+      items = b.items;
+      capacity = b.capacity;
+      effects = b.effects;
+      sends = b.sends;
+      receives = b.receives;
+    } };
 
     ghost invariant = { λ b. (b.capacity ≤ CAPACITY) × (length b.items ≤ b.capacity) };
 }

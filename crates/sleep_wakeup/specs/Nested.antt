@@ -1,5 +1,5 @@
 -- A section's edit with the waiting lists of its lock, as an edit of what the lock guards.
-use Rattle.std.specs.Prelude.{List, Option, map, option_map}
+use Rattle.std.specs.Prelude.{List, [], Option, map, option_map}
 use Rattle.event_log.specs.declared.ids.LockId.{LockId}
 use Rattle.event_log.specs.Sections.{Section, renamed_section}
 use Rattle.layer_traits.specs.declared.moves.Line.TheVariants.{Sleepers, Receivers, Senders}
@@ -14,6 +14,10 @@ use Rattle.thread_blocks.specs.Queues.{first}
 -- the edit of the layer above
 abbrev pub edit_in : {E : Type 0} → SleepEdit E → E
 edit_in d = d.edit
+
+-- a block with nobody in its waiting lists
+abbrev pub resting : {B : Type 0} → B → SleepBlock B
+resting above = record { sleepers = []; receivers = []; senders = []; above = above }
 
 -- a block with its waiting lists as lists of threads
 abbrev pub state_of : {B : Type 0} → SleepBlock B → SleepState B

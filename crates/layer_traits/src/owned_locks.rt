@@ -1,0 +1,59 @@
+//! A layer of critical sections that opens a machine and tells of its blocks.
+
+ghost use Rattle.std.specs.Prelude.{◌≡◌, ◌<◌, [], true, Option, IsSome, IfOk, option_map};
+
+use crate::edits::Edit;
+use crate::locks::LockLayer;
+use event_log::{LockId, NoMemory};
+use std::alloc::Global;
+
+/// A layer of critical sections whose machine is opened with its blocks and tells of those that are
+/// at home, and whose parts tell of those in their CPU's hands.
+pub trait OwnedLocks<E: Edit>: LockLayer<E> {
+    ghost use Rattle.event_log.specs.declared.ids.CpuId.{CpuId};
+    ghost use Rattle.event_log.specs.declared.ids.LockId.{LockId};
+    ghost use Rattle.event_log.specs.declared.ids.TheConstants.{CPUS};
+    ghost use Rattle.event_log.specs.Actions.{phase};
+    ghost use Rattle.event_log.specs.Sections.{block_after};
+    ghost use Rattle.layer_traits.specs.OneLock.{AreDistinct, opened};
+    ghost use Rattle.layer_traits.specs.Owned.{IsShown};
+    ghost use Rattle.layer_traits.specs.Plans.{is_in_section};
+
+    /// The block of a lock where it is at home in the machine.
+    ghost block_at: { Self.Machine → LockId → Option E.Block };
+
+    /// The block of a lock where it is in the hands of the part's CPU.
+    ghost block_with: { Self → LockId → Option E.Block };
+
+    /// A machine with these locks, each named once with its block, and with room for `room` events.
+    /// All memory is taken here.
+    ///
+    /// Errors: `NoMemory` where an allocation was refused; then the blocks are gone.
+    fn open(
+        alloc: Global,
+        blocks: Vec<(LockId, E::Block)>,
+        room: usize,
+    ) -> Result<Self::Machine, NoMemory>
+        requires distinct { AreDistinct blocks.items }
+        ensures seen { IfOk result (λ m. Self.seen m ≡ []) }
+        ensures opening { IfOk result (λ m. Self.opening m ≡ opened blocks.items) }
+        ensures room { IfOk result (λ m. Self.room m ≡ room) }
+        ensures acts { IfOk result (λ m. (c : CpuId) → c.0 < CPUS → Self.ActsFor m c) }
+        ensures outside { IfOk result (λ m. (c : CpuId) → Self.IsOutside m c) }
+        ensures none { IfOk result (λ m. Self.acts m ≡ []) };
+
+    /// The block of `lock`, which there is; `None` where it is in the hands of a CPU.
+    fn block_in(m: &Self::Machine, lock: LockId) -> Option<&E::Block>
+        requires acts { (c : CpuId) × Self.ActsFor m.now c }
+        requires lock { IsSome (Self.opening m.now lock) }
+        ensures { option_map (λ block. block.now) result ≡ block_at m.now lock };
+
+    /// The block of `lock` in this CPU's hands; `None` where it is not there.
+    fn block_here(&self, lock: LockId) -> Option<&E::Block>
+        ensures { option_map (λ block. block.now) result ≡ block_with self.now lock };
+
+    /// Law: what the machine or a part tells of a block is what the sections make of it.
+    ghost shown: { (m : Self.Machine) (c : CpuId) (lock : LockId) → Self.ActsFor m c → IsSome (Self.opening m lock)
+        → IsShown (λ (p : Self). Self.Fits p m) (λ p. Self.cpu_of p) (λ d. Self.IsStepwise × (is_in_section (phase d (Self.acts m)) ≡ true)) (λ p. block_with p lock) (block_at m lock)
+        (block_after E.rules.edited (Self.opening m) lock (Self.seen m)) };
+}

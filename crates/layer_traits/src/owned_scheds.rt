@@ -1,0 +1,69 @@
+//! A layer of schedulers that tells of its blocks.
+
+ghost use Rattle.std.specs.Prelude.{◌≡◌, true, List, Option, Some, IsSome, option_map};
+
+use crate::moves::Moves;
+use crate::scheds::SchedLayer;
+use event_log::{BufId, CpuId, Tid};
+
+/// A layer of schedulers whose machine tells of the blocks that are at home, and whose parts tell
+/// of
+/// those in their CPU's hands.
+pub trait OwnedScheds<E: Moves>: SchedLayer<E> {
+    ghost use Rattle.event_log.specs.declared.ids.BufId.{BufId};
+    ghost use Rattle.event_log.specs.declared.ids.CpuId.{CpuId};
+    ghost use Rattle.event_log.specs.declared.ids.LockId.TheVariants.{Buffer, Pending};
+    ghost use Rattle.event_log.specs.declared.ids.Tid.{Tid};
+    ghost use Rattle.event_log.specs.Actions.{phase};
+    ghost use Rattle.event_log.specs.Sections.{block_after};
+    ghost use Rattle.layer_traits.specs.Owned.{IsShown};
+    ghost use Rattle.layer_traits.specs.Places.{pending_by};
+    ghost use Rattle.layer_traits.specs.Plans.{is_in_section};
+    ghost use Rattle.layer_traits.specs.QueueBlocks.{inner};
+    ghost use Rattle.layer_traits.specs.Queues.{buffer_sections, kernel, moves_in};
+    ghost use Rattle.thread_blocks.specs.Queues.{is_in};
+
+    /// The block of a buffer, where it is at home in the machine.
+    ghost block_at: { Self.Machine → BufId → Option (E.Block) };
+
+    /// The block of a buffer, where it is in the hands of the part's CPU.
+    ghost block_with: { Self → BufId → Option (E.Block) };
+
+    /// The pending queue of a CPU where it is at home in the machine, front first.
+    ghost queue_at: { Self.Machine → CpuId → Option (List Tid) };
+
+    /// The pending queue of a CPU where it is in the hands of the part's CPU.
+    ghost queue_with: { Self → CpuId → Option (List Tid) };
+
+    /// The block of the buffer `b`, which there is; `None` where it is in the hands of a CPU.
+    fn block_in(m: &Self::Machine, b: BufId) -> Option<&E::Block>
+        requires acts { (c : CpuId) × Self.ActsFor m.now c }
+        requires buffer { IsSome (Self.opening m.now (Buffer b)) }
+        ensures { option_map (λ block. block.now) result ≡ block_at m.now b };
+
+    /// The same of a block in this CPU's hands; `None` where it is not there.
+    fn block_here(&self, b: BufId) -> Option<&E::Block>
+        ensures { option_map (λ block. block.now) result ≡ block_with self.now b };
+
+    /// Whether `t` stands in the pending queue of `d`, which there is; `None` where that queue is
+    /// in
+    /// the hands of a CPU.
+    fn pends_in(m: &Self::Machine, d: CpuId, t: Tid) -> Option<bool>
+        requires acts { (c : CpuId) × Self.ActsFor m.now c }
+        requires queue { IsSome (Self.opening m.now (Pending d)) }
+        ensures { result ≡ option_map (λ queue. is_in t queue) (queue_at m.now d) };
+
+    /// The same of a queue in this CPU's hands; `None` where it is not there.
+    fn pends_here(&self, d: CpuId, t: Tid) -> Option<bool>
+        ensures { result ≡ option_map (λ queue. is_in t queue) (queue_with self.now d) };
+
+    /// Law: what the machine or a part tells of a buffer is what the events make of it.
+    ghost shown: { (m : Self.Machine) (c : CpuId) (b : BufId) → Self.ActsFor m c → IsSome (Self.opening m (Buffer b))
+        → IsShown (λ (p : Self). Self.Fits p m) (λ p. Self.cpu_of p) (λ d. Self.IsStepwise × (is_in_section (phase d (Self.acts m)) ≡ true)) (λ p. block_with p b) (block_at m b)
+        (block_after E.rules.edited (inner (Self.opening m)) (Buffer b) (buffer_sections (Self.seen m))) };
+
+    /// Law: what the machine or a part tells of a pending queue is what the moves make of it.
+    ghost queues: { (m : Self.Machine) (c d : CpuId) → Self.ActsFor m c → IsSome (Self.opening m (Pending d))
+        → IsShown (λ (p : Self). Self.Fits p m) (λ p. Self.cpu_of p) (λ d. Self.IsStepwise × (is_in_section (phase d (Self.acts m)) ≡ true)) (λ p. queue_with p d) (queue_at m d)
+        (Some (pending_by (moves_in (kernel E.rules E.moves (Self.opening m)) (Self.seen m)) d)) };
+}
