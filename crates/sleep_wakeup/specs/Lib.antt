@@ -1,3 +1,4 @@
 pub mod Nested
 pub mod Parts
 pub mod NestedLaws
+pub mod OwnedLaws

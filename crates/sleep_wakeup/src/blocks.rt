@@ -11,10 +11,7 @@ use thread_blocks::ThreadQueue;
 /// The blocks of the layer above, each with nobody in its waiting lists, in their order.
 ///
 /// Errors: `NoMemory` where there is none for them; then the blocks are gone.
-pub fn sleep_blocks<B: Drop>(
-    alloc: Global,
-    blocks: Vec<B>,
-) -> Result<Vec<SleepBlock<B>>, NoMemory>
+pub fn sleep_blocks<B: Drop>(alloc: Global, blocks: Vec<B>) -> Result<Vec<SleepBlock<B>>, NoMemory>
     ensures { IfOk result (λ made. made.items ≡ map resting blocks.items) }
 {
     let mut left = blocks;

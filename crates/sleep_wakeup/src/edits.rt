@@ -2,6 +2,8 @@
 
 ghost use Rattle.std.specs.Prelude.{◌≡◌};
 ghost use Rattle.layer_traits.specs.declared.moves.Line.TheVariants.{Sleepers, Receivers, Senders};
+ghost use Rattle.layer_traits.specs.Owned.{line_with};
+ghost use Rattle.sleep_wakeup.specs.Nested.{state_of};
 ghost use Rattle.layer_traits.specs.Sleeping.{joined, left, line_joined, woken};
 
 use event_log::{THREADS, Tid};
@@ -36,6 +38,22 @@ fn join(queue: &mut ThreadQueue, t: Tid)
     if usize::from(t.0) < THREADS && !queue.contains(t) {
         queue.push(t);
     }
+}
+
+/// The waiting list in which `t` stands, if any.
+pub fn line_in_block<B>(block: &SleepBlock<B>, t: Tid) -> Option<Line>
+    ensures { result ≡ line_with t (state_of block.now) }
+{
+    if block.sleepers.contains(t) {
+        return Some(Line::Sleepers);
+    }
+    if block.receivers.contains(t) {
+        return Some(Line::Receivers);
+    }
+    if block.senders.contains(t) {
+        return Some(Line::Senders);
+    }
+    None
 }
 
 /// Lets those go that leave, and gives whom that wakes.

@@ -1,9 +1,11 @@
 //! The layer of sections that put threads to sleep and wake them.
 
-use crate::edits::SleepEdit;
+use crate::edits::{SleepEdit, line_in_block};
 use crate::kept::{Kept, done, next, told};
 use event_log::{BufId, CpuId, Tid};
-use layer_traits::{Outcome, Pass, SchedCall, SchedLayer, SleepLayer, Sleeps};
+use layer_traits::{
+    Line, Outcome, OwnedScheds, OwnedSleeps, Pass, SchedCall, SchedLayer, SleepLayer, Sleeps,
+};
 
 /// One CPU's part of sleep and wakeup over a part of a scheduler (Gu et al., PLDI 2018): the
 /// scheduler moves the threads, and the edits keep the waiting lists. Who joins or leaves a list
@@ -133,4 +135,66 @@ impl<E: Sleeps, S: SchedLayer<SleepEdit<E>>> SleepLayer<E> for Sleeper<E, S> {
     ghost busy = { λ p m fits step. nested_busy (S.cpu_of p.lower) (S.acts m) (is_some (S.under_way p.lower)) (S.busy p.lower m fits.0 step) };
 
     ghost idle = { λ p m fits none. nested_idle p.kept (S.under_way p.lower) none };
+}
+
+impl<E: Sleeps, S: OwnedScheds<SleepEdit<E>>> OwnedSleeps<E> for Sleeper<E, S> {
+    ghost use Rattle.std.specs.Prelude.{option_map};
+    ghost use Rattle.event_log.specs.declared.ids.LockId.TheVariants.{Buffer, Pending};
+    ghost use Rattle.layer_traits.proofs.KernelRenaming.{there_viewed};
+    ghost use Rattle.sleep_wakeup.specs.Nested.{state_of};
+    ghost use Rattle.sleep_wakeup.specs.OwnedLaws.{nested_queues, nested_shown};
+
+    ghost state_at = { λ m b. option_map state_of (S.block_at m b) };
+
+    ghost state_with = { λ p b. option_map state_of (S.block_with p.lower b) };
+
+    ghost queue_at = { λ m d. S.queue_at m d };
+
+    ghost queue_with = { λ p d. S.queue_with p.lower d };
+
+    fn block_in(m: &S::Machine, b: BufId) -> Option<&E::Block> {
+        match S::block_in(m, b) {
+            None => None,
+            Some(block) => Some(&block.above),
+        }
+    }
+
+    fn block_here(&self, b: BufId) -> Option<&E::Block> {
+        match self.lower.block_here(b) {
+            None => None,
+            Some(block) => Some(&block.above),
+        }
+    }
+
+    fn line_in(m: &S::Machine, b: BufId, t: Tid) -> Option<Line> {
+        match S::block_in(m, b) {
+            None => None,
+            Some(block) => line_in_block(block, t),
+        }
+    }
+
+    fn line_here(&self, b: BufId, t: Tid) -> Option<Line> {
+        match self.lower.block_here(b) {
+            None => None,
+            Some(block) => line_in_block(block, t),
+        }
+    }
+
+    #[inline(always)]
+    fn pends_in(m: &S::Machine, d: CpuId, t: Tid) -> Option<bool> {
+        S::pends_in(m, d, t)
+    }
+
+    #[inline(always)]
+    fn pends_here(&self, d: CpuId, t: Tid) -> Option<bool> {
+        self.lower.pends_here(d, t)
+    }
+
+    ghost shown = { λ m c b acts there. nested_shown E.rules (S.opening m) (S.seen m) (λ (p : Self). p.lower) (λ p. S.Fits p m) (λ (p : Self). Self.Fits p m)
+        (λ p. S.cpu_of p) S.IsStepwise (S.acts m) (λ p fits. fits.0) b (λ p. S.block_with p b) (S.block_at m b)
+        (S.shown m c b acts (there_viewed state_of (S.opening m) (Buffer b) there)) };
+
+    ghost queues = { λ m c d acts there. nested_queues E.rules (S.opening m) (S.seen m) (λ (p : Self). p.lower) (λ p. S.Fits p m) (λ (p : Self). Self.Fits p m)
+        (λ p. S.cpu_of p) S.IsStepwise (S.acts m) (λ p fits. fits.0) d (λ p. S.queue_with p d) (S.queue_at m d)
+        (S.queues m c d acts (there_viewed state_of (S.opening m) (Pending d) there)) };
 }
