@@ -9,7 +9,7 @@ use Rattle.event_log.specs.declared.ids.TheConstants.{BUFFERS, ENTRIES}
 use Rattle.event_log.specs.declared.entries.Entry.{Entry}
 use Rattle.event_log.specs.Buffers.{items_of, empty_buffers, after_effect, IsCapacity}
 use Rattle.event_log.specs.Runs.{after_entry, IsRunFrom, IsRun}
-use Rattle.tracer.specs.declared.stages.Stage.TheVariants as stage
+use Rattle.tracer.specs.declared.next_lines.NextLine.TheVariants as wants
 use Rattle.tracer.specs.declared.verdicts.Verdict.TheVariants.{Yes}
 use Rattle.tracer.specs.TraceText.{line_of, head_pieces, count_pieces, cap_pieces, entry_pieces, left_pieces, end_pieces, numbered, lines_of, spelling}
 use Rattle.tracer.specs.TraceText.{IsEntryOf, IsSpellable, IsTraceText, AreSmall}
@@ -24,8 +24,8 @@ use Rattle.tracer.proofs.OpeningLemmas.{step_head, step_end, count_is_line_of, s
 end_is_line : IsLine end_pieces
 end_is_line = record { spaces = ((refl, (refl, (refl, tt))), tt); feeds = ((refl, (refl, (refl, tt))), tt) }
 
-complete_end : (s : Progress) (n : ℕ) → s.at ≡ stage.End → verdict_from s n (lines_in (flat_map line_of (end_pieces ∷ []))) ≡ Yes
-complete_end s n at = line_read s (record s { at = stage.Done }) n (codes "end") [] [] end_is_line (step_end s at)
+complete_end : (s : Progress) (n : ℕ) → s.at ≡ wants.End → verdict_from s n (lines_in (flat_map line_of (end_pieces ∷ []))) ≡ Yes
+complete_end s n at = line_read s (record s { at = wants.Done }) n (codes "end") [] [] end_is_line (step_end s at)
 
 -- what is left of a buffer, and of those behind it
 first_of : (contents : List (List Message)) (b : ℕ) (x : List ℕ) (xs : List (List ℕ)) → drop b contents ≡ x ∷ xs → items_of contents b ≡ x
@@ -44,16 +44,16 @@ complete_left caps earlier contents s b n x [] long few inside rest small taken 
     let here = first_of contents b x [] rest in
     let last : (b + 1 ≡ length caps) = omega (arith, ap length rest, length-drop b contents) in
     let stops : nat_lt (b + 1) (length caps) ≡ false = le-ltb (b + 1) (length caps) (omega arith) in
-    let next : step s (join_with_byte 32 (left_pieces b x)) ≡ Ok (progress stage.End caps earlier contents) =
-    subst (λ (t : List ℕ). step s (join_with_byte 32 (left_pieces b t)) ≡ Ok (progress stage.End caps earlier contents)) here (taken ∙ rw stops refl) in
+    let next : step s (join_with_byte 32 (left_pieces b x)) ≡ Ok (progress wants.End caps earlier contents) =
+    subst (λ (t : List ℕ). step s (join_with_byte 32 (left_pieces b t)) ≡ Ok (progress wants.End caps earlier contents)) here (taken ∙ rw stops refl) in
     let fits : b < 2 ^ 64 = omega arith in
-    line_read s (progress stage.End caps earlier contents) n (codes "left") _ (flat_map line_of (end_pieces ∷ [])) (left_is_line b x fits small.0) next
-    ∙ complete_end (progress stage.End caps earlier contents) (n + 1) refl
+    line_read s (progress wants.End caps earlier contents) n (codes "left") _ (flat_map line_of (end_pieces ∷ [])) (left_is_line b x fits small.0) next
+    ∙ complete_end (progress wants.End caps earlier contents) (n + 1) refl
 complete_left caps earlier contents s b n x (y ∷ ys) long few inside rest small taken =
     let here = first_of contents b x (y ∷ ys) rest in
     let more : (b + 1 < length caps) = omega (arith, ap length rest, length-drop b contents) in
     let goes : nat_lt (b + 1) (length caps) ≡ true = lt-ltb (b + 1) (length caps) more in
-    let s' = progress (stage.Contents (b + 1)) caps earlier contents in
+    let s' = progress (wants.Contents (b + 1)) caps earlier contents in
     let next : step s (join_with_byte 32 (left_pieces b x)) ≡ Ok s' =
     subst (λ (t : List ℕ). step s (join_with_byte 32 (left_pieces b t)) ≡ Ok s') here (taken ∙ rw goes refl) in
     let behind = behind_first contents b x (y ∷ ys) rest in
@@ -65,18 +65,18 @@ complete_left caps earlier contents s b n x (y ∷ ys) long few inside rest smal
 -- the entries
 complete_first : (caps : List ℕ) (earlier : List Entry) (contents left : List (List Message)) (n : ℕ) → contents ≡ left → length contents ≡ length caps
     → 1 ≤ length caps → length caps ≤ BUFFERS → AllByRecursion AreSmall left
-    → verdict_from (progress stage.Entries caps earlier contents) n (lines_in (flat_map line_of (numbered left_pieces 0 left ++ end_pieces ∷ []))) ≡ Yes
+    → verdict_from (progress wants.Entries caps earlier contents) n (lines_in (flat_map line_of (numbered left_pieces 0 left ++ end_pieces ∷ []))) ≡ Yes
 complete_first caps earlier contents [] n same long some few small = absurd (omega (arith, ap length same))
 complete_first caps earlier contents (x ∷ xs) n same long some few small =
     let inside : 0 < length caps = omega arith in
     let first : AreSmall (items_of contents 0) = subst AreSmall (sym (first_of contents 0 x xs same)) small.0 in
-    complete_left caps earlier contents (progress stage.Entries caps earlier contents) 0 n x xs long few inside same small
+    complete_left caps earlier contents (progress wants.Entries caps earlier contents) 0 n x xs long few inside same small
     (step_first_left caps earlier contents inside first)
 
 pub complete_entries : (caps : List ℕ) (earlier : List Entry) (contents : List (List Message)) (es : List Entry) (left : List (List Message)) (n : ℕ)
     → IsRunFrom caps earlier contents es left → AllByRecursion (IsEntryOf (length caps)) es → length earlier + length es ≤ ENTRIES
     → length contents ≡ length caps → 1 ≤ length caps → length caps ≤ BUFFERS → AllByRecursion AreSmall left
-    → verdict_from (progress stage.Entries caps earlier contents) n
+    → verdict_from (progress wants.Entries caps earlier contents) n
     (lines_in (flat_map line_of (map entry_pieces es ++ (numbered left_pieces 0 left ++ end_pieces ∷ [])))) ≡ Yes
 complete_entries caps earlier contents [] left n run each room long some few small = complete_first caps earlier contents left n run long some few small
 complete_entries caps earlier contents (e ∷ es) left n run each room long some few small =
@@ -84,32 +84,32 @@ complete_entries caps earlier contents (e ∷ es) left n run each room long some
     let after = after_entry contents e in
     let after_long : length after ≡ length caps = length-set contents e.buffer.0 (after_effect e.kind (items_of contents e.buffer.0) e.value) ∙ long in
     let less : length (earlier ++ e ∷ []) + length es ≤ ENTRIES = omega (arith, length_push earlier e) in
-    line_read (progress stage.Entries caps earlier contents) (progress stage.Entries caps (earlier ++ e ∷ []) after) n (codes "e") (behind_e e)
+    line_read (progress wants.Entries caps earlier contents) (progress wants.Entries caps (earlier ++ e ∷ []) after) n (codes "e") (behind_e e)
     (flat_map line_of (map entry_pieces es ++ (numbered left_pieces 0 left ++ end_pieces ∷ []))) (entry_is_line (length caps) e few each.0)
     (step_entry caps earlier contents e few here long each.0 run.0)
     ∙ complete_entries caps (earlier ++ e ∷ []) after es left (n + 1) run.1 each.1 less after_long some few small
 
 -- the capacities
 complete_caps : (count : ℕ) (caps more : List ℕ) (tail : List (List (List ℕ))) (n : ℕ) → 0 < length more → length caps + length more ≡ count → count ≤ BUFFERS
-    → AllByRecursion IsCapacity more → ((m : ℕ) → verdict_from (opened stage.Entries (caps ++ more)) m (lines_in (flat_map line_of tail)) ≡ Yes)
-    → verdict_from (opened (stage.Capacities count) caps) n (lines_in (flat_map line_of (numbered cap_pieces (length caps) more ++ tail))) ≡ Yes
+    → AllByRecursion IsCapacity more → ((m : ℕ) → verdict_from (opened wants.Entries (caps ++ more)) m (lines_in (flat_map line_of tail)) ≡ Yes)
+    → verdict_from (opened (wants.Capacities count) caps) n (lines_in (flat_map line_of (numbered cap_pieces (length caps) more ++ tail))) ≡ Yes
 complete_caps count caps [] tail n some all few small behind = absurd (let z : 0 < 0 = some in omega arith)
 complete_caps count caps (k ∷ []) tail n some all few small behind =
     let stops : nat_lt (length caps + 1) count ≡ false = le-ltb (length caps + 1) count (omega arith) in
     let next = step_cap count caps k small.0 (omega arith) ∙ rw stops refl in
-    line_read (opened (stage.Capacities count) caps) (opened stage.Entries (caps ++ k ∷ [])) n (codes "cap") _ (flat_map line_of tail)
+    line_read (opened (wants.Capacities count) caps) (opened wants.Entries (caps ++ k ∷ [])) n (codes "cap") _ (flat_map line_of tail)
     (cap_is_line (length caps) k (omega arith) small.0) next ∙ behind (n + 1)
 complete_caps count caps (k ∷ j ∷ ks) tail n some all few small behind =
     let goes : nat_lt (length caps + 1) count ≡ true = lt-ltb (length caps + 1) count (omega arith) in
     let next = step_cap count caps k small.0 (omega arith) ∙ rw goes refl in
     let longer : length (caps ++ k ∷ []) ≡ length caps + 1 = length_push caps k in
-    let rest : (m : ℕ) → verdict_from (opened stage.Entries ((caps ++ k ∷ []) ++ (j ∷ ks))) m (lines_in (flat_map line_of tail)) ≡ Yes =
+    let rest : (m : ℕ) → verdict_from (opened wants.Entries ((caps ++ k ∷ []) ++ (j ∷ ks))) m (lines_in (flat_map line_of tail)) ≡ Yes =
     λ m. rw append_assoc (behind m) in
     let others : 0 < length (j ∷ ks) = omega arith in
     let counted : length (caps ++ k ∷ []) + length (j ∷ ks) ≡ count = omega arith in
-    line_read (opened (stage.Capacities count) caps) (opened (stage.Capacities count) (caps ++ k ∷ [])) n (codes "cap")
+    line_read (opened (wants.Capacities count) caps) (opened (wants.Capacities count) (caps ++ k ∷ [])) n (codes "cap")
     _ (flat_map line_of (numbered cap_pieces (length caps + 1) (j ∷ ks) ++ tail)) (cap_is_line (length caps) k (omega arith) small.0) next
-    ∙ subst (λ (b : ℕ). verdict_from (opened (stage.Capacities count) (caps ++ k ∷ [])) (n + 1)
+    ∙ subst (λ (b : ℕ). verdict_from (opened (wants.Capacities count) (caps ++ k ∷ [])) (n + 1)
     (lines_in (flat_map line_of (numbered cap_pieces b (j ∷ ks) ++ tail))) ≡ Yes) longer
     (complete_caps count (caps ++ k ∷ []) (j ∷ ks) tail (n + 1) others counted few small.1 rest)
 
@@ -126,17 +126,17 @@ complete_lines caps es left fits run =
     let tail = map entry_pieces es ++ (numbered left_pieces 0 left ++ end_pieces ∷ []) in
     let long : length (empty_buffers caps) ≡ length caps = length-map caps (λ (k : ℕ). []) in
     let room : length {A = Entry} [] + length es ≤ ENTRIES = (let h = fits.few_entries in omega arith) in
-    let entries : (m : ℕ) → verdict_from (opened stage.Entries caps) m (lines_in (flat_map line_of tail)) ≡ Yes = λ m.
+    let entries : (m : ℕ) → verdict_from (opened wants.Entries caps) m (lines_in (flat_map line_of tail)) ≡ Yes = λ m.
     subst (λ (s : Progress). verdict_from s m (lines_in (flat_map line_of tail)) ≡ Yes)
-    (ap (λ buffers. record { at = stage.Entries; buffers = buffers; entries = 0 }) (known_fresh_from 0 caps caps))
+    (ap (λ buffers. record { at = wants.Entries; buffers = buffers; entries = 0 }) (known_fresh_from 0 caps caps))
     (complete_entries caps [] (empty_buffers caps) es left m run fits.entries room long fits.some_buffer fits.few_buffers fits.values) in
     let some : 0 < length caps = (let h = fits.some_buffer in omega arith) in
     let none : 0 + length caps ≡ length caps = omega arith in
-    line_read opening (record opening { at = stage.Count }) 1 (codes "mctower-trace") (codes "1" ∷ [])
+    line_read opening (record opening { at = wants.Count }) 1 (codes "mctower-trace") (codes "1" ∷ [])
     (line_of (count_pieces (length caps)) ++ flat_map line_of (numbered cap_pieces 0 caps ++ tail)) head_is_line (step_head opening refl)
-    ∙ line_read (record opening { at = stage.Count }) (opened (stage.Capacities (length caps)) []) (1 + 1) (codes "buffers")
+    ∙ line_read (record opening { at = wants.Count }) (opened (wants.Capacities (length caps)) []) (1 + 1) (codes "buffers")
     _ (flat_map line_of (numbered cap_pieces 0 caps ++ tail)) (count_is_line_of (length caps) fits.few_buffers)
-    (step_count (length caps) (record opening { at = stage.Count }) refl fits.some_buffer fits.few_buffers)
+    (step_count (length caps) (record opening { at = wants.Count }) refl fits.some_buffer fits.few_buffers)
     ∙ complete_caps (length caps) [] caps tail (1 + 1 + 1) some none fits.few_buffers fits.capacities entries
 
 pub complete : (text caps : List ℕ) (es : List Entry) (left : List (List Message)) → IsTraceText text caps es left → IsRun caps es left → verdict_of text ≡ Yes

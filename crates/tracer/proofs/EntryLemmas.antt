@@ -12,14 +12,14 @@ use Rattle.event_log.specs.Reading.{◌>>=◌}
 use Rattle.event_log.proofs.DigitsLemmas.{number_to-decimal}
 use Rattle.tracer.specs.declared.verdicts.Reason.{Reason}
 use Rattle.tracer.specs.declared.verdicts.Reason.TheVariants.{Spelling}
-use Rattle.tracer.specs.declared.stages.Stage.{Stage}
+use Rattle.tracer.specs.declared.next_lines.NextLine.{NextLine}
 use Rattle.tracer.specs.TraceText.{kind_word}
 use Rattle.tracer.specs.Judging.{Digits, Progress, wanted, piece_at, digits_at, ended, in_range, kind_in, entry_digits, entry_in}
 use Rattle.tracer.proofs.ReadLemmas.{bind_ok, same_ok, in_range_taken, decimal_is_number}
 use Rattle.tracer.proofs.KnownLemmas.{known_from}
 
 -- behind the earlier entries
-abbrev pub progress : Stage → List ℕ → List Entry → List (List ℕ) → Progress
+abbrev pub progress : NextLine → List ℕ → List Entry → List (List ℕ) → Progress
 progress at caps earlier contents = record { at = at; buffers = known_from earlier contents 0 caps; entries = length earlier }
 
 -- ---- an entry

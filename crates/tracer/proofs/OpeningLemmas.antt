@@ -10,8 +10,8 @@ use Rattle.event_log.specs.declared.ids.TheConstants.{BUFFERS, CAPACITY}
 use Rattle.event_log.specs.Reading.{◌>>=◌}
 use Rattle.event_log.proofs.DigitsLemmas.{number_to-decimal}
 use Rattle.tracer.specs.declared.verdicts.Reason.TheVariants.{Spelling, Range}
-use Rattle.tracer.specs.declared.stages.Stage.{Stage}
-use Rattle.tracer.specs.declared.stages.Stage.TheVariants as stage
+use Rattle.tracer.specs.declared.next_lines.NextLine.{NextLine}
+use Rattle.tracer.specs.declared.next_lines.NextLine.TheVariants as wants
 use Rattle.tracer.specs.TraceText.{cap_pieces, count_pieces}
 use Rattle.tracer.specs.Judging.{Progress, fresh, wanted, piece_at, word_at, digits_at, ended, in_range, is_value, count_digits, count_line, capacity_digits}
 use Rattle.tracer.specs.Judging.{capacity_line, whole_line, step}
@@ -21,18 +21,18 @@ use Rattle.tracer.proofs.ReadLemmas.{decimal_is_number, is_value_again}
 
 -- ---- lines of one spelling
 
-pub whole_taken : (want : List ℕ) (next : Stage) (line : List ℕ) (s after : Progress) → whole_line want next line s ≡ Ok after
+pub whole_taken : (want : List ℕ) (next : NextLine) (line : List ℕ) (s after : Progress) → whole_line want next line s ≡ Ok after
     → (line ≡ want) × (after ≡ record s { at = next })
 unfolding whole_line
 whole_taken want next line s after taken =
     let test = wanted_ok (bytes_eq line want) Spelling (Ok (record s { at = next })) after taken in
     ((bytes_eq-Decides line want).0 test.0, sym (same_ok (record s { at = next }) after test.1))
 
-pub step_head : (s : Progress) → s.at ≡ stage.Head → step s (codes "mctower-trace 1") ≡ Ok (record s { at = stage.Count })
+pub step_head : (s : Progress) → s.at ≡ wants.Head → step s (codes "mctower-trace 1") ≡ Ok (record s { at = wants.Count })
 unfolding step whole_line
 step_head s at = rw at refl
 
-pub step_end : (s : Progress) → s.at ≡ stage.End → step s (codes "end") ≡ Ok (record s { at = stage.Done })
+pub step_end : (s : Progress) → s.at ≡ wants.End → step s (codes "end") ≡ Ok (record s { at = wants.Done })
 unfolding step whole_line
 step_end s at = rw at refl
 
@@ -42,7 +42,7 @@ count_digits_again : (n : ℕ) → n < 2 ^ 64 → count_digits (count_pieces n) 
 unfolding count_digits
 count_digits_again n small = rw (decimal_is_number n small) refl
 
-pub count_line_again : (n : ℕ) (s : Progress) → 1 ≤ n → n ≤ BUFFERS → count_line (count_pieces n) s ≡ Ok (record s { at = stage.Capacities n; buffers = [] })
+pub count_line_again : (n : ℕ) (s : Progress) → 1 ≤ n → n ≤ BUFFERS → count_line (count_pieces n) s ≡ Ok (record s { at = wants.Capacities n; buffers = [] })
 unfolding count_line
 count_line_again n s some few = rw (count_digits_again n (omega arith), number_to-decimal BUFFERS n (omega arith) few, lt-ltb 0 n (omega arith)) refl
 
@@ -64,10 +64,10 @@ pub record CountTaken (ps : List (List ℕ)) (s after : Progress) (n : ℕ) : Ty
   pub spelled : ps ≡ count_pieces n
   pub some : 1 ≤ n
   pub few : n ≤ BUFFERS
-  pub is : after ≡ record s { at = stage.Capacities n; buffers = [] }
+  pub is : after ≡ record s { at = wants.Capacities n; buffers = [] }
 
 count_found : (ps : List (List ℕ)) (digits : List ℕ) (n : ℕ) (s after : Progress) → ps ≡ codes "buffers" ∷ digits ∷ [] → IsInRange BUFFERS digits n → 0 < n
-    → record s { at = stage.Capacities n; buffers = [] } ≡ after → CountTaken ps s after n
+    → record s { at = wants.Capacities n; buffers = [] } ≡ after → CountTaken ps s after n
 count_found ps digits n s after shape range some is =
     record { spelled = shape ∙ ap (λ (d : List ℕ). codes "buffers" ∷ d ∷ []) range.spelled; some = omega arith; few = range.within; is = sym is }
 
@@ -75,10 +75,10 @@ pub count_line_taken : (ps : List (List ℕ)) (s after : Progress) → count_lin
 unfolding count_line
 count_line_taken ps s after taken =
     let digits = bind_ok (count_digits ps) (λ digits. in_range BUFFERS digits >>= λ count.
-    wanted (nat_lt 0 count) Range (Ok (record s { at = stage.Capacities count; buffers = [] }))) after taken in
-    let count = bind_ok (in_range BUFFERS digits.0) (λ count. wanted (nat_lt 0 count) Range (Ok (record s { at = stage.Capacities count; buffers = [] }))) after
+    wanted (nat_lt 0 count) Range (Ok (record s { at = wants.Capacities count; buffers = [] }))) after taken in
+    let count = bind_ok (in_range BUFFERS digits.0) (λ count. wanted (nat_lt 0 count) Range (Ok (record s { at = wants.Capacities count; buffers = [] }))) after
     digits.2 in
-    let some = wanted_ok (nat_lt 0 count.0) Range (Ok (record s { at = stage.Capacities count.0; buffers = [] })) after count.2 in (
+    let some = wanted_ok (nat_lt 0 count.0) Range (Ok (record s { at = wants.Capacities count.0; buffers = [] })) after count.2 in (
       count.0,
       count_found ps digits.0 count.0 s after (count_digits_taken ps digits.0 digits.1) (in_range_taken BUFFERS digits.0 count.0 (lit< tt) count.1)
           (ltb-true 0 count.0 some.0) (same_ok _ after some.1),
@@ -93,8 +93,8 @@ count_is_line n small = record {
 pub count_is_line_of : (n : ℕ) → n ≤ BUFFERS → IsLine (count_pieces n)
 count_is_line_of n few = count_is_line n (omega arith)
 
-pub step_count : (n : ℕ) (s : Progress) → s.at ≡ stage.Count → 1 ≤ n → n ≤ BUFFERS
-    → step s (join_with_byte 32 (count_pieces n)) ≡ Ok (record s { at = stage.Capacities n; buffers = [] })
+pub step_count : (n : ℕ) (s : Progress) → s.at ≡ wants.Count → 1 ≤ n → n ≤ BUFFERS
+    → step s (join_with_byte 32 (count_pieces n)) ≡ Ok (record s { at = wants.Capacities n; buffers = [] })
 unfolding step count_line
 step_count n s at some few =
     rw at (ap (λ (ps : List (List ℕ)). count_line ps s) (pieces_again (codes "buffers") (decimal n ∷ []) (count_is_line_of n few))
@@ -103,18 +103,18 @@ step_count n s at some few =
 -- ---- a capacity
 
 -- before the first entry, with these capacities known
-abbrev pub opened : Stage → List ℕ → Progress
+abbrev pub opened : NextLine → List ℕ → Progress
 opened at caps = record { at = at; buffers = map fresh caps; entries = 0 }
 
 -- which line comes behind a capacity
-abbrev pub behind_cap : ℕ → ℕ → Stage
-behind_cap known count = cond (nat_lt known count) (stage.Capacities count) stage.Entries
+abbrev pub behind_cap : ℕ → ℕ → NextLine
+behind_cap known count = cond (nat_lt known count) (wants.Capacities count) wants.Entries
 
 capacity_digits_again : (b capacity : ℕ) → b < 2 ^ 64 → capacity < 2 ^ 64 → capacity_digits b (cap_pieces b capacity) ≡ Ok (decimal capacity)
 unfolding capacity_digits
 capacity_digits_again b capacity fits small = rw (is_value_again b fits, decimal_is_number capacity small) refl
 
-pub capacity_line_again : (at : Stage) (count : ℕ) (caps : List ℕ) (capacity : ℕ) → IsCapacity capacity → length caps ≤ BUFFERS
+pub capacity_line_again : (at : NextLine) (count : ℕ) (caps : List ℕ) (capacity : ℕ) → IsCapacity capacity → length caps ≤ BUFFERS
     → capacity_line count (cap_pieces (length caps) capacity) (opened at caps) ≡ Ok (opened (behind_cap (length caps + 1) count) (caps ++ capacity ∷ []))
 unfolding capacity_line
 capacity_line_again at count caps capacity small few =
@@ -163,7 +163,8 @@ capacity_found count caps ps digits capacity after shape range some is = record 
   is = sym is ∙ rw (length-map caps fresh, map_push fresh caps capacity) refl;
 }
 
-pub capacity_line_taken : (at : Stage) (count : ℕ) (caps : List ℕ) (ps : List (List ℕ)) (after : Progress) → capacity_line count ps (opened at caps) ≡ Ok after
+pub capacity_line_taken : (at : NextLine) (count : ℕ) (caps : List ℕ) (ps : List (List ℕ)) (after : Progress)
+    → capacity_line count ps (opened at caps) ≡ Ok after
     → (capacity : ℕ) × CapacityTaken count caps ps after capacity
 unfolding capacity_line
 capacity_line_taken at count caps ps after taken =
@@ -191,11 +192,11 @@ cap_is_line b capacity few small =
     }
 
 pub step_cap : (count : ℕ) (caps : List ℕ) (capacity : ℕ) → IsCapacity capacity → length caps ≤ BUFFERS
-    → step (opened (stage.Capacities count) caps) (join_with_byte 32 (cap_pieces (length caps) capacity))
+    → step (opened (wants.Capacities count) caps) (join_with_byte 32 (cap_pieces (length caps) capacity))
     ≡ Ok (opened (behind_cap (length caps + 1) count) (caps ++ capacity ∷ []))
 unfolding step
 step_cap count caps capacity small few =
-    let s = opened (stage.Capacities count) caps in
+    let s = opened (wants.Capacities count) caps in
     ap (λ (ps : List (List ℕ)). capacity_line count ps s)
     (pieces_again (codes "cap") (decimal (length caps) ∷ decimal capacity ∷ []) (cap_is_line (length caps) capacity few small))
-    ∙ capacity_line_again (stage.Capacities count) count caps capacity small few
+    ∙ capacity_line_again (wants.Capacities count) count caps capacity small few

@@ -11,7 +11,7 @@ use Rattle.event_log.specs.declared.ids.TheConstants.{BUFFERS, ENTRIES}
 use Rattle.event_log.specs.declared.entries.Entry.{Entry}
 use Rattle.event_log.specs.Buffers.{items_of, empty_buffers, IsCapacity}
 use Rattle.event_log.specs.Runs.{IsNext, after_entry, IsRunFrom, IsRun}
-use Rattle.tracer.specs.declared.stages.Stage.TheVariants as stage
+use Rattle.tracer.specs.declared.next_lines.NextLine.TheVariants as wants
 use Rattle.tracer.specs.declared.verdicts.Reason.{Reason}
 use Rattle.tracer.specs.declared.verdicts.Verdict.{Verdict}
 use Rattle.tracer.specs.declared.verdicts.Verdict.TheVariants.{Yes, No}
@@ -44,22 +44,22 @@ done_test true true n reason e = refl
 done_test true false n reason e = absurd (cc)
 done_test false empty n reason e = absurd (cc)
 
-done_end : (buffers : _) (entries n : ℕ) (lines : List (List ℕ)) → verdict_from (record { at = stage.Done; buffers = buffers; entries = entries }) n lines ≡ Yes
+done_end : (buffers : _) (entries n : ℕ) (lines : List (List ℕ)) → verdict_from (record { at = wants.Done; buffers = buffers; entries = entries }) n lines ≡ Yes
     → join_with_byte 10 lines ≡ []
 unfolding step
 done_end buffers entries n [] e = absurd (cc)
 done_end buffers entries n (rest ∷ []) e = nil_from_length rest (eqb-true (length rest) 0 (done_test true (length rest == 0) n _ e))
 done_end buffers entries n (line ∷ next ∷ more) e = absurd (cc)
 
-sound_end : (buffers : _) (entries n : ℕ) (lines : List (List ℕ)) → verdict_from (record { at = stage.End; buffers = buffers; entries = entries }) n lines ≡ Yes
+sound_end : (buffers : _) (entries n : ℕ) (lines : List (List ℕ)) → verdict_from (record { at = wants.End; buffers = buffers; entries = entries }) n lines ≡ Yes
     → join_with_byte 10 lines ≡ flat_map line_of (end_pieces ∷ [])
 unfolding step
 sound_end buffers entries n [] e = absurd (cc)
 sound_end buffers entries n (rest ∷ []) e = absurd (cc)
 sound_end buffers entries n (line ∷ next ∷ more) e =
-    let s : Progress = record { at = stage.End; buffers = buffers; entries = entries } in
-    let go = went (whole_line (codes "end") stage.Done line s) n (λ after. verdict_from after (n + 1) (next ∷ more)) e in
-    let word = whole_taken (codes "end") stage.Done line s go.0 go.1 in
+    let s : Progress = record { at = wants.End; buffers = buffers; entries = entries } in
+    let go = went (whole_line (codes "end") wants.Done line s) n (λ after. verdict_from after (n + 1) (next ∷ more)) e in
+    let word = whole_taken (codes "end") wants.Done line s go.0 go.1 in
     let rest = done_end buffers entries (n + 1) (next ∷ more) (subst (λ (a : Progress). verdict_from a (n + 1) (next ∷ more) ≡ Yes) word.1 go.2) in
     rw (word.0, rest) refl
 
@@ -71,8 +71,8 @@ LeftText b contents lines = (join_with_byte 10 lines ≡ flat_map line_of (numbe
 
 behind_cases : (b : ℕ) (caps : List ℕ) (earlier : List Entry) (contents : List (List Message)) (n : ℕ) (lines : List (List ℕ)) (more : Bool)
     → nat_lt (b + 1) (length caps) ≡ more → length contents ≡ length caps
-    → (b + 1 < length caps → verdict_from (progress (stage.Contents (b + 1)) caps earlier contents) n lines ≡ Yes → LeftText (b + 1) contents lines)
-    → verdict_from (progress (cond more (stage.Contents (b + 1)) stage.End) caps earlier contents) n lines ≡ Yes → LeftText (b + 1) contents lines
+    → (b + 1 < length caps → verdict_from (progress (wants.Contents (b + 1)) caps earlier contents) n lines ≡ Yes → LeftText (b + 1) contents lines)
+    → verdict_from (progress (cond more (wants.Contents (b + 1)) wants.End) caps earlier contents) n lines ≡ Yes → LeftText (b + 1) contents lines
 behind_cases b caps earlier contents n lines true is long again e = again (ltb-true (b + 1) (length caps) is) e
 behind_cases b caps earlier contents n lines false is long again e =
     let past : length contents ≤ b + 1 = (let h = ltb-false (b + 1) (length caps) is in omega arith) in
@@ -92,14 +92,14 @@ left_text b contents line ps next more is inside spelled small behind =
     × AllByRecursion AreSmall all) (sym cut) (text, (small, behind.1))
 
 sound_left : (b : ℕ) (caps : List ℕ) (earlier : List Entry) (contents : List (List Message)) (n : ℕ) (lines : List (List ℕ)) → length contents ≡ length caps
-    → verdict_from (progress (stage.Contents b) caps earlier contents) n lines ≡ Yes → LeftText b contents lines
+    → verdict_from (progress (wants.Contents b) caps earlier contents) n lines ≡ Yes → LeftText b contents lines
 unfolding step
 sound_left b caps earlier contents n [] long e = absurd (cc)
 sound_left b caps earlier contents n (rest ∷ []) long e = absurd (cc)
 sound_left b caps earlier contents n (line ∷ next ∷ more) long e =
-    let s = progress (stage.Contents b) caps earlier contents in
+    let s = progress (wants.Contents b) caps earlier contents in
     let go = went (left_line b (pieces_of line) s) n (λ after. verdict_from after (n + 1) (next ∷ more)) e in
-    let taken = left_line_taken (stage.Contents b) b caps earlier contents (pieces_of line) go.0 go.1 in
+    let taken = left_line_taken (wants.Contents b) b caps earlier contents (pieces_of line) go.0 go.1 in
     let behind = behind_cases b caps earlier contents (n + 1) (next ∷ more) (nat_lt (b + 1) (length caps)) refl long
     (λ _ again. sound_left (b + 1) caps earlier contents (n + 1) (next ∷ more) long again)
     (subst (λ (a : Progress). verdict_from a (n + 1) (next ∷ more) ≡ Yes) taken.is go.2) in
@@ -144,12 +144,12 @@ judged_left caps earlier contents lines few long left =
     ([], contents, record { run = refl; small = tt; few = omega arith; each = long; values = left.1; text = left.0 })
 
 sound_entries : (caps : List ℕ) (earlier : List Entry) (contents : List (List Message)) (n : ℕ) (lines : List (List ℕ)) → length earlier ≤ ENTRIES
-    → length contents ≡ length caps → verdict_from (progress stage.Entries caps earlier contents) n lines ≡ Yes → IsJudged caps earlier contents lines
+    → length contents ≡ length caps → verdict_from (progress wants.Entries caps earlier contents) n lines ≡ Yes → IsJudged caps earlier contents lines
 unfolding step
 sound_entries caps earlier contents n [] few long e = absurd (cc)
 sound_entries caps earlier contents n (rest ∷ []) few long e = absurd (cc)
 sound_entries caps earlier contents n (line ∷ next ∷ more) few long e =
-    let s = progress stage.Entries caps earlier contents in
+    let s = progress wants.Entries caps earlier contents in
     let go = went (entries_line (pieces_of line) s) n (λ after. verdict_from after (n + 1) (next ∷ more)) e in
     elim (entries_taken caps earlier contents (pieces_of line) go.0 long go.1) [
       | inl entry ↦
@@ -171,15 +171,15 @@ sound_entries caps earlier contents n (line ∷ next ∷ more) few long e =
 pub record CapsJudged (count : ℕ) (caps : List ℕ) (lines : List (List ℕ)) (more : List ℕ) (m : ℕ) (rest : List (List ℕ)) : Type 0 where
   pub counted : length caps + length more ≡ count
   pub small : AllByRecursion IsCapacity more
-  pub judged : verdict_from (opened stage.Entries (caps ++ more)) m rest ≡ Yes
+  pub judged : verdict_from (opened wants.Entries (caps ++ more)) m rest ≡ Yes
   pub text : join_with_byte 10 lines ≡ flat_map line_of (numbered cap_pieces (length caps) more) ++ join_with_byte 10 rest
 
 abbrev AreCaps : ℕ → List ℕ → List (List ℕ) → Type 0
 AreCaps count caps lines = (more : List ℕ) × (m : ℕ) × (rest : List (List ℕ)) × CapsJudged count caps lines more m rest
 
 caps_cases : (count : ℕ) (caps : List ℕ) (n : ℕ) (lines : List (List ℕ)) (goes : Bool) → nat_lt (length caps) count ≡ goes → length caps ≤ count
-    → (length caps < count → verdict_from (opened (stage.Capacities count) caps) n lines ≡ Yes → AreCaps count caps lines)
-    → verdict_from (opened (cond goes (stage.Capacities count) stage.Entries) caps) n lines ≡ Yes → AreCaps count caps lines
+    → (length caps < count → verdict_from (opened (wants.Capacities count) caps) n lines ≡ Yes → AreCaps count caps lines)
+    → verdict_from (opened (cond goes (wants.Capacities count) wants.Entries) caps) n lines ≡ Yes → AreCaps count caps lines
 caps_cases count caps n lines true is le again e = again (ltb-true (length caps) count is) e
 caps_cases count caps n lines false is le again e =
     let past = ltb-false (length caps) count is in
@@ -207,14 +207,14 @@ caps_more count caps line next more k spelled small behind =
     )
 
 sound_caps : (count : ℕ) (caps : List ℕ) (n : ℕ) (lines : List (List ℕ)) → length caps < count
-    → verdict_from (opened (stage.Capacities count) caps) n lines ≡ Yes → AreCaps count caps lines
+    → verdict_from (opened (wants.Capacities count) caps) n lines ≡ Yes → AreCaps count caps lines
 unfolding step
 sound_caps count caps n [] lt e = absurd (cc)
 sound_caps count caps n (rest ∷ []) lt e = absurd (cc)
 sound_caps count caps n (line ∷ next ∷ more) lt e =
-    let s = opened (stage.Capacities count) caps in
+    let s = opened (wants.Capacities count) caps in
     let go = went (capacity_line count (pieces_of line) s) n (λ after. verdict_from after (n + 1) (next ∷ more)) e in
-    let taken = capacity_line_taken (stage.Capacities count) count caps (pieces_of line) go.0 go.1 in
+    let taken = capacity_line_taken (wants.Capacities count) count caps (pieces_of line) go.0 go.1 in
     let k = taken.0 in
     let longer : length (caps ++ k ∷ []) ≡ length caps + 1 = length_push caps k in
     let judged : verdict_from (opened (behind_cap (length (caps ++ k ∷ [])) count) (caps ++ k ∷ [])) (n + 1) (next ∷ more) ≡ Yes =
@@ -253,23 +253,23 @@ tail_of line next more n caps rest es left spelled some few counted small text j
       ∙ rw (counted, text, judged.text) (ap (λ (t : List ℕ). line_of (count_pieces n) ++ t) (sym (flat_map-append line_of (numbered cap_pieces 0 caps) _))),
 )
 
-sound_count : (n : ℕ) (lines : List (List ℕ)) → verdict_from (record opening { at = stage.Count }) n lines ≡ Yes → IsTail (join_with_byte 10 lines)
+sound_count : (n : ℕ) (lines : List (List ℕ)) → verdict_from (record opening { at = wants.Count }) n lines ≡ Yes → IsTail (join_with_byte 10 lines)
 unfolding step
 sound_count n [] e = absurd (cc)
 sound_count n (rest ∷ []) e = absurd (cc)
 sound_count n (line ∷ next ∷ more) e =
-    let s : Progress = record opening { at = stage.Count } in
+    let s : Progress = record opening { at = wants.Count } in
     let go = went (count_line (pieces_of line) s) n (λ after. verdict_from after (n + 1) (next ∷ more)) e in
     let taken = count_line_taken (pieces_of line) s go.0 go.1 in
     let count = taken.0 in
-    let judged : verdict_from (opened (stage.Capacities count) []) (n + 1) (next ∷ more) ≡ Yes =
+    let judged : verdict_from (opened (wants.Capacities count) []) (n + 1) (next ∷ more) ≡ Yes =
     subst (λ (a : Progress). verdict_from a (n + 1) (next ∷ more) ≡ Yes) taken.1.is go.2 in
     let some : 0 < count = (let h = taken.1.some in omega arith) in
     let all = sound_caps count [] (n + 1) (next ∷ more) some judged in
     let caps = all.0 in
     let long : length (empty_buffers caps) ≡ length caps = length-map caps (λ (k : ℕ). []) in
-    let opens : opened stage.Entries caps ≡ progress stage.Entries caps [] (empty_buffers caps) =
-    ap (λ buffers. record { at = stage.Entries; buffers = buffers; entries = 0 }) (sym (known_fresh_from 0 caps caps)) in
+    let opens : opened wants.Entries caps ≡ progress wants.Entries caps [] (empty_buffers caps) =
+    ap (λ buffers. record { at = wants.Entries; buffers = buffers; entries = 0 }) (sym (known_fresh_from 0 caps caps)) in
     let entries = sound_entries caps [] (empty_buffers caps) all.1 all.2 (omega arith) long
     (subst (λ (a : Progress). verdict_from a all.1 all.2 ≡ Yes) opens all.3.judged) in
     tail_of line next more count caps all.2 entries.0 entries.1 taken.1.spelled taken.1.some taken.1.few (let h = all.3.counted in omega arith) all.3.small
@@ -283,8 +283,8 @@ unfolding step spelling lines_of
 sound_lines n [] e = absurd (cc)
 sound_lines n (rest ∷ []) e = absurd (cc)
 sound_lines n (line ∷ next ∷ more) e =
-    let go = went (whole_line (codes "mctower-trace 1") stage.Count line opening) n (λ after. verdict_from after (n + 1) (next ∷ more)) e in
-    let word = whole_taken (codes "mctower-trace 1") stage.Count line opening go.0 go.1 in
+    let go = went (whole_line (codes "mctower-trace 1") wants.Count line opening) n (λ after. verdict_from after (n + 1) (next ∷ more)) e in
+    let word = whole_taken (codes "mctower-trace 1") wants.Count line opening go.0 go.1 in
     let tail = sound_count (n + 1) (next ∷ more) (subst (λ (a : Progress). verdict_from a (n + 1) (next ∷ more) ≡ Yes) word.1 go.2) in
     (tail.0, tail.1, tail.2, record { spellable = tail.3; spelled = head_text line (join_with_byte 10 (next ∷ more)) _ word.0 tail.5 }, tail.4)
 

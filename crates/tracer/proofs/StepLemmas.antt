@@ -18,8 +18,8 @@ use Rattle.event_log.specs.Digits.{is_number, number_to}
 use Rattle.event_log.specs.Reading.{◌>>=◌}
 use Rattle.event_log.proofs.DigitsLemmas.{number_to-decimal, number_to-Some}
 use Rattle.tracer.specs.declared.verdicts.Reason.TheVariants.{Spelling, Range, Left}
-use Rattle.tracer.specs.declared.stages.Stage.{Stage}
-use Rattle.tracer.specs.declared.stages.Stage.TheVariants as stage
+use Rattle.tracer.specs.declared.next_lines.NextLine.{NextLine}
+use Rattle.tracer.specs.declared.next_lines.NextLine.TheVariants as wants
 use Rattle.tracer.specs.TraceText.{kind_word, entry_pieces, left_pieces, IsEntryOf, AreSmall}
 use Rattle.tracer.specs.Judging.{Digits, Seen, Progress, wanted, piece_at, word_at, is_just, is_value, is_within, are_values, is_left, entry_digits, entry_in}
 use Rattle.tracer.specs.Judging.{entry_among, entry_line, left_digits, left_line, entries_line, step}
@@ -81,7 +81,7 @@ entry_is_line n e few small =
       );
     }
 
-entry_line_again : (at : Stage) (caps : List ℕ) (earlier : List Entry) (contents : List (List Message)) (e : Entry) → length caps ≤ BUFFERS
+entry_line_again : (at : NextLine) (caps : List ℕ) (earlier : List Entry) (contents : List (List Message)) (e : Entry) → length caps ≤ BUFFERS
     → length earlier < ENTRIES → length contents ≡ length caps → IsEntryOf (length caps) e → IsNext caps earlier contents e
     → entry_line (behind_e e) (progress at caps earlier contents) ≡ Ok (progress at caps (earlier ++ e ∷ []) (after_entry contents e))
 unfolding entry_line
@@ -107,16 +107,16 @@ entries_e ps s = refl
 
 pub step_entry : (caps : List ℕ) (earlier : List Entry) (contents : List (List Message)) (e : Entry) → length caps ≤ BUFFERS → length earlier < ENTRIES
     → length contents ≡ length caps → IsEntryOf (length caps) e → IsNext caps earlier contents e
-    → step (progress stage.Entries caps earlier contents) (join_with_byte 32 (entry_pieces e))
-    ≡ Ok (progress stage.Entries caps (earlier ++ e ∷ []) (after_entry contents e))
+    → step (progress wants.Entries caps earlier contents) (join_with_byte 32 (entry_pieces e))
+    ≡ Ok (progress wants.Entries caps (earlier ++ e ∷ []) (after_entry contents e))
 unfolding step
 step_entry caps earlier contents e few room long small next =
-    let s = progress stage.Entries caps earlier contents in
+    let s = progress wants.Entries caps earlier contents in
     ap (λ (ps : List (List ℕ)). entries_line ps s) (pieces_again (codes "e") (behind_e e) (entry_is_line (length caps) e few small)) ∙ entries_e (behind_e e) s
-    ∙ entry_line_again stage.Entries caps earlier contents e few room long small next
+    ∙ entry_line_again wants.Entries caps earlier contents e few room long small next
 
 -- what it says that an entry was taken
-pub record EntryTaken (at : Stage) (caps : List ℕ) (earlier : List Entry) (contents : List (List Message)) (ps : List (List ℕ)) (after : Progress)
+pub record EntryTaken (at : NextLine) (caps : List ℕ) (earlier : List Entry) (contents : List (List Message)) (ps : List (List ℕ)) (after : Progress)
     (e : Entry) : Type 0 where
   pub spelled : ps ≡ behind_e e
   pub small : IsEntryOf (length caps) e
@@ -124,7 +124,7 @@ pub record EntryTaken (at : Stage) (caps : List ℕ) (earlier : List Entry) (con
   pub room : length earlier < ENTRIES
   pub is : after ≡ progress at caps (earlier ++ e ∷ []) (after_entry contents e)
 
-entry_found : (at : Stage) (caps : List ℕ) (earlier : List Entry) (contents : List (List Message)) (ps : List (List ℕ)) (digits : Digits) (e : Entry)
+entry_found : (at : NextLine) (caps : List ℕ) (earlier : List Entry) (contents : List (List Message)) (ps : List (List ℕ)) (digits : Digits) (e : Entry)
     (buffers : List Seen) (after : Progress) → length contents ≡ length caps → ps ≡ shape_of digits → IsSmall digits e → length earlier < ENTRIES
     → entry_among e (known_from earlier contents 0 caps) ≡ Ok buffers → record { at = at; buffers = buffers; entries = length earlier + 1 } ≡ after
     → EntryTaken at caps earlier contents ps after e
@@ -145,7 +145,7 @@ entry_found at caps earlier contents ps digits e buffers after long shape small 
       is = sym is ∙ rw (taken.1, length_push earlier e) refl;
     }
 
-entry_line_taken : (at : Stage) (caps : List ℕ) (earlier : List Entry) (contents : List (List Message)) (ps : List (List ℕ)) (after : Progress)
+entry_line_taken : (at : NextLine) (caps : List ℕ) (earlier : List Entry) (contents : List (List Message)) (ps : List (List ℕ)) (after : Progress)
     → length contents ≡ length caps → entry_line ps (progress at caps earlier contents) ≡ Ok after
     → (e : Entry) × EntryTaken at caps earlier contents ps after e
 unfolding entry_line
@@ -183,10 +183,10 @@ unfolding left_digits
 left_digits_again b items lt small = rw (is_value_again b lt, numbers_again items small) refl
 
 -- which line comes behind what is left of buffer b
-abbrev pub behind_left : ℕ → List ℕ → Stage
-behind_left b caps = cond (nat_lt (b + 1) (length caps)) (stage.Contents (b + 1)) stage.End
+abbrev pub behind_left : ℕ → List ℕ → NextLine
+behind_left b caps = cond (nat_lt (b + 1) (length caps)) (wants.Contents (b + 1)) wants.End
 
-pub left_line_again : (at : Stage) (b : ℕ) (caps : List ℕ) (earlier : List Entry) (contents : List (List Message)) → b < length caps → b < 2 ^ 64
+pub left_line_again : (at : NextLine) (b : ℕ) (caps : List ℕ) (earlier : List Entry) (contents : List (List Message)) → b < length caps → b < 2 ^ 64
     → AreSmall (items_of contents b) → left_line b (left_pieces b (items_of contents b)) (progress at caps earlier contents)
     ≡ Ok (progress (behind_left b caps) caps earlier contents)
 unfolding left_line
@@ -246,10 +246,10 @@ holds_of values (Some seen) e = (seen, refl, e)
 some_seen : (x y : Seen) → Some x ≡ Some y → x ≡ y
 some_seen x y e = cc
 
-left_found : (at : Stage) (b : ℕ) (caps : List ℕ) (earlier : List Entry) (contents : List (List Message)) (ps values : List (List ℕ)) (after : Progress)
+left_found : (at : NextLine) (b : ℕ) (caps : List ℕ) (earlier : List Entry) (contents : List (List Message)) (ps values : List (List ℕ)) (after : Progress)
     (seen : Seen) → ps ≡ codes "left" ∷ decimal b ∷ values → slice_get (known_from earlier contents 0 caps) b ≡ Some seen → are_values values seen.items ≡ true
     → record {
-      at = cond (nat_lt (b + 1) (length (known_from earlier contents 0 caps))) (stage.Contents (b + 1)) stage.End;
+      at = cond (nat_lt (b + 1) (length (known_from earlier contents 0 caps))) (wants.Contents (b + 1)) wants.End;
       buffers = known_from earlier contents 0 caps;
       entries = length earlier;
     } ≡ after → LeftTaken b caps earlier contents ps after
@@ -266,12 +266,12 @@ left_found at b caps earlier contents ps values after seen shape found holds is 
       is = sym is ∙ rw (length-known_from earlier contents 0 caps) refl;
     }
 
-pub left_line_taken : (at : Stage) (b : ℕ) (caps : List ℕ) (earlier : List Entry) (contents : List (List Message)) (ps : List (List ℕ)) (after : Progress)
+pub left_line_taken : (at : NextLine) (b : ℕ) (caps : List ℕ) (earlier : List Entry) (contents : List (List Message)) (ps : List (List ℕ)) (after : Progress)
     → left_line b ps (progress at caps earlier contents) ≡ Ok after → LeftTaken b caps earlier contents ps after
 unfolding left_line
 left_line_taken at b caps earlier contents ps after taken =
     let s = progress at caps earlier contents in
-    let next : Progress = record s { at = cond (nat_lt (b + 1) (length s.buffers)) (stage.Contents (b + 1)) stage.End } in
+    let next : Progress = record s { at = cond (nat_lt (b + 1) (length s.buffers)) (wants.Contents (b + 1)) wants.End } in
     let digits = bind_ok (left_digits b ps)
     (λ values. wanted (list_all is_within values) Range (wanted (is_left values (slice_get s.buffers b)) Left (Ok next))) after taken in
     let range = wanted_ok (list_all is_within digits.0) Range (wanted (is_left digits.0 (slice_get s.buffers b)) Left (Ok next)) after digits.2 in
@@ -299,45 +299,45 @@ entries_left ps s = refl
 
 -- what is left of the first buffer, behind the entries
 pub step_first_left : (caps : List ℕ) (earlier : List Entry) (contents : List (List Message)) → 0 < length caps → AreSmall (items_of contents 0)
-    → step (progress stage.Entries caps earlier contents) (join_with_byte 32 (left_pieces 0 (items_of contents 0)))
+    → step (progress wants.Entries caps earlier contents) (join_with_byte 32 (left_pieces 0 (items_of contents 0)))
     ≡ Ok (progress (behind_left 0 caps) caps earlier contents)
 unfolding step
 step_first_left caps earlier contents lt small =
-    let s = progress stage.Entries caps earlier contents in
+    let s = progress wants.Entries caps earlier contents in
     ap (λ (ps : List (List ℕ)). entries_line ps s)
     (pieces_again (codes "left") (decimal 0 ∷ map decimal (items_of contents 0)) (left_is_line 0 (items_of contents 0) (lit< tt) small))
-    ∙ entries_left (decimal 0 ∷ map decimal (items_of contents 0)) s ∙ left_line_again stage.Entries 0 caps earlier contents lt (lit< tt) small
+    ∙ entries_left (decimal 0 ∷ map decimal (items_of contents 0)) s ∙ left_line_again wants.Entries 0 caps earlier contents lt (lit< tt) small
 
 pub step_left : (b : ℕ) (caps : List ℕ) (earlier : List Entry) (contents : List (List Message)) → b < length caps → length caps ≤ BUFFERS
-    → AreSmall (items_of contents b) → step (progress (stage.Contents b) caps earlier contents) (join_with_byte 32 (left_pieces b (items_of contents b)))
+    → AreSmall (items_of contents b) → step (progress (wants.Contents b) caps earlier contents) (join_with_byte 32 (left_pieces b (items_of contents b)))
     ≡ Ok (progress (behind_left b caps) caps earlier contents)
 unfolding step
 step_left b caps earlier contents lt few small =
-    let s = progress (stage.Contents b) caps earlier contents in
+    let s = progress (wants.Contents b) caps earlier contents in
     let fits : b < 2 ^ 64 = omega arith in
     ap (λ (ps : List (List ℕ)). left_line b ps s)
     (pieces_again (codes "left") (decimal b ∷ map decimal (items_of contents b)) (left_is_line b (items_of contents b) fits small))
-    ∙ left_line_again (stage.Contents b) b caps earlier contents lt fits small
+    ∙ left_line_again (wants.Contents b) b caps earlier contents lt fits small
 
 same_pieces : (p w : List ℕ) (ps qs : List (List ℕ)) → p ≡ w → ps ≡ qs → p ∷ ps ≡ w ∷ qs
 same_pieces p w ps qs e1 e2 = rw (e1, e2) refl
 
 entries_cases : (caps : List ℕ) (earlier : List Entry) (contents : List (List Message)) (p : List ℕ) (ps : List (List ℕ)) (after : Progress)
     → length contents ≡ length caps → (first : Bool) → bytes_eq p (codes "e") ≡ first
-    → cond first (entry_line ps (progress stage.Entries caps earlier contents)) (left_line 0 (p ∷ ps) (progress stage.Entries caps earlier contents)) ≡ Ok after
+    → cond first (entry_line ps (progress wants.Entries caps earlier contents)) (left_line 0 (p ∷ ps) (progress wants.Entries caps earlier contents)) ≡ Ok after
     → ((e : Entry) × (p ∷ ps ≡ entry_pieces e) × IsEntryOf (length caps) e × IsNext caps earlier contents e × (length earlier < ENTRIES)
-    × (after ≡ progress stage.Entries caps (earlier ++ e ∷ []) (after_entry contents e))) ⊎ LeftTaken 0 caps earlier contents (p ∷ ps) after
+    × (after ≡ progress wants.Entries caps (earlier ++ e ∷ []) (after_entry contents e))) ⊎ LeftTaken 0 caps earlier contents (p ∷ ps) after
 entries_cases caps earlier contents p ps after long true first taken =
-    let found = entry_line_taken stage.Entries caps earlier contents ps after long taken in
+    let found = entry_line_taken wants.Entries caps earlier contents ps after long taken in
     let word : p ≡ codes "e" = (bytes_eq-Decides p (codes "e")).0 first in
     inl (found.0, same_pieces p (codes "e") ps (behind_e found.0) word found.1.spelled, found.1.small, found.1.next, found.1.room, found.1.is)
-entries_cases caps earlier contents p ps after long false first taken = inr (left_line_taken stage.Entries 0 caps earlier contents (p ∷ ps) after taken)
+entries_cases caps earlier contents p ps after long false first taken = inr (left_line_taken wants.Entries 0 caps earlier contents (p ∷ ps) after taken)
 
 -- a line behind the entries is an entry, or what is left of the first buffer
 pub entries_taken : (caps : List ℕ) (earlier : List Entry) (contents : List (List Message)) (ps : List (List ℕ)) (after : Progress)
-    → length contents ≡ length caps → entries_line ps (progress stage.Entries caps earlier contents) ≡ Ok after
+    → length contents ≡ length caps → entries_line ps (progress wants.Entries caps earlier contents) ≡ Ok after
     → ((e : Entry) × (ps ≡ entry_pieces e) × IsEntryOf (length caps) e × IsNext caps earlier contents e × (length earlier < ENTRIES)
-    × (after ≡ progress stage.Entries caps (earlier ++ e ∷ []) (after_entry contents e))) ⊎ LeftTaken 0 caps earlier contents ps after
+    × (after ≡ progress wants.Entries caps (earlier ++ e ∷ []) (after_entry contents e))) ⊎ LeftTaken 0 caps earlier contents ps after
 unfolding entries_line
 entries_taken caps earlier contents [] after long taken = absurd (cc)
 entries_taken caps earlier contents (p ∷ ps) after long taken = entries_cases caps earlier contents p ps after long (bytes_eq p (codes "e")) refl taken

@@ -14,8 +14,8 @@ use Rattle.tracer.specs.declared.verdicts.Reason.{Reason}
 use Rattle.tracer.specs.declared.verdicts.Reason.TheVariants.{Spelling, Range, Op, Pos, Full, EmptyTake, WrongValue, Left}
 use Rattle.tracer.specs.declared.verdicts.Verdict.{Verdict}
 use Rattle.tracer.specs.declared.verdicts.Verdict.TheVariants.{Yes, No}
-use Rattle.tracer.specs.declared.stages.Stage.{Stage}
-use Rattle.tracer.specs.declared.stages.Stage.TheVariants as stage
+use Rattle.tracer.specs.declared.next_lines.NextLine.{NextLine}
+use Rattle.tracer.specs.declared.next_lines.NextLine.TheVariants as wants
 
 -- what a function returned, seen by view, is what reading gives
 abbrev pub Gives : {X Y : Type 0} → (X → Y) → Result X Reason → Result Y Reason → Type 0
@@ -82,12 +82,12 @@ fresh capacity = record { capacity = capacity; items = []; ops = 0; sends = 0; r
 
 -- where the text stands: which line may come, the buffers, and how many entries there were
 pub record Progress : Type 0 where
-  pub at : Stage
+  pub at : NextLine
   pub buffers : List Seen
   pub entries : ℕ
 
 abbrev pub opening : Progress
-opening = record { at = stage.Head; buffers = []; entries = 0 }
+opening = record { at = wants.Head; buffers = []; entries = 0 }
 
 -- the pos that an effect of this kind must have
 abbrev pub next_pos : Kind → Seen → ℕ
@@ -180,7 +180,7 @@ count_digits pieces = word_at (codes "buffers") pieces
 unfoldable pub count_line : List (List ℕ) → Progress → Result Progress Reason
 count_line pieces s = count_digits pieces
     >>= λ digits. in_range BUFFERS digits
-    >>= λ count. wanted (nat_lt 0 count) Range (Ok (record s { at = stage.Capacities count; buffers = [] }))
+    >>= λ count. wanted (nat_lt 0 count) Range (Ok (record s { at = wants.Capacities count; buffers = [] }))
 
 -- the digits of the capacity of buffer b
 unfoldable pub capacity_digits : ℕ → List (List ℕ) → Result (List ℕ) Reason
@@ -195,7 +195,7 @@ capacity_line count pieces s = capacity_digits (length s.buffers) pieces
     >>= λ digits. in_range CAPACITY digits
     >>= λ capacity. wanted (nat_lt 0 capacity) Range
     (Ok (record s {
-      at = if nat_lt (length s.buffers + 1) count then stage.Capacities count else stage.Entries;
+      at = if nat_lt (length s.buffers + 1) count then wants.Capacities count else wants.Entries;
       buffers = s.buffers ++ fresh capacity ∷ [];
     }))
 
@@ -224,36 +224,36 @@ unfoldable pub left_line : ℕ → List (List ℕ) → Progress → Result Progr
 left_line b pieces s = left_digits b pieces
     >>= λ values. wanted (list_all is_within values) Range
     (wanted (is_left values (slice_get s.buffers b)) Left
-    (Ok (record s { at = if nat_lt (b + 1) (length s.buffers) then stage.Contents (b + 1) else stage.End })))
+    (Ok (record s { at = if nat_lt (b + 1) (length s.buffers) then wants.Contents (b + 1) else wants.End })))
 
 -- a line whose first piece is `e` is an entry; any other is what is left of the first buffer
 unfoldable pub entries_line : List (List ℕ) → Progress → Result Progress Reason
 entries_line pieces s = piece_at pieces >>= λ p. if bytes_eq p.0 (codes "e") then entry_line p.1 s else left_line 0 pieces s
 
-unfoldable pub whole_line : List ℕ → Stage → List ℕ → Progress → Result Progress Reason
+unfoldable pub whole_line : List ℕ → NextLine → List ℕ → Progress → Result Progress Reason
 whole_line want next line s = wanted (bytes_eq line want) Spelling (Ok (record s { at = next }))
 
 -- a line after which the text may go on, or the first reason against it
-abbrev pub line_at : Stage → Progress → List ℕ → Result Progress Reason
-line_at stage.Head s line = whole_line (codes "mctower-trace 1") stage.Count line s
-line_at stage.Count s line = count_line (pieces_of line) s
-line_at (stage.Capacities count) s line = capacity_line count (pieces_of line) s
-line_at stage.Entries s line = entries_line (pieces_of line) s
-line_at (stage.Contents b) s line = left_line b (pieces_of line) s
-line_at stage.End s line = whole_line (codes "end") stage.Done line s
-line_at stage.Done s line = Err Spelling
+abbrev pub line_at : NextLine → Progress → List ℕ → Result Progress Reason
+line_at wants.Head s line = whole_line (codes "mctower-trace 1") wants.Count line s
+line_at wants.Count s line = count_line (pieces_of line) s
+line_at (wants.Capacities count) s line = capacity_line count (pieces_of line) s
+line_at wants.Entries s line = entries_line (pieces_of line) s
+line_at (wants.Contents b) s line = left_line b (pieces_of line) s
+line_at wants.End s line = whole_line (codes "end") wants.Done line s
+line_at wants.Done s line = Err Spelling
 
 unfoldable pub step : Progress → List ℕ → Result Progress Reason
 step s line = line_at s.at s line
 
-abbrev pub is_done : Stage → Bool
-is_done stage.Done = true
-is_done stage.Head = false
-is_done stage.Count = false
-is_done (stage.Capacities count) = false
-is_done stage.Entries = false
-is_done (stage.Contents b) = false
-is_done stage.End = false
+abbrev pub is_done : NextLine → Bool
+is_done wants.Done = true
+is_done wants.Head = false
+is_done wants.Count = false
+is_done (wants.Capacities count) = false
+is_done wants.Entries = false
+is_done (wants.Contents b) = false
+is_done wants.End = false
 
 -- ---- the text
 

@@ -4,12 +4,12 @@ ghost use Rattle.std.specs.Prelude.{◌≡◌, ◌+◌, ◌≤◌, ◌<◌, ◌=
 ghost use Rattle.event_log.specs.declared.ids.TheConstants.{BUFFERS};
 ghost use Rattle.tracer.specs.Judging.{opening, whole_line, count_line, capacity_line, entry_line, entries_line, left_line, is_left, step, is_done};
 ghost use Rattle.tracer.specs.Lines.{left_of};
-ghost use Rattle.tracer.specs.declared.stages.Stage.TheVariants.{Count as TheCount, Capacities as WantsCapacities, Done as NoLine};
+ghost use Rattle.tracer.specs.declared.next_lines.NextLine.TheVariants.{Count as TheCount, Capacities as WantsCapacities, Done as NoLine};
 
 use crate::entering::enter_among;
 use crate::lines::{capacity_digits, count_digits, entry_digits, entry_in, left_digits};
+use crate::next_lines::NextLine;
 use crate::pieces::{Pieces, are_within, in_range, piece};
-use crate::stages::Stage;
 use crate::tally::Tally;
 use crate::verdicts::Reason;
 use arrayvec::ArrayVec;
@@ -19,7 +19,7 @@ use event_log::{BUFFERS, CAPACITY, ENTRIES};
 /// and how many entries there were.
 #[derive(Drop)]
 pub struct Judge {
-    at: Stage,
+    at: NextLine,
     buffers: ArrayVec<Tally, BUFFERS>,
     entries: u64,
     ghost room: { (count : ℕ) → at ≡ WantsCapacities count → (length buffers.items < count) × (count ≤ BUFFERS) },
@@ -33,7 +33,7 @@ impl Judge {
         ensures { progress_of result ≡ opening }
     {
         Judge {
-            at: Stage::Head,
+            at: NextLine::Head,
             buffers: ArrayVec::new(),
             entries: 0,
         }
@@ -43,7 +43,7 @@ impl Judge {
     pub fn is_done(&self) -> bool
         ensures { result ≡ is_done (progress_of self.now).at }
     {
-        matches!(self.at, Stage::Done)
+        matches!(self.at, NextLine::Done)
     }
 
     /// The next line, without its line feed.
@@ -54,13 +54,13 @@ impl Judge {
         ensures { StepsTo (step (progress_of self.old) line.now) result (progress_of self.new) }
     {
         match self.at {
-            Stage::Head => self.head(line),
-            Stage::Count => self.count(Pieces { rest: Some(line) }),
-            Stage::Capacities(count) => self.capacity(count, Pieces { rest: Some(line) }),
-            Stage::Entries => self.entry_or_left(Pieces { rest: Some(line) }),
-            Stage::Contents(b) => self.left(b, Pieces { rest: Some(line) }),
-            Stage::End => self.end(line),
-            Stage::Done => Err(Reason::Spelling),
+            NextLine::Head => self.head(line),
+            NextLine::Count => self.count(Pieces { rest: Some(line) }),
+            NextLine::Capacities(count) => self.capacity(count, Pieces { rest: Some(line) }),
+            NextLine::Entries => self.entry_or_left(Pieces { rest: Some(line) }),
+            NextLine::Contents(b) => self.left(b, Pieces { rest: Some(line) }),
+            NextLine::End => self.end(line),
+            NextLine::Done => Err(Reason::Spelling),
         }
     }
 
@@ -72,7 +72,7 @@ impl Judge {
         if line != b"mctower-trace 1".as_slice() {
             return Err(Reason::Spelling);
         }
-        self.at = Stage::Count;
+        self.at = NextLine::Count;
         Ok(())
     }
 
@@ -84,7 +84,7 @@ impl Judge {
         if line != b"end".as_slice() {
             return Err(Reason::Spelling);
         }
-        self.at = Stage::Done;
+        self.at = NextLine::Done;
         Ok(())
     }
 
@@ -99,7 +99,7 @@ impl Judge {
             return Err(Reason::Range);
         }
         self.buffers = ArrayVec::new();
-        self.at = Stage::Capacities(count as usize);
+        self.at = NextLine::Capacities(count as usize);
         Ok(())
     }
 
@@ -115,7 +115,7 @@ impl Judge {
             return Err(Reason::Range);
         }
         if self.buffers.len() + 1 >= count {
-            self.at = Stage::Entries;
+            self.at = NextLine::Entries;
         }
         self.buffers.push(Tally::new(capacity as usize));
         Ok(())
@@ -150,9 +150,9 @@ impl Judge {
         }
         let count = self.buffers.len();
         self.at = if b + 1 < count {
-            Stage::Contents(b + 1)
+            NextLine::Contents(b + 1)
         } else {
-            Stage::End
+            NextLine::End
         };
         Ok(())
     }

@@ -2,7 +2,7 @@
 
 /// Which line of a trace text may come.
 #[derive(Clone, Copy)]
-pub enum Stage {
+pub enum NextLine {
     /// The head.
     Head,
     /// The number of buffers.
