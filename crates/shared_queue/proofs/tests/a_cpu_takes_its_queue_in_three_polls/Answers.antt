@@ -1,0 +1,5 @@
+use Rattle.std.proofs.Common.{lit<}
+use Rattle.shared_queue.proofs.tests.a_cpu_takes_its_queue_in_three_polls.Goals as goal
+
+pub part-queues-requires-clause-acts : goal.part-queues-requires-clause-acts
+part-queues-requires-clause-acts g c = (c.in_ok-m.ensures.acts (record { 0 = 0 }) (lit< tt), c.in_ok-m.ensures.starts)
