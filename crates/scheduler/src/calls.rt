@@ -11,6 +11,7 @@ use layer_traits::{Pass, QueueCall, SchedCall};
 
 /// The call of `cpu` at the shared queues; `None` where `call` touches nothing shared. `homes` holds
 /// the home of each thread.
+#[inline(always)]
 pub fn call_beneath<E: Copy>(
     homes: &[CpuId],
     cpu: CpuId,
@@ -29,6 +30,7 @@ pub fn call_beneath<E: Copy>(
 }
 
 /// The CPU whose pending queue is for `t`: the thread's home, or `cpu` where it has none.
+#[inline(always)]
 fn queue_for(homes: &[CpuId], cpu: CpuId, t: Tid) -> CpuId
     ensures { result ≡ queue_for homes.now cpu t }
 {

@@ -54,6 +54,7 @@ impl OwnThreads {
     }
 
     /// The thread that runs; `None` where none does.
+    #[inline(always)]
     pub fn current(&self) -> Option<Tid>
         ensures { result ≡ self.now.current }
     {
@@ -61,6 +62,7 @@ impl OwnThreads {
     }
 
     /// The woken thread in hand; `None` where there is none.
+    #[inline(always)]
     pub fn hand(&self) -> Option<Tid>
         ensures { result ≡ self.now.hand }
     {
@@ -68,6 +70,7 @@ impl OwnThreads {
     }
 
     /// Whether any thread is ready.
+    #[inline(always)]
     pub fn has_ready(&self) -> bool
         ensures some { result ≡ true → self.now.ready ≢ [] }
         ensures none { result ≡ false → self.now.ready ≡ [] }
@@ -76,6 +79,7 @@ impl OwnThreads {
     }
 
     /// Whether `t` is ready.
+    #[inline(always)]
     pub fn is_ready(&self, t: Tid) -> bool
         ensures { result ≡ is_in t self.now.ready }
     {
@@ -83,6 +87,7 @@ impl OwnThreads {
     }
 
     /// Whether `t` has ended.
+    #[inline(always)]
     pub fn has_ended(&self, t: Tid) -> bool
         ensures { result ≡ is_in t self.now.ended }
     {
@@ -90,6 +95,7 @@ impl OwnThreads {
     }
 
     /// The front of the ready threads runs.
+    #[inline(always)]
     pub fn switch(&mut self)
         ensures { self.new ≡ switched self.old }
     {
@@ -97,6 +103,7 @@ impl OwnThreads {
     }
 
     /// The thread that runs has ended.
+    #[inline(always)]
     pub fn finish(&mut self)
         requires { MayFinish self.old }
         ensures { self.new ≡ finished self.old }
@@ -108,6 +115,7 @@ impl OwnThreads {
     }
 
     /// The threads of `queue` join those that are ready, and behind them the thread that runs.
+    #[inline(always)]
     pub fn take(&mut self, queue: ThreadQueue)
         requires { MayJoin queue self.old }
         ensures { self.new ≡ took queue self.old }
@@ -121,6 +129,7 @@ impl OwnThreads {
     }
 
     /// The hand has passed its thread on.
+    #[inline(always)]
     pub fn pass_on(&mut self)
         ensures { self.new ≡ passed_on self.old }
     {
@@ -129,6 +138,7 @@ impl OwnThreads {
 
     /// The thread that runs went to sleep, if `slept` tells a line, and `woke` was woken: that one is
     /// ready if `cpu` is its home, and else in hand.
+    #[inline(always)]
     pub fn settle(&mut self, homes: &[CpuId], cpu: CpuId, slept: Option<Line>, woke: Option<Tid>)
         requires { MaySettle woke self.old }
         ensures { self.new ≡ own_woken homes.now cpu woke (own_slept slept self.old) }
@@ -146,6 +156,7 @@ impl OwnThreads {
 
     /// Does a call that touches nothing shared: a switch, or the end of the thread that runs. Any
     /// other call changes nothing.
+    #[inline(always)]
     pub fn local<E>(&mut self, call: &SchedCall<E>)
         requires { MayFinish self.old }
         ensures { self.new ≡ local_after call.now self.old }
@@ -158,6 +169,7 @@ impl OwnThreads {
     }
 
     /// Takes up the answer of the shared queues, and gives the scheduler's.
+    #[inline(always)]
     pub fn answered<E: Moves>(
         &mut self,
         homes: &[CpuId],
@@ -186,6 +198,7 @@ impl OwnThreads {
 }
 
 /// Whether `cpu` is the home of `t`.
+#[inline(always)]
 fn is_home(homes: &[CpuId], cpu: CpuId, t: Tid) -> bool
     ensures { result ≡ is_cpu cpu (home_of homes.now t) }
 {

@@ -19,7 +19,7 @@ pub struct Sched<Q> {
     own: OwnThreads,
 }
 
-impl<E: Moves, Q: QueueLayer<E> + Drop> SchedLayer<E> for Sched<Q> {
+impl<E: Moves, Q: QueueLayer<E>> SchedLayer<E> for Sched<Q> {
     ghost use Rattle.std.proofs.Common.{subst};
     ghost use Rattle.scheduler.specs.Parts.{PartFits, sched_under, busy_under};
 
@@ -58,26 +58,32 @@ impl<E: Moves, Q: QueueLayer<E> + Drop> SchedLayer<E> for Sched<Q> {
         }
     }
 
+    #[inline(always)]
     fn is_busy(&self) -> bool {
         self.lower.is_busy()
     }
 
+    #[inline(always)]
     fn current(&self) -> Option<Tid> {
         self.own.current()
     }
 
+    #[inline(always)]
     fn hand(&self) -> Option<Tid> {
         self.own.hand()
     }
 
+    #[inline(always)]
     fn has_ready(&self) -> bool {
         self.own.has_ready()
     }
 
+    #[inline(always)]
     fn is_ready(&self, t: Tid) -> bool {
         self.own.is_ready(t)
     }
 
+    #[inline(always)]
     fn has_ended(&self, t: Tid) -> bool {
         self.own.has_ended(t)
     }
@@ -87,6 +93,7 @@ impl<E: Moves, Q: QueueLayer<E> + Drop> SchedLayer<E> for Sched<Q> {
         self.lower.look(m)
     }
 
+    #[inline(always)]
     fn poll(&mut self, m: &mut Q::Machine, call: &SchedCall<E>) -> Option<SchedAnswer<E::Out>> {
         let homes = self.homes.as_slice();
         match call_beneath(homes, self.cpu, call) {
