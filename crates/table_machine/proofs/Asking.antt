@@ -14,13 +14,13 @@ use Rattle.layer_traits.specs.Protocol.{Rules, MayCome}
 use Rattle.layer_traits.specs.OneLock.{opened}
 use Rattle.table_machine.specs.declared.views.Home.{Home}
 use Rattle.table_machine.specs.declared.views.View.{View}
-use Rattle.table_machine.specs.Places.{index_of, next_at, word_count}
+use Rattle.table_machine.specs.Layout.{rank_of, next_at, word_count}
 use Rattle.table_machine.specs.Views.{mine, owner, IsCpu}
 use Rattle.table_machine.specs.Rule.{Kept}
 use Rattle.table_machine.specs.Plays.{Moves, Drew}
 use Rattle.table_machine.specs.Desks.{Board, Desk, IsOf, Carries, IsKey}
 use Rattle.layer_traits.proofs.OneLockLemmas.{standing_own}
-use Rattle.table_machine.proofs.Finding.{index_same}
+use Rattle.table_machine.proofs.Finding.{rank_same}
 use Rattle.table_machine.proofs.Showing.{next_within}
 use Rattle.table_machine.proofs.Stepping.{draws_allowed}
 
@@ -39,13 +39,13 @@ module _ {E B O : Type 0} (R : Rules E B O) where
   module _ (table z : TableId) (start : List (LockId × B)) (n id word : ℕ) (words_are : z.words ≡ word_count (length start)) (cpu : CpuId)
       (me : Me (Home E B) (View E B)) (key : IsKey R cpu me) where
     draw_plain : (lock : LockId) → IsOf (board_of z start n) (desk_of cpu table me) → IsSome (opened me.0.start lock) → standing cpu me.0.seen ≡ Outside
-        → word ≡ next_at (index_of start lock)
+        → word ≡ next_at (rank_of start lock)
         → (table ≡ z) × (word < z.words) × Allows (Kept R n start) z.slots id me word (λ m. (m + 1) % 2 ^ 64) (Drew R (step z.slots word 1 0 none) me)
     draw_plain lock of exists out word_is =
         let there : IsSome (opened start lock) = subst (λ s. IsSome (opened s lock)) of.1 exists in (
           of.0,
           subst (λ (w : ℕ). w < z.words) (sym word_is)
-              (subst (λ (w : ℕ). next_at (index_of start lock) < w) (sym words_are) (next_within R.edited start lock there)),
+              (subst (λ (w : ℕ). next_at (rank_of start lock) < w) (sym words_are) (next_within R.edited start lock there)),
           subst (λ (m : Me (Home E B) (View E B)). Allows (Kept R n start) z.slots id m word (λ m. (m + 1) % 2 ^ 64) (Drew R (step z.slots word 1 0 none) m))
               (sym (me_is cpu me start key of.1))
               (subst (λ (w : ℕ). Allows (Kept R n start) z.slots id (mine start cpu me.0.seen, me.1) w (λ m. (m + 1) % 2 ^ 64)
@@ -54,11 +54,11 @@ module _ {E B O : Type 0} (R : Rules E B O) where
         )
 
     pub draw_asks : (d : Desk E B) (b : Board B) (lock : LockId) → desk_of cpu table me ≡ d → board_of z start n ≡ b → IsOf b d → IsSome (opened d.start lock)
-        → standing d.cpu d.seen ≡ Outside → word ≡ next_at (index_of b.start lock)
+        → standing d.cpu d.seen ≡ Outside → word ≡ next_at (rank_of b.start lock)
         → (table ≡ z) × (word < z.words) × Allows (Kept R n start) z.slots id me word (λ m. (m + 1) % 2 ^ 64) (Drew R (step z.slots word 1 0 none) me)
     draw_asks d b lock d_is b_is of exists out word_is =
         let P : Desk E B → Board B → Type 0 = λ d b. IsOf b d → IsSome (opened d.start lock) → standing d.cpu d.seen ≡ Outside
-        → word ≡ next_at (index_of b.start lock)
+        → word ≡ next_at (rank_of b.start lock)
         → (table ≡ z) × (word < z.words) × Allows (Kept R n start) z.slots id me word (λ m. (m + 1) % 2 ^ 64) (Drew R (step z.slots word 1 0 none) me) in
         subst (λ d. P d b) d_is (subst (λ b. P (desk_of cpu table me) b) b_is (draw_plain lock)) of exists out word_is
 
@@ -91,13 +91,13 @@ module _ {E B O : Type 0} (R : Rules E B O) where
       (ap (standing (actor e)) moves.adds.is ∙ standing_own e (moves.adds.others ++ v.seen))
 
   pub draw_went : (cpu : CpuId) (v w : Me (Home E B) (View E B)) (slots word found : ℕ) (lock : LockId) → IsKey R cpu v → standing cpu v.0.seen ≡ Outside
-      → IsSome (opened v.0.start lock) → word ≡ next_at (index_of v.0.start lock)
+      → IsSome (opened v.0.start lock) → word ≡ next_at (rank_of v.0.start lock)
       → Drew R (step slots word 1 0 none) v found w → Went cpu v w (Draw cpu lock found)
   draw_went cpu v w slots word found lock key out exists word_is told =
       let mine_is : owner v.0.cpus ≡ cpu = ap (λ (u : View E B). owner u.cpus) key.view in
-      let places_same : next_at (index_of v.0.start told.lock) ≡ next_at (index_of v.0.start lock) = sym told.word ∙ word_is in
-      let index_is : index_of v.0.start told.lock ≡ index_of v.0.start lock = omega arith in
-      let lock_is : told.lock ≡ lock = index_same v.0.start told.lock lock told.exists index_is in
+      let next_same : next_at (rank_of v.0.start told.lock) ≡ next_at (rank_of v.0.start lock) = sym told.word ∙ word_is in
+      let same_rank : rank_of v.0.start told.lock ≡ rank_of v.0.start lock = omega arith in
+      let lock_is : told.lock ≡ lock = rank_same v.0.start told.lock lock told.exists same_rank in
       let moves : Moves R v.0 w.0 (Draw cpu lock found) =
       subst (λ c. Moves R v.0 w.0 (Draw c lock found)) mine_is (subst (λ l. Moves R v.0 w.0 (Draw (owner v.0.cpus) l found)) lock_is told.moves) in
       let nothing : v.1 ≡ [] = subst (λ st. Carries v.0.start st v.1) out key.held in
@@ -106,13 +106,13 @@ module _ {E B O : Type 0} (R : Rules E B O) where
 
   pub draw_tells : (cpu : CpuId) (table : TableId) (v w : Me (Home E B) (View E B)) (slots word found : ℕ) (lock : LockId) (d : Desk E B) (b : Board B)
       → desk_of cpu table v ≡ d → IsKey R cpu v
-      → IsOf b d → IsSome (opened d.start lock) → standing d.cpu d.seen ≡ Outside → word ≡ next_at (index_of b.start lock)
+      → IsOf b d → IsSome (opened d.start lock) → standing d.cpu d.seen ≡ Outside → word ≡ next_at (rank_of b.start lock)
       → Drew R (step slots word 1 0 none) v found w → (d.start ≡ w.0.start) × Adds (IsCpu d.cpu) actor (Draw d.cpu lock found) d.seen w.0.seen × IsKey R cpu w
   draw_tells cpu table v w slots word found lock d b d_is key of exists out word_is told =
       let P : Desk E B → Type 0 = λ d. IsOf b d → IsSome (opened d.start lock) → standing d.cpu d.seen ≡ Outside
       → (d.start ≡ w.0.start) × Adds (IsCpu d.cpu) actor (Draw d.cpu lock found) d.seen w.0.seen × IsKey R cpu w in
       let plain : P (desk_of cpu table v) = λ of exists out. (
-      let word_is' : word ≡ next_at (index_of v.0.start lock) = word_is ∙ ap (λ s. next_at (index_of s lock)) (sym of.1) in
+      let word_is' : word ≡ next_at (rank_of v.0.start lock) = word_is ∙ ap (λ s. next_at (rank_of s lock)) (sym of.1) in
       let done = draw_went cpu v w slots word found lock key out exists word_is' told in (sym done.start, done.adds, done.key)) in
       subst P d_is plain of exists out
 

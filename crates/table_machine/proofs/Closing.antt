@@ -18,14 +18,14 @@ use Rattle.layer_traits.specs.Protocol.{Rules, MayCome, sections}
 use Rattle.layer_traits.specs.OneLock.{LockFits, NobodyInside, opened, AreDistinct}
 use Rattle.table_machine.specs.declared.views.Home.{Home}
 use Rattle.table_machine.specs.declared.views.View.{View}
-use Rattle.table_machine.specs.Places.{index_of, next_at, serving_at}
+use Rattle.table_machine.specs.Layout.{rank_of, next_at, serving_at}
 use Rattle.table_machine.specs.Views.{viewed, Has, IsSince}
 use Rattle.table_machine.specs.Rule.{home_block, Kept}
 use Rattle.table_machine.specs.Plays.{Met}
 use Rattle.table_machine.specs.Desks.{Board, Desk, IsKey, Carries, Gathered, Covers, IsIn, Closes}
 use Rattle.layer_traits.proofs.OneLockLemmas.{all_home}
 use Rattle.table_machine.proofs.Logs.{standing_since, own_since, others_append, none_of_others}
-use Rattle.table_machine.proofs.Finding.{place_at}
+use Rattle.table_machine.proofs.Finding.{rank_at}
 use Rattle.table_machine.proofs.Seeing.{at_end}
 use Rattle.table_machine.proofs.Showing.{home_of}
 use Rattle.table_machine.proofs.Asking.{desk_of, board_of}
@@ -111,16 +111,16 @@ module _ {E B O : Type 0} (R : Rules E B O) where
             record { ends = record { more = since.more; is = since.is }; whole = own_since d.cpu log d.seen since });
         rest = λ c large. none_of_others c log (kept.rest c large);
         blocks = λ i o at. (
-            let place = place_at board.start i o distinct at in
-            let stands = kept.shows.stand o.0 place.1 in
+            let rank = rank_at board.start i o distinct at in
+            let stands = kept.shows.stand o.0 rank.1 in
             let nobody : NobodyInside o.0 log = λ c t inside. absurd (let out = outside c in cc (out, inside)) in
             let found = home_of stands.home (all_home R.edited (opened board.start) o.0 log nobody _ _ (home_block stands.home) stands.is) in
             let block_there : home_block stands.home ≡ Some found.1 = ap home_block found.2 ∙ found.3 in
             let folds = (subst (λ x. LockFits R.edited (opened board.start) log o.0
-            (Rattle.std.specs.Prelude.slice_index s.words (next_at (index_of board.start o.0)))
-            (Rattle.std.specs.Prelude.slice_index s.words (serving_at (index_of board.start o.0))) x) block_there stands.is).home_is.1 in
+            (Rattle.std.specs.Prelude.slice_index s.words (next_at (rank_of board.start o.0)))
+            (Rattle.std.specs.Prelude.slice_index s.words (serving_at (rank_of board.start o.0))) x) block_there stands.is).home_is.1 in
             let home_at : get_elem? s.homes i ≡ some (some found.0) =
-            subst (λ k. get_elem? s.homes k ≡ some (some found.0)) place.0 (stands.at ∙ ap some found.2) in
+            subst (λ k. get_elem? s.homes k ≡ some (some found.0)) rank.0 (stands.at ∙ ap some found.2) in
             (found.0, found.1, final.4 i found.0 home_at, found.3, folds));
       }
 

@@ -13,7 +13,7 @@ use Rattle.layer_traits.specs.declared.edits.Mark.{Mark}
 use Rattle.layer_traits.specs.Protocol.{Rules}
 use Rattle.table_machine.specs.declared.views.Home.{Home}
 use Rattle.table_machine.specs.declared.views.View.{View}
-use Rattle.table_machine.specs.Places.{word_count}
+use Rattle.table_machine.specs.Layout.{word_count}
 use Rattle.table_machine.specs.Views.{viewed, mine, owner, cpus_from, Has, Owns, Fits, Sees}
 use Rattle.table_machine.specs.Rule.{Kept, fresh_home}
 use Rattle.table_machine.proofs.Logs.{ends_nil}

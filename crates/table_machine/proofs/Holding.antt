@@ -14,7 +14,7 @@ use Rattle.layer_traits.specs.Protocol.{Rules, StaysAllowed, sections, section, 
 use Rattle.layer_traits.specs.OneLock.{opened}
 use Rattle.table_machine.specs.declared.views.Home.{Home}
 use Rattle.table_machine.specs.declared.views.View.{View}
-use Rattle.table_machine.specs.Places.{index_of, serving_at, word_count}
+use Rattle.table_machine.specs.Layout.{rank_of, serving_at, word_count}
 use Rattle.table_machine.specs.Views.{mine, owner, IsCpu}
 use Rattle.table_machine.specs.Rule.{Kept}
 use Rattle.table_machine.specs.Plays.{Moves, Hits, Looked, Freed}
@@ -37,16 +37,16 @@ module _ {E B O : Type 0} (R : Rules E B O) where
     pub key : IsKey R cpu w
 
   -- what a look that hit leaves
-  pub record LookHit (d : Desk E B) (cpu : CpuId) (lock : LockId) (ticket found place : ℕ) (w : Me (Home E B) (View E B)) : Type 0 where
+  pub record LookHit (d : Desk E B) (cpu : CpuId) (lock : LockId) (ticket found rank : ℕ) (w : Me (Home E B) (View E B)) : Type 0 where
     pub start : d.start ≡ w.0.start
     pub adds : Adds (IsCpu d.cpu) actor (Look d.cpu lock ticket found) d.seen w.0.seen
     pub inside : standing d.cpu w.0.seen ≡ Inside lock ticket
     pub home : Home E B
     pub block : B
-    pub held : w.1 ≡ (place, home) ∷ []
+    pub held : w.1 ≡ (rank, home) ∷ []
     pub is : home.block ≡ Some block
     pub folds : block_after R.edited (opened d.start) lock (sections w.0.seen) ≡ Some block
-    pub key : (x : Home E B) → IsKey R cpu (w.0, (place, x) ∷ [])
+    pub key : (x : Home E B) → IsKey R cpu (w.0, (rank, x) ∷ [])
 
   -- what a free leaves
   pub record FreeDone (d : Desk E B) (cpu : CpuId) (lock : LockId) (edit : E) (w : Me (Home E B) (View E B)) : Type 0 where
@@ -57,7 +57,7 @@ module _ {E B O : Type 0} (R : Rules E B O) where
   module _ (table z : TableId) (start : List (LockId × B)) (n id word : ℕ) (words_are : z.words ≡ word_count (length start)) (cpu : CpuId)
       (me : Me (Home E B) (View E B)) (key : IsKey R cpu me) where
     look_plain : (lock : LockId) (ticket : ℕ) → IsOf (board_of z start n) (desk_of cpu table me) → IsSome (opened me.0.start lock)
-        → standing cpu me.0.seen ≡ Waiting lock ticket → word ≡ serving_at (index_of start lock)
+        → standing cpu me.0.seen ≡ Waiting lock ticket → word ≡ serving_at (rank_of start lock)
         → (table ≡ z) × (word < z.words) × Allows (Kept R n start) z.slots id me word (λ m. m) (Looked R (step z.slots word 0 0 none) me)
     look_plain lock ticket of exists waits word_is =
         let there : IsSome (opened start lock) = subst (λ s. IsSome (opened s lock)) of.1 exists in
@@ -66,7 +66,7 @@ module _ {E B O : Type 0} (R : Rules E B O) where
         ∙ ap (λ (h : List (ℕ × Home E B)). (mine start cpu me.0.seen, h)) nothing in (
           of.0,
           subst (λ (w : ℕ). w < z.words) (sym word_is)
-              (subst (λ (w : ℕ). serving_at (index_of start lock) < w) (sym words_are) (serving_within R.edited start lock there)),
+              (subst (λ (w : ℕ). serving_at (rank_of start lock) < w) (sym words_are) (serving_within R.edited start lock there)),
           subst (λ (m : Me (Home E B) (View E B)). Allows (Kept R n start) z.slots id m word (λ m. m) (Looked R (step z.slots word 0 0 none) m)) (sym me_at)
               (subst (λ (w : ℕ). Allows (Kept R n start) z.slots id (mine start cpu me.0.seen, []) w (λ m. m)
               (Looked R (step z.slots w 0 0 none) (mine start cpu me.0.seen, []))) (sym word_is)
@@ -74,59 +74,59 @@ module _ {E B O : Type 0} (R : Rules E B O) where
         )
 
     pub look_asks : (d : Desk E B) (b : Board B) (lock : LockId) (ticket : ℕ) → desk_of cpu table me ≡ d → board_of z start n ≡ b → IsOf b d
-        → IsSome (opened d.start lock) → standing d.cpu d.seen ≡ Waiting lock ticket → word ≡ serving_at (index_of b.start lock)
+        → IsSome (opened d.start lock) → standing d.cpu d.seen ≡ Waiting lock ticket → word ≡ serving_at (rank_of b.start lock)
         → (table ≡ z) × (word < z.words) × Allows (Kept R n start) z.slots id me word (λ m. m) (Looked R (step z.slots word 0 0 none) me)
     look_asks d b lock ticket d_is b_is of exists waits word_is =
         let P : Desk E B → Board B → Type 0 = λ d b. IsOf b d → IsSome (opened d.start lock) → standing d.cpu d.seen ≡ Waiting lock ticket
-        → word ≡ serving_at (index_of b.start lock)
+        → word ≡ serving_at (rank_of b.start lock)
         → (table ≡ z) × (word < z.words) × Allows (Kept R n start) z.slots id me word (λ m. m) (Looked R (step z.slots word 0 0 none) me) in
         subst (λ d. P d b) d_is (subst (λ b. P (desk_of cpu table me) b) b_is (look_plain lock ticket)) of exists waits word_is
 
-    free_plain : (lock : LockId) (ticket : ℕ) (block : B) (edit : E) (now : TableId) (v : Me (Home E B) (View E B)) (place : ℕ)
+    free_plain : (lock : LockId) (ticket : ℕ) (block : B) (edit : E) (now : TableId) (v : Me (Home E B) (View E B)) (rank : ℕ)
         → IsOf (board_of z start n) (desk_of cpu table me) → IsSome (opened me.0.start lock) → standing cpu me.0.seen ≡ Inside lock ticket
         → option_map (R.edited edit) (block_after R.edited (opened me.0.start) lock (sections me.0.seen)) ≡ Some block
         → StaysAllowed (R.allowed (opened me.0.start)) (sections me.0.seen) (section cpu lock edit)
-        → word ≡ serving_at (index_of start lock) → place ≡ index_of start lock
-        → now ≡ table → v ≡ (me.0, (place, record { block = Some block; edit = Some edit }) ∷ rest me.1)
+        → word ≡ serving_at (rank_of start lock) → rank ≡ rank_of start lock
+        → now ≡ table → v ≡ (me.0, (rank, record { block = Some block; edit = Some edit }) ∷ rest me.1)
         → (now ≡ z) × (word < z.words) × Allows (Kept R n start) z.slots id v word (λ m. (m + 1) % 2 ^ 64) (Freed R (step z.slots word 1 0 none) v)
-    free_plain lock ticket block edit now v place of exists inside edited stays word_is place_is now_is v_is =
+    free_plain lock ticket block edit now v rank of exists inside edited stays word_is rank_is now_is v_is =
         let there : IsSome (opened start lock) = subst (λ s. IsSome (opened s lock)) of.1 exists in
         let x : Home E B = record { block = Some block; edit = Some edit } in
-        let carries : (home : Home E B) × (me.1 ≡ (index_of me.0.start lock, home) ∷ []) = subst (λ st. Carries me.0.start st me.1) inside key.held in
+        let carries : (home : Home E B) × (me.1 ≡ (rank_of me.0.start lock, home) ∷ []) = subst (λ st. Carries me.0.start st me.1) inside key.held in
         let none_left : rest me.1 ≡ [] = ap rest carries.1 in
-        let v_at : v ≡ (mine start cpu me.0.seen, (index_of start lock, x) ∷ []) =
-        v_is ∙ (ap (λ (l : List (ℕ × Home E B)). (me.0, (place, x) ∷ l)) none_left
-        ∙ (ap (λ (p : ℕ). (me.0, (p, x) ∷ [])) place_is
-        ∙ ap (λ (m : Me (Home E B) (View E B)). (m.0, (index_of start lock, x) ∷ [])) (me_is R cpu me start key of.1))) in
+        let v_at : v ≡ (mine start cpu me.0.seen, (rank_of start lock, x) ∷ []) =
+        v_is ∙ (ap (λ (l : List (ℕ × Home E B)). (me.0, (rank, x) ∷ l)) none_left
+        ∙ (ap (λ (p : ℕ). (me.0, (p, x) ∷ [])) rank_is
+        ∙ ap (λ (m : Me (Home E B) (View E B)). (m.0, (rank_of start lock, x) ∷ [])) (me_is R cpu me start key of.1))) in
         let edited' : option_map (R.edited edit) (block_after R.edited (opened start) lock (sections me.0.seen)) ≡ Some block =
         subst (λ s. option_map (R.edited edit) (block_after R.edited (opened s) lock (sections me.0.seen)) ≡ Some block) of.1 edited in
         let stays' : StaysAllowed (R.allowed (opened start)) (sections me.0.seen) (section cpu lock edit) =
         subst (λ s. StaysAllowed (R.allowed (opened s)) (sections me.0.seen) (section cpu lock edit)) of.1 stays in (
           now_is ∙ of.0,
           subst (λ (w : ℕ). w < z.words) (sym word_is)
-              (subst (λ (w : ℕ). serving_at (index_of start lock) < w) (sym words_are) (serving_within R.edited start lock there)),
+              (subst (λ (w : ℕ). serving_at (rank_of start lock) < w) (sym words_are) (serving_within R.edited start lock there)),
           subst (λ (m : Me (Home E B) (View E B)). Allows (Kept R n start) z.slots id m word (λ m. (m + 1) % 2 ^ 64) (Freed R (step z.slots word 1 0 none) m))
               (sym v_at)
-              (subst (λ (w : ℕ). Allows (Kept R n start) z.slots id (mine start cpu me.0.seen, (index_of start lock, x) ∷ []) w (λ m. (m + 1) % 2 ^ 64)
-              (Freed R (step z.slots w 1 0 none) (mine start cpu me.0.seen, (index_of start lock, x) ∷ []))) (sym word_is)
+              (subst (λ (w : ℕ). Allows (Kept R n start) z.slots id (mine start cpu me.0.seen, (rank_of start lock, x) ∷ []) w (λ m. (m + 1) % 2 ^ 64)
+              (Freed R (step z.slots w 1 0 none) (mine start cpu me.0.seen, (rank_of start lock, x) ∷ []))) (sym word_is)
               (frees_allowed R n start z.slots id cpu me.0.seen lock ticket edit block x there inside refl refl edited' stays')),
         )
 
-    pub free_asks : (d : Desk E B) (b : Board B) (lock : LockId) (ticket : ℕ) (block : B) (edit : E) (now : TableId) (v : Me (Home E B) (View E B)) (place : ℕ)
+    pub free_asks : (d : Desk E B) (b : Board B) (lock : LockId) (ticket : ℕ) (block : B) (edit : E) (now : TableId) (v : Me (Home E B) (View E B)) (rank : ℕ)
         → desk_of cpu table me ≡ d → board_of z start n ≡ b → IsOf b d → IsSome (opened d.start lock) → standing d.cpu d.seen ≡ Inside lock ticket
         → option_map (R.edited edit) (block_after R.edited (opened d.start) lock (sections d.seen)) ≡ Some block
         → StaysAllowed (R.allowed (opened d.start)) (sections d.seen) (section d.cpu lock edit)
-        → word ≡ serving_at (index_of b.start lock) → place ≡ index_of b.start lock
-        → now ≡ table → v ≡ (me.0, (place, record { block = Some block; edit = Some edit }) ∷ rest me.1)
+        → word ≡ serving_at (rank_of b.start lock) → rank ≡ rank_of b.start lock
+        → now ≡ table → v ≡ (me.0, (rank, record { block = Some block; edit = Some edit }) ∷ rest me.1)
         → (now ≡ z) × (word < z.words) × Allows (Kept R n start) z.slots id v word (λ m. (m + 1) % 2 ^ 64) (Freed R (step z.slots word 1 0 none) v)
-    free_asks d b lock ticket block edit now v place d_is b_is =
+    free_asks d b lock ticket block edit now v rank d_is b_is =
         let P : Desk E B → Board B → Type 0 = λ d b. IsOf b d → IsSome (opened d.start lock) → standing d.cpu d.seen ≡ Inside lock ticket
         → option_map (R.edited edit) (block_after R.edited (opened d.start) lock (sections d.seen)) ≡ Some block
         → StaysAllowed (R.allowed (opened d.start)) (sections d.seen) (section d.cpu lock edit)
-        → word ≡ serving_at (index_of b.start lock) → place ≡ index_of b.start lock
-        → now ≡ table → v ≡ (me.0, (place, record { block = Some block; edit = Some edit }) ∷ rest me.1)
+        → word ≡ serving_at (rank_of b.start lock) → rank ≡ rank_of b.start lock
+        → now ≡ table → v ≡ (me.0, (rank, record { block = Some block; edit = Some edit }) ∷ rest me.1)
         → (now ≡ z) × (word < z.words) × Allows (Kept R n start) z.slots id v word (λ m. (m + 1) % 2 ^ 64) (Freed R (step z.slots word 1 0 none) v) in
-        subst (λ d. P d b) d_is (subst (λ b. P (desk_of cpu table me) b) b_is (free_plain lock ticket block edit now v place))
+        subst (λ d. P d b) d_is (subst (λ b. P (desk_of cpu table me) b) b_is (free_plain lock ticket block edit now v rank))
 
   module _ (cpu : CpuId) (table : TableId) (v w : Me (Home E B) (View E B)) (slots word found : ℕ) (lock : LockId) (ticket : ℕ) (key : IsKey R cpu v) where
     -- the event is the CPU's own look
@@ -164,9 +164,9 @@ module _ {E B O : Type 0} (R : Rules E B O) where
     look_missed d d_is waits other told = subst (λ d. standing d.cpu d.seen ≡ Waiting lock ticket → LookMissed d cpu lock ticket found w) d_is
         (λ waits. missed_plain waits (ne_eqb found ticket other) told) waits
 
-    hit_plain : (place : ℕ) → standing cpu v.0.seen ≡ Waiting lock ticket → (found == ticket) ≡ true → place ≡ index_of v.0.start lock
-        → Looked R (step slots word 0 0 none) v found w → LookHit (desk_of cpu table v) cpu lock ticket found place w
-    hit_plain place waits same place_is told =
+    hit_plain : (rank : ℕ) → standing cpu v.0.seen ≡ Waiting lock ticket → (found == ticket) ≡ true → rank ≡ rank_of v.0.start lock
+        → Looked R (step slots word 0 0 none) v found w → LookHit (desk_of cpu table v) cpu lock ticket found rank w
+    hit_plain rank waits same rank_is told =
         let moved = look_moves waits told in
         let stands : standing cpu w.0.seen ≡ Inside lock ticket = stands_after R cpu (Look cpu lock ticket found) v.0 w.0 refl moved.2
         ∙ ap (λ b. if b then Inside lock ticket else Waiting lock ticket) same in
@@ -177,45 +177,45 @@ module _ {E B O : Type 0} (R : Rules E B O) where
               absurd (let other = miss.other in let other' : (found == ticket) ≡ false = subst (λ t. (found == t) ≡ false) moved.1 other in cc (other', same))
           | inr hit ↦ hit
         ] in
-        let done = λ (x : Home E B). went R cpu v (w.0, (place, x) ∷ []) (Look cpu lock ticket found) key moved.2
-        (subst (λ st. Carries v.0.start st ((place, x) ∷ [])) (sym stands) (x, ap (λ (p : ℕ). (p, x) ∷ []) place_is)) in
+        let done = λ (x : Home E B). went R cpu v (w.0, (rank, x) ∷ []) (Look cpu lock ticket found) key moved.2
+        (subst (λ st. Carries v.0.start st ((rank, x) ∷ [])) (sym stands) (x, ap (λ (p : ℕ). (p, x) ∷ []) rank_is)) in
         record {
           start = sym (done hit.home).start;
           adds = (done hit.home).adds;
           inside = stands;
           home = hit.home;
           block = hit.block;
-          held = hit.held ∙ (ap (λ (l : List (ℕ × Home E B)). (index_of v.0.start told.lock, hit.home) ∷ l) nothing
-              ∙ ap (λ (p : ℕ). (p, hit.home) ∷ []) (ap (index_of v.0.start) moved.0 ∙ sym place_is));
+          held = hit.held ∙ (ap (λ (l : List (ℕ × Home E B)). (rank_of v.0.start told.lock, hit.home) ∷ l) nothing
+              ∙ ap (λ (p : ℕ). (p, hit.home) ∷ []) (ap (rank_of v.0.start) moved.0 ∙ sym rank_is));
           is = hit.is;
           folds = subst (λ l. block_after R.edited (opened v.0.start) l (sections w.0.seen) ≡ Some hit.block) moved.0 hit.folds;
           key = λ x. (done x).key;
         }
 
-    pub look_hit : (d : Desk E B) (b : Board B) (place : ℕ) → desk_of cpu table v ≡ d → IsOf b d → standing d.cpu d.seen ≡ Waiting lock ticket → found ≡ ticket
-        → place ≡ index_of b.start lock → Looked R (step slots word 0 0 none) v found w → LookHit d cpu lock ticket found place w
-    look_hit d b place d_is of waits same place_is told =
-        subst (λ d. IsOf b d → standing d.cpu d.seen ≡ Waiting lock ticket → LookHit d cpu lock ticket found place w) d_is
-        (λ of waits. hit_plain place waits (eq-eqb found ticket same) (place_is ∙ ap (λ s. index_of s lock) (sym of.1)) told) of waits
+    pub look_hit : (d : Desk E B) (b : Board B) (rank : ℕ) → desk_of cpu table v ≡ d → IsOf b d → standing d.cpu d.seen ≡ Waiting lock ticket → found ≡ ticket
+        → rank ≡ rank_of b.start lock → Looked R (step slots word 0 0 none) v found w → LookHit d cpu lock ticket found rank w
+    look_hit d b rank d_is of waits same rank_is told =
+        subst (λ d. IsOf b d → standing d.cpu d.seen ≡ Waiting lock ticket → LookHit d cpu lock ticket found rank w) d_is
+        (λ of waits. hit_plain rank waits (eq-eqb found ticket same) (rank_is ∙ ap (λ s. rank_of s lock) (sym of.1)) told) of waits
 
     -- the slot that a CPU inside a lock carries
-    pub carried : (d : Desk E B) (b : Board B) (place : ℕ) → desk_of cpu table v ≡ d → IsOf b d → standing d.cpu d.seen ≡ Inside lock ticket
-        → place ≡ index_of b.start lock → (old : Home E B) × (v.1 ≡ (place, old) ∷ rest v.1)
-    carried d b place d_is of inside place_is =
-        subst (λ d. IsOf b d → standing d.cpu d.seen ≡ Inside lock ticket → (old : Home E B) × (v.1 ≡ (place, old) ∷ rest v.1)) d_is
+    pub carried : (d : Desk E B) (b : Board B) (rank : ℕ) → desk_of cpu table v ≡ d → IsOf b d → standing d.cpu d.seen ≡ Inside lock ticket
+        → rank ≡ rank_of b.start lock → (old : Home E B) × (v.1 ≡ (rank, old) ∷ rest v.1)
+    carried d b rank d_is of inside rank_is =
+        subst (λ d. IsOf b d → standing d.cpu d.seen ≡ Inside lock ticket → (old : Home E B) × (v.1 ≡ (rank, old) ∷ rest v.1)) d_is
         (λ of inside.
-        let carries : (home : Home E B) × (v.1 ≡ (index_of v.0.start lock, home) ∷ []) = subst (λ st. Carries v.0.start st v.1) inside key.held in (
+        let carries : (home : Home E B) × (v.1 ≡ (rank_of v.0.start lock, home) ∷ []) = subst (λ st. Carries v.0.start st v.1) inside key.held in (
           carries.0,
-          carries.1 ∙ (ap (λ (p : ℕ). (p, carries.0) ∷ []) (ap (λ s. index_of s lock) of.1 ∙ sym place_is)
-              ∙ ap (λ (l : List (ℕ × Home E B)). (place, carries.0) ∷ l) (sym (ap rest carries.1))),
+          carries.1 ∙ (ap (λ (p : ℕ). (p, carries.0) ∷ []) (ap (λ s. rank_of s lock) of.1 ∙ sym rank_is)
+              ∙ ap (λ (l : List (ℕ × Home E B)). (rank, carries.0) ∷ l) (sym (ap rest carries.1))),
         )) of inside
 
   -- the event is the free of the lock that the CPU was inside
-  free_done : (cpu : CpuId) (table : TableId) (me v w : Me (Home E B) (View E B)) (slots word found place : ℕ) (lock : LockId) (ticket : ℕ) (block : B)
+  free_done : (cpu : CpuId) (table : TableId) (me v w : Me (Home E B) (View E B)) (slots word found rank : ℕ) (lock : LockId) (ticket : ℕ) (block : B)
       (edit : E) → IsKey R cpu me
-      → standing cpu me.0.seen ≡ Inside lock ticket → v ≡ (me.0, (place, record { block = Some block; edit = Some edit }) ∷ rest me.1)
+      → standing cpu me.0.seen ≡ Inside lock ticket → v ≡ (me.0, (rank, record { block = Some block; edit = Some edit }) ∷ rest me.1)
       → Freed R (step slots word 1 0 none) v found w → FreeDone (desk_of cpu table me) cpu lock edit w
-  free_done cpu table me v w slots word found place lock ticket block edit key inside v_is told =
+  free_done cpu table me v w slots word found rank lock ticket block edit key inside v_is told =
       let mine_is : owner me.0.cpus ≡ cpu = ap (λ (u : View E B). owner u.cpus) key.view in
       let view_is : v.0 ≡ me.0 = ap (λ (m : Me (Home E B) (View E B)). m.0) v_is in
       let owner_is : owner v.0.cpus ≡ cpu = ap (λ (u : View E B). owner u.cpus) view_is ∙ mine_is in
@@ -223,7 +223,7 @@ module _ {E B O : Type 0} (R : Rules E B O) where
       ∙ (ap (λ (u : View E B). standing (owner u.cpus) u.seen) view_is ∙ (ap (λ c. standing c me.0.seen) mine_is ∙ inside)) in
       let lock_is : told.lock ≡ lock = cc in
       let x : Home E B = record { block = Some block; edit = Some edit } in
-      let slots_are : (told.slot, told.home) ∷ [] ≡ (place, x) ∷ rest me.1 = sym told.carried ∙ ap (λ (m : Me (Home E B) (View E B)). m.1) v_is in
+      let slots_are : (told.slot, told.home) ∷ [] ≡ (rank, x) ∷ rest me.1 = sym told.carried ∙ ap (λ (m : Me (Home E B) (View E B)). m.1) v_is in
       let home_is : told.home ≡ x = home_in slots_are in
       let edits : Some told.edit ≡ Some edit = sym told.is ∙ ap (λ (h : Home E B). h.edit) home_is in
       let edit_is : told.edit ≡ edit = cc in
@@ -242,10 +242,10 @@ module _ {E B O : Type 0} (R : Rules E B O) where
       home_in : {a b : ℕ} {p q : Home E B} {ps qs : List (ℕ × Home E B)} → (a, p) ∷ ps ≡ (b, q) ∷ qs → p ≡ q
       home_in {p = p} e = ap (head_home p) e
 
-  pub free_tells : (cpu : CpuId) (table : TableId) (me v w : Me (Home E B) (View E B)) (slots word found place : ℕ) (lock : LockId) (ticket : ℕ) (block : B)
+  pub free_tells : (cpu : CpuId) (table : TableId) (me v w : Me (Home E B) (View E B)) (slots word found rank : ℕ) (lock : LockId) (ticket : ℕ) (block : B)
       (edit : E) (d : Desk E B) → desk_of cpu table me ≡ d → IsKey R cpu me
-      → standing d.cpu d.seen ≡ Inside lock ticket → v ≡ (me.0, (place, record { block = Some block; edit = Some edit }) ∷ rest me.1)
+      → standing d.cpu d.seen ≡ Inside lock ticket → v ≡ (me.0, (rank, record { block = Some block; edit = Some edit }) ∷ rest me.1)
       → Freed R (step slots word 1 0 none) v found w → FreeDone d cpu lock edit w
-  free_tells cpu table me v w slots word found place lock ticket block edit d d_is key inside v_is told =
+  free_tells cpu table me v w slots word found rank lock ticket block edit d d_is key inside v_is told =
       subst (λ d. standing d.cpu d.seen ≡ Inside lock ticket → FreeDone d cpu lock edit w) d_is
-      (λ inside. free_done cpu table me v w slots word found place lock ticket block edit key inside v_is told) inside
+      (λ inside. free_done cpu table me v w slots word found rank lock ticket block edit key inside v_is told) inside

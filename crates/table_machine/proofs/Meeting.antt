@@ -13,7 +13,7 @@ use Rattle.layer_traits.specs.Protocol.{Rules, MayCome}
 use Rattle.layer_traits.specs.OneLock.{opened}
 use Rattle.table_machine.specs.declared.views.Home.{Home}
 use Rattle.table_machine.specs.declared.views.View.{View}
-use Rattle.table_machine.specs.Places.{word_count, IsLaidOut}
+use Rattle.table_machine.specs.Layout.{word_count, IsLaidOut}
 use Rattle.table_machine.specs.Views.{viewed, mine, Has, IsCpu, EndsWith, IsSince}
 use Rattle.table_machine.specs.Rule.{Kept}
 use Rattle.table_machine.specs.Plays.{Met}
@@ -26,9 +26,9 @@ use Rattle.table_machine.proofs.Asking.{desk_of, board_of}
 abbrev pub joined : {E B : Type 0} → View E B → View E B → View E B
 joined v w = record { start = v.start; cpus = v.cpus; seen = v.seen; told = w.seen; lent = w.cpus }
 
-pub has_words : {B : Type 0} (start : List (LockId × B)) (words slots : ℕ) (places : List ℕ) (locks : List LockId) → IsLaidOut start words slots places locks
+pub has_words : {B : Type 0} (start : List (LockId × B)) (words slots : ℕ) (ranks : List ℕ) (locks : List LockId) → IsLaidOut start words slots ranks locks
     → 0 < words
-has_words start words slots places locks laid = let are : words ≡ word_count (length start) = laid.words_are in omega arith
+has_words start words slots ranks locks laid = let are : words ≡ word_count (length start) = laid.words_are in omega arith
 
 -- the table of a desk, seen from inside
 pub one_table : {E B : Type 0} (table z : TableId) (start : List (LockId × B)) (n : ℕ) (cpu : CpuId) (me : Me (Home E B) (View E B)) (d : Desk E B)
@@ -74,13 +74,13 @@ module _ {E B O : Type 0} (R : Rules E B O) where
       (meet_plain cpu table v w o slots found key nobody (subst (λ (m : Me (Home E B) (View E B)). Met R (step slots 0 0 0 none) m found w) u_is met))
 
   -- a load of the word that is never written
-  pub meet_asks : (table z : TableId) (start : List (LockId × B)) (n id : ℕ) (places : List ℕ) (locks : List LockId) (now : TableId)
-      (v u : Me (Home E B) (View E B)) (o : View E B) → IsLaidOut start z.words z.slots places locks
+  pub meet_asks : (table z : TableId) (start : List (LockId × B)) (n id : ℕ) (ranks : List ℕ) (locks : List LockId) (now : TableId)
+      (v u : Me (Home E B) (View E B)) (o : View E B) → IsLaidOut start z.words z.slots ranks locks
       → (table ≡ z) × (v.0.start ≡ start) → now ≡ table → u ≡ (joined v.0 o, v.1)
       → (now ≡ z) × (0 < z.words) × Allows (Kept R n start) z.slots id u 0 (λ m. m) (Met R (step z.slots 0 0 0 none) u)
-  meet_asks table z start n id places locks now v u o laid of now_is u_is = (
+  meet_asks table z start n id ranks locks now v u o laid of now_is u_is = (
     now_is ∙ of.0,
-    has_words start z.words z.slots places locks laid,
+    has_words start z.words z.slots ranks locks laid,
     subst (λ (m : Me (Home E B) (View E B)). Allows (Kept R n start) z.slots id m 0 (λ m. m) (Met R (step z.slots 0 0 0 none) m)) (sym u_is)
         (meets_allowed R n start z.slots id (joined v.0 o) v.1 of.1),
   )

@@ -14,7 +14,7 @@ use Rattle.table_machine.specs.declared.views.View.{View}
 use Rattle.table_machine.specs.Views.{viewed, Has, Owns, Fits, Sees}
 use Rattle.table_machine.proofs.Logs.{since_more, since_all, ends_nil, ends_more, ends_all}
 
--- one element more, with its place
+-- one element more, with its rank
 pub at_end : {A : Type 0} (l : List A) (a b : A) (j : ℕ) → get_elem? (l ++ a ∷ []) j ≡ some b → (get_elem? l j ≡ some b) ⊎ ((j ≡ length l) × (a ≡ b))
 at_end [] a b zero e = inr (refl, some-injective a b e)
 at_end [] a b (suc j) e = absurd (some-ne-none b (sym e))

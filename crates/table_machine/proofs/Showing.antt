@@ -12,9 +12,9 @@ use Rattle.layer_traits.specs.declared.edits.Mark.{Mark}
 use Rattle.layer_traits.specs.OneLock.{LockFits, opened}
 use Rattle.layer_traits.proofs.OneLockLemmas.{event_lock, elsewhere, fresh}
 use Rattle.table_machine.specs.declared.views.Home.{Home}
-use Rattle.table_machine.specs.Places.{index_of, next_at, serving_at, word_count}
+use Rattle.table_machine.specs.Layout.{rank_of, next_at, serving_at, word_count}
 use Rattle.table_machine.specs.Rule.{home_block, fresh_home, Stands, Shows}
-use Rattle.table_machine.proofs.Finding.{index_same, index_below, opened_there}
+use Rattle.table_machine.proofs.Finding.{rank_same, rank_below, opened_there}
 
 -- a lock that a step does not touch
 abbrev pub IsApart : ℕ → ℕ → Type 0
@@ -59,17 +59,17 @@ module _ {E B : Type 0} (edited : E → B → B) (start : List (LockId × B)) wh
   reword log lock a a' b b' home p q fits = subst (λ y. LockFits edited (opened start) log lock a' y home) q
       (subst (λ x. LockFits edited (opened start) log lock x b home) p fits)
 
-  -- the place of a word is within the table
-  pub next_within : (lock : LockId) → IsSome (opened start lock) → next_at (index_of start lock) < word_count (length start)
-  next_within lock there = let below : index_of start lock < length start = index_below start lock there in omega arith
+  -- the words of a lock lie within the table
+  pub next_within : (lock : LockId) → IsSome (opened start lock) → next_at (rank_of start lock) < word_count (length start)
+  next_within lock there = let below : rank_of start lock < length start = rank_below start lock there in omega arith
 
-  pub serving_within : (lock : LockId) → IsSome (opened start lock) → serving_at (index_of start lock) < word_count (length start)
-  serving_within lock there = let below : index_of start lock < length start = index_below start lock there in omega arith
+  pub serving_within : (lock : LockId) → IsSome (opened start lock) → serving_at (rank_of start lock) < word_count (length start)
+  serving_within lock there = let below : rank_of start lock < length start = rank_below start lock there in omega arith
 
   -- an event at one lock: the words and slots of all other locks stay
   pub shows_step : (words : List ℕ) (homes : List (Maybe (Home E B))) (log : List (Event (Mark E))) → Shows edited start words homes log
-      → (e : Event (Mark E)) → MayFollow log e → (i x : ℕ) → IsApart i (index_of start (event_lock e))
-      → (later : List (Maybe (Home E B))) → length later ≡ length start → ((j : ℕ) → j ≢ index_of start (event_lock e) → get_elem? later j ≡ get_elem? homes j)
+      → (e : Event (Mark E)) → MayFollow log e → (i x : ℕ) → IsApart i (rank_of start (event_lock e))
+      → (later : List (Maybe (Home E B))) → length later ≡ length start → ((j : ℕ) → j ≢ rank_of start (event_lock e) → get_elem? later j ≡ get_elem? homes j)
       → Stands edited start (set words i x) later (e ∷ log) (event_lock e)
       → Shows edited start (set words i x) later (e ∷ log)
   shows_step words homes log shows e may i x apart later count same here = record {
@@ -83,9 +83,9 @@ module _ {E B : Type 0} (edited : E → B → B) (start : List (LockId × B)) wh
       go lock exists true one = subst (λ l. Stands edited start (set words i x) later (e ∷ log) l) (sym (same_lock_true lock (event_lock e) one)) here
       go lock exists false other =
           let old = shows.stand lock exists in
-          let k : ℕ = index_of start lock in
-          let away : k ≢ index_of start (event_lock e) = λ e'. (
-          let one : lock ≡ event_lock e = index_same start lock (event_lock e) exists e' in
+          let k : ℕ = rank_of start lock in
+          let away : k ≢ rank_of start (event_lock e) = λ e'. (
+          let one : lock ≡ event_lock e = rank_same start lock (event_lock e) exists e' in
           let yes' : same_lock lock (event_lock e) ≡ true = subst (λ l. same_lock lock l ≡ true) one (same_lock_self lock) in absurd (cc (other, yes'))) in
           let parted = apart k away in
           record {
@@ -106,7 +106,7 @@ module _ {E B : Type 0} (edited : E → B → B) (start : List (LockId × B)) wh
     home_length = length-map homes some ∙ (ap length are ∙ length-map start (λ (o : LockId × B). fresh_home {E = E} o.1));
     stand = λ lock exists.
         let found = opened_there (λ (b : B). some (fresh_home {E = E} b)) start lock exists in
-        let k : ℕ = index_of start lock in
+        let k : ℕ = rank_of start lock in
         record {
           home = some (fresh_home found.0);
           at = ap (λ l. get_elem? l k) (ap (λ l. map some l) are ∙ map_both start) ∙ found.2;

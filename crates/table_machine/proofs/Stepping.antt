@@ -20,13 +20,13 @@ use Rattle.layer_traits.specs.Protocol.{Rules, MayCome, StaysAllowed, sections, 
 use Rattle.layer_traits.specs.OneLock.{LockFits, opened}
 use Rattle.table_machine.specs.declared.views.Home.{Home}
 use Rattle.table_machine.specs.declared.views.View.{View}
-use Rattle.table_machine.specs.Places.{index_of, next_at, serving_at}
+use Rattle.table_machine.specs.Layout.{rank_of, next_at, serving_at}
 use Rattle.table_machine.specs.Views.{viewed, mine, Has, IsSince}
 use Rattle.table_machine.specs.Rule.{home_block, Stands, Shows, Kept}
 use Rattle.table_machine.specs.Plays.{Moves, Drew, Looked, Freed, Met, Entered}
 use Rattle.layer_traits.proofs.OneLockLemmas.{standing_own, drew, missed, hit, freed, hit_finds}
 use Rattle.table_machine.proofs.Logs.{standing_since, legal_words, lawful_sections, sections_more, sections_others, inside_keeps, ends_nil}
-use Rattle.table_machine.proofs.Finding.{index_below}
+use Rattle.table_machine.proofs.Finding.{rank_below}
 use Rattle.table_machine.proofs.Seeing.{sees_moved, sees_less, sees_new, sees_join, one_event, owns_viewed}
 use Rattle.table_machine.proofs.Showing.{next_apart, serving_apart, next_not_serving, serving_not_next, next_within, serving_within, reword, shows_step}
 use Rattle.table_machine.proofs.Showing.{home_of}
@@ -77,10 +77,10 @@ module _ {E B O : Type 0} (R : Rules E B O) (n : ℕ) (start : List (LockId × B
 
   pub draws_allowed : (slots id : ℕ) (cpu : CpuId) (seen : List (Event (Mark E))) (held : List (ℕ × Home E B)) (lock : LockId) → IsSome (opened start lock)
       → standing cpu seen ≡ Outside
-      → Allows (Kept R n start) slots id (mine start cpu seen, held) (next_at (index_of start lock)) (λ m. (m + 1) % 2 ^ 64)
-      (Drew R (step slots (next_at (index_of start lock)) 1 0 none) (mine start cpu seen, held))
+      → Allows (Kept R n start) slots id (mine start cpu seen, held) (next_at (rank_of start lock)) (λ m. (m + 1) % 2 ^ 64)
+      (Drew R (step slots (next_at (rank_of start lock)) 1 0 none) (mine start cpu seen, held))
   draws_allowed slots id cpu seen held lock exists out s kept count at fits =
-      let k : ℕ = index_of start lock in
+      let k : ℕ = rank_of start lock in
       let i : ℕ = next_at k in
       let t : ℕ = slice_index s.words i in
       let x : ℕ = (t + 1) % 2 ^ 64 in
@@ -112,7 +112,7 @@ module _ {E B O : Type 0} (R : Rules E B O) (n : ℕ) (start : List (LockId × B
   look_may : (s : State (Home E B) (View E B)) (kept : Kept R n start s) (id : ℕ) (cpu : CpuId) (seen : List (Event (Mark E))) (lock : LockId) (ticket : ℕ)
       (exists : IsSome (opened start lock))
       → Turn s kept id cpu seen → standing cpu seen ≡ Waiting lock ticket
-      → MayCome (R.allowed (opened start)) kept.log (Look cpu lock ticket (slice_index s.words (serving_at (index_of start lock))))
+      → MayCome (R.allowed (opened start)) kept.log (Look cpu lock ticket (slice_index s.words (serving_at (rank_of start lock))))
   look_may s kept id cpu seen lock ticket exists now waits =
       ((standing_since cpu kept.log seen now.since ∙ waits, (kept.shows.stand lock exists).is.serving_is), tt)
 
@@ -129,11 +129,11 @@ module _ {E B O : Type 0} (R : Rules E B O) (n : ℕ) (start : List (LockId × B
 
   look_misses : (s : State (Home E B) (View E B)) (kept : Kept R n start s) (id slots : ℕ) (cpu : CpuId) (seen : List (Event (Mark E))) (lock : LockId)
       (ticket : ℕ) (exists : IsSome (opened start lock))
-      → Turn s kept id cpu seen → standing cpu seen ≡ Waiting lock ticket → (slice_index s.words (serving_at (index_of start lock)) == ticket) ≡ false
-      → After id (mine start cpu seen, []) (serving_at (index_of start lock)) (λ m. m)
-      (Looked R (step slots (serving_at (index_of start lock)) 0 0 none) (mine start cpu seen, [])) s
+      → Turn s kept id cpu seen → standing cpu seen ≡ Waiting lock ticket → (slice_index s.words (serving_at (rank_of start lock)) == ticket) ≡ false
+      → After id (mine start cpu seen, []) (serving_at (rank_of start lock)) (λ m. m)
+      (Looked R (step slots (serving_at (rank_of start lock)) 0 0 none) (mine start cpu seen, [])) s
   look_misses s kept id slots cpu seen lock ticket exists now waits other =
-      let k : ℕ = index_of start lock in
+      let k : ℕ = rank_of start lock in
       let i : ℕ = serving_at k in
       let read : ℕ = slice_index s.words i in
       let e : Event (Mark E) = Look cpu lock ticket read in
@@ -166,11 +166,11 @@ module _ {E B O : Type 0} (R : Rules E B O) (n : ℕ) (start : List (LockId × B
 
   look_hits : (s : State (Home E B) (View E B)) (kept : Kept R n start s) (id slots : ℕ) (cpu : CpuId) (seen : List (Event (Mark E))) (lock : LockId)
       (ticket : ℕ) (exists : IsSome (opened start lock))
-      → Turn s kept id cpu seen → standing cpu seen ≡ Waiting lock ticket → (slice_index s.words (serving_at (index_of start lock)) == ticket) ≡ true
-      → After id (mine start cpu seen, []) (serving_at (index_of start lock)) (λ m. m)
-      (Looked R (step slots (serving_at (index_of start lock)) 0 0 none) (mine start cpu seen, [])) s
+      → Turn s kept id cpu seen → standing cpu seen ≡ Waiting lock ticket → (slice_index s.words (serving_at (rank_of start lock)) == ticket) ≡ true
+      → After id (mine start cpu seen, []) (serving_at (rank_of start lock)) (λ m. m)
+      (Looked R (step slots (serving_at (rank_of start lock)) 0 0 none) (mine start cpu seen, [])) s
   look_hits s kept id slots cpu seen lock ticket exists now waits same =
-      let k : ℕ = index_of start lock in
+      let k : ℕ = rank_of start lock in
       let i : ℕ = serving_at k in
       let read : ℕ = slice_index s.words i in
       let e : Event (Mark E) = Look cpu lock ticket read in
@@ -185,7 +185,7 @@ module _ {E B O : Type 0} (R : Rules E B O) (n : ℕ) (start : List (LockId × B
       let block_there : home_block old.home ≡ Some b = ap home_block found.2 ∙ found.3 in
       let folds : block_after R.edited (opened start) lock (sections kept.log) ≡ Some b =
       (subst (λ o. LockFits R.edited (opened start) kept.log lock (slice_index s.words (next_at k)) (slice_index s.words i) o) block_there old.is).home_is.1 in
-      let within : k < length s.homes = subst (λ m. k < m) (sym kept.shows.home_length) (index_below start lock exists) in
+      let within : k < length s.homes = subst (λ m. k < m) (sym kept.shows.home_length) (rank_below start lock exists) in
       let homes : List (Maybe (Home E B)) = set s.homes k none in
       let here : Stands R.edited start s.words homes (e ∷ kept.log) lock = record {
         home = none;
@@ -218,13 +218,13 @@ module _ {E B O : Type 0} (R : Rules E B O) (n : ℕ) (start : List (LockId × B
 
   pub looks_allowed : (slots id : ℕ) (cpu : CpuId) (seen : List (Event (Mark E))) (lock : LockId) (ticket : ℕ) → IsSome (opened start lock)
       → standing cpu seen ≡ Waiting lock ticket
-      → Allows (Kept R n start) slots id (mine start cpu seen, []) (serving_at (index_of start lock)) (λ m. m)
-      (Looked R (step slots (serving_at (index_of start lock)) 0 0 none) (mine start cpu seen, []))
-  looks_allowed slots id cpu seen lock ticket exists waits s kept count at fits = go (slice_index s.words (serving_at (index_of start lock)) == ticket) refl
+      → Allows (Kept R n start) slots id (mine start cpu seen, []) (serving_at (rank_of start lock)) (λ m. m)
+      (Looked R (step slots (serving_at (rank_of start lock)) 0 0 none) (mine start cpu seen, []))
+  looks_allowed slots id cpu seen lock ticket exists waits s kept count at fits = go (slice_index s.words (serving_at (rank_of start lock)) == ticket) refl
     where
-      go : (b : Bool) → (slice_index s.words (serving_at (index_of start lock)) == ticket) ≡ b
-          → After id (mine start cpu seen, []) (serving_at (index_of start lock)) (λ m. m)
-          (Looked R (step slots (serving_at (index_of start lock)) 0 0 none) (mine start cpu seen, [])) s
+      go : (b : Bool) → (slice_index s.words (serving_at (rank_of start lock)) == ticket) ≡ b
+          → After id (mine start cpu seen, []) (serving_at (rank_of start lock)) (λ m. m)
+          (Looked R (step slots (serving_at (rank_of start lock)) 0 0 none) (mine start cpu seen, [])) s
       go true same = look_hits s kept id slots cpu seen lock ticket exists (turn s kept id cpu seen at) waits same
       go false other = look_misses s kept id slots cpu seen lock ticket exists (turn s kept id cpu seen at) waits other
 
@@ -233,10 +233,10 @@ module _ {E B O : Type 0} (R : Rules E B O) (n : ℕ) (start : List (LockId × B
       → standing cpu seen ≡ Inside lock ticket → y.block ≡ Some block → y.edit ≡ Some edit
       → option_map (R.edited edit) (block_after R.edited (opened start) lock (sections seen)) ≡ Some block
       → StaysAllowed (R.allowed (opened start)) (sections seen) (section cpu lock edit)
-      → Allows (Kept R n start) slots id (mine start cpu seen, (index_of start lock, y) ∷ []) (serving_at (index_of start lock)) (λ m. (m + 1) % 2 ^ 64)
-      (Freed R (step slots (serving_at (index_of start lock)) 1 0 none) (mine start cpu seen, (index_of start lock, y) ∷ []))
+      → Allows (Kept R n start) slots id (mine start cpu seen, (rank_of start lock, y) ∷ []) (serving_at (rank_of start lock)) (λ m. (m + 1) % 2 ^ 64)
+      (Freed R (step slots (serving_at (rank_of start lock)) 1 0 none) (mine start cpu seen, (rank_of start lock, y) ∷ []))
   frees_allowed slots id cpu seen lock ticket edit block y exists in_lock has_block has_edit is_edited stays s kept count at fits =
-      let k : ℕ = index_of start lock in
+      let k : ℕ = rank_of start lock in
       let i : ℕ = serving_at k in
       let read : ℕ = slice_index s.words i in
       let x : ℕ = (read + 1) % 2 ^ 64 in
@@ -258,7 +258,7 @@ module _ {E B O : Type 0} (R : Rules E B O) (n : ℕ) (start : List (LockId × B
       let block_is : option_map (R.edited edit) (block_after R.edited (opened start) lock (sections kept.log)) ≡ Some block =
       ap (option_map (R.edited edit)) unchanged ∙ is_edited in
       let old = kept.shows.stand lock exists in
-      let within : k < length s.homes = subst (λ m. k < m) (sym kept.shows.home_length) (index_below start lock exists) in
+      let within : k < length s.homes = subst (λ m. k < m) (sym kept.shows.home_length) (rank_below start lock exists) in
       let word_within : i < length s.words = subst (λ m. i < m) (sym kept.shows.word_length) (serving_within R.edited start lock exists) in
       let homes : List (Maybe (Home E B)) = set s.homes k (some y) in
       let here : Stands R.edited start (set s.words i x) homes (e ∷ kept.log) lock = record {

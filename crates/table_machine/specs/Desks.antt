@@ -14,7 +14,7 @@ use Rattle.event_log.specs.Sections.{block_after}
 use Rattle.layer_traits.specs.Protocol.{Rules, MayCome, sections}
 use Rattle.layer_traits.specs.OneLock.{opened}
 use Rattle.table_machine.specs.declared.views.Home.{Home}
-use Rattle.table_machine.specs.Places.{index_of}
+use Rattle.table_machine.specs.Layout.{rank_of}
 use Rattle.table_machine.specs.declared.views.View.{View}
 use Rattle.table_machine.specs.Views.{viewed, mine, Has, EndsWith, IsSince}
 
@@ -52,7 +52,7 @@ new_desks board (suc count) = new_desks board count ++ new_desk board count ∷ 
 abbrev pub Carries : {E B : Type 0} → List (LockId × B) → Standing → List (ℕ × Home E B) → Type 0
 Carries start Outside held = held ≡ []
 Carries start (Waiting lock ticket) held = held ≡ []
-Carries start (Inside lock ticket) held = (home : Home _ _) × (held ≡ (index_of start lock, home) ∷ [])
+Carries start (Inside lock ticket) held = (home : Home _ _) × (held ≡ (rank_of start lock, home) ∷ [])
 
 -- the token of a key: it sees the log for this CPU, carries the slot of the lock that the CPU is inside, and what it has seen is legal
 pub record IsKey {E B O : Type 0} (rules : Rules E B O) (cpu : CpuId) (me : Me (Home E B) (View E B)) : Type 0 where

@@ -1,4 +1,4 @@
-pub mod Places
+pub mod Layout
 pub mod Views
 pub mod Rule
 pub mod Plays

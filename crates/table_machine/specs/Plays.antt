@@ -12,7 +12,7 @@ use Rattle.layer_traits.specs.Protocol.{Rules, MayCome, sections, mark_of}
 use Rattle.layer_traits.specs.OneLock.{opened}
 use Rattle.table_machine.specs.declared.views.View.{View}
 use Rattle.table_machine.specs.declared.views.Home.{Home}
-use Rattle.table_machine.specs.Places.{index_of, next_at}
+use Rattle.table_machine.specs.Layout.{rank_of, next_at}
 use Rattle.table_machine.specs.Views.{viewed, mine, owner, IsCpu, Fits}
 
 -- events of others, then this one; the whole is legal
@@ -26,7 +26,7 @@ pub record Drew {E B O : Type 0} (rules : Rules E B O) (at : Step (Home E B)) (v
   where
     pub lock : LockId
     pub exists : IsSome (opened v.0.start lock)
-    pub word : at.word ≡ next_at (index_of v.0.start lock)
+    pub word : at.word ≡ next_at (rank_of v.0.start lock)
     pub moves : Moves rules v.0 w.0 (Draw (owner v.0.cpus) lock found)
     pub held : w.1 ≡ v.1
 
@@ -43,7 +43,7 @@ pub record Hits {E B O : Type 0} (rules : Rules E B O) (lock : LockId) (ticket :
   pub inside : standing (owner v.0.cpus) w.0.seen ≡ Inside lock ticket
   pub home : Home E B
   pub block : B
-  pub held : w.1 ≡ (index_of v.0.start lock, home) ∷ v.1
+  pub held : w.1 ≡ (rank_of v.0.start lock, home) ∷ v.1
   pub is : home.block ≡ Some block
   pub folds : block_after rules.edited (opened v.0.start) lock (sections w.0.seen) ≡ Some block
 

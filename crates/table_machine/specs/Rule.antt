@@ -14,7 +14,7 @@ use Rattle.layer_traits.specs.Protocol.{Rules, MayCome}
 use Rattle.layer_traits.specs.OneLock.{LockFits, opened}
 use Rattle.table_machine.specs.declared.views.View.{View}
 use Rattle.table_machine.specs.declared.views.Home.{Home}
-use Rattle.table_machine.specs.Places.{index_of, next_at, serving_at, word_count}
+use Rattle.table_machine.specs.Layout.{rank_of, next_at, serving_at, word_count}
 use Rattle.table_machine.specs.Views.{Sees}
 
 -- the block in a slot; none while the slot is out with a seat
@@ -30,8 +30,8 @@ fresh_home block = record { block = Some block; edit = None }
 pub record Stands {E B : Type 0} (edited : E → B → B) (start : List (LockId × B)) (words : List ℕ) (homes : List (Maybe (Home E B)))
     (log : List (Event (Mark E))) (lock : LockId) : Type 0 where
   pub home : Maybe (Home E B)
-  pub at : get_elem? homes (index_of start lock) ≡ some home
-  pub is : LockFits edited (opened start) log lock (slice_index words (next_at (index_of start lock))) (slice_index words (serving_at (index_of start lock)))
+  pub at : get_elem? homes (rank_of start lock) ≡ some home
+  pub is : LockFits edited (opened start) log lock (slice_index words (next_at (rank_of start lock))) (slice_index words (serving_at (rank_of start lock)))
       (home_block home)
 
 -- all words and slots are the replay of the log

@@ -9,7 +9,7 @@ ghost use Rattle.table_machine.specs.declared.views.Home.{Home};
 ghost use Rattle.table_machine.specs.Desks.{Desk, IsOver, Covers, Closes, Gathered};
 
 use crate::keys::Key;
-use crate::plays::{Enters, Meets, Notes};
+use crate::plays::{Enters, Meets, Tells};
 use crate::rule::Token;
 use crate::shared::Shared;
 use crate::views::Home;
@@ -31,7 +31,7 @@ impl<E: Edit> Shared<E> {
         let seat = self.gathered(keys);
         let Shared {
             table,
-            places: _,
+            ranks: _,
             locks,
             blocks,
         } = self;
@@ -62,7 +62,7 @@ impl<E: Edit> Shared<E> {
     {
         let Key { token, cpu: _ } = key;
         let table = &self.table.shared;
-        table.join_seat::<Notes>(seat, token);
+        table.join_seat::<Tells>(seat, token);
         table.load::<Meets<E>>(seat, 0);
     }
 }

@@ -10,7 +10,7 @@ ghost use Rattle.layer_traits.specs.OneLock.{opened};
 ghost use Rattle.table_machine.specs.Desks.{IsOf};
 ghost use Rattle.table_machine.specs.Views.{viewed, EndsWith, IsCpu};
 
-use crate::plays::{Draws, Frees, Looks, Meets, Notes};
+use crate::plays::{Draws, Frees, Looks, Meets, Tells};
 use crate::rule::Token;
 use crate::shared::Shared;
 use crate::views::Home;
@@ -84,7 +84,7 @@ impl<E: Edit> Key<E> {
         ensures legal { IsLawful (MayCome (E.rules.allowed (opened self.old.start))) self.new.seen }
     {
         let word = shared.serving_word(lock);
-        let place = shared.place(lock);
+        let rank = shared.rank(lock);
         let found = shared.table.shared.load::<Looks<E>>(&mut self.token, word);
         if found != ticket {
             return None;
@@ -93,7 +93,7 @@ impl<E: Edit> Key<E> {
             block: None,
             edit: None,
         };
-        let home = shared.table.shared.exchange(&mut self.token, place, empty);
+        let home = shared.table.shared.exchange(&mut self.token, rank, empty);
         home.block
     }
 
@@ -109,12 +109,12 @@ impl<E: Edit> Key<E> {
         ensures legal { IsLawful (MayCome (E.rules.allowed (opened self.old.start))) self.new.seen }
     {
         let word = shared.serving_word(lock);
-        let place = shared.place(lock);
+        let rank = shared.rank(lock);
         let home = Home {
             block: Some(block),
             edit: Some(edit),
         };
-        let _empty = shared.table.shared.exchange(&mut self.token, place, home);
+        let _empty = shared.table.shared.exchange(&mut self.token, rank, home);
         shared
             .table
             .shared
@@ -128,7 +128,7 @@ impl<E: Edit> Key<E> {
         ensures table { result.table_id ≡ self.old.table }
         ensures notes { result.me ≡ (viewed self.old.start [] self.old.seen, []) }
     {
-        shared.table.shared.split_seat::<Notes>(&mut self.token)
+        shared.table.shared.split_seat::<Tells>(&mut self.token)
     }
 
     // Takes in what the token has seen.
@@ -142,7 +142,7 @@ impl<E: Edit> Key<E> {
         ensures legal { IsLawful (MayCome (E.rules.allowed (opened self.old.start))) self.new.seen }
     {
         let table = &shared.table.shared;
-        table.join_seat::<Notes>(&mut self.token, notes);
+        table.join_seat::<Tells>(&mut self.token, notes);
         table.load::<Meets<E>>(&mut self.token, 0);
     }
 }

@@ -4,7 +4,7 @@ ghost use Rattle.std.specs.Prelude.{◌≡◌, ◌+◌, ◌-◌, ◌<◌, ◌≤
 ghost use Rattle.event_log.specs.declared.ids.LockId.{LockId};
 ghost use Rattle.event_log.specs.declared.ids.TheConstants.{CPUS, LOCKS};
 ghost use Rattle.layer_traits.specs.OneLock.{AreDistinct};
-ghost use Rattle.table_machine.specs.Places.{word_count, TellsPlaces, IsLaidOut};
+ghost use Rattle.table_machine.specs.Layout.{word_count, TellsRanks, IsLaidOut};
 ghost use Rattle.table_machine.specs.Rule.{fresh_home};
 ghost use Rattle.table_machine.specs.Views.{viewed, cpus_from};
 ghost use Rattle.table_machine.specs.Desks.{new_desk, new_desks};
@@ -22,7 +22,7 @@ use std::snapshot::Snapshot;
 // What is laid out before the table is made.
 struct Layout<E: Edit> {
     words: Vec<u64>,
-    places: Vec<usize>,
+    ranks: Vec<usize>,
     locks: Vec<LockId>,
     homes: Vec<Home<E, E::Block>>,
     returned: Vec<(LockId, E::Block)>,
@@ -111,25 +111,25 @@ fn opened_table<E: Edit>(
     };
     let Layout {
         words,
-        places,
+        ranks,
         locks,
         homes,
         returned,
     } = laid_out(alloc, blocks)?;
     match Whole::<E>::new(alloc, words.as_slice(), homes, &about) {
-        Ok(made) => Ok(furnished(made, places, locks, returned)),
+        Ok(made) => Ok(furnished(made, ranks, locks, returned)),
         Err(_) => Err(AllocError),
     }
 }
 
-// The table with the row of places beside it, and the room for the blocks that `close` gives.
+// The table with the row of ranks beside it, and the room for the blocks that `close` gives.
 fn furnished<E: Edit>(
     made: (Whole<E>, Token<E>),
-    places: Vec<usize>,
+    ranks: Vec<usize>,
     locks: Vec<LockId>,
     blocks: Vec<(LockId, E::Block)>,
 ) -> (Shared<E>, Token<E>)
-    requires laid { IsLaidOut made.0.shared.key.blocks.value.items made.0.shared.table_id.words made.0.shared.table_id.slots places.items locks.items }
+    requires laid { IsLaidOut made.0.shared.key.blocks.value.items made.0.shared.table_id.words made.0.shared.table_id.slots ranks.items locks.items }
     requires empty { blocks.items ≡ [] }
     requires room { length made.0.shared.key.blocks.value.items ≤ vec_capacity blocks }
     requires distinct { AreDistinct made.0.shared.key.blocks.value.items }
@@ -141,7 +141,7 @@ fn furnished<E: Edit>(
     let (table, dealer) = made;
     let shared = Shared {
         table,
-        places,
+        ranks,
         locks,
         blocks,
     };
@@ -154,20 +154,20 @@ fn laid_out<E: Edit>(
 ) -> Result<Layout<E>, AllocError>
     ensures words { IfOk result (λ r. r.words.items ≡ replicate (word_count (length blocks.items)) 0) }
     ensures small { IfOk result (λ r. word_count (length blocks.items) < 2 ^ 64) }
-    ensures row { IfOk result (λ r. length r.places.items ≡ LOCKS) }
-    ensures places { IfOk result (λ r. TellsPlaces r.places.items blocks.items) }
+    ensures row { IfOk result (λ r. length r.ranks.items ≡ LOCKS) }
+    ensures ranks { IfOk result (λ r. TellsRanks r.ranks.items blocks.items) }
     ensures locks { IfOk result (λ r. r.locks.items ≡ map (λ (o : LockId × _). o.0) blocks.items) }
     ensures homes { IfOk result (λ r. r.homes.items ≡ map (λ (o : LockId × _). fresh_home o.1) blocks.items) }
     ensures none { IfOk result (λ r. r.returned.items ≡ []) }
     ensures room { IfOk result (λ r. length blocks.items ≤ vec_capacity r.returned) }
 {
     let words = zero_words(alloc, blocks.len())?;
-    let places = places_of(alloc, blocks.as_slice())?;
+    let ranks = ranks_of(alloc, blocks.as_slice())?;
     let returned = Vec::with_capacity(alloc, blocks.len())?;
     let (locks, homes) = parted(alloc, blocks)?;
     Ok(Layout {
         words,
-        places,
+        ranks,
         locks,
         homes,
         returned,
@@ -188,18 +188,18 @@ fn zero_words(alloc: Global, locks: usize) -> Result<Vec<u64>, AllocError>
     Ok(vec![in alloc; 0; count]?)
 }
 
-// A row that tells the place of each lock.
-fn places_of<B>(alloc: Global, blocks: &[(LockId, B)]) -> Result<Vec<usize>, AllocError>
+// A row that tells the rank of each lock.
+fn ranks_of<B>(alloc: Global, blocks: &[(LockId, B)]) -> Result<Vec<usize>, AllocError>
     ensures row { IfOk result (λ v. length v.items ≡ LOCKS) }
-    ensures places { IfOk result (λ v. TellsPlaces v.items blocks.now) }
+    ensures ranks { IfOk result (λ v. TellsRanks v.items blocks.now) }
 {
-    let mut places = vec![in alloc; 0; LOCKS]?;
-    let mut place = blocks.len();
-    while place > 0 {
-        place -= 1;
-        places[blocks[place].0.number()] = place;
+    let mut ranks = vec![in alloc; 0; LOCKS]?;
+    let mut rank = blocks.len();
+    while rank > 0 {
+        rank -= 1;
+        ranks[blocks[rank].0.number()] = rank;
     }
-    Ok(places)
+    Ok(ranks)
 }
 
 // The locks, and their slots with the opening blocks.

@@ -64,9 +64,9 @@ impl<E, B> Split<View<E, B>> for Deals {
 }
 
 /// What a seat has seen, for another seat. It acts for no CPU.
-pub(crate) struct Notes;
+pub(crate) struct Tells;
 
-impl<E, B> Split<View<E, B>> for Notes {
+impl<E, B> Split<View<E, B>> for Tells {
     ghost use Rattle.std.specs.Prelude.{[]};
     ghost use Rattle.table_machine.specs.Views.{viewed};
 
@@ -75,7 +75,7 @@ impl<E, B> Split<View<E, B>> for Notes {
     ghost right = { λ v. viewed v.start [] v.seen };
 }
 
-impl<E, B> Join<View<E, B>> for Notes {
+impl<E, B> Join<View<E, B>> for Tells {
     ghost use Rattle.std.specs.Prelude.{[]};
     ghost use Rattle.table_machine.specs.Views.{viewed};
 

@@ -2,7 +2,7 @@
 
 ghost use Rattle.std.specs.Prelude.{◌≡◌, ◌<◌, ◌^◌, IsSome, length};
 ghost use Rattle.layer_traits.specs.OneLock.{opened};
-ghost use Rattle.table_machine.specs.Places.{index_of, next_at, serving_at, word_count};
+ghost use Rattle.table_machine.specs.Layout.{rank_of, next_at, serving_at, word_count};
 
 use crate::rule::Whole;
 use event_log::LockId;
@@ -17,7 +17,7 @@ use std::marker::Model;
 #[derive(Drop)]
 pub struct Shared<E: Edit> {
     pub(crate) table: Whole<E>,
-    pub(crate) places: Vec<usize>,
+    pub(crate) ranks: Vec<usize>,
     pub(crate) locks: Vec<LockId>,
     pub(crate) blocks: Vec<(LockId, E::Block)>,
 }
@@ -26,42 +26,42 @@ impl<E: Edit> Model for Shared<E> {
     ghost use Rattle.std.specs.Prelude.{◌≡◌, ◌≤◌, [], length, vec_capacity};
     ghost use Rattle.layer_traits.specs.OneLock.{AreDistinct};
     ghost use Rattle.table_machine.specs.Desks.{Board};
-    ghost use Rattle.table_machine.specs.Places.{IsLaidOut};
+    ghost use Rattle.table_machine.specs.Layout.{IsLaidOut};
 
     ghost Value = { Board E.Block };
 
     ghost view = { λ s. record { table = s.table.shared.table_id; start = s.table.shared.key.blocks.value.items; cpus = s.table.shared.key.cpus } };
 
-    ghost invariant = { λ s. (IsLaidOut s.table.shared.key.blocks.value.items s.table.shared.table_id.words s.table.shared.table_id.slots s.places.items s.locks.items)
+    ghost invariant = { λ s. (IsLaidOut s.table.shared.key.blocks.value.items s.table.shared.table_id.words s.table.shared.table_id.slots s.ranks.items s.locks.items)
         × (s.blocks.items ≡ []) × (length s.table.shared.key.blocks.value.items ≤ vec_capacity s.blocks)
         × AreDistinct s.table.shared.key.blocks.value.items };
 }
 
 impl<E: Edit> Shared<E> {
-    #[tactic(auto, using(crate::proofs::Finding::index_below))]
-    // The place of a lock among those of the opening.
-    pub(crate) fn place(&self, lock: LockId) -> usize
+    #[tactic(auto, using(crate::proofs::Finding::rank_below))]
+    // The rank of a lock among those of the opening.
+    pub(crate) fn rank(&self, lock: LockId) -> usize
         requires { IsSome (opened self.now.start lock) }
-        ensures place { result ≡ index_of self.now.start lock }
+        ensures rank { result ≡ rank_of self.now.start lock }
         ensures within { result < length self.now.start }
         ensures small { word_count (length self.now.start) < 2 ^ 64 }
     {
-        self.places[lock.number()]
+        self.ranks[lock.number()]
     }
 
     // The word `next` of a lock.
     pub(crate) fn next_word(&self, lock: LockId) -> usize
         requires { IsSome (opened self.now.start lock) }
-        ensures { result ≡ next_at (index_of self.now.start lock) }
+        ensures { result ≡ next_at (rank_of self.now.start lock) }
     {
-        16 * self.place(lock) + 8
+        16 * self.rank(lock) + 8
     }
 
     // The word `serving` of a lock.
     pub(crate) fn serving_word(&self, lock: LockId) -> usize
         requires { IsSome (opened self.now.start lock) }
-        ensures { result ≡ serving_at (index_of self.now.start lock) }
+        ensures { result ≡ serving_at (rank_of self.now.start lock) }
     {
-        16 * self.place(lock) + 16
+        16 * self.rank(lock) + 16
     }
 }

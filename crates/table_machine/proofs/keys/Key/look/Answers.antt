@@ -17,5 +17,5 @@ returns-clause-adds g c = (
   c.load-found.result,
   rw c.exchange-home.ensures.3
       (look_hit g.E.Edit.rules _ _ _ _ _ _ _ c.args.lock c.args.ticket c.self.invariant c.args.self.now c.args.shared.now _ c.self.view_is c.requires.of
-      c.requires.waiting c.if-found-ticket.false c.place-place.ensures.place c.load-found.ensures.2).adds,
+      c.requires.waiting c.if-found-ticket.false c.rank-rank.ensures.rank c.load-found.ensures.2).adds,
 )

@@ -1,0 +1,38 @@
+-- Where the words and the slot of a lock lie in the table.
+-- Word 0 is never written. The words of a lock are 8 words, 64 bytes, from each other and from those of every other lock.
+use Rattle.std.specs.Prelude.{◌≡◌, ℕ, suc, ◌+◌, ◌*◌, ◌^◌, ◌<◌, if◌then◌else◌, List, [], ◌∷◌, length, map, slice_index, IsSome}
+use Rattle.event_log.specs.declared.ids.LockId.{LockId}
+use Rattle.event_log.specs.declared.ids.TheConstants.{LOCKS}
+use Rattle.event_log.specs.History.{same_lock}
+use Rattle.event_log.specs.Locks.{lock_number}
+use Rattle.layer_traits.specs.OneLock.{opened}
+
+-- the rank of a lock: how many locks stand before it at the opening; as many as there are, where it is missing
+abbrev pub rank_of : {B : Type 0} → List (LockId × B) → LockId → ℕ
+rank_of [] lock = 0
+rank_of (o ∷ rest) lock = if same_lock o.0 lock then 0 else suc (rank_of rest lock)
+
+-- the word `next` of the lock at this rank
+abbrev pub next_at : ℕ → ℕ
+next_at rank = 16 * rank + 8
+
+-- the word `serving` of the lock at this rank
+abbrev pub serving_at : ℕ → ℕ
+serving_at rank = 16 * rank + 16
+
+-- how many words so many locks have
+abbrev pub word_count : ℕ → ℕ
+word_count locks = 16 * locks + 1
+
+-- the row tells the rank of each lock of the opening
+abbrev pub TellsRanks : {B : Type 0} → List ℕ → List (LockId × B) → Type 0
+TellsRanks ranks start = (lock : LockId) → IsSome (opened start lock) → slice_index ranks (lock_number lock) ≡ rank_of start lock
+
+-- a table is laid out for these locks: their words, their slots, and the row of their ranks
+pub record IsLaidOut {B : Type 0} (start : List (LockId × B)) (words slots : ℕ) (ranks : List ℕ) (locks : List LockId) : Type 0 where
+  pub words_are : words ≡ word_count (length start)
+  pub slots_are : slots ≡ length start
+  pub small : word_count (length start) < 2 ^ 64
+  pub row : length ranks ≡ LOCKS
+  pub tells : TellsRanks ranks start
+  pub locks_are : locks ≡ map (λ (o : LockId × B). o.0) start
