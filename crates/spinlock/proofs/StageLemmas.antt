@@ -17,8 +17,8 @@ use Rattle.layer_traits.specs.Plans.{Follows, table_of, section_plan, answered}
 use Rattle.layer_traits.specs.Protocol.{Rules, MayCome, StaysAllowed, edit_of, mark_of, section, sections}
 use Rattle.layer_traits.specs.Turns.{Polled}
 use Rattle.event_log.specs.Actions.{acts_of}
-use Rattle.spinlock.specs.declared.stages.Stage.{Stage}
-use Rattle.spinlock.specs.declared.stages.Stage.TheVariants.{Out, Drawn, Held}
+use Rattle.spinlock.specs.declared.stages.TicketStage.{TicketStage}
+use Rattle.spinlock.specs.declared.stages.TicketStage.TheVariants.{Out, Drawn, Held}
 use Rattle.spinlock.specs.Stages.{StageFits, hit_by}
 
 cpu_differs : (a b : CpuId) → b ≢ a → same_cpu a b ≡ false
@@ -38,7 +38,7 @@ module _ {E B O : Type 0} (rules : Rules E B O) (opening : LockId → Option B) 
       (stays_on (rules.allowed opening) (sections more) (sections log) (section cpu lock edit) (others_sections cpu more others) stays)
 
   -- a stage fits after events of others
-  pub stage_stays : (cpu : CpuId) (stage : Stage E B) (more log : List (Event (Mark E))) → AreOthers actor cpu more → IsLegalWords (more ++ log)
+  pub stage_stays : (cpu : CpuId) (stage : TicketStage E B) (more log : List (Event (Mark E))) → AreOthers actor cpu more → IsLegalWords (more ++ log)
       → StageFits rules opening log cpu stage → StageFits rules opening (more ++ log) cpu stage
   stage_stays cpu Out more log others legal fits = standing_others cpu more log others ∙ fits
   stage_stays cpu (Drawn lock edit ticket) more log others legal fits =
@@ -50,7 +50,8 @@ module _ {E B O : Type 0} (rules : Rules E B O) (opening : LockId → Option B) 
   )
 
 -- what a CPU that waits makes of another look is what it makes of the look of its poll
-pub hit_found : {E B : Type 0} (lock : LockId) (edit : E) (ticket : ℕ) (found : Option B) (stage : Stage E B) → stage ≡ hit_by found (Drawn lock edit ticket)
+pub hit_found : {E B : Type 0} (lock : LockId) (edit : E) (ticket : ℕ) (found : Option B) (stage : TicketStage E B)
+    → stage ≡ hit_by found (Drawn lock edit ticket)
     → MatchOption found (stage ≡ Drawn lock edit ticket) (λ block. stage ≡ Held lock edit block)
 hit_found lock edit ticket None stage is = is
 hit_found lock edit ticket (Some block) stage is = is
@@ -69,7 +70,7 @@ module _ {E B O : Type 0} (rules : Rules E B O) (opening opening' : LockId → O
   grown e adds = subst (λ l. IsLegalWords l) adds.is legal
 
   -- the parts of other CPUs still fit
-  pub others_fit : (e : Event (Mark E)) → actor e ≡ cpu → Adds ActsFor actor e old new → (q : CpuId) (stage : Stage E B) → q ≢ cpu → ActsFor q
+  pub others_fit : (e : Event (Mark E)) → actor e ≡ cpu → Adds ActsFor actor e old new → (q : CpuId) (stage : TicketStage E B) → q ≢ cpu → ActsFor q
       → StageFits rules opening old q stage → StageFits rules opening' new q stage
   others_fit e acts adds q stage other acts_q fits =
       let others : AreOthers actor q (e ∷ adds.others) = (subst (λ a. same_cpu a q ≡ false) (sym acts) (cpu_differs cpu q other), adds.foreign q acts_q) in
@@ -93,7 +94,7 @@ module _ {E B O : Type 0} (rules : Rules E B O) (opening opening' : LockId → O
       → StaysAllowed (rules.allowed opening) (sections old) (section cpu lock edit) → IsSome (opening lock) → (found : Option B)
       → MatchOption found (standing cpu new ≡ Waiting lock ticket)
       (λ block. (standing cpu new ≡ Inside lock ticket) × (block_after rules.edited opening' lock (sections new) ≡ Some block))
-      → (stage : Stage E B) → MatchOption found (stage ≡ Drawn lock edit ticket) (λ block. stage ≡ Held lock edit block)
+      → (stage : TicketStage E B) → MatchOption found (stage ≡ Drawn lock edit ticket) (λ block. stage ≡ Held lock edit block)
       → StageFits rules opening' new cpu stage
   looked_fits lock edit ticket read adds acts stays there found hits stage is =
       let still : StaysAllowed (rules.allowed opening) (sections new) (section cpu lock edit)

@@ -10,15 +10,15 @@ use Rattle.layer_traits.specs.declared.edits.Mark.{Mark}
 use Rattle.layer_traits.specs.Plans.{is_in_section}
 use Rattle.layer_traits.specs.Protocol.{Rules, edit_of}
 use Rattle.spinlock.specs.Stages.{StageFits, stage_section}
-use Rattle.spinlock.specs.declared.stages.Stage.{Stage}
-use Rattle.spinlock.specs.declared.stages.Stage.TheVariants.{Out, Drawn, Held}
+use Rattle.spinlock.specs.declared.stages.TicketStage.{TicketStage}
+use Rattle.spinlock.specs.declared.stages.TicketStage.TheVariants.{Out, Drawn, Held}
 
 at_standing : {E : Type 0} (log : List (Event (Mark E))) (cpu : CpuId) (s : Standing) → standing cpu log ≡ s
     → is_in_section (phase_of s) ≡ is_in_section (phase cpu (acts_of edit_of log))
 at_standing log cpu s stands = sym (ap is_in_section (phase_acts edit_of cpu log ∙ ap phase_of stands))
 
 -- a section is under way exactly while the CPU waits at a lock or holds one
-pub stage_busy : {E B O : Type 0} (rules : Rules E B O) (opening : LockId → Option B) (log : List (Event (Mark E))) (cpu : CpuId) (stage : Stage E B)
+pub stage_busy : {E B O : Type 0} (rules : Rules E B O) (opening : LockId → Option B) (log : List (Event (Mark E))) (cpu : CpuId) (stage : TicketStage E B)
     → StageFits rules opening log cpu stage → is_some (stage_section cpu stage) ≡ is_in_section (phase cpu (acts_of edit_of log))
 stage_busy rules opening log cpu Out fits = at_standing log cpu Outside fits
 stage_busy rules opening log cpu (Drawn lock edit ticket) fits = at_standing log cpu (Waiting lock ticket) fits.0

@@ -7,17 +7,17 @@ use Rattle.event_log.specs.WordsLog.{Outside, Waiting, Inside, standing}
 use Rattle.event_log.specs.Sections.{Section, block_after}
 use Rattle.layer_traits.specs.declared.edits.Mark.{Mark}
 use Rattle.layer_traits.specs.Protocol.{Rules, StaysAllowed, section, sections}
-use Rattle.spinlock.specs.declared.stages.Stage.{Stage}
-use Rattle.spinlock.specs.declared.stages.Stage.TheVariants.{Out, Drawn, Held}
+use Rattle.spinlock.specs.declared.stages.TicketStage.{TicketStage}
+use Rattle.spinlock.specs.declared.stages.TicketStage.TheVariants.{Out, Drawn, Held}
 
 -- the section that is under way at a stage
-abbrev pub stage_section : {E B : Type 0} → CpuId → Stage E B → Option (Section E)
+abbrev pub stage_section : {E B : Type 0} → CpuId → TicketStage E B → Option (Section E)
 stage_section cpu Out = None
 stage_section cpu (Drawn lock edit ticket) = Some (section cpu lock edit)
 stage_section cpu (Held lock edit block) = Some (section cpu lock edit)
 
 -- the stage after another look of a CPU that waits with a ticket: a look that found this block hits
-abbrev pub hit_by : {E B : Type 0} → Option B → Stage E B → Stage E B
+abbrev pub hit_by : {E B : Type 0} → Option B → TicketStage E B → TicketStage E B
 hit_by None stage = stage
 hit_by (Some block) Out = Out
 hit_by (Some block) (Drawn lock edit ticket) = Held lock edit block
@@ -25,7 +25,7 @@ hit_by (Some block) (Held lock edit old) = Held lock edit old
 
 -- the stage is where the log leaves the CPU: outside, waiting with its ticket, or inside with the lock's block in its hands; the
 -- lock that waits is there, and the section under way stays allowed
-abbrev pub StageFits : {E B O : Type 0} → Rules E B O → (LockId → Option B) → List (Event (Mark E)) → CpuId → Stage E B → Type 0
+abbrev pub StageFits : {E B O : Type 0} → Rules E B O → (LockId → Option B) → List (Event (Mark E)) → CpuId → TicketStage E B → Type 0
 StageFits rules opening log cpu Out = standing cpu log ≡ Outside
 StageFits rules opening log cpu (Drawn lock edit ticket) =
     (standing cpu log ≡ Waiting lock ticket) × StaysAllowed (rules.allowed opening) (sections log) (section cpu lock edit) × IsSome (opening lock)

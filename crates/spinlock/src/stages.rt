@@ -6,7 +6,7 @@ use event_log::LockId;
 
 /// How far a CPU's section has come, with what the CPU keeps of it.
 #[derive(Drop)]
-pub enum Stage<E, B> {
+pub enum TicketStage<E, B> {
     /// No section is under way.
     Out,
     /// A ticket is drawn, and no look has hit.
@@ -29,19 +29,19 @@ pub enum Stage<E, B> {
     },
 }
 
-impl<E: Drop, B: Drop> Stage<E, B> {
+impl<E: Drop, B: Drop> TicketStage<E, B> {
     /// Goes on after a look of the CPU: a look that found this block hits, and with another the
     /// stage stays as it is.
     pub fn after_look(&mut self, lock: LockId, edit: E, found: Option<B>)
-        ensures { MatchOption found (self.new ≡ self.old) (λ block. self.new ≡ Stage.Held lock edit block) }
+        ensures { MatchOption found (self.new ≡ self.old) (λ block. self.new ≡ TicketStage.Held lock edit block) }
     {
         if let Some(block) = found {
-            *self = Stage::Held { lock, edit, block };
+            *self = TicketStage::Held { lock, edit, block };
         }
     }
 }
 
-impl<E: Copy + Drop, B: Drop> Stage<E, B> {
+impl<E: Copy + Drop, B: Drop> TicketStage<E, B> {
     ghost use Rattle.spinlock.specs.Stages.{hit_by};
 
     /// Goes on after another look of a CPU that waits: as after a look, with the edit that the
@@ -50,8 +50,8 @@ impl<E: Copy + Drop, B: Drop> Stage<E, B> {
         ensures { self.new ≡ hit_by found self.old }
     {
         if let Some(block) = found {
-            if let Stage::Drawn { lock, edit, .. } = self {
-                *self = Stage::Held {
+            if let TicketStage::Drawn { lock, edit, .. } = self {
+                *self = TicketStage::Held {
                     lock: *lock,
                     edit: *edit,
                     block,

@@ -2,7 +2,7 @@
 
 ghost use Rattle.std.specs.Prelude.{◌≡◌};
 
-use crate::stages::Stage;
+use crate::stages::TicketStage;
 use event_log::{CpuId, LockId};
 use layer_traits::{Edit, LockLayer, Words};
 use std::mem;
@@ -12,7 +12,7 @@ use std::mem;
 #[derive(Drop)]
 pub struct Ticket<W: Words> {
     cpu: CpuId,
-    stage: Stage<W::Edit, <W::Edit as Edit>::Block>,
+    stage: TicketStage<W::Edit, <W::Edit as Edit>::Block>,
     // Always None: it names the machine's type, and what that borrows.
     words: Option<W>,
 }
@@ -54,45 +54,45 @@ impl<W: Words> LockLayer<W::Edit> for Ticket<W> {
     fn part(cpu: CpuId, _homes: &[CpuId], _buffers: u8) -> Self {
         Ticket {
             cpu,
-            stage: Stage::Out,
+            stage: TicketStage::Out,
             words: None,
         }
     }
 
     fn is_busy(&self) -> bool {
-        !matches!(self.stage, Stage::Out)
+        !matches!(self.stage, TicketStage::Out)
     }
 
     fn look(&mut self, m: &mut W) -> bool {
         match self.stage {
-            Stage::Drawn { lock, ticket, .. } => {
+            TicketStage::Drawn { lock, ticket, .. } => {
                 let found = m.look(self.cpu, lock, ticket);
                 self.stage.hit(found);
                 true
             }
-            Stage::Out => false,
-            Stage::Held { .. } => false,
+            TicketStage::Out => false,
+            TicketStage::Held { .. } => false,
         }
     }
 
     fn poll(&mut self, m: &mut W, lock: LockId, edit: W::Edit) -> Option<<W::Edit as Edit>::Out> {
         match self.stage {
-            Stage::Out => {
+            TicketStage::Out => {
                 let ticket = m.draw(self.cpu, lock);
-                self.stage = Stage::Drawn { lock, edit, ticket };
+                self.stage = TicketStage::Drawn { lock, edit, ticket };
                 None
             }
-            Stage::Drawn { lock, edit, ticket } => {
+            TicketStage::Drawn { lock, edit, ticket } => {
                 let found = m.look(self.cpu, lock, ticket);
                 self.stage.after_look(lock, edit, found);
                 None
             }
-            Stage::Held { .. } => {
-                let Stage::Held {
+            TicketStage::Held { .. } => {
+                let TicketStage::Held {
                     lock,
                     edit,
                     mut block,
-                } = mem::replace(&mut self.stage, Stage::Out)
+                } = mem::replace(&mut self.stage, TicketStage::Out)
                 else {
                     unreachable!()
                 };

@@ -8,7 +8,7 @@ use Rattle.layer_traits.specs.Protocol.{StaysAllowed, edit_of, mark_of, section,
 use Rattle.layer_traits.specs.Turns.{MayPoll, Polled}
 use Rattle.spinlock.proofs.StageLemmas.{others_fit, drawn_fits, draw_polled, draw_acts, looked_fits, look_polled, look_acts, free_polled, free_acts}
 use Rattle.spinlock.specs.Stages.{StageFits, stage_section}
-use Rattle.spinlock.specs.declared.stages.Stage.TheVariants.{Held}
+use Rattle.spinlock.specs.declared.stages.TicketStage.TheVariants.{Held}
 use Rattle.spinlock.proofs.ticket.TicketLockLayerEdit.poll.Goals as goal
 
 -- the draw: a section begins, which stays allowed
