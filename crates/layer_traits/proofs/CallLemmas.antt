@@ -19,7 +19,9 @@ use Rattle.layer_traits.specs.declared.scheds.SchedAnswer.{SchedAnswer}
 use Rattle.layer_traits.specs.declared.scheds.SchedCall.TheVariants as call
 use Rattle.layer_traits.specs.MoveRules.{WakesSleepers, edit_move, section_moves, slept_at, asleep_after, asleep_by}
 use Rattle.layer_traits.specs.Passes.{PassPolled, pass_after, pass_steps}
-use Rattle.layer_traits.specs.Places.{AreMoves, Asleep, Hand, Home, MayMove, Move, Moved, Pend, Place, Pushed, Step, Still, Threads, Took, Where, home_of, is_asleep, is_cpu, is_place, is_thread, pending_by, place_of, step, stepper, where_after, where_is, where_slept, where_taken, where_woken}
+use Rattle.layer_traits.specs.Places.{AreMoves, Asleep, Hand, Home, MayMove, Move, Moved, Pend, Place, Pushed, Step, Still, Threads, Took, Where, home_of}
+use Rattle.layer_traits.specs.Places.{is_asleep, is_cpu, is_place, is_thread, pending_by, place_of, step, stepper, where_after, where_is, where_slept}
+use Rattle.layer_traits.specs.Places.{where_taken, where_woken}
 use Rattle.layer_traits.specs.Plans.{Act, Follows, Left, Now, Plan, Table, raised}
 use Rattle.layer_traits.specs.Queues.{CallAllowed, Kernel, QueueAllowed, buffer_sections, call_move, event, event_actor, moves_in, out_at}
 use Rattle.layer_traits.specs.Scheds.{SchedPolled, events_of, pass_call}
@@ -43,7 +45,8 @@ woken_place c home = go (is_cpu c home)
     go true = refl
     go false = refl
 
-slept_place : (lock : LockId) (slept : Option Line) (w : Where) (p : Option Place) → place_of w ≡ p → place_of (where_slept lock slept w) ≡ slept_at lock slept p
+slept_place : (lock : LockId) (slept : Option Line) (w : Where) (p : Option Place) → place_of w ≡ p
+    → place_of (where_slept lock slept w) ≡ slept_at lock slept p
 slept_place lock None w p is = is
 slept_place lock (Some line) w p is = refl
 
@@ -64,7 +67,8 @@ module _ (homes : List CpuId) where
       by_caller false = is
 
       by_woke : (b : Bool)
-          → place_of (if b then where_woken c (home_of homes t) else (if same_tid caller t then where_slept lock slept (where_is homes past t) else where_is homes past t))
+          → place_of (if b then where_woken c (home_of homes t)
+          else (if same_tid caller t then where_slept lock slept (where_is homes past t) else where_is homes past t))
           ≡ (if b then None else (if same_tid caller t then slept_at lock slept (asleep_by past t) else asleep_by past t))
       by_woke true = woken_place c (home_of homes t)
       by_woke false = by_caller (same_tid caller t)
@@ -97,14 +101,16 @@ module _ {E B O : Type 0} (k : Kernel E B O) where
   upper_lawful [] lawful = tt
   upper_lawful (e ∷ past) lawful = by_call e.cpu e.call past lawful.0 (upper_lawful past lawful.1)
     where
-      by_call : (c : CpuId) (q : QueueCall E) (past : List (QueueEvent E)) → CallAllowed k past c q → IsLawful (k.rules.allowed k.opening) (buffer_sections past)
+      by_call : (c : CpuId) (q : QueueCall E) (past : List (QueueEvent E)) → CallAllowed k past c q
+          → IsLawful (k.rules.allowed k.opening) (buffer_sections past)
           → IsLawful (k.rules.allowed k.opening) (buffer_sections (event c q ∷ past))
       by_call c (Push d t) past allowed before = before
       by_call c (TakeAll d) past allowed before = before
       by_call c (OnBuffer b e) past allowed before = (allowed.upper, before)
 
   -- pushes and takings put nobody to sleep and wake nobody
-  pub sections_asleep : (past : List (QueueEvent E)) (u : Tid) → asleep_by (section_moves k.rules k.moves k.opening (buffer_sections past)) u ≡ asleep_by (moves_in k past) u
+  pub sections_asleep : (past : List (QueueEvent E)) (u : Tid) → asleep_by (section_moves k.rules k.moves k.opening (buffer_sections past)) u
+      ≡ asleep_by (moves_in k past) u
   sections_asleep [] u = refl
   sections_asleep (e ∷ past) u = by_call e.cpu e.call past (sections_asleep past u)
     where
@@ -128,7 +134,8 @@ module _ {E B O : Type 0} (k : Kernel E B O) where
     moves_lawful [] lawful = tt
     moves_lawful (e ∷ past) lawful = (by_call e.cpu e.call past lawful.0 lawful.1 (moves_lawful past lawful.1), moves_lawful past lawful.1)
       where
-        by_call : (c : CpuId) (q : QueueCall E) (past : List (QueueEvent E)) → CallAllowed k past c q → IsLawful (QueueAllowed k) past → AreMoves k.homes (moves_in k past)
+        by_call : (c : CpuId) (q : QueueCall E) (past : List (QueueEvent E)) → CallAllowed k past c q → IsLawful (QueueAllowed k) past
+            → AreMoves k.homes (moves_in k past)
             → MayMove k.homes (moves_in k past) c (call_move k past q)
         by_call c (Push d t) past allowed lawful moves = allowed
         by_call c (TakeAll d) past allowed lawful moves = allowed
@@ -151,7 +158,8 @@ module _ {E B O : Type 0} (k : Kernel E B O) where
 
   -- A pass in moves.
 
-  pass_moves : (c : CpuId) (p : Pass) (past : List (QueueEvent E)) → moves_in k (events_of c (pass_call k.homes c p) ++ past) ≡ pass_steps k.homes c p ++ moves_in k past
+  pass_moves : (c : CpuId) (p : Pass) (past : List (QueueEvent E))
+      → moves_in k (events_of c (pass_call k.homes c p) ++ past) ≡ pass_steps k.homes c p ++ moves_in k past
   pass_moves c Switch past = refl
   pass_moves c YieldNow past = refl
   pass_moves c Drain past = refl
@@ -175,8 +183,10 @@ module _ {E B O : Type 0} (k : Kernel E B O) where
       by_answer false = moves_append polled.others old
 
 -- a poll that followed a plan followed the plan raised, with what is made of what it left
-pub follows_raised : {N B R S T A Q : Type 0} (ActsFor : CpuId → Type 0) (table : Table N B R) (opening : LockId → Option B) (cpu : CpuId) (f : Left S A → Left T Q)
+pub follows_raised : {N B R S T A Q : Type 0} (ActsFor : CpuId → Type 0) (table : Table N B R) (opening : LockId → Option B) (cpu : CpuId)
+    (f : Left S A → Left T Q)
     (plan : Plan N R S A) (old new : List (Action N)) (got : Left S A) → Follows ActsFor table opening cpu plan old new got
     → Follows ActsFor table opening cpu (raised f plan) old new (f got)
 follows_raised ActsFor table opening cpu f (Now left) old new got follows = (follows.0, ap f follows.1)
-follows_raised ActsFor table opening cpu f (Act lock name react) old new got follows = record { past = follows.past; acted = follows.acted; moves = ap f follows.moves }
+follows_raised ActsFor table opening cpu f (Act lock name react) old new got follows =
+    record { past = follows.past; acted = follows.acted; moves = ap f follows.moves }

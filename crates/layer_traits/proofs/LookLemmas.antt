@@ -11,7 +11,8 @@ use Rattle.layer_traits.specs.Plans.{Table, Left, Act, Follows, at_give}
 
 -- a look at a waiting section follows any plan that acts, and answers nothing
 pub tries_follow : {N B R S A : Type 0} (ActsFor : CpuId → Type 0) (table : Table N B R) (opening : LockId → Option B) (cpu : CpuId) (lock : LockId) (name : N)
-    (react : Option R → Left S A) (old new : List (Action N)) → Tries ActsFor cpu old new → Follows ActsFor table opening cpu (Act lock name react) old new (react None)
+    (react : Option R → Left S A) (old new : List (Action N)) → Tries ActsFor cpu old new
+    → Follows ActsFor table opening cpu (Act lock name react) old new (react None)
 tries_follow ActsFor table opening cpu lock name react old new tries = record {
   past = tries.past;
   acted = record {
@@ -34,5 +35,6 @@ tries_renamed name ActsFor cpu old new tries = record {
   lock = tries.lock;
   waits = phase_renamed name cpu tries.past ∙ tries.waits;
   grows = ap (map (renamed name)) tries.grows
-      ∙ (λ i. Try cpu tries.lock (sym (gives_renamed name tries.lock tries.past) i == sym (place_renamed name cpu tries.past) i) ∷ map (renamed name) tries.past);
+      ∙ (λ i. Try cpu tries.lock (sym (gives_renamed name tries.lock tries.past) i == sym (place_renamed name cpu tries.past) i) ∷ map (renamed name)
+      tries.past);
 }

@@ -1,6 +1,7 @@
 -- Sections of the edits of shared queues as calls: a section is its call, what the blocks of the locks hold after calls, and what one
 -- poll of a section means as a poll of its call.
-use Rattle.std.proofs.Common.{◌≡◌, ◌<◌, Bool, true, false, ◌&&◌, not, List, [], ◌∷◌, ◌++◌, Option, Some, None, MatchOption, is_some, option_map, if◌then◌else◌, map, refl, ap, sym, ◌∙◌, subst, arith}
+use Rattle.std.proofs.Common.{◌≡◌, ◌<◌, Bool, true, false, ◌&&◌, not, List, [], ◌∷◌, ◌++◌, Option, Some, None, MatchOption, is_some, option_map, if◌then◌else◌}
+use Rattle.std.proofs.Common.{map, refl, ap, sym, ◌∙◌, subst, arith}
 use Rattle.std.proofs.lemmas.Bool.{lt-ltb}
 use Rattle.std.proofs.lemmas.Option.{slice_get_within}
 use Rattle.event_log.specs.declared.ids.BufId.{BufId}
@@ -26,7 +27,8 @@ use Rattle.layer_traits.specs.Places.{MayPush, pending_after, pending_by}
 use Rattle.layer_traits.specs.Protocol.{IsKnown, Rules, StaysAllowed, section}
 use Rattle.layer_traits.specs.QueueBlocks.{StartsAs, StartsWell, above_of, homes_in, inner}
 use Rattle.layer_traits.specs.QueueRules.{IsProper, IsProperCall, SectionAllowed, pushed, queue_answer, queue_edited, queue_rules}
-use Rattle.layer_traits.specs.Queues.{CallAllowed, IsKnownEvent, Kernel, MayQueue, QueueAllowed, QueuePolled, StaysCallable, answer_of, buffer_sections, call_at, edit_of, event, event_actor, event_of, kernel, lock_of, moves_in, out_at}
+use Rattle.layer_traits.specs.Queues.{CallAllowed, IsKnownEvent, Kernel, MayQueue, QueueAllowed, QueuePolled, StaysCallable, answer_of, buffer_sections}
+use Rattle.layer_traits.specs.Queues.{call_at, edit_of, event, event_actor, event_of, kernel, lock_of, moves_in, out_at}
 use Rattle.layer_traits.specs.Turns.{MayPoll, Polled}
 use Rattle.layer_traits.proofs.CallLemmas.{moves_lawful}
 use Rattle.layer_traits.proofs.CountLemmas.{same_cpu_sym}
@@ -61,7 +63,8 @@ section_is s c call proper is =
     let edits : s.edit ≡ edit_of call = sym (edit_of_at s.lock s.edit) ∙ ap (λ e. edit_of e.call) is in
     λ i. section (is i).cpu (at i) (edits i)
 
-pub others_events : {E : Type 0} (c : CpuId) (more : List (Section (QueueEdit E))) → AreOthers section_actor c more → AreOthers event_actor c (map event_of more)
+pub others_events : {E : Type 0} (c : CpuId) (more : List (Section (QueueEdit E))) → AreOthers section_actor c more
+    → AreOthers event_actor c (map event_of more)
 others_events c [] others = tt
 others_events c (s ∷ more) others = (others.0, others_events c more others.1)
 
@@ -101,7 +104,8 @@ module _ {E B O : Type 0} (rules : Rules E B O) (mv : MoveRules E O) (opening : 
   lawful_events (s ∷ past) lawful = (lawful.0.call, lawful_events past lawful.1)
 
   -- a call that stays allowed is a section that does
-  pub stays_section : (old : List (Section (QueueEdit E))) (c : CpuId) (call : QueueCall E) → StaysCallable (QueueAllowed beneath) (map event_of old) (event c call)
+  pub stays_section : (old : List (Section (QueueEdit E))) (c : CpuId) (call : QueueCall E)
+      → StaysCallable (QueueAllowed beneath) (map event_of old) (event c call)
       → StaysAllowed (SectionAllowed rules mv opening) old (section c (lock_of call) (edit_of call))
   stays_section old c call stays = λ more others lawful.
       let joined : map event_of (more ++ old) ≡ map event_of more ++ map event_of old = map-append event_of more old in
@@ -129,13 +133,15 @@ module _ {E B O : Type 0} (rules : Rules E B O) (mv : MoveRules E O) (opening : 
     opens_buffer b (Some (block.Above x)) kind = refl
 
     edits_above : (e : E) (x : Bool) (found : Option (QueueBlock B)) (above : Option B) → found ≡ option_map block.Above above
-        → (if x then option_map (queue_edited rules.edited (edit.Above e)) found else found) ≡ option_map block.Above (if x then option_map (rules.edited e) above else above)
+        → (if x then option_map (queue_edited rules.edited (edit.Above e)) found else found)
+        ≡ option_map block.Above (if x then option_map (rules.edited e) above else above)
     edits_above e false found above is = is
     edits_above e true found None is = ap (option_map (queue_edited rules.edited (edit.Above e))) is
     edits_above e true found (Some x) is = ap (option_map (queue_edited rules.edited (edit.Above e))) is
 
     buffer_step : (b : BufId) (lock : LockId) (x : QueueEdit E) (c : CpuId) (past : List (Section (QueueEdit E))) → IsProper lock x
-        → block_after (queue_edited rules.edited) opening (Buffer b) past ≡ option_map block.Above (block_after rules.edited (inner opening) (Buffer b) (buffer_sections (map event_of past)))
+        → block_after (queue_edited rules.edited) opening (Buffer b) past
+        ≡ option_map block.Above (block_after rules.edited (inner opening) (Buffer b) (buffer_sections (map event_of past)))
         → block_after (queue_edited rules.edited) opening (Buffer b) (section c lock x ∷ past)
         ≡ option_map block.Above (block_after rules.edited (inner opening) (Buffer b) (buffer_sections (map event_of (section c lock x ∷ past))))
     buffer_step b (Pending d) (edit.Push t) c past proper is = is
@@ -143,12 +149,14 @@ module _ {E B O : Type 0} (rules : Rules E B O) (mv : MoveRules E O) (opening : 
     buffer_step b (Pending d) (edit.Above e) c past proper is = absurd cc
     buffer_step b (Buffer at) (edit.Push t) c past proper is = absurd cc
     buffer_step b (Buffer at) edit.TakeAll c past proper is = absurd cc
-    buffer_step b (Buffer at) (edit.Above e) c past proper is = edits_above e (same_lock (Buffer b) (Buffer at)) (block_after (queue_edited rules.edited) opening (Buffer b) past)
+    buffer_step b (Buffer at) (edit.Above e) c past proper is =
+        edits_above e (same_lock (Buffer b) (Buffer at)) (block_after (queue_edited rules.edited) opening (Buffer b) past)
         (block_after rules.edited (inner opening) (Buffer b) (buffer_sections (map event_of past))) is
 
     -- a buffer's block is that which the sections of the layer above leave
     pub buffer_block : (b : BufId) (log : List (Section (QueueEdit E))) → Lawful log
-        → block_after (queue_edited rules.edited) opening (Buffer b) log ≡ option_map block.Above (block_after rules.edited (inner opening) (Buffer b) (buffer_sections (map event_of log)))
+        → block_after (queue_edited rules.edited) opening (Buffer b) log
+        ≡ option_map block.Above (block_after rules.edited (inner opening) (Buffer b) (buffer_sections (map event_of log)))
     buffer_block b [] lawful = opens_buffer b (opening (Buffer b)) (starts.kinds (Buffer b))
     buffer_block b (s ∷ past) lawful = buffer_step b s.lock s.edit s.cpu past lawful.0.proper (buffer_block b past lawful.1)
 
@@ -165,7 +173,8 @@ module _ {E B O : Type 0} (rules : Rules E B O) (mv : MoveRules E O) (opening : 
           let most = starts.room in
           omega (arith, within, most)
 
-      pub push_new : (past : List (QueueEvent E)) → IsLawful (QueueAllowed beneath) past → (c d e : CpuId) (t : Tid) → MayPush (homes_in opening) (moves_in beneath past) c d t
+      pub push_new : (past : List (QueueEvent E)) → IsLawful (QueueAllowed beneath) past → (c d e : CpuId) (t : Tid)
+          → MayPush (homes_in opening) (moves_in beneath past) c d t
           → is_in t (pending_by (moves_in beneath past) e) ≡ false
       push_new past lawful c d e t may = go (is_in t (pending_by (moves_in beneath past) e)) refl
         where
@@ -185,7 +194,8 @@ module _ {E B O : Type 0} (rules : Rules E B O) (mv : MoveRules E O) (opening : 
           → (if at then option_map (queue_edited rules.edited x) found else found) ≡ with_queue (if at then next else queue) opened
       edits_queue x false found opened queue next is edits leaves = is
       edits_queue x true found None queue next is edits leaves = ap (option_map (queue_edited rules.edited x)) is
-      edits_queue x true found (Some (block.Queue old homes)) queue next is edits leaves = ap (option_map (queue_edited rules.edited x)) is ∙ ap Some (edits homes)
+      edits_queue x true found (Some (block.Queue old homes)) queue next is edits leaves = ap (option_map (queue_edited rules.edited x)) is
+          ∙ ap Some (edits homes)
       edits_queue x true found (Some (block.Above b)) queue next is edits leaves = ap (option_map (queue_edited rules.edited x)) is ∙ ap Some (leaves b)
 
       still_pending : (b : BufId) (e : E) (d : CpuId) (queue : List Tid) (out : Option O) → pending_after (edit_move mv (Buffer b) e out) d queue ≡ queue
@@ -194,13 +204,16 @@ module _ {E B O : Type 0} (rules : Rules E B O) (mv : MoveRules E O) (opening : 
 
       queue_step : (d : CpuId) (lock : LockId) (x : QueueEdit E) (c : CpuId) (past : List (Section (QueueEdit E))) → IsProper lock x
           → CallAllowed beneath (map event_of past) c (call_at lock x) → IsLawful (QueueAllowed beneath) (map event_of past)
-          → block_after (queue_edited rules.edited) opening (Pending d) past ≡ with_queue (pending_by (moves_in beneath (map event_of past)) d) (opening (Pending d))
+          → block_after (queue_edited rules.edited) opening (Pending d) past
+          ≡ with_queue (pending_by (moves_in beneath (map event_of past)) d) (opening (Pending d))
           → block_after (queue_edited rules.edited) opening (Pending d) (section c lock x ∷ past)
           ≡ with_queue (pending_by (moves_in beneath (map event_of (section c lock x ∷ past))) d) (opening (Pending d))
       queue_step d (Pending at) (edit.Push t) c past proper allowed lawful is =
           let queue = pending_by (moves_in beneath (map event_of past)) d in
-          edits_queue (edit.Push t) (same_cpu d at) (block_after (queue_edited rules.edited) opening (Pending d) past) (opening (Pending d)) queue (queue ++ t ∷ []) is
-          (λ homes. ap (λ q. block.Queue q homes) (pushed_is t queue (push_known (map event_of past) c at t allowed) (push_new (map event_of past) lawful c at d t allowed)))
+          edits_queue (edit.Push t) (same_cpu d at) (block_after (queue_edited rules.edited) opening (Pending d) past) (opening (Pending d)) queue
+          (queue ++ t ∷ []) is
+          (λ homes. ap (λ q. block.Queue q homes)
+          (pushed_is t queue (push_known (map event_of past) c at t allowed) (push_new (map event_of past) lawful c at d t allowed)))
           (λ b. refl)
           ∙ ap (λ b. with_queue (if b then queue ++ t ∷ [] else queue) (opening (Pending d))) (same_cpu_sym d at)
       queue_step d (Pending at) edit.TakeAll c past proper allowed lawful is =
@@ -217,13 +230,16 @@ module _ {E B O : Type 0} (rules : Rules E B O) (mv : MoveRules E O) (opening : 
 
       -- a queue's block holds who is pending there by the moves
       pub queue_block : (d : CpuId) (log : List (Section (QueueEdit E))) → Lawful log
-          → block_after (queue_edited rules.edited) opening (Pending d) log ≡ with_queue (pending_by (moves_in beneath (map event_of log)) d) (opening (Pending d))
+          → block_after (queue_edited rules.edited) opening (Pending d) log
+          ≡ with_queue (pending_by (moves_in beneath (map event_of log)) d) (opening (Pending d))
       queue_block d [] lawful = opens_queue d (opening (Pending d)) (starts.kinds (Pending d))
-      queue_block d (s ∷ past) lawful = queue_step d s.lock s.edit s.cpu past lawful.0.proper lawful.0.call (lawful_events past lawful.1) (queue_block d past lawful.1)
+      queue_block d (s ∷ past) lawful = queue_step d s.lock s.edit s.cpu past lawful.0.proper lawful.0.call (lawful_events past lawful.1)
+          (queue_block d past lawful.1)
 
       -- What a poll of a section means as a poll of its call.
 
-      told_push : (found : Option (QueueBlock B)) (t : Tid) (answer : QueueAnswer O) → option_map (queue_answer rules.answer (edit.Push t)) found ≡ Some answer → Some Done ≡ Some answer
+      told_push : (found : Option (QueueBlock B)) (t : Tid) (answer : QueueAnswer O) → option_map (queue_answer rules.answer (edit.Push t)) found ≡ Some answer
+          → Some Done ≡ Some answer
       told_push None t answer is = absurd cc
       told_push (Some b) t answer is = is
 
@@ -233,7 +249,8 @@ module _ {E B O : Type 0} (rules : Rules E B O) (mv : MoveRules E O) (opening : 
       told_taken d (Some (block.Queue old homes)) kind queue answer is = is
       told_taken d (Some (block.Above b)) kind queue answer is = absurd kind
 
-      told_above : (e : E) (above : Option B) → option_map Answer (option_map (rules.answer e) above) ≡ option_map (queue_answer rules.answer (edit.Above e)) (option_map block.Above above)
+      told_above : (e : E) (above : Option B) → option_map Answer (option_map (rules.answer e) above)
+          ≡ option_map (queue_answer rules.answer (edit.Above e)) (option_map block.Above above)
       told_above e None = refl
       told_above e (Some b) = refl
 
@@ -242,15 +259,18 @@ module _ {E B O : Type 0} (rules : Rules E B O) (mv : MoveRules E O) (opening : 
           → option_map (queue_answer rules.answer (edit_of call)) (block_after (queue_edited rules.edited) opening (lock_of call) log) ≡ Some answer
           → answer_of beneath (map event_of log) call ≡ Some answer
       answers_call log lawful (Push d t) answer is = told_push (block_after (queue_edited rules.edited) opening (Pending d) log) t answer is
-      answers_call log lawful (TakeAll d) answer is = told_taken d (opening (Pending d)) (starts.kinds (Pending d)) (pending_by (moves_in beneath (map event_of log)) d) answer
+      answers_call log lawful (TakeAll d) answer is =
+          told_taken d (opening (Pending d)) (starts.kinds (Pending d)) (pending_by (moves_in beneath (map event_of log)) d) answer
           (ap (option_map (queue_answer rules.answer edit.TakeAll)) (sym (queue_block d log lawful)) ∙ is)
       answers_call log lawful (OnBuffer b e) answer is =
           told_above e (block_after rules.edited (inner opening) (Buffer b) (buffer_sections (map event_of log)))
           ∙ (ap (option_map (queue_answer rules.answer (edit.Above e))) (sym (buffer_block b log lawful)) ∙ is)
 
       -- a poll of a section is a poll of its call
-      pub polled_event : (ActsFor Acts : CpuId → Type 0) → ((d : CpuId) → Acts d → ActsFor d) → (c : CpuId) (call : QueueCall E) (result : Option (QueueAnswer O))
-          (old new : List (Section (QueueEdit E))) → Lawful new → Polled (queue_rules rules mv) opening ActsFor (section c (lock_of call) (edit_of call)) result old new
+      pub polled_event : (ActsFor Acts : CpuId → Type 0) → ((d : CpuId) → Acts d → ActsFor d)
+          → (c : CpuId) (call : QueueCall E) (result : Option (QueueAnswer O))
+          (old new : List (Section (QueueEdit E))) → Lawful new
+          → Polled (queue_rules rules mv) opening ActsFor (section c (lock_of call) (edit_of call)) result old new
           → QueuePolled beneath Acts (event c call) result (map event_of old) (map event_of new)
       polled_event ActsFor Acts weakens c call result old new lawful polled = record {
         others = map event_of polled.others;
@@ -270,7 +290,8 @@ module _ {E B O : Type 0} (rules : Rules E B O) (mv : MoveRules E O) (opening : 
           answers : (out : Option (QueueAnswer O))
               → new ≡ (if is_some out then section c (lock_of call) (edit_of call) ∷ (polled.others ++ old) else polled.others ++ old)
               → MatchOption out (Unit {0})
-              (λ answer. option_map (queue_answer rules.answer (edit_of call)) (block_after (queue_edited rules.edited) opening (lock_of call) (polled.others ++ old)) ≡ Some answer)
+              (λ answer. option_map (queue_answer rules.answer (edit_of call))
+              (block_after (queue_edited rules.edited) opening (lock_of call) (polled.others ++ old)) ≡ Some answer)
               → MatchOption out (Unit {0}) (λ answer. answer_of beneath (map event_of polled.others ++ map event_of old) call ≡ Some answer)
           answers None is told = tt
           answers (Some answer) is told =

@@ -11,7 +11,7 @@ use Rattle.event_log.proofs.Same.{same_cpu_self, same_cpu_true, same_lock_self}
 use Rattle.event_log.proofs.Tickets.{one_inside, standing_other}
 use Rattle.layer_traits.specs.declared.edits.Mark.{Mark}
 use Rattle.layer_traits.specs.OneLock.{SomeoneInside, NobodyInside, LockFits}
-use Rattle.layer_traits.specs.Protocol.{sections}
+use Rattle.layer_traits.specs.WordsProtocol.{sections}
 
 -- the lock whose word an event acts on
 abbrev pub event_lock : {M : Type 0} → Event M → LockId

@@ -13,7 +13,8 @@ use Rattle.event_log.proofs.Tickets.{phase_of, phase_acts, legal_acts}
 use Rattle.layer_traits.specs.declared.edits.Mark.{Mark}
 use Rattle.layer_traits.specs.Looks.{Tries}
 use Rattle.layer_traits.specs.Plans.{Follows, table_of, at_give, section_plan, answered}
-use Rattle.layer_traits.specs.Protocol.{Rules, edit_of, sections}
+use Rattle.layer_traits.specs.Protocol.{Rules}
+use Rattle.layer_traits.specs.WordsProtocol.{edit_of, sections}
 
 pub acts-append : {E : Type 0} (more log : List (Event (Mark E))) → acts_of edit_of (more ++ log) ≡ acts_of edit_of more ++ acts_of edit_of log
 acts-append more log = acts_of-append edit_of more log
@@ -45,7 +46,8 @@ module _ {E B O : Type 0} (rules : Rules E B O) (opening : LockId → Option B) 
         };
         moves = ap answered (answers
             ∙ ap (λ p. at_give p (option_map (rules.answer edit) (block_after rules.edited opening lock (sections (adds.others ++ old))))) (sym is_phase)
-            ∙ ap (λ l. at_give (phase cpu past) (option_map (rules.answer edit) (block_after rules.edited opening lock l))) (sections_acts (adds.others ++ old)));
+            ∙ ap (λ l. at_give (phase cpu past) (option_map (rules.answer edit) (block_after rules.edited opening lock l)))
+            (sections_acts (adds.others ++ old)));
       }
 
   -- a draw is the action due to a CPU outside
@@ -64,10 +66,12 @@ module _ {E B O : Type 0} (rules : Rules E B O) (opening : LockId → Option B) 
       event_follows (Look cpu lock ticket read) adds (Waiting lock ticket) here.0.0 (ap (Try cpu lock) acts.0.1) None refl
 
   -- a free is the action due to a CPU inside, and the answer of its section comes with it
-  pub free_follows : (ticket : ℕ) (adds : Adds ActsFor actor (Free cpu lock (record { edit = edit })) old new) → standing cpu (adds.others ++ old) ≡ Inside lock ticket → (out : O)
+  pub free_follows : (ticket : ℕ) (adds : Adds ActsFor actor (Free cpu lock (record { edit = edit })) old new)
+      → standing cpu (adds.others ++ old) ≡ Inside lock ticket → (out : O)
       → option_map (rules.answer edit) (block_after rules.edited opening lock (sections (adds.others ++ old))) ≡ Some out
       → Follows ActsFor (table_of rules) opening cpu (section_plan lock edit) (acts_of edit_of old) (acts_of edit_of new) (answered (Some out))
-  free_follows ticket adds inside out answers = event_follows (Free cpu lock (record { edit = edit })) adds (Inside lock ticket) inside refl (Some out) (sym answers)
+  free_follows ticket adds inside out answers = event_follows (Free cpu lock (record { edit = edit })) adds (Inside lock ticket) inside refl (Some out)
+      (sym answers)
 
 -- a look in a legal words log is one more try of a CPU that waits at its lock
 pub look_tries : {E : Type 0} (ActsFor : CpuId → Type 0) (cpu : CpuId) (lock : LockId) (old new : List (Event (Mark E))) (ticket read : ℕ)

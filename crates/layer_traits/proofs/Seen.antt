@@ -15,7 +15,8 @@ use Rattle.event_log.proofs.Foreign.{sections_of-append, others_sections_of, sec
 use Rattle.event_log.proofs.Same.{same_cpu_self, same_lock_self, same_lock_true}
 use Rattle.event_log.proofs.Tickets.{phase_of, phase_acts, legal_acts, one_inside}
 use Rattle.layer_traits.specs.declared.edits.Mark.{Mark}
-use Rattle.layer_traits.specs.Protocol.{MayCome, StaysAllowed, IsKnown, edit_of, sections}
+use Rattle.layer_traits.specs.Protocol.{StaysAllowed, IsKnown}
+use Rattle.layer_traits.specs.WordsProtocol.{MayCome, edit_of, sections}
 
 pub sections-append : {E : Type 0} (more log : List (Event (Mark E))) → sections (more ++ log) ≡ sections more ++ sections log
 sections-append more log = sections_of-append edit_of more log

@@ -1,4 +1,5 @@
 pub mod Protocol
+pub mod WordsProtocol
 pub mod Turns
 pub mod OneLock
 pub mod Plans

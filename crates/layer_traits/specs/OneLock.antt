@@ -7,7 +7,7 @@ use Rattle.event_log.specs.History.{same_lock}
 use Rattle.event_log.specs.WordsLog.{draws, frees, standing, Inside}
 use Rattle.event_log.specs.Sections.{block_after}
 use Rattle.layer_traits.specs.declared.edits.Mark.{Mark}
-use Rattle.layer_traits.specs.Protocol.{sections}
+use Rattle.layer_traits.specs.WordsProtocol.{sections}
 
 -- some CPU is inside this lock
 abbrev pub SomeoneInside : {M : Type 0} → LockId → List (Event M) → Type 0

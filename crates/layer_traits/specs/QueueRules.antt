@@ -46,7 +46,8 @@ IsProperCall None = Unit {0}
 IsProperCall (Some s) = IsProper s.lock s.edit
 
 -- a section may come after these: it edits a block of its kind, and its call is allowed
-pub record SectionAllowed {E B O : Type 0} (rules : Rules E B O) (mv : MoveRules E O) (opening : LockId → Option (QueueBlock B)) (past : List (Section (QueueEdit E))) (s : Section (QueueEdit E)) : Type 0 where
+pub record SectionAllowed {E B O : Type 0} (rules : Rules E B O) (mv : MoveRules E O) (opening : LockId → Option (QueueBlock B))
+    (past : List (Section (QueueEdit E))) (s : Section (QueueEdit E)) : Type 0 where
   pub proper : IsProper s.lock s.edit
   pub call : QueueAllowed (kernel rules mv opening) (map event_of past) (event_of s)
 

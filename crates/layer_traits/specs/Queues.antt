@@ -104,7 +104,8 @@ answer_of k past (TakeAll d) = Some (Taken (pending_by (moves_in k past) d))
 answer_of k past (OnBuffer b e) = option_map Answer (out_at k past b e)
 
 -- a poll of a call: foreign events come first, then the call itself exactly where the poll answers, with its answer at that point
-pub record QueuePolled {E B O : Type 0} (k : Kernel E B O) (ActsFor : CpuId → Type 0) (e : QueueEvent E) (result : Option (QueueAnswer O)) (old new : List (QueueEvent E)) : Type 0 where
+pub record QueuePolled {E B O : Type 0} (k : Kernel E B O) (ActsFor : CpuId → Type 0) (e : QueueEvent E) (result : Option (QueueAnswer O))
+    (old new : List (QueueEvent E)) : Type 0 where
   pub others : List (QueueEvent E)
   pub foreign : AreForeign ActsFor event_actor others
   pub is : new ≡ (if is_some result then e ∷ (others ++ old) else others ++ old)

@@ -89,7 +89,8 @@ MaySched k c past own (Some under_way) s = under_way ≡ s
 
 -- a poll of a call: foreign events come first, then the call's own exactly where the poll answers; the CPU's own threads change with
 -- it and only then, the answer is that at this point, and a call that touches nothing shared answers at once
-pub record SchedPolled {E B O : Type 0} (k : Kernel E B O) (ActsFor : CpuId → Type 0) (c : CpuId) (s : SchedCall E) (result : Option (SchedAnswer O)) (old new : List (QueueEvent E)) (own own' : Threads) : Type 0 where
+pub record SchedPolled {E B O : Type 0} (k : Kernel E B O) (ActsFor : CpuId → Type 0) (c : CpuId) (s : SchedCall E) (result : Option (SchedAnswer O))
+    (old new : List (QueueEvent E)) (own own' : Threads) : Type 0 where
   pub others : List (QueueEvent E)
   pub foreign : AreForeign ActsFor event_actor others
   pub is : new ≡ (if is_some result then events_of c (queue_call k.homes c s) ++ (others ++ old) else others ++ old)
@@ -124,7 +125,8 @@ left_local (call.Pass p) own = left (pass_after p [] own) (Some Done)
 left_local (call.OnBuffer b e) own = left own None
 
 -- the plan of a call by its call at the shared queues
-abbrev pub plan_by : {E O : Type 0} → MoveRules E O → List CpuId → CpuId → SchedCall E → Threads → Option (QueueCall E) → Plan (QueueEdit E) (QueueAnswer O) Threads (SchedAnswer O)
+abbrev pub plan_by : {E O : Type 0} → MoveRules E O → List CpuId → CpuId → SchedCall E → Threads → Option (QueueCall E)
+    → Plan (QueueEdit E) (QueueAnswer O) Threads (SchedAnswer O)
 plan_by mv homes c s own None = Now (left_local s own)
 plan_by mv homes c s own (Some q) = raised (λ l. left_by mv homes c own l.answer) (queue_plan q)
 

@@ -14,7 +14,7 @@ pub trait OwnedWords: Words {
     ghost use Rattle.event_log.specs.declared.ids.TheConstants.{CPUS};
     ghost use Rattle.event_log.specs.Sections.{block_after};
     ghost use Rattle.layer_traits.specs.OneLock.{AreDistinct, SomeoneInside, opened};
-    ghost use Rattle.layer_traits.specs.Protocol.{sections};
+    ghost use Rattle.layer_traits.specs.WordsProtocol.{sections};
 
     /// The block of a lock where it is at home.
     ghost block_at: { Self → LockId → Option Self.Edit.Block };

@@ -19,7 +19,8 @@ pub trait Words {
     ghost use Rattle.event_log.specs.History.{Adds, IsLawful};
     ghost use Rattle.event_log.specs.WordsLog.{actor, standing, Outside, Waiting, Inside};
     ghost use Rattle.event_log.specs.Sections.{Section, block_after};
-    ghost use Rattle.layer_traits.specs.Protocol.{mark_of, section, sections, MayCome, StaysAllowed};
+    ghost use Rattle.layer_traits.specs.Protocol.{section, StaysAllowed};
+    ghost use Rattle.layer_traits.specs.WordsProtocol.{mark_of, sections, MayCome};
 
     /// The edits of the sections.
     type Edit: Edit;

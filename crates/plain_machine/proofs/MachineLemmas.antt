@@ -15,7 +15,8 @@ use Rattle.layer_traits.proofs.OneLockLemmas.{event_lock, standing_own, elsewher
 use Rattle.layer_traits.proofs.Seen.{words_legal, sections_allowed}
 use Rattle.layer_traits.specs.declared.edits.Mark.{Mark}
 use Rattle.layer_traits.specs.OneLock.{LockFits, opened}
-use Rattle.layer_traits.specs.Protocol.{Rules, MayCome, StaysAllowed, section, sections}
+use Rattle.layer_traits.specs.Protocol.{Rules, StaysAllowed, section}
+use Rattle.layer_traits.specs.WordsProtocol.{MayCome, sections}
 use Rattle.plain_machine.proofs.TableLemmas.{cell_within, cell_put, cell_other}
 use Rattle.plain_machine.specs.declared.cells.Cell.{Cell}
 use Rattle.plain_machine.specs.Machine.{HasCell, IsSound}

@@ -10,7 +10,8 @@ use Rattle.event_log.specs.Log.{events_in, room_of}
 use Rattle.event_log.specs.WordsLog.{standing, draws, frees}
 use Rattle.layer_traits.specs.declared.edits.Mark.{Mark}
 use Rattle.layer_traits.specs.OneLock.{LockFits}
-use Rattle.layer_traits.specs.Protocol.{Rules, MayCome}
+use Rattle.layer_traits.specs.Protocol.{Rules}
+use Rattle.layer_traits.specs.WordsProtocol.{MayCome}
 use Rattle.plain_machine.specs.declared.cells.Cell.{Cell}
 use Rattle.plain_machine.specs.declared.notes.Act.{Act}
 use Rattle.plain_machine.specs.declared.notes.Act.TheVariants.{Draw, Look, Free}

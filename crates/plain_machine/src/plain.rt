@@ -23,7 +23,7 @@ impl<E: Edit> Plain<E> {
     ghost use Rattle.event_log.specs.WordsLog.{draws, frees};
     ghost use Rattle.event_log.specs.Sections.{block_after};
     ghost use Rattle.layer_traits.specs.OneLock.{AreDistinct, SomeoneInside, opened};
-    ghost use Rattle.layer_traits.specs.Protocol.{sections};
+    ghost use Rattle.layer_traits.specs.WordsProtocol.{sections};
 
     /// A machine in which each lock has its block at home and both words are 0, with room for
     /// `room` events.

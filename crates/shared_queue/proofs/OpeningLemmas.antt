@@ -1,5 +1,6 @@
 -- The locks with which shared queues open are distinct, and each opens with its block.
-use Rattle.std.proofs.Common.{◌≡◌, ◌≢◌, ◌≤◌, ◌<◌, ℕ, zero, suc, ◌+◌, Bool, true, false, All, List, [], ◌∷◌, ◌++◌, length, Option, Some, None, IsSome, if◌then◌else◌, refl, ap, sym, ◌∙◌, subst, arith, append-nil, slice_get, ◌==◌}
+use Rattle.std.proofs.Common.{◌≡◌, ◌≢◌, ◌≤◌, ◌<◌, ℕ, zero, suc, ◌+◌, Bool, true, false, All, List, [], ◌∷◌, ◌++◌, length, Option, Some, None, IsSome}
+use Rattle.std.proofs.Common.{if◌then◌else◌, refl, ap, sym, ◌∙◌, subst, arith, append-nil, slice_get, ◌==◌}
 use Rattle.std.proofs.lemmas.Bool.{eq-eqb, eqb-false, ne_eqb}
 use Rattle.std.proofs.lemmas.Option.{get_or_from_slice_get, slice_get_within}
 use Rattle.event_log.specs.declared.ids.BufId.{BufId}
@@ -73,14 +74,17 @@ module _ {B : Type 0} (homes : List CpuId) where
   queue_kinds : (n : ℕ) (locks more : List (LockId × QueueBlock B)) → AreEmptyQueues homes n locks → ((lock : LockId) → StartsAs lock (opened more lock))
       → (lock : LockId) → StartsAs lock (opened (locks ++ more) lock)
   queue_kinds n [] more are kinds = kinds
-  queue_kinds n (o ∷ locks) more are kinds = more_kinds o (opened (locks ++ more)) (empty_kind n o.0 o.1 are.0 are.1) (queue_kinds (n + 1) locks more are.2 kinds)
+  queue_kinds n (o ∷ locks) more are kinds = more_kinds o (opened (locks ++ more)) (empty_kind n o.0 o.1 are.0 are.1)
+      (queue_kinds (n + 1) locks more are.2 kinds)
 
   buffer_kinds : (n : ℕ) (blocks : List B) (lock : LockId) → StartsAs lock (opened (buffers_from n blocks) lock)
   buffer_kinds n [] lock = tt
-  buffer_kinds n (block ∷ blocks) lock = more_kinds (Buffer (record { 0 = n }), Above block) (opened (buffers_from (n + 1) blocks)) tt (buffer_kinds (n + 1) blocks) lock
+  buffer_kinds n (block ∷ blocks) lock = more_kinds (Buffer (record { 0 = n }), Above block) (opened (buffers_from (n + 1) blocks)) tt
+      (buffer_kinds (n + 1) blocks) lock
 
   -- a buffer opens with the block in its place
-  past_queues : (n : ℕ) (locks more : List (LockId × QueueBlock B)) → AreEmptyQueues homes n locks → (b : BufId) → opened (locks ++ more) (Buffer b) ≡ opened more (Buffer b)
+  past_queues : (n : ℕ) (locks more : List (LockId × QueueBlock B)) → AreEmptyQueues homes n locks → (b : BufId)
+      → opened (locks ++ more) (Buffer b) ≡ opened more (Buffer b)
   past_queues n [] more are b = refl
   past_queues n (o ∷ locks) more are b =
       ap (λ lock. if same_lock lock (Buffer b) then Some o.1 else opened (locks ++ more) (Buffer b)) are.0 ∙ past_queues (n + 1) locks more are.2 b
@@ -118,7 +122,8 @@ module _ {B : Type 0} (homes : List CpuId) where
   buffers_distinct n [] = tt
   buffers_distinct n (block ∷ blocks) = (buffer_missing n (n + 1) blocks (omega arith), buffers_distinct (n + 1) blocks)
 
-  pub locks_distinct : (n : ℕ) (locks : List (LockId × QueueBlock B)) (k : ℕ) (blocks : List B) → AreEmptyQueues homes n locks → AreDistinct (locks ++ buffers_from k blocks)
+  pub locks_distinct : (n : ℕ) (locks : List (LockId × QueueBlock B)) (k : ℕ) (blocks : List B) → AreEmptyQueues homes n locks
+      → AreDistinct (locks ++ buffers_from k blocks)
   locks_distinct n [] k blocks are = buffers_distinct k blocks
   locks_distinct n (o ∷ locks) k blocks are = (
     subst (λ lock. IsMissing lock (locks ++ buffers_from k blocks)) (sym are.0)
@@ -128,7 +133,8 @@ module _ {B : Type 0} (homes : List CpuId) where
 
   -- The locks of a machine, together.
 
-  module _ (locks : List (LockId × QueueBlock B)) (blocks : List B) (are : AreEmptyQueues homes 0 locks) (queues : AreQueues (length locks) homes (length blocks)) where
+  module _ (locks : List (LockId × QueueBlock B)) (blocks : List B) (are : AreEmptyQueues homes 0 locks)
+      (queues : AreQueues (length locks) homes (length blocks)) where
     queue_there : (c : CpuId) → c.0 < length locks → OpensEmpty (opened (locks ++ buffers_from 0 blocks) (Pending c))
     queue_there c less = queue_opens 0 locks (buffers_from 0 blocks) are c (omega arith) (omega (arith, less))
 

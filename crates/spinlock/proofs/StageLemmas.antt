@@ -14,7 +14,8 @@ use Rattle.layer_traits.proofs.PlanLemmas.{draw_follows, look_follows, free_foll
 use Rattle.layer_traits.proofs.Seen.{standing_others, sections-append, others_sections, foreign_sections, words_legal, stays_on, block_stays}
 use Rattle.layer_traits.specs.declared.edits.Mark.{Mark}
 use Rattle.layer_traits.specs.Plans.{Follows, table_of, section_plan, answered}
-use Rattle.layer_traits.specs.Protocol.{Rules, MayCome, StaysAllowed, edit_of, mark_of, section, sections}
+use Rattle.layer_traits.specs.Protocol.{Rules, StaysAllowed, section}
+use Rattle.layer_traits.specs.WordsProtocol.{MayCome, edit_of, mark_of, sections}
 use Rattle.layer_traits.specs.Turns.{Polled}
 use Rattle.event_log.specs.Actions.{acts_of}
 use Rattle.spinlock.specs.declared.stages.TicketStage.{TicketStage}

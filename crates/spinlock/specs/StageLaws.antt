@@ -8,7 +8,8 @@ use Rattle.event_log.specs.Actions.{phase, acts_of}
 use Rattle.event_log.proofs.Tickets.{phase_of, phase_acts}
 use Rattle.layer_traits.specs.declared.edits.Mark.{Mark}
 use Rattle.layer_traits.specs.Plans.{is_in_section}
-use Rattle.layer_traits.specs.Protocol.{Rules, edit_of}
+use Rattle.layer_traits.specs.Protocol.{Rules}
+use Rattle.layer_traits.specs.WordsProtocol.{edit_of}
 use Rattle.spinlock.specs.Stages.{StageFits, stage_section}
 use Rattle.spinlock.specs.declared.stages.TicketStage.{TicketStage}
 use Rattle.spinlock.specs.declared.stages.TicketStage.TheVariants.{Out, Drawn, Held}

@@ -6,7 +6,8 @@ use Rattle.event_log.specs.declared.events.Event.{Event}
 use Rattle.event_log.specs.WordsLog.{Outside, Waiting, Inside, standing}
 use Rattle.event_log.specs.Sections.{Section, block_after}
 use Rattle.layer_traits.specs.declared.edits.Mark.{Mark}
-use Rattle.layer_traits.specs.Protocol.{Rules, StaysAllowed, section, sections}
+use Rattle.layer_traits.specs.Protocol.{Rules, StaysAllowed, section}
+use Rattle.layer_traits.specs.WordsProtocol.{sections}
 use Rattle.spinlock.specs.declared.stages.TicketStage.{TicketStage}
 use Rattle.spinlock.specs.declared.stages.TicketStage.TheVariants.{Out, Drawn, Held}
 

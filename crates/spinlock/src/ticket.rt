@@ -20,7 +20,7 @@ pub struct Ticket<W: Words> {
 impl<W: Words> LockLayer<W::Edit> for Ticket<W> {
     ghost use Rattle.event_log.specs.WordsLog.{standing, Outside};
     ghost use Rattle.event_log.specs.Actions.{acts_of};
-    ghost use Rattle.layer_traits.specs.Protocol.{edit_of, sections};
+    ghost use Rattle.layer_traits.specs.WordsProtocol.{edit_of, sections};
     ghost use Rattle.event_log.proofs.Tickets.{legal_acts};
     ghost use Rattle.layer_traits.proofs.Seen.{sections_allowed, sections_known, words_legal};
     ghost use Rattle.layer_traits.proofs.PlanLemmas.{sections_acts};

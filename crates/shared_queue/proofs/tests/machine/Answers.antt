@@ -13,7 +13,8 @@ opens_so (Err e) opening locks P holds opens = tt
 
 pub returns-clause-starts : goal.returns-clause-starts
 returns-clause-starts c =
-    opens_so c.open.result (λ w. opened w.opening.value.items) (opened c.in_ok-locks.locks.items) (λ o. StartsWell o) c.in_ok-locks.ensures.starts c.open.ensures.opening
+    opens_so c.open.result (λ w. opened w.opening.value.items) (opened c.in_ok-locks.locks.items) (λ o. StartsWell o) c.in_ok-locks.ensures.starts
+    c.open.ensures.opening
 
 pub returns-clause-queue : goal.returns-clause-queue
 returns-clause-queue c =

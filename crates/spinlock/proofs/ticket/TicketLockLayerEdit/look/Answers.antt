@@ -3,7 +3,7 @@ use Rattle.event_log.specs.Sections.{section_actor}
 use Rattle.event_log.specs.declared.events.Event.TheVariants.{Look}
 use Rattle.layer_traits.proofs.PlanLemmas.{look_tries}
 use Rattle.layer_traits.proofs.Seen.{words_legal}
-use Rattle.layer_traits.specs.Protocol.{sections}
+use Rattle.layer_traits.specs.WordsProtocol.{sections}
 use Rattle.spinlock.proofs.StageLemmas.{others_fit, looked_fits, look_grows, hit_found, grown_by_none}
 use Rattle.spinlock.specs.Stages.{StageFits, hit_by}
 use Rattle.spinlock.proofs.ticket.TicketLockLayerEdit.look.Goals as goal

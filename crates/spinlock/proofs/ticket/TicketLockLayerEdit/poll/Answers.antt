@@ -4,7 +4,8 @@ use Rattle.event_log.specs.Actions.{acts_of}
 use Rattle.event_log.specs.History.{Adds}
 use Rattle.event_log.specs.WordsLog.{actor}
 use Rattle.layer_traits.specs.Plans.{Follows, table_of, section_plan, answered}
-use Rattle.layer_traits.specs.Protocol.{StaysAllowed, edit_of, mark_of, section, sections}
+use Rattle.layer_traits.specs.Protocol.{StaysAllowed, section}
+use Rattle.layer_traits.specs.WordsProtocol.{edit_of, mark_of, sections}
 use Rattle.layer_traits.specs.Turns.{MayPoll, Polled}
 use Rattle.spinlock.proofs.StageLemmas.{others_fit, drawn_fits, draw_polled, draw_acts, looked_fits, look_polled, look_acts, free_polled, free_acts}
 use Rattle.spinlock.specs.Stages.{StageFits, stage_section}
