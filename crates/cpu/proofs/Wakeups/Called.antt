@@ -1,0 +1,450 @@
+-- What holds after any section log in which each section may come: every buffer with every thread, and where each thread is.
+use Rattle.std.proofs.Common.{◌≡◌, ◌≢◌, ℕ, ◌+◌, ◌<◌, ◌≤◌, Bool, true, false, not, ◌&&◌, List, [], ◌∷◌, ◌++◌, length, slice_get, Option, Some, None, option_map, nat_lt, if◌then◌else◌, refl, sym, ap, ◌∙◌, subst, arith}
+use Rattle.std.proofs.lemmas.Bool.{and_parts, and_from, and_left, and_right, false_from_ne_true}
+use Rattle.event_log.specs.declared.ids.CpuId.{CpuId}
+use Rattle.event_log.specs.declared.ids.Tid.{Tid}
+use Rattle.event_log.specs.declared.ids.BufId.{BufId}
+use Rattle.event_log.specs.declared.ids.LockId.{LockId}
+use Rattle.event_log.specs.declared.ids.LockId.TheVariants.{Pending, Buffer as AtBuffer}
+use Rattle.event_log.specs.declared.ids.TheConstants.{THREADS}
+use Rattle.event_log.specs.History.{same_cpu, same_lock, IsLawful}
+use Rattle.event_log.specs.Sections.{Section}
+use Rattle.event_log.proofs.Same.{same_cpu_self, same_cpu_true, same_lock_true}
+use Rattle.thread_blocks.specs.Queues.{same_tid, is_in}
+use Rattle.thread_blocks.proofs.Members.{same_tid_self, same_tid_true}
+use Rattle.layer_traits.specs.declared.locked.Side.{Side}
+use Rattle.layer_traits.specs.Places.{is_thread, one_if, count_in}
+use Rattle.layer_traits.specs.Sleeping.{joined}
+use Rattle.layer_traits.proofs.CountLemmas.{same_cpu_sym, same_tid_sym}
+use Rattle.cpu.specs.Table.Blocks.{Buffer, Block, OfBuffer, OfPending, Name, AcqQ, Enter, TryPut, TryTake, WaitOn, SigRecv, SigSend, RelQ, Pend, TakeAll}
+use Rattle.cpu.specs.Table.Edits.{edited, edited_buffer, edited_pending, answer_of_buffer}
+use Rattle.cpu.specs.Table.Setups.{Setup, home_of, opening, opening_buffer, empty_buffer}
+use Rattle.cpu.specs.Wakeups.Order.{Progress, Begins, progress, progress_by, progress_after, block_of, MayEdit, MayEditBlock, KeepsOrder, KeepsOrderAt, IsInOrder}
+use Rattle.cpu.proofs.Wakeups.Lists.{refuted, some_is, none_is_not}
+use Rattle.cpu.proofs.Wakeups.Awake.{IsAwake}
+use Rattle.cpu.proofs.Wakeups.Ordered.{same_buffer, buffer_awake}
+use Rattle.cpu.proofs.Wakeups.Spots.{Spot, Home, InHand, IsPending, AtLock, AtWait, Turn, Outside, In}
+use Rattle.cpu.proofs.Wakeups.Spots.{is_buffer, is_home, is_hand, is_pending, is_lock, is_wait, is_asleep, is_moved, is_lined, is_side, names}
+use Rattle.cpu.proofs.Wakeups.Spots.{caller_in, is_caller, bed, spot_by, spot_woken, spot_slept, spot_moved, spot_drained, spot_pending, spot_buffer, spot_at, spot}
+use Rattle.cpu.proofs.Wakeups.Spots.{next_turn, turn_moved, turn_buffer, turn_at, turn, IsTurn, is_local, IsCallers, MayComeBy, MayComeTo, MayComeAt, MayCome, marked}
+use Rattle.cpu.proofs.Wakeups.Pairs.{Pair, marked_none, grown_list, buffer_self, buffer_true, sleeps_at, sleeps_asleep, woken_sleeps, woken_no_lock, woken_no_wait, other_pair, thread_some, other_joined}
+use Rattle.cpu.proofs.Wakeups.Owns.{ByCaller, may_edit, own_pair, Apart, away, turn_apart, spot_apart}
+
+-- what holds after a section log
+pub record Good (setup : Setup) (past : List (Section Name)) : Type 0 where
+  pub ordered : IsInOrder setup past
+  pub pairs : (b : BufId) (u : Tid) (k : Buffer) → block_of setup (AtBuffer b) past ≡ Some (OfBuffer k)
+      → Pair b u k (progress setup (AtBuffer b) past) (turn setup u past) (spot setup u past)
+  pub pending : (d : CpuId) (u : Tid) (threads : List Tid) → block_of setup (Pending d) past ≡ Some (OfPending threads)
+      → count_in u threads ≡ one_if (same_cpu (home_of setup u) d && is_pending (spot setup u past))
+  -- only a number that is a thread's was ever woken
+  pub small : (u : Tid) → is_moved (spot setup u past) ≡ true → nat_lt u.0 THREADS ≡ true
+
+-- A new log.
+
+pub good_none : (setup : Setup) → Good setup []
+good_none setup = record {
+  ordered = tt;
+  pairs = λ b u k is. opening_pair b u k (slice_get setup.caps b.0) is;
+  pending = λ d u threads is. opening_pending d u threads is;
+  small = λ u on. absurd (cc on);
+}
+  where
+    opening_pair : (b : BufId) (u : Tid) (k : Buffer) (o : Option ℕ) → opening_buffer o ≡ Some (OfBuffer k) → Pair b u k Begins Outside Home
+    opening_pair b u k None is = absurd (cc is)
+    opening_pair b u k (Some capacity) is = subst (λ x. Pair b u x Begins Outside Home) (same_buffer (empty_buffer capacity) k is) (record {
+      owner = λ e. none_is_not e;
+      inside = λ ins awake. absurd (cc ins);
+      starts = λ on. absurd (cc on);
+      sleepers = sym (marked_none u false refl);
+      senders = sym (marked_none u false refl);
+      receivers = sym (marked_none u false refl);
+      send_line = sym (marked_none u false refl);
+      receive_line = sym (marked_none u false refl);
+    })
+
+    threads_or : Option Block → List Tid
+    threads_or None = []
+    threads_or (Some (OfBuffer k)) = []
+    threads_or (Some (OfPending list)) = list
+
+    opening_pending : (d : CpuId) (u : Tid) (threads : List Tid) → Some (OfPending []) ≡ Some (OfPending threads)
+        → count_in u threads ≡ one_if (same_cpu (home_of setup u) d && false)
+    opening_pending d u threads is =
+        ap (count_in u) (sym (ap threads_or is)) ∙ sym (ap one_if (and_right (same_cpu (home_of setup u) d) false refl))
+
+-- How a section moves a thread.
+
+-- after a section of CPU c at buffer d a thread was woken there, has gone to sleep there as the section's caller, or is where it was
+pub data Moves (setup : Setup) (c : CpuId) (d : BufId) (u : Tid) (name : Name) (spot now : Spot) : Type 0 where
+  was_woken : nat_lt u.0 THREADS ≡ true → sleeps_at d spot ≡ true → now ≡ spot_woken setup c u → Moves setup c d u name spot now
+  has_slept : spot ≡ Home → is_caller u name ≡ true → now ≡ bed d name → Moves setup c d u name spot now
+  stays : now ≡ spot → Moves setup c d u name spot now
+
+-- the caller of a section is at home, and its section is due
+abbrev pub CallersAre : Setup → List (Section Name) → CpuId → BufId → Name → Type 0
+CallersAre setup past c d name = (u : Tid) → caller_in name ≡ Some u → IsCallers setup c d name u (spot setup u past) (turn setup u past)
+
+pub callers_are : (setup : Setup) (past : List (Section Name)) (c : CpuId) (d : BufId) (name : Name) → MayComeBy setup past c d name (caller_in name) → CallersAre setup past c d name
+callers_are setup past c d name may u is = subst (MayComeBy setup past c d name) is may
+
+pub is_the_caller : (u : Tid) (name : Name) → is_caller u name ≡ true → caller_in name ≡ Some u
+is_the_caller u name on = thread_some u (caller_in name) on
+
+moves_buffer : (setup : Setup) (past : List (Section Name)) (c : CpuId) (d : BufId) (name : Name) (u : Tid) (k : Buffer) (g : Progress)
+    → CallersAre setup past c d name → Pair d u k g (turn setup u past) (spot setup u past)
+    → Moves setup c d u name (spot setup u past)
+        (spot_moved setup c d u name (answer_of_buffer name k).slept (answer_of_buffer name k).woke (spot setup u past))
+moves_buffer setup past c d name u k g callers pair =
+    by_test (is_thread u (answer_of_buffer name k).woke) refl (answer_of_buffer name k).slept (is_caller u name) refl
+  where
+    by_test : (w : Bool) → is_thread u (answer_of_buffer name k).woke ≡ w → (slept : Bool) (mine : Bool) → is_caller u name ≡ mine
+        → Moves setup c d u name (spot setup u past) (if w then spot_woken setup c u else (if slept && mine then bed d name else spot setup u past))
+    by_test true is slept mine own =
+        let at = woken_sleeps d u k g (turn setup u past) (spot setup u past) pair name is in
+        was_woken at.0 at.1 refl
+    by_test false is true true own = has_slept (callers u (is_the_caller u name own)).here own refl
+    by_test false is true false own = stays refl
+    by_test false is false mine own = stays refl
+
+pub moves_at : (setup : Setup) (past : List (Section Name)) → Good setup past → (c : CpuId) (d : BufId) (name : Name) → CallersAre setup past c d name
+    → (u : Tid) (o : Option Block) → block_of setup (AtBuffer d) past ≡ o
+    → Moves setup c d u name (spot setup u past) (spot_buffer setup c d u name o (spot setup u past))
+moves_at setup past good c d name callers u None is = stays refl
+moves_at setup past good c d name callers u (Some (OfPending threads)) is = stays refl
+moves_at setup past good c d name callers u (Some (OfBuffer k)) is =
+    moves_buffer setup past c d name u k (progress setup (AtBuffer d) past) callers (good.pairs d u k is)
+
+-- What a move keeps.
+
+-- the number of a thread that sleeps elsewhere
+sleeps_no_lock : (b d : BufId) (x : Spot) → is_buffer b d ≡ false → sleeps_at d x ≡ true → is_lock b x ≡ false
+sleeps_no_lock b d (AtLock e) off on = subst (λ z. is_buffer b z ≡ false) (buffer_true d e on) off
+sleeps_no_lock b d (AtWait e side) off on = refl
+sleeps_no_lock b d Home off on = refl
+sleeps_no_lock b d (InHand c) off on = refl
+sleeps_no_lock b d IsPending off on = refl
+
+sleeps_no_wait : (b d : BufId) (side : Side) (x : Spot) → is_buffer b d ≡ false → sleeps_at d x ≡ true → is_wait b side x ≡ false
+sleeps_no_wait b d side (AtLock e) off on = refl
+sleeps_no_wait b d side (AtWait e other) off on = and_left (is_buffer b e) (is_side side other) (subst (λ z. is_buffer b z ≡ false) (buffer_true d e on) off)
+sleeps_no_wait b d side Home off on = refl
+sleeps_no_wait b d side (InHand c) off on = refl
+sleeps_no_wait b d side IsPending off on = refl
+
+bed_no_lock : (b d : BufId) (name : Name) → is_buffer b d ≡ false → is_lock b (bed d name) ≡ false
+bed_no_lock b d (WaitOn t side) off = refl
+bed_no_lock b d name off = off
+
+bed_no_wait : (b d : BufId) (side : Side) (name : Name) → is_buffer b d ≡ false → is_wait b side (bed d name) ≡ false
+bed_no_wait b d side (WaitOn t other) off = and_left (is_buffer b d) (is_side side other) off
+bed_no_wait b d side name off = refl
+
+pub bed_not_pending : (d : BufId) (name : Name) → is_pending (bed d name) ≡ false
+bed_not_pending d (WaitOn t side) = refl
+bed_not_pending d name = refl
+
+pub bed_not_moved : (d : BufId) (name : Name) → is_moved (bed d name) ≡ false
+bed_not_moved d (WaitOn t side) = refl
+bed_not_moved d name = refl
+
+pub woken_not_pending : (here : Bool) (c : CpuId) → is_pending (spot_by here c) ≡ false
+woken_not_pending true c = refl
+woken_not_pending false c = refl
+
+pub sleeps_not_pending : (d : BufId) (x : Spot) → sleeps_at d x ≡ true → is_pending x ≡ false
+sleeps_not_pending d (AtLock e) on = refl
+sleeps_not_pending d (AtWait e side) on = refl
+sleeps_not_pending d Home on = refl
+sleeps_not_pending d (InHand c) on = refl
+sleeps_not_pending d IsPending on = absurd (cc on)
+
+module _ (setup : Setup) (c : CpuId) (d : BufId) (u : Tid) (name : Name) (x now : Spot) where
+  no_lock_moves : (b : BufId) → is_buffer b d ≡ false → Moves setup c d u name x now → is_lock b now ≡ is_lock b x
+  no_lock_moves b off (was_woken small sleeps is) =
+      ap (is_lock b) is ∙ woken_no_lock b (same_cpu (home_of setup u) c) c ∙ sym (sleeps_no_lock b d x off sleeps)
+  no_lock_moves b off (has_slept home own is) = ap (is_lock b) is ∙ bed_no_lock b d name off ∙ ap (is_lock b) (sym home)
+  no_lock_moves b off (stays is) = ap (is_lock b) is
+
+  no_wait_moves : (b : BufId) (side : Side) → is_buffer b d ≡ false → Moves setup c d u name x now → is_wait b side now ≡ is_wait b side x
+  no_wait_moves b side off (was_woken small sleeps is) =
+      ap (is_wait b side) is ∙ woken_no_wait b side (same_cpu (home_of setup u) c) c ∙ sym (sleeps_no_wait b d side x off sleeps)
+  no_wait_moves b side off (has_slept home own is) = ap (is_wait b side) is ∙ bed_no_wait b d side name off ∙ ap (is_wait b side) (sym home)
+  no_wait_moves b side off (stays is) = ap (is_wait b side) is
+
+  no_pending_moves : Moves setup c d u name x now → is_pending now ≡ is_pending x
+  no_pending_moves (was_woken small sleeps is) = ap is_pending is ∙ woken_not_pending (same_cpu (home_of setup u) c) c ∙ sym (sleeps_not_pending d x sleeps)
+  no_pending_moves (has_slept home own is) = ap is_pending is ∙ bed_not_pending d name ∙ ap is_pending (sym home)
+  no_pending_moves (stays is) = ap is_pending is
+
+  small_moves : Moves setup c d u name x now → (is_moved x ≡ true → nat_lt u.0 THREADS ≡ true) → is_moved now ≡ true → nat_lt u.0 THREADS ≡ true
+  small_moves (was_woken small sleeps is) before on = small
+  small_moves (has_slept home own is) before on = refuted (ap is_moved is ∙ bed_not_moved d name) on
+  small_moves (stays is) before on = before (ap is_moved (sym is) ∙ on)
+
+-- A section at a buffer.
+
+module _ (setup : Setup) (past : List (Section Name)) (good : Good setup past) (c : CpuId) (d : BufId) (name : Name) (callers : CallersAre setup past c d name) (t : Tid) (caller : caller_in name ≡ Some t) where
+  -- the section keeps the order
+  edits : (k : Buffer) → block_of setup (AtBuffer d) past ≡ Some (OfBuffer k) → MayEdit name k (progress setup (AtBuffer d) past)
+  edits k block =
+      let g = progress setup (AtBuffer d) past in
+      let mine = callers t caller in
+      let pair : Pair d t k g (turn setup t past) Home = subst (Pair d t k g (turn setup t past)) mine.here (good.pairs d t k block) in
+      may_edit d name k g (turn setup t past) (subst (λ o. ByCaller o (λ v. Pair d v k g (turn setup t past) Home)) (sym caller) pair) mine.due
+
+  keeps_block : (o : Option Block) → block_of setup (AtBuffer d) past ≡ o → MayEditBlock name o (progress setup (AtBuffer d) past)
+  keeps_block None is = tt
+  keeps_block (Some (OfPending threads)) is = tt
+  keeps_block (Some (OfBuffer k)) is = edits k is
+
+  edited_pair : (u : Tid) (k : Buffer) → block_of setup (AtBuffer d) past ≡ Some (OfBuffer k) → (mine : Bool) → is_caller u name ≡ mine
+      → Pair d u (edited_buffer name k) (progress_after name k (progress setup (AtBuffer d) past)) (turn_moved d u name k (turn setup u past))
+          (spot_moved setup c d u name (answer_of_buffer name k).slept (answer_of_buffer name k).woke (spot setup u past))
+  edited_pair u k block true own =
+      let is = is_the_caller u name own in
+      let mine = callers u is in
+      let awake : IsAwake k (progress setup (AtBuffer d) past) = buffer_awake setup past good.ordered d k block in
+      own_pair d u setup c name k (progress setup (AtBuffer d) past) (turn setup u past) (spot setup u past) is mine.here (λ e. (awake.idle e).0)
+      (edits k block) mine.due (good.pairs d u k block)
+  edited_pair u k block false other =
+      other_pair setup c d u name k (progress setup (AtBuffer d) past) (turn setup u past) (spot setup u past) other (edits k block) (good.pairs d u k block)
+
+  here_pair : (u : Tid) (k : Buffer) (o : Option Block) → block_of setup (AtBuffer d) past ≡ o → option_map (edited name) o ≡ Some (OfBuffer k)
+      → Pair d u k (progress_by name o (progress setup (AtBuffer d) past)) (turn_buffer d u name o (turn setup u past)) (spot_buffer setup c d u name o (spot setup u past))
+  here_pair u k None block is = absurd (cc is)
+  here_pair u k (Some (OfPending threads)) block is = absurd (cc is)
+  here_pair u k (Some (OfBuffer was)) block is =
+      subst (λ x. Pair d u x (progress_after name was (progress setup (AtBuffer d) past)) (turn_moved d u name was (turn setup u past))
+          (spot_moved setup c d u name (answer_of_buffer name was).slept (answer_of_buffer name was).woke (spot setup u past)))
+      (same_buffer (edited_buffer name was) k is) (edited_pair u was block (is_caller u name) refl)
+
+  turn_there : (b : BufId) → is_buffer b d ≡ false → (u : Tid) (k : Buffer) (g : Progress) (x : Spot) (o : Option Block)
+      → Pair b u k g (turn setup u past) x → Pair b u k g (turn_buffer d u name o (turn setup u past)) x
+  turn_there b off u k g x None pair = pair
+  turn_there b off u k g x (Some (OfPending threads)) pair = pair
+  turn_there b off u k g x (Some (OfBuffer was)) pair = by_test (is_caller u name) refl
+    where
+      by_test : (mine : Bool) → is_caller u name ≡ mine → Pair b u k g (if mine then next_turn d name was (turn setup u past) else turn setup u past) x
+      by_test true own =
+          turn_apart b u k g (turn setup u past) (next_turn d name was (turn setup u past)) x
+          (away b d name was (turn setup u past) off (callers u (is_the_caller u name own)).due) pair
+      by_test false other = pair
+
+  there_pair : (b : BufId) → is_buffer b d ≡ false → (u : Tid) (k : Buffer) → block_of setup (AtBuffer b) past ≡ Some (OfBuffer k)
+      → Pair b u k (progress setup (AtBuffer b) past) (turn setup u (record { cpu = c; lock = AtBuffer d; edit = name } ∷ past))
+          (spot setup u (record { cpu = c; lock = AtBuffer d; edit = name } ∷ past))
+  there_pair b off u k block =
+      let o = block_of setup (AtBuffer d) past in
+      let g = progress setup (AtBuffer b) past in
+      let moves = moves_at setup past good c d name callers u o refl in
+      let now = spot_buffer setup c d u name o (spot setup u past) in
+      spot_apart b u k g (turn_buffer d u name o (turn setup u past)) (spot setup u past) now
+      (no_lock_moves setup c d u name (spot setup u past) now b off moves) (λ side. no_wait_moves setup c d u name (spot setup u past) now b side off moves)
+      (turn_there b off u k g (spot setup u past) o (good.pairs b u k block))
+
+  good_buffer : Good setup (record { cpu = c; lock = AtBuffer d; edit = name } ∷ past)
+  good_buffer = record {
+    ordered = (keeps_block (block_of setup (AtBuffer d) past) refl, good.ordered);
+    pairs = λ b u k is. by_test b u k (is_buffer b d) refl is;
+    pending = λ e u threads is.
+      good.pending e u threads is
+      ∙ ap (λ p. one_if (same_cpu (home_of setup u) e && p))
+          (sym (no_pending_moves setup c d u name (spot setup u past) _ (moves_at setup past good c d name callers u (block_of setup (AtBuffer d) past) refl)));
+    small = λ u on.
+      small_moves setup c d u name (spot setup u past) _ (moves_at setup past good c d name callers u (block_of setup (AtBuffer d) past) refl) (good.small u) on;
+  }
+    where
+      log : List (Section Name)
+      log = record { cpu = c; lock = AtBuffer d; edit = name } ∷ past
+
+      by_test : (b : BufId) (u : Tid) (k : Buffer) (here : Bool) → is_buffer b d ≡ here
+          → (if here then option_map (edited name) (block_of setup (AtBuffer b) past) else block_of setup (AtBuffer b) past) ≡ Some (OfBuffer k)
+          → Pair b u k (if here then progress_by name (block_of setup (AtBuffer b) past) (progress setup (AtBuffer b) past) else progress setup (AtBuffer b) past)
+              (turn setup u (record { cpu = c; lock = AtBuffer d; edit = name } ∷ past)) (spot setup u (record { cpu = c; lock = AtBuffer d; edit = name } ∷ past))
+      by_test b u k false off is = there_pair b off u k is
+      by_test b u k true same is =
+          let P : BufId → Type 0 = λ x. option_map (edited name) (block_of setup (AtBuffer x) past) ≡ Some (OfBuffer k)
+              → Pair x u k (progress_by name (block_of setup (AtBuffer x) past) (progress setup (AtBuffer x) past))
+                  (turn setup u (record { cpu = c; lock = AtBuffer d; edit = name } ∷ past)) (spot setup u (record { cpu = c; lock = AtBuffer d; edit = name } ∷ past)) in
+          subst P (sym (buffer_true b d same)) (here_pair u k (block_of setup (AtBuffer d) past) refl) is
+
+-- A section on pending threads.
+
+pub drained_lock : (b : BufId) (x : Spot) → is_lock b (spot_drained x) ≡ is_lock b x
+drained_lock b Home = refl
+drained_lock b (InHand c) = refl
+drained_lock b IsPending = refl
+drained_lock b (AtLock d) = refl
+drained_lock b (AtWait d side) = refl
+
+pub drained_wait : (b : BufId) (side : Side) (x : Spot) → is_wait b side (spot_drained x) ≡ is_wait b side x
+drained_wait b side Home = refl
+drained_wait b side (InHand c) = refl
+drained_wait b side IsPending = refl
+drained_wait b side (AtLock d) = refl
+drained_wait b side (AtWait d other) = refl
+
+pub drained_pending : (x : Spot) → is_pending (spot_drained x) ≡ false
+drained_pending Home = refl
+drained_pending (InHand c) = refl
+drained_pending IsPending = refl
+drained_pending (AtLock d) = refl
+drained_pending (AtWait d other) = refl
+
+pub drained_moved : (x : Spot) → is_moved (spot_drained x) ≡ true → is_moved x ≡ true
+drained_moved Home on = on
+drained_moved (InHand c) on = refl
+drained_moved IsPending on = refl
+drained_moved (AtLock d) on = on
+drained_moved (AtWait d other) on = on
+
+abbrev threads_or : Option Block → List Tid
+threads_or None = []
+threads_or (Some (OfBuffer k)) = []
+threads_or (Some (OfPending list)) = list
+
+pub same_threads : (list now : List Tid) → Some (OfPending list) ≡ Some (OfPending now) → list ≡ now
+same_threads list now is = ap threads_or is
+
+-- the queue of the lock at which the section came, and the queue of another lock
+module _ (setup : Setup) (past : List (Section Name)) (good : Good setup past) (c d : CpuId) where
+  pended_list : (s : Tid) → spot setup s past ≡ InHand c → home_of setup s ≡ d → (u : Tid) (list : List Tid) → block_of setup (Pending d) past ≡ Some (OfPending list)
+      → count_in u (joined s list) ≡ one_if (same_cpu (home_of setup u) d && is_pending (if same_tid s u then IsPending else spot setup u past))
+  pended_list s held home u list block = by_test (same_tid s u) refl
+    where
+      by_test : (mine : Bool) → same_tid s u ≡ mine
+          → count_in u (joined s list) ≡ one_if (same_cpu (home_of setup u) d && is_pending (if mine then IsPending else spot setup u past))
+      by_test true same =
+          let is : s ≡ u = same_tid_true s u same in
+          let none : count_in s list ≡ 0 = good.pending d s list block ∙ ap (λ x. one_if (same_cpu (home_of setup s) d && is_pending x)) held
+              ∙ ap one_if (and_right (same_cpu (home_of setup s) d) false refl) in
+          let one : count_in s (joined s list) ≡ marked s true = grown_list s list none in
+          let counts : marked s true ≡ 1 = ap (λ b. one_if (b && true)) (good.small s (ap is_moved held)) in
+          let there : one_if (same_cpu (home_of setup s) d && true) ≡ 1 = ap (λ b. one_if (b && true)) (ap (λ e. same_cpu e d) home ∙ same_cpu_self d) in
+          subst (λ v. count_in v (joined s list) ≡ one_if (same_cpu (home_of setup v) d && true)) is (one ∙ counts ∙ sym there)
+      by_test false other = other_joined u s list other ∙ good.pending d u list block
+
+  pended_there : (s : Tid) → spot setup s past ≡ InHand c → home_of setup s ≡ d → (u : Tid) (e : CpuId) → same_cpu e d ≡ false
+      → (same_cpu (home_of setup u) e && is_pending (if same_tid s u then IsPending else spot setup u past)) ≡ (same_cpu (home_of setup u) e && is_pending (spot setup u past))
+  pended_there s held home u e off = by_test (same_tid s u) refl
+    where
+      by_test : (mine : Bool) → same_tid s u ≡ mine
+          → (same_cpu (home_of setup u) e && is_pending (if mine then IsPending else spot setup u past)) ≡ (same_cpu (home_of setup u) e && is_pending (spot setup u past))
+      by_test true same =
+          let is : s ≡ u = same_tid_true s u same in
+          let other : same_cpu (home_of setup u) e ≡ false = subst (λ v. same_cpu (home_of setup v) e ≡ false) is (ap (λ h. same_cpu h e) home ∙ (same_cpu_sym d e ∙ off)) in
+          ap (λ b. b && true) other ∙ ap (λ b. b && is_pending (spot setup u past)) (sym other)
+      by_test false other = refl
+
+  drained_there : (u : Tid) (e : CpuId) → same_cpu e d ≡ false
+      → (same_cpu (home_of setup u) e && is_pending (if same_cpu (home_of setup u) d then spot_drained (spot setup u past) else spot setup u past))
+      ≡ (same_cpu (home_of setup u) e && is_pending (spot setup u past))
+  drained_there u e off = by_test (same_cpu (home_of setup u) d) refl
+    where
+      by_test : (mine : Bool) → same_cpu (home_of setup u) d ≡ mine
+          → (same_cpu (home_of setup u) e && is_pending (if mine then spot_drained (spot setup u past) else spot setup u past))
+          ≡ (same_cpu (home_of setup u) e && is_pending (spot setup u past))
+      by_test true same =
+          let other : same_cpu (home_of setup u) e ≡ false = ap (λ h. same_cpu h e) (same_cpu_true (home_of setup u) d same) ∙ (same_cpu_sym d e ∙ off) in
+          ap (λ b. b && is_pending (spot_drained (spot setup u past))) other ∙ ap (λ b. b && is_pending (spot setup u past)) (sym other)
+      by_test false other = refl
+
+  drained_here : (u : Tid)
+      → 0 ≡ one_if (same_cpu (home_of setup u) d && is_pending (if same_cpu (home_of setup u) d then spot_drained (spot setup u past) else spot setup u past))
+  drained_here u = by_test (same_cpu (home_of setup u) d)
+    where
+      by_test : (mine : Bool) → 0 ≡ one_if (mine && is_pending (if mine then spot_drained (spot setup u past) else spot setup u past))
+      by_test true = ap one_if (sym (drained_pending (spot setup u past)))
+      by_test false = refl
+
+  -- what a section leaves of the queue at which it came
+  here_pending : (name : Name) → MayComeTo setup past c d name → (u : Tid) (now : List Tid) (o : Option Block) → block_of setup (Pending d) past ≡ o
+      → option_map (edited name) o ≡ Some (OfPending now)
+      → count_in u now ≡ one_if (same_cpu (home_of setup u) d && is_pending (spot_pending setup d u name (spot setup u past)))
+  here_pending name may u now None block is = absurd (cc is)
+  here_pending name may u now (Some (OfBuffer k)) block is = absurd (cc is)
+  here_pending (Pend s) may u now (Some (OfPending list)) block is =
+      ap (count_in u) (sym (same_threads (joined s list) now is)) ∙ pended_list s may.0 may.1 u list block
+  here_pending TakeAll may u now (Some (OfPending list)) block is = ap (count_in u) (sym (same_threads [] now is)) ∙ drained_here u
+  here_pending name may u now (Some (OfPending list)) block is = absurd may
+
+  there_pending : (name : Name) → MayComeTo setup past c d name → (u : Tid) (e : CpuId) → same_cpu e d ≡ false
+      → (same_cpu (home_of setup u) e && is_pending (spot_pending setup d u name (spot setup u past))) ≡ (same_cpu (home_of setup u) e && is_pending (spot setup u past))
+  there_pending (Pend s) may u e off = pended_there s may.0 may.1 u e off
+  there_pending TakeAll may u e off = drained_there u e off
+  there_pending name may u e off = absurd may
+
+  -- no section on pending threads touches a buffer
+  same_lock_pending : (name : Name) → MayComeTo setup past c d name → (u : Tid) (b : BufId) → is_lock b (spot_pending setup d u name (spot setup u past)) ≡ is_lock b (spot setup u past)
+  same_lock_pending (Pend s) may u b = by_test (same_tid s u) refl
+    where
+      by_test : (mine : Bool) → same_tid s u ≡ mine → is_lock b (if mine then IsPending else spot setup u past) ≡ is_lock b (spot setup u past)
+      by_test true same = sym (subst (λ v. is_lock b (spot setup v past) ≡ false) (same_tid_true s u same) (ap (is_lock b) may.0))
+      by_test false other = refl
+  same_lock_pending TakeAll may u b = by_test (same_cpu (home_of setup u) d)
+    where
+      by_test : (mine : Bool) → is_lock b (if mine then spot_drained (spot setup u past) else spot setup u past) ≡ is_lock b (spot setup u past)
+      by_test true = drained_lock b (spot setup u past)
+      by_test false = refl
+  same_lock_pending name may u b = absurd may
+
+  same_wait_pending : (name : Name) → MayComeTo setup past c d name → (u : Tid) (b : BufId) (side : Side)
+      → is_wait b side (spot_pending setup d u name (spot setup u past)) ≡ is_wait b side (spot setup u past)
+  same_wait_pending (Pend s) may u b side = by_test (same_tid s u) refl
+    where
+      by_test : (mine : Bool) → same_tid s u ≡ mine → is_wait b side (if mine then IsPending else spot setup u past) ≡ is_wait b side (spot setup u past)
+      by_test true same = sym (subst (λ v. is_wait b side (spot setup v past) ≡ false) (same_tid_true s u same) (ap (is_wait b side) may.0))
+      by_test false other = refl
+  same_wait_pending TakeAll may u b side = by_test (same_cpu (home_of setup u) d)
+    where
+      by_test : (mine : Bool) → is_wait b side (if mine then spot_drained (spot setup u past) else spot setup u past) ≡ is_wait b side (spot setup u past)
+      by_test true = drained_wait b side (spot setup u past)
+      by_test false = refl
+  same_wait_pending name may u b side = absurd may
+
+  small_pending : (name : Name) → MayComeTo setup past c d name → (u : Tid) → is_moved (spot_pending setup d u name (spot setup u past)) ≡ true → nat_lt u.0 THREADS ≡ true
+  small_pending (Pend s) may u on = by_test (same_tid s u) refl on
+    where
+      by_test : (mine : Bool) → same_tid s u ≡ mine → is_moved (if mine then IsPending else spot setup u past) ≡ true → nat_lt u.0 THREADS ≡ true
+      by_test true same now = subst (λ v. nat_lt v.0 THREADS ≡ true) (same_tid_true s u same) (good.small s (ap is_moved may.0))
+      by_test false other now = good.small u now
+  small_pending TakeAll may u on = by_test (same_cpu (home_of setup u) d) on
+    where
+      by_test : (mine : Bool) → is_moved (if mine then spot_drained (spot setup u past) else spot setup u past) ≡ true → nat_lt u.0 THREADS ≡ true
+      by_test true now = good.small u (drained_moved (spot setup u past) now)
+      by_test false now = good.small u now
+  small_pending name may u on = absurd may
+
+  good_pending : (name : Name) → MayComeTo setup past c d name → Good setup (record { cpu = c; lock = Pending d; edit = name } ∷ past)
+  good_pending name may = record {
+    ordered = (tt, good.ordered);
+    pairs = λ b u k is.
+      spot_apart b u k (progress setup (AtBuffer b) past) (turn setup u past) (spot setup u past) (spot_pending setup d u name (spot setup u past))
+      (same_lock_pending name may u b) (same_wait_pending name may u b) (good.pairs b u k is);
+    pending = λ e u now is. by_test e u now (same_cpu e d) refl is;
+    small = λ u on. small_pending name may u on;
+  }
+    where
+      by_test : (e : CpuId) (u : Tid) (now : List Tid) (here : Bool) → same_cpu e d ≡ here
+          → (if here then option_map (edited name) (block_of setup (Pending e) past) else block_of setup (Pending e) past) ≡ Some (OfPending now)
+          → count_in u now ≡ one_if (same_cpu (home_of setup u) e && is_pending (spot_pending setup d u name (spot setup u past)))
+      by_test e u now true same is =
+          let P : CpuId → Type 0 = λ x. option_map (edited name) (block_of setup (Pending x) past) ≡ Some (OfPending now)
+              → count_in u now ≡ one_if (same_cpu (home_of setup u) x && is_pending (spot_pending setup d u name (spot setup u past))) in
+          subst P (sym (same_cpu_true e d same)) (here_pending name may u now (block_of setup (Pending d) past) refl) is
+      by_test e u now false off is = good.pending e u now is ∙ ap one_if (sym (there_pending name may u e off))
+
+-- any section that may come
+module _ (setup : Setup) (past : List (Section Name)) (good : Good setup past) (c : CpuId) (name : Name) where
+  good_at : (lock : LockId) → MayComeAt setup past c lock name → Good setup (record { cpu = c; lock = lock; edit = name } ∷ past)
+  good_at (Pending d) may = good_pending setup past good c d name may
+  good_at (AtBuffer d) may = by_caller (caller_in name) refl may
+    where
+      by_caller : (o : Option Tid) → caller_in name ≡ o → MayComeBy setup past c d name o → Good setup (record { cpu = c; lock = AtBuffer d; edit = name } ∷ past)
+      by_caller None is now = absurd now
+      by_caller (Some t) is now =
+          good_buffer setup past good c d name (callers_are setup past c d name (subst (MayComeBy setup past c d name) (sym is) now)) t is
+
+pub good_step : (setup : Setup) (past : List (Section Name)) (s : Section Name) → Good setup past → MayCome setup past s → Good setup (s ∷ past)
+good_step setup past s good may = good_at setup past good s.cpu s.edit s.lock may

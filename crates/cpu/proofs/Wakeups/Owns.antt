@@ -1,0 +1,413 @@
+-- One thread and one buffer: what its own sections leave, and what its sections at another buffer do.
+use Rattle.std.proofs.Common.{◌≡◌, ◌≢◌, ℕ, ◌+◌, ◌<◌, ◌≤◌, Bool, true, false, not, ◌&&◌, List, [], ◌∷◌, ◌++◌, Option, Some, None, nat_lt, if◌then◌else◌, refl, sym, ap, ◌∙◌, subst, arith}
+use Rattle.std.proofs.lemmas.Bool.{and_parts, and_from, and_right, false_from_ne_true}
+use Rattle.event_log.specs.declared.ids.CpuId.{CpuId}
+use Rattle.event_log.specs.declared.ids.Tid.{Tid}
+use Rattle.event_log.specs.declared.ids.BufId.{BufId}
+use Rattle.event_log.specs.declared.ids.TheConstants.{THREADS}
+use Rattle.event_log.specs.Messages.{Message}
+use Rattle.event_log.specs.History.{same_cpu}
+use Rattle.thread_blocks.specs.Queues.{same_tid, is_in, first, rest}
+use Rattle.thread_blocks.proofs.Members.{same_tid_self, same_tid_true}
+use Rattle.layer_traits.specs.declared.locked.Side.{Side}
+use Rattle.layer_traits.specs.declared.locked.Side.TheVariants.{Receivers, Senders}
+use Rattle.layer_traits.specs.Places.{is_thread, one_if, count_in}
+use Rattle.layer_traits.specs.Sleeping.{joined}
+use Rattle.layer_traits.specs.BufferBlocks.{may_join, is_first}
+use Rattle.layer_traits.proofs.CountLemmas.{count_append, not_counted}
+use Rattle.cpu.specs.Table.Blocks.{Buffer, Name, AcqQ, Enter, TryPut, TryTake, WaitOn, SigRecv, SigSend, RelQ, Pend, TakeAll}
+use Rattle.cpu.specs.Table.Edits.{can_put, can_take, may_put, may_take, due_sender, due_receiver, without_any}
+use Rattle.cpu.specs.Table.Edits.{acquired, line_of, entered, put, taken, waiting, released, edited_buffer, answer_of_acquire, answer_of_buffer}
+use Rattle.cpu.specs.Table.Setups.{Setup, home_of}
+use Rattle.cpu.specs.Wakeups.Order.{Progress, Begins, HasEntered, WasRefused, Owes, progress_after, receivers_signalled, senders_signalled, MayTry, IsOwing, MayEdit}
+use Rattle.cpu.proofs.Wakeups.Lists.{refuted, some_is, none_is_not, first_is, is_the_first}
+use Rattle.cpu.proofs.Wakeups.Spots.{Spot, Home, InHand, IsPending, AtLock, AtWait, Doing, GotIt, Trying, Failed, Waiting, Owing, Turn, Outside, In}
+use Rattle.cpu.proofs.Wakeups.Spots.{is_buffer, is_side, is_lock, is_wait, names, goes_on, is_inside, starts_here, is_starting, stands, is_lined, InStep}
+use Rattle.cpu.proofs.Wakeups.Spots.{caller_in, is_caller, bed, spot_by, spot_woken, spot_slept, spot_moved, acquired_turn, signalled, next_turn, turn_moved, IsTurn, marked}
+use Rattle.cpu.proofs.Wakeups.Pairs.{Pair, marked_none, marked_some, marked_most, buffer_self, grown_list, first_left, signal_left, front_counted, woken_sleeps, woken_no_lock, woken_no_wait, sleeps_at, thread_some}
+
+-- where the section that is due to a thread may come, it is in order
+inside_owns : (b : BufId) (t : Tid) (k : Buffer) (g : Progress) (d : BufId) (doing : Doing) → goes_on (In b doing) ≡ true → d ≡ b → Pair b t k g (In d doing) Home
+    → (k.busy ≡ Some t) × InStep (In b doing) g
+inside_owns b t k g d doing goes same pair =
+    let now : Pair b t k g (In b doing) Home = subst (λ x. Pair b t k g (In x doing) Home) same pair in
+    let owner : k.busy ≡ Some t = now.inside (and_from (is_buffer b b) (goes_on (In b doing)) (buffer_self b) goes) refl in
+    (owner, (now.owner owner).1)
+
+not_outside : (b : BufId) (t : Tid) (k : Buffer) (g : Progress) (turn : Turn) → goes_on turn ≡ false → Pair b t k g turn Home → k.busy ≢ Some t
+not_outside b t k g turn off pair owner = refuted off (and_parts (names b turn) (goes_on turn) (pair.owner owner).0).1
+
+-- what the caller of a section bears
+abbrev pub ByCaller : Option Tid → (Tid → Type 0) → Type 0
+ByCaller None P = ⊥
+ByCaller (Some t) P = P t
+
+owing_is : (r s : Bool) (g : Progress) → g ≡ Owes r s → IsOwing g
+owing_is r s g is = subst IsOwing (sym is) tt
+
+pub may_edit : (b : BufId) (name : Name) (k : Buffer) (g : Progress) (turn : Turn) → ByCaller (caller_in name) (λ t. Pair b t k g turn Home) → IsTurn b name turn → MayEdit name k g
+may_edit b (AcqQ t) k g Outside pair due = not_outside b t k g Outside refl pair
+may_edit b (AcqQ t) k g (In d (Waiting side)) pair due = not_outside b t k g (In d (Waiting side)) refl pair
+may_edit b (Enter t side) k g (In d GotIt) pair due = inside_owns b t k g d GotIt refl due pair
+may_edit b (TryPut t m) k g (In d (Trying Senders)) pair due = inside_owns b t k g d (Trying Senders) refl due pair
+may_edit b (TryTake t) k g (In d (Trying Receivers)) pair due = inside_owns b t k g d (Trying Receivers) refl due pair
+may_edit b (WaitOn t side) k g (In d (Failed other)) pair due =
+    let owns = inside_owns b t k g d (Failed other) refl due.0 pair in
+    (owns.0, owns.1 ∙ ap WasRefused due.1)
+may_edit b (SigRecv t) k g (In d (Owing r s)) pair due = let owns = inside_owns b t k g d (Owing r s) refl due pair in (owns.0, owing_is r s g owns.1)
+may_edit b (SigSend t) k g (In d (Owing r s)) pair due = let owns = inside_owns b t k g d (Owing r s) refl due pair in (owns.0, owing_is r s g owns.1)
+may_edit b (RelQ t) k g (In d (Owing r s)) pair due =
+    let owns = inside_owns b t k g d (Owing r s) refl due.0 pair in
+    (owns.0, owns.1 ∙ (λ i. Owes (due.1 i) (due.2 i)))
+may_edit b name k g turn pair due = absurd due
+
+-- The caller's own section.
+
+module _ (b : BufId) (u : Tid) where
+  -- a thread at home stands in no queue
+  no_sleepers : (k : Buffer) (g : Progress) (turn : Turn) → Pair b u k g turn Home → count_in u k.sleepers ≡ 0
+  no_sleepers k g turn pair = pair.sleepers ∙ marked_none u false refl
+
+  no_senders : (k : Buffer) (g : Progress) (turn : Turn) → Pair b u k g turn Home → count_in u k.waiting_senders ≡ 0
+  no_senders k g turn pair = pair.senders ∙ marked_none u false refl
+
+  no_receivers : (k : Buffer) (g : Progress) (turn : Turn) → Pair b u k g turn Home → count_in u k.waiting_receivers ≡ 0
+  no_receivers k g turn pair = pair.receivers ∙ marked_none u false refl
+
+  not_first : (list : List Tid) → count_in u list ≡ 0 → is_thread u (first list) ≡ false
+  not_first list none = false_from_ne_true (is_thread u (first list)) (λ is. let some = front_counted u list is in absurd (omega (arith, some, none)))
+
+  own_acquire : (k : Buffer) (g : Progress) (o : Option Tid) (turn : Turn) → k.busy ≡ o → (k.busy ≡ None → g ≡ Begins) → IsTurn b (AcqQ u) turn → Pair b u k g turn Home
+      → Pair b u (acquired u o k) g (acquired_turn b turn) (if (answer_of_acquire o).slept then AtLock b else Home)
+  own_acquire k g None Outside is idle due pair = record {
+    owner = λ e. (and_from (is_buffer b b) true (buffer_self b) refl, idle is, refl);
+    inside = λ ins awake. refl;
+    starts = λ on. absurd (cc on);
+    sleepers = pair.sleepers;
+    senders = pair.senders;
+    receivers = pair.receivers;
+    send_line = pair.send_line ∙ marked_none u false refl ∙ sym (marked_none u (is_buffer b b && false) (and_right (is_buffer b b) false refl));
+    receive_line = pair.receive_line ∙ marked_none u false refl ∙ sym (marked_none u (is_buffer b b && false) (and_right (is_buffer b b) false refl));
+  }
+  own_acquire k g None (In d (Waiting side)) is idle due was =
+      let pair : Pair b u k g (In b (Waiting side)) Home = subst (λ x. Pair b u k g (In x (Waiting side)) Home) due was in
+      record {
+        owner = λ e. (and_from (is_buffer b b) true (buffer_self b) refl, subst (MayTry side) (sym (idle is)) tt, refl);
+        inside = λ ins awake. refl;
+        starts = λ on. absurd (cc on);
+        sleepers = pair.sleepers;
+        senders = pair.senders;
+        receivers = pair.receivers;
+        send_line = pair.send_line;
+        receive_line = pair.receive_line;
+      }
+  own_acquire k g (Some owner) Outside is idle due pair = record {
+    owner = λ e. absurd (not_outside b u k g Outside refl pair e);
+    inside = λ ins awake. refuted awake (buffer_self b);
+    starts = λ on. and_from (is_buffer b b) true (buffer_self b) refl;
+    sleepers = grown_list u k.sleepers (no_sleepers k g Outside pair) ∙ ap (marked u) (sym (buffer_self b));
+    senders = pair.senders;
+    receivers = pair.receivers;
+    send_line = pair.send_line ∙ marked_none u false refl ∙ sym (marked_none u (is_buffer b b && false) (and_right (is_buffer b b) false refl));
+    receive_line = pair.receive_line ∙ marked_none u false refl ∙ sym (marked_none u (is_buffer b b && false) (and_right (is_buffer b b) false refl));
+  }
+  own_acquire k g (Some owner) (In d (Waiting side)) is idle due was =
+      let pair : Pair b u k g (In b (Waiting side)) Home = subst (λ x. Pair b u k g (In x (Waiting side)) Home) due was in
+      record {
+        owner = λ e. absurd (not_outside b u k g (In b (Waiting side)) refl pair e);
+        inside = λ ins awake. refuted awake (buffer_self b);
+        starts = λ on. and_from (is_buffer b b) true (buffer_self b) refl;
+        sleepers = grown_list u k.sleepers (no_sleepers k g (In b (Waiting side)) pair) ∙ ap (marked u) (sym (buffer_self b));
+        senders = pair.senders;
+        receivers = pair.receivers;
+        send_line = pair.send_line;
+        receive_line = pair.receive_line;
+      }
+  own_acquire k g o turn is idle due pair = absurd due
+
+  -- the pair of a thread that has the lock and goes on, from its places in the two lines
+  at_work : (k : Buffer) (g h : Progress) (before doing : Doing) (sends receives : List Tid) → k.busy ≡ Some u → goes_on (In b doing) ≡ true → InStep (In b doing) h
+      → Pair b u k g (In b before) Home
+      → count_in u sends ≡ marked u (is_lined b Senders (In b doing)) → count_in u receives ≡ marked u (is_lined b Receivers (In b doing))
+      → Pair b u (record k { send_line = sends; receive_line = receives }) h (In b doing) Home
+  at_work k g h before doing sends receives owner goes step pair in_sends in_receives = record {
+    owner = λ e. (and_from (is_buffer b b) (goes_on (In b doing)) (buffer_self b) goes, step, refl);
+    inside = λ ins awake. owner;
+    starts = λ on. absurd (cc on);
+    sleepers = pair.sleepers;
+    senders = pair.senders;
+    receivers = pair.receivers;
+    send_line = in_sends;
+    receive_line = in_receives;
+  }
+
+  own_items : (k : Buffer) (g : Progress) (turn : Turn) (x : Spot) (items : List Message) (e s r : ℕ) → Pair b u k g turn x
+      → Pair b u (record k { items = items; effects = e; send_positions = s; receive_positions = r }) g turn x
+  own_items k g turn x items e s r pair = record {
+    owner = pair.owner;
+    inside = pair.inside;
+    starts = pair.starts;
+    sleepers = pair.sleepers;
+    senders = pair.senders;
+    receivers = pair.receivers;
+    send_line = pair.send_line;
+    receive_line = pair.receive_line;
+  }
+
+  unlined : (doing : Doing) (side : Side) → stands side (In b doing) ≡ false → marked u (is_lined b side (In b doing)) ≡ 0
+  unlined doing side off = marked_none u (is_buffer b b && stands side (In b doing)) (and_right (is_buffer b b) (stands side (In b doing)) off)
+
+  lined : (doing : Doing) (side : Side) → stands side (In b doing) ≡ true → marked u (is_lined b side (In b doing)) ≡ marked u true
+  lined doing side on = ap (marked u) (and_from (is_buffer b b) (stands side (In b doing)) (buffer_self b) on)
+
+  -- a line that the thread enters, or may not enter since it is no thread's number
+  entered_list : (line : List Tid) (joins : Bool) → may_join u line ≡ joins → count_in u line ≡ 0 → count_in u (if joins then line ++ u ∷ [] else line) ≡ marked u true
+  entered_list line joins is none = by_test (nat_lt u.0 THREADS) (is_in u line) (not_counted u line none) joins is
+    where
+      by_test : (small in_line : Bool) → in_line ≡ false → (joins : Bool) → (small && not in_line) ≡ joins
+          → count_in u (if joins then line ++ u ∷ [] else line) ≡ one_if (small && true)
+      by_test small true off joins is = absurd (cc off)
+      by_test true false off true is =
+          let one : one_if (same_tid u u) ≡ 1 = ap one_if (same_tid_self u) in
+          let more : count_in u (line ++ u ∷ []) ≡ count_in u line + (one_if (same_tid u u) + 0) = count_append u line (u ∷ []) in
+          omega (arith, more, one, none)
+      by_test false false off false is = none
+      by_test true false off false is = absurd (cc is)
+      by_test false false off true is = absurd (cc is)
+
+  own_enter : (k : Buffer) (g : Progress) (side : Side) (joins : Bool) → may_join u (line_of side k) ≡ joins → k.busy ≡ Some u → Pair b u k g (In b GotIt) Home
+      → Pair b u (if joins then entered u side k else k) (HasEntered side) (In b (Trying side)) Home
+  own_enter k g Senders true is owner pair =
+      let sends = entered_list k.send_line true is (pair.send_line ∙ unlined GotIt Senders refl) ∙ sym (lined (Trying Senders) Senders refl) in
+      let receives = pair.receive_line ∙ unlined GotIt Receivers refl ∙ sym (unlined (Trying Senders) Receivers refl) in
+      own_items _ (HasEntered Senders) (In b (Trying Senders)) Home k.items k.effects (entered u Senders k).send_positions k.receive_positions
+      (at_work k g (HasEntered Senders) GotIt (Trying Senders) (k.send_line ++ u ∷ []) k.receive_line owner refl refl pair sends receives)
+  own_enter k g Senders false is owner pair =
+      let sends = entered_list k.send_line false is (pair.send_line ∙ unlined GotIt Senders refl) ∙ sym (lined (Trying Senders) Senders refl) in
+      let receives = pair.receive_line ∙ unlined GotIt Receivers refl ∙ sym (unlined (Trying Senders) Receivers refl) in
+      at_work k g (HasEntered Senders) GotIt (Trying Senders) k.send_line k.receive_line owner refl refl pair sends receives
+  own_enter k g Receivers true is owner pair =
+      let receives = entered_list k.receive_line true is (pair.receive_line ∙ unlined GotIt Receivers refl) ∙ sym (lined (Trying Receivers) Receivers refl) in
+      let sends = pair.send_line ∙ unlined GotIt Senders refl ∙ sym (unlined (Trying Receivers) Senders refl) in
+      own_items _ (HasEntered Receivers) (In b (Trying Receivers)) Home k.items k.effects k.send_positions (entered u Receivers k).receive_positions
+      (at_work k g (HasEntered Receivers) GotIt (Trying Receivers) k.send_line (k.receive_line ++ u ∷ []) owner refl refl pair sends receives)
+  own_enter k g Receivers false is owner pair =
+      let receives = entered_list k.receive_line false is (pair.receive_line ∙ unlined GotIt Receivers refl) ∙ sym (lined (Trying Receivers) Receivers refl) in
+      let sends = pair.send_line ∙ unlined GotIt Senders refl ∙ sym (unlined (Trying Receivers) Senders refl) in
+      at_work k g (HasEntered Receivers) GotIt (Trying Receivers) k.send_line k.receive_line owner refl refl pair sends receives
+
+  -- the first of its line, which stands there once, has left it
+  left_line : (line : List Tid) (m : Bool) → count_in u line ≡ marked u m → is_first u line ≡ true → count_in u (rest line) ≡ 0
+  left_line line m is front =
+      first_left u line (subst (λ n. n ≤ 1) (sym is) (marked_most u m))
+      ∙ ap (λ b. if b then 0 else count_in u line) (ap (is_thread u) (first_is u line front) ∙ same_tid_self u)
+
+  own_put : (k : Buffer) (g : Progress) (m : Message) (may : Bool) → may_put u k ≡ may → k.busy ≡ Some u → Pair b u k g (In b (Trying Senders)) Home
+      → Pair b u (if may then put m k else k) (if may then Owes true true else WasRefused Senders) (if may then In b (Owing true true) else In b (Failed Senders)) Home
+  own_put k g m true is owner pair =
+      let front = (and_parts (is_first u k.send_line) (can_put k) is).0 in
+      let sends = left_line k.send_line _ pair.send_line front ∙ sym (unlined (Owing true true) Senders refl) in
+      let receives = pair.receive_line ∙ unlined (Trying Senders) Receivers refl ∙ sym (unlined (Owing true true) Receivers refl) in
+      own_items _ (Owes true true) (In b (Owing true true)) Home (k.items ++ m ∷ []) (put m k).effects k.send_positions k.receive_positions
+      (at_work k g (Owes true true) (Trying Senders) (Owing true true) (rest k.send_line) k.receive_line owner refl refl pair sends receives)
+  own_put k g m false is owner pair =
+      at_work k g (WasRefused Senders) (Trying Senders) (Failed Senders) k.send_line k.receive_line owner refl refl pair pair.send_line pair.receive_line
+
+  own_take : (k : Buffer) (g : Progress) (may : Bool) → may_take u k ≡ may → k.busy ≡ Some u → Pair b u k g (In b (Trying Receivers)) Home
+      → Pair b u (if may then taken k else k) (if may then Owes true true else WasRefused Receivers) (if may then In b (Owing true true) else In b (Failed Receivers)) Home
+  own_take k g true is owner pair =
+      let front = (and_parts (is_first u k.receive_line) (can_take k) is).0 in
+      let receives = left_line k.receive_line _ pair.receive_line front ∙ sym (unlined (Owing true true) Receivers refl) in
+      let sends = pair.send_line ∙ unlined (Trying Receivers) Senders refl ∙ sym (unlined (Owing true true) Senders refl) in
+      own_items _ (Owes true true) (In b (Owing true true)) Home (taken k).items (taken k).effects k.send_positions k.receive_positions
+      (at_work k g (Owes true true) (Trying Receivers) (Owing true true) k.send_line (rest k.receive_line) owner refl refl pair sends receives)
+  own_take k g false is owner pair =
+      at_work k g (WasRefused Receivers) (Trying Receivers) (Failed Receivers) k.send_line k.receive_line owner refl refl pair pair.send_line pair.receive_line
+
+  -- the thread gives the lock back, and is inside no longer
+  own_release : (k : Buffer) (g : Progress) (turn next : Turn) (x : Spot) → Pair b u k g turn Home → is_inside b next ≡ false → is_lock b x ≡ false
+      → count_in u k.send_line ≡ marked u (is_lined b Senders next) → count_in u k.receive_line ≡ marked u (is_lined b Receivers next)
+      → (sends receives : List Tid) → count_in u sends ≡ marked u (is_wait b Senders x) → count_in u receives ≡ marked u (is_wait b Receivers x)
+      → Pair b u (released (record k { waiting_senders = sends; waiting_receivers = receives })) Begins next x
+  own_release k g turn next x pair outside off in_sends in_receives sends receives now_ws now_wr = record {
+    owner = λ e. refuted (not_first k.sleepers (no_sleepers k g turn pair)) (ap (is_thread u) e ∙ same_tid_self u);
+    inside = λ ins awake. refuted outside ins;
+    starts = λ on. refuted off on;
+    sleepers = first_left u k.sleepers (subst (λ n. n ≤ 1) (sym pair.sleepers) (marked_most u false))
+        ∙ ap (λ d. if d then 0 else count_in u k.sleepers) (not_first k.sleepers (no_sleepers k g turn pair))
+        ∙ no_sleepers k g turn pair ∙ sym (marked_none u (is_lock b x) off);
+    senders = now_ws;
+    receivers = now_wr;
+    send_line = in_sends;
+    receive_line = in_receives;
+  }
+
+  own_wait : (k : Buffer) (g : Progress) (side : Side) → Pair b u k g (In b (Failed side)) Home
+      → Pair b u (released (waiting u side k)) Begins (In b (Waiting side)) (AtWait b side)
+  own_wait k g Senders pair =
+      own_release k g (In b (Failed Senders)) (In b (Waiting Senders)) (AtWait b Senders) pair (and_right (is_buffer b b) false refl) refl
+      pair.send_line pair.receive_line (joined u k.waiting_senders) k.waiting_receivers
+      (grown_list u k.waiting_senders (no_senders k g (In b (Failed Senders)) pair) ∙ ap (marked u) (sym (and_from (is_buffer b b) true (buffer_self b) refl)))
+      (no_receivers k g (In b (Failed Senders)) pair ∙ sym (marked_none u (is_buffer b b && false) (and_right (is_buffer b b) false refl)))
+  own_wait k g Receivers pair =
+      own_release k g (In b (Failed Receivers)) (In b (Waiting Receivers)) (AtWait b Receivers) pair (and_right (is_buffer b b) false refl) refl
+      pair.send_line pair.receive_line k.waiting_senders (joined u k.waiting_receivers)
+      (no_senders k g (In b (Failed Receivers)) pair ∙ sym (marked_none u (is_buffer b b && false) (and_right (is_buffer b b) false refl)))
+      (grown_list u k.waiting_receivers (no_receivers k g (In b (Failed Receivers)) pair) ∙ ap (marked u) (sym (and_from (is_buffer b b) true (buffer_self b) refl)))
+
+  own_free : (k : Buffer) (g : Progress) (r s : Bool) → Pair b u k g (In b (Owing r s)) Home → Pair b u (released k) Begins Outside Home
+  own_free k g r s pair =
+      own_release k g (In b (Owing r s)) Outside Home pair refl refl
+      (pair.send_line ∙ unlined (Owing r s) Senders refl ∙ sym (marked_none u false refl))
+      (pair.receive_line ∙ unlined (Owing r s) Receivers refl ∙ sym (marked_none u false refl))
+      k.waiting_senders k.waiting_receivers pair.senders pair.receivers
+
+  -- a signal of one side, while its caller waits nowhere
+  own_signal : (k : Buffer) (g h : Progress) (r s x y : Bool) (sends receives : List Tid) → k.busy ≡ Some u → h ≡ Owes x y → Pair b u k g (In b (Owing r s)) Home
+      → count_in u sends ≡ 0 → count_in u receives ≡ 0
+      → Pair b u (record k { waiting_senders = sends; waiting_receivers = receives }) h (In b (Owing x y)) Home
+  own_signal k g h r s x y sends receives owner step pair no_ws no_wr = record {
+    owner = λ e. (and_from (is_buffer b b) true (buffer_self b) refl, step, refl);
+    inside = λ ins awake. owner;
+    starts = λ on. absurd (cc on);
+    sleepers = pair.sleepers;
+    senders = no_ws ∙ sym (marked_none u false refl);
+    receivers = no_wr ∙ sym (marked_none u false refl);
+    send_line = pair.send_line ∙ unlined (Owing r s) Senders refl ∙ sym (unlined (Owing x y) Senders refl);
+    receive_line = pair.receive_line ∙ unlined (Owing r s) Receivers refl ∙ sym (unlined (Owing x y) Receivers refl);
+  }
+
+  still_none : (woke : Option Tid) (list : List Tid) → count_in u list ≡ 0 → count_in u (without_any woke list) ≡ 0
+  still_none woke list none = signal_left u woke list ∙ by_test (is_thread u woke)
+    where
+      by_test : (w : Bool) → (if w then 0 else count_in u list) ≡ 0
+      by_test true = refl
+      by_test false = none
+
+  -- what the thread's own section makes of the pair, where it is due
+  own_at : (name : Name) (k : Buffer) (g : Progress) (turn : Turn) → caller_in name ≡ Some u → (k.busy ≡ None → g ≡ Begins) → MayEdit name k g → IsTurn b name turn
+      → Pair b u k g turn Home
+      → Pair b u (edited_buffer name k) (progress_after name k g) (next_turn b name k turn) (if (answer_of_buffer name k).slept then bed b name else Home)
+  own_at (AcqQ t) k g turn is idle may due pair =
+      subst (λ v. IsTurn b (AcqQ v) turn → Pair b u (acquired v k.busy k) g (acquired_turn b turn) (if (answer_of_acquire k.busy).slept then AtLock b else Home))
+      (some_is u t (sym is)) (λ own. own_acquire k g k.busy turn refl idle own pair) due
+  own_at (Enter t side) k g (In d GotIt) is idle may due pair =
+      let at_b : Pair b u k g (In b GotIt) Home = subst (λ x. Pair b u k g (In x GotIt) Home) due pair in
+      let same : u ≡ t = some_is u t (sym is) in
+      subst (λ v. Pair b u (if may_join v (line_of side k) then entered v side k else k) (HasEntered side) (In b (Trying side)) Home) same
+      (own_enter k g side (may_join u (line_of side k)) refl (subst (λ v. k.busy ≡ Some v) (sym same) may.0) at_b)
+  own_at (TryPut t m) k g (In d (Trying Senders)) is idle may due pair =
+      let at_b : Pair b u k g (In b (Trying Senders)) Home = subst (λ x. Pair b u k g (In x (Trying Senders)) Home) due pair in
+      let same : u ≡ t = some_is u t (sym is) in
+      subst (λ v. Pair b u (if may_put v k then put m k else k) (if may_put v k then Owes true true else WasRefused Senders)
+          (if may_put v k then In b (Owing true true) else In b (Failed Senders)) Home) same
+      (own_put k g m (may_put u k) refl (subst (λ v. k.busy ≡ Some v) (sym same) may.0) at_b)
+  own_at (TryTake t) k g (In d (Trying Receivers)) is idle may due pair =
+      let at_b : Pair b u k g (In b (Trying Receivers)) Home = subst (λ x. Pair b u k g (In x (Trying Receivers)) Home) due pair in
+      let same : u ≡ t = some_is u t (sym is) in
+      subst (λ v. Pair b u (if may_take v k then taken k else k) (if may_take v k then Owes true true else WasRefused Receivers)
+          (if may_take v k then In b (Owing true true) else In b (Failed Receivers)) Home) same
+      (own_take k g (may_take u k) refl (subst (λ v. k.busy ≡ Some v) (sym same) may.0) at_b)
+  own_at (WaitOn t side) k g (In d (Failed other)) is idle may due pair =
+      let at_b : Pair b u k g (In b (Failed side)) Home = subst (λ x. x) (λ i. Pair b u k g (In (due.0 i) (Failed (due.1 i))) Home) pair in
+      subst (λ v. Pair b u (released (waiting v side k)) Begins (In b (Waiting side)) (AtWait b side)) (some_is u t (sym is)) (own_wait k g side at_b)
+  own_at (SigRecv t) k g (In d (Owing r s)) is idle may due pair =
+      let at_b : Pair b u k g (In b (Owing r s)) Home = subst (λ x. Pair b u k g (In x (Owing r s)) Home) due pair in
+      let owner : k.busy ≡ Some u = may.0 ∙ is in
+      let step : g ≡ Owes r s = (at_b.owner owner).1 in
+      subst (λ x. Pair b u (edited_buffer (SigRecv t) k) (receivers_signalled g) (In x (Owing false s)) Home) (sym due)
+      (own_signal k g (receivers_signalled g) r s false s k.waiting_senders (without_any (due_receiver k) k.waiting_receivers) owner (ap receivers_signalled step) at_b
+      (no_senders k g (In b (Owing r s)) at_b) (still_none (due_receiver k) k.waiting_receivers (no_receivers k g (In b (Owing r s)) at_b)))
+  own_at (SigSend t) k g (In d (Owing r s)) is idle may due pair =
+      let at_b : Pair b u k g (In b (Owing r s)) Home = subst (λ x. Pair b u k g (In x (Owing r s)) Home) due pair in
+      let owner : k.busy ≡ Some u = may.0 ∙ is in
+      let step : g ≡ Owes r s = (at_b.owner owner).1 in
+      subst (λ x. Pair b u (edited_buffer (SigSend t) k) (senders_signalled g) (In x (Owing r false)) Home) (sym due)
+      (own_signal k g (senders_signalled g) r s r false (without_any (due_sender k) k.waiting_senders) k.waiting_receivers owner (ap senders_signalled step) at_b
+      (still_none (due_sender k) k.waiting_senders (no_senders k g (In b (Owing r s)) at_b)) (no_receivers k g (In b (Owing r s)) at_b))
+  own_at (RelQ t) k g (In d (Owing r s)) is idle may due pair =
+      let at_b : Pair b u k g (In b (Owing r s)) Home = subst (λ x. Pair b u k g (In x (Owing r s)) Home) due.0 pair in
+      own_free k g r s at_b
+  own_at name k g turn is idle may due pair = absurd due
+
+  -- a caller is not woken by its own section
+  not_woken : (name : Name) (k : Buffer) (g : Progress) (turn : Turn) → Pair b u k g turn Home → is_thread u (answer_of_buffer name k).woke ≡ false
+  not_woken name k g turn pair = false_from_ne_true (is_thread u (answer_of_buffer name k).woke) (λ on. absurd (cc (woken_sleeps b u k g turn Home pair name on).1))
+
+  -- the caller's own section keeps the pair
+  pub own_pair : (setup : Setup) (c : CpuId) (name : Name) (k : Buffer) (g : Progress) (turn : Turn) (spot : Spot) → caller_in name ≡ Some u → spot ≡ Home
+      → (k.busy ≡ None → g ≡ Begins) → MayEdit name k g → IsTurn b name turn → Pair b u k g turn spot
+      → Pair b u (edited_buffer name k) (progress_after name k g) (turn_moved b u name k turn)
+          (spot_moved setup c b u name (answer_of_buffer name k).slept (answer_of_buffer name k).woke spot)
+  own_pair setup c name k g turn spot is here idle may due was =
+      let pair : Pair b u k g turn Home = subst (Pair b u k g turn) here was in
+      let calls : is_caller u name ≡ true = ap (is_thread u) is ∙ same_tid_self u in
+      let at_turn : turn_moved b u name k turn ≡ next_turn b name k turn = ap (λ d. if d then next_turn b name k turn else turn) calls in
+      let slept = (answer_of_buffer name k).slept in
+      let at_spot : spot_moved setup c b u name slept (answer_of_buffer name k).woke spot ≡ (if slept then bed b name else Home) =
+      ap (λ w. if w then spot_woken setup c u else spot_slept b u name slept spot) (not_woken name k g turn pair)
+      ∙ ap (λ d. if slept && d then bed b name else spot) calls
+      ∙ ap (λ d. if d then bed b name else spot) (and_true slept)
+      ∙ ap (λ x. if slept then bed b name else x) here in
+      subst (λ z. Pair b u (edited_buffer name k) (progress_after name k g) z (spot_moved setup c b u name slept (answer_of_buffer name k).woke spot)) (sym at_turn)
+      (subst (λ x. Pair b u (edited_buffer name k) (progress_after name k g) (next_turn b name k turn) x) (sym at_spot) (own_at name k g turn is idle may due pair))
+    where
+      and_true : (d : Bool) → (d && true) ≡ d
+      and_true true = refl
+      and_true false = refl
+
+-- A section elsewhere: the pair of any thread with another buffer.
+
+-- a thread that leaves this buffer alone: its turn is at another one, before and after
+pub record Apart (b : BufId) (turn next : Turn) : Type 0 where
+  pub before : names b turn ≡ false
+  pub after : names b next ≡ false
+
+pub away : (b d : BufId) (name : Name) (k : Buffer) (turn : Turn) → is_buffer b d ≡ false → IsTurn d name turn → Apart b turn (next_turn d name k turn)
+away b d (AcqQ t) k Outside off due = record { before = refl; after = off }
+away b d (AcqQ t) k (In e (Waiting side)) off due = record { before = subst (λ x. is_buffer b x ≡ false) (sym due) off; after = off }
+away b d (Enter t side) k (In e GotIt) off due = record { before = subst (λ x. is_buffer b x ≡ false) (sym due) off; after = off }
+away b d (TryPut t m) k (In e (Trying Senders)) off due = record { before = subst (λ x. is_buffer b x ≡ false) (sym due) off; after = by_test (may_put t k) }
+  where
+    by_test : (may : Bool) → names b (if may then In d (Owing true true) else In d (Failed Senders)) ≡ false
+    by_test true = off
+    by_test false = off
+away b d (TryTake t) k (In e (Trying Receivers)) off due = record { before = subst (λ x. is_buffer b x ≡ false) (sym due) off; after = by_test (may_take t k) }
+  where
+    by_test : (may : Bool) → names b (if may then In d (Owing true true) else In d (Failed Receivers)) ≡ false
+    by_test true = off
+    by_test false = off
+away b d (WaitOn t side) k (In e (Failed other)) off due = record { before = subst (λ x. is_buffer b x ≡ false) (sym due.0) off; after = off }
+away b d (SigRecv t) k (In e (Owing r s)) off due =
+    record { before = subst (λ x. is_buffer b x ≡ false) (sym due) off; after = subst (λ x. is_buffer b x ≡ false) (sym due) off }
+away b d (SigSend t) k (In e (Owing r s)) off due =
+    record { before = subst (λ x. is_buffer b x ≡ false) (sym due) off; after = subst (λ x. is_buffer b x ≡ false) (sym due) off }
+away b d (RelQ t) k (In e (Owing r s)) off due = record { before = subst (λ x. is_buffer b x ≡ false) (sym due.0) off; after = refl }
+away b d name k turn off due = absurd due
+
+-- the pair of a thread whose turn is elsewhere
+pub turn_apart : (b : BufId) (u : Tid) (k : Buffer) (g : Progress) (turn next : Turn) (spot : Spot) → Apart b turn next → Pair b u k g turn spot → Pair b u k g next spot
+turn_apart b u k g turn next spot apart pair = record {
+  owner = λ e. refuted (ap (λ n. n && goes_on turn) apart.before) (pair.owner e).0;
+  inside = λ ins awake. refuted (ap (λ n. n && goes_on next) apart.after) ins;
+  starts = λ on. refuted (ap (λ n. n && starts_here turn) apart.before) (pair.starts on);
+  sleepers = pair.sleepers;
+  senders = pair.senders;
+  receivers = pair.receivers;
+  send_line = pair.send_line ∙ ap (λ n. marked u (n && stands Senders turn)) apart.before ∙ ap (λ n. marked u (n && stands Senders next)) (sym apart.after);
+  receive_line = pair.receive_line ∙ ap (λ n. marked u (n && stands Receivers turn)) apart.before ∙ ap (λ n. marked u (n && stands Receivers next)) (sym apart.after);
+}
+
+-- the pair of a thread whose spot bears the same marks of the buffer
+pub spot_apart : (b : BufId) (u : Tid) (k : Buffer) (g : Progress) (turn : Turn) (spot next : Spot) → is_lock b next ≡ is_lock b spot
+    → ((side : Side) → is_wait b side next ≡ is_wait b side spot) → Pair b u k g turn spot → Pair b u k g turn next
+spot_apart b u k g turn spot next lock wait pair = record {
+  owner = λ e. ((pair.owner e).0, (pair.owner e).1, lock ∙ (pair.owner e).2);
+  inside = λ ins awake. pair.inside ins (sym lock ∙ awake);
+  starts = λ on. pair.starts (sym lock ∙ on);
+  sleepers = pair.sleepers ∙ ap (marked u) (sym lock);
+  senders = pair.senders ∙ ap (marked u) (sym (wait Senders));
+  receivers = pair.receivers ∙ ap (marked u) (sym (wait Receivers));
+  send_line = pair.send_line;
+  receive_line = pair.receive_line;
+}

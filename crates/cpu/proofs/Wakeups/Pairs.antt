@@ -1,0 +1,513 @@
+-- One thread and one buffer: that its places at the buffer are those that its spot and its turn say, by count, and that it owns the
+-- lock exactly where its turn says. Everything here speaks of plain values; the log comes later.
+use Rattle.std.proofs.Common.{◌≡◌, ◌≢◌, ℕ, ◌+◌, ◌<◌, ◌≤◌, Bool, true, false, not, ◌&&◌, ◌||◌, List, [], ◌∷◌, ◌++◌, Option, Some, None, nat_lt, if◌then◌else◌, refl, sym, ap, ◌∙◌, subst, arith}
+use Rattle.std.proofs.lemmas.Bool.{eq-eqb, eqb-true, and_parts, and_from, and_right, false_from_ne_true}
+use Rattle.event_log.specs.declared.ids.CpuId.{CpuId}
+use Rattle.event_log.specs.declared.ids.Tid.{Tid}
+use Rattle.event_log.specs.declared.ids.BufId.{BufId}
+use Rattle.event_log.specs.declared.ids.TheConstants.{THREADS}
+use Rattle.event_log.specs.Messages.{Message}
+use Rattle.event_log.specs.History.{same_cpu}
+use Rattle.thread_blocks.specs.Queues.{same_tid, is_in, first, rest, without}
+use Rattle.thread_blocks.proofs.Members.{same_tid_self, same_tid_true}
+use Rattle.layer_traits.specs.declared.locked.Side.{Side}
+use Rattle.layer_traits.specs.declared.locked.Side.TheVariants.{Receivers, Senders}
+use Rattle.layer_traits.specs.Places.{is_thread, one_if, count_in}
+use Rattle.layer_traits.specs.Sleeping.{joined}
+use Rattle.layer_traits.specs.BufferBlocks.{may_join, is_first}
+use Rattle.layer_traits.proofs.CountLemmas.{same_tid_sym, count_append, count_front, in_counted, not_counted}
+use Rattle.layer_traits.proofs.ListsLemmas.{count_none, count_without}
+use Rattle.cpu.specs.Table.Blocks.{Buffer, Name, AcqQ, Enter, TryPut, TryTake, WaitOn, SigRecv, SigSend, RelQ, Pend, TakeAll, front_stands_in}
+use Rattle.cpu.specs.Table.Edits.{can_put, can_take, may_put, may_take, sender_is_due, receiver_is_due, due_sender, due_receiver, without_any}
+use Rattle.cpu.specs.Table.Edits.{acquired, line_of, entered, put, taken, waiting, released, edited_buffer, answer_of_acquire, answer_of_buffer}
+use Rattle.cpu.specs.Table.Setups.{Setup, home_of}
+use Rattle.cpu.specs.Wakeups.Order.{Progress, Begins, HasEntered, WasRefused, Owes, progress_after, receivers_signalled, senders_signalled, MayTry, IsOwing, MayEdit}
+use Rattle.cpu.proofs.Wakeups.Lists.{refuted, some_is, none_is_not, first_is, is_the_first}
+use Rattle.cpu.proofs.Wakeups.Spots.{Spot, Home, InHand, IsPending, AtLock, AtWait, Doing, GotIt, Trying, Failed, Waiting, Owing, Turn, Outside, In}
+use Rattle.cpu.proofs.Wakeups.Spots.{is_buffer, is_side, is_home, is_hand, is_pending, is_lock, is_wait, is_asleep, is_moved, names, goes_on, is_inside, starts_here, is_starting, stands, is_lined, InStep}
+use Rattle.cpu.proofs.Wakeups.Spots.{caller_in, is_caller, bed, spot_by, spot_woken, spot_slept, spot_moved, acquired_turn, signalled, next_turn, turn_moved, IsTurn, marked}
+
+pub record Pair (b : BufId) (u : Tid) (k : Buffer) (g : Progress) (turn : Turn) (spot : Spot) : Type 0 where
+  -- who owns the lock is inside and awake, and the owner's progress is what its turn says
+  pub owner : k.busy ≡ Some u → (is_inside b turn ≡ true) × InStep turn g × (is_lock b spot ≡ false)
+  -- who is inside, and does not sleep at the lock, owns it
+  pub inside : is_inside b turn ≡ true → is_lock b spot ≡ false → k.busy ≡ Some u
+  -- who sleeps at the lock has just asked for it
+  pub starts : is_lock b spot ≡ true → is_starting b turn ≡ true
+  pub sleepers : count_in u k.sleepers ≡ marked u (is_lock b spot)
+  pub senders : count_in u k.waiting_senders ≡ marked u (is_wait b Senders spot)
+  pub receivers : count_in u k.waiting_receivers ≡ marked u (is_wait b Receivers spot)
+  pub send_line : count_in u k.send_line ≡ marked u (is_lined b Senders turn)
+  pub receive_line : count_in u k.receive_line ≡ marked u (is_lined b Receivers turn)
+
+-- Marks and counts.
+
+pub marked_none : (u : Tid) (m : Bool) → m ≡ false → marked u m ≡ 0
+marked_none u m off = ap (marked u) off ∙ by_test (nat_lt u.0 THREADS)
+  where
+    by_test : (b : Bool) → one_if (b && false) ≡ 0
+    by_test true = refl
+    by_test false = refl
+
+pub marked_some : (u : Tid) (m : Bool) → 0 < marked u m → (nat_lt u.0 THREADS ≡ true) × (m ≡ true)
+marked_some u m some = by_test (nat_lt u.0 THREADS) refl m refl some
+  where
+    by_test : (b : Bool) → nat_lt u.0 THREADS ≡ b → (n : Bool) → m ≡ n → 0 < one_if (b && n) → (nat_lt u.0 THREADS ≡ true) × (m ≡ true)
+    by_test true is true mark some = (is, mark)
+    by_test true is false mark some = absurd (omega (arith, some))
+    by_test false is n mark some = absurd (omega (arith, some))
+
+pub marked_most : (u : Tid) (m : Bool) → marked u m ≤ 1
+marked_most u m = by_test (nat_lt u.0 THREADS && m)
+  where
+    by_test : (b : Bool) → one_if b ≤ 1
+    by_test true = omega arith
+    by_test false = omega arith
+
+-- a list whose threads bear a mark, after a section that put thread u nowhere: who was woken is gone, all others stand as they stood
+kept_list : (u : Tid) (list now : List Tid) (m n w : Bool) → count_in u list ≡ marked u m → count_in u now ≡ (if w then 0 else count_in u list)
+    → n ≡ (if w then false else m) → count_in u now ≡ marked u n
+kept_list u list now m n true was is mark = is ∙ sym (marked_none u n mark)
+kept_list u list now m n false was is mark = is ∙ was ∙ ap (marked u) (sym mark)
+
+-- a list that thread u has joined
+pub grown_list : (u : Tid) (list : List Tid) → count_in u list ≡ 0 → count_in u (joined u list) ≡ marked u true
+grown_list u list none = by_test (nat_lt u.0 THREADS) (is_in u list) (not_counted u list none)
+  where
+    by_test : (small in_list : Bool) → in_list ≡ false → count_in u (if small && not in_list then list ++ u ∷ [] else list) ≡ one_if (small && true)
+    by_test small true off = absurd (cc off)
+    by_test true false off =
+        let one : one_if (same_tid u u) ≡ 1 = ap one_if (same_tid_self u) in
+        let more : count_in u (list ++ u ∷ []) ≡ count_in u list + (one_if (same_tid u u) + 0) = count_append u list (u ∷ []) in
+        omega (arith, more, one, none)
+    by_test false false off = none
+
+-- a list that another thread has joined
+pub other_joined : (u t : Tid) (list : List Tid) → same_tid t u ≡ false → count_in u (joined t list) ≡ count_in u list
+other_joined u t list other = by_test (nat_lt t.0 THREADS && not (is_in t list))
+  where
+    by_test : (b : Bool) → count_in u (if b then list ++ t ∷ [] else list) ≡ count_in u list
+    by_test true =
+        let none : one_if (same_tid u t) ≡ 0 = ap one_if (same_tid_sym u t ∙ other) in
+        let more : count_in u (list ++ t ∷ []) ≡ count_in u list + (one_if (same_tid u t) + 0) = count_append u list (t ∷ []) in
+        omega (arith, more, none)
+    by_test false = refl
+
+other_behind : (u t : Tid) (list : List Tid) → same_tid t u ≡ false → count_in u (list ++ t ∷ []) ≡ count_in u list
+other_behind u t list other =
+    let none : one_if (same_tid u t) ≡ 0 = ap one_if (same_tid_sym u t ∙ other) in
+    let more : count_in u (list ++ t ∷ []) ≡ count_in u list + (one_if (same_tid u t) + 0) = count_append u list (t ∷ []) in
+    omega (arith, more, none)
+
+-- the first has left a list
+pub first_left : (u : Tid) (list : List Tid) → count_in u list ≤ 1 → count_in u (rest list) ≡ (if is_thread u (first list) then 0 else count_in u list)
+first_left u list most = by_test (is_thread u (first list)) refl
+  where
+    by_test : (b : Bool) → is_thread u (first list) ≡ b → count_in u (rest list) ≡ (if b then 0 else count_in u list)
+    by_test true is = let one : one_if (is_thread u (first list)) ≡ 1 = ap one_if is in omega (arith, one, count_front u list, most)
+    by_test false is = let none : one_if (is_thread u (first list)) ≡ 0 = ap one_if is in omega (arith, none, count_front u list)
+
+-- another thread was first, and has left
+other_left : (u t : Tid) (line : List Tid) → is_first t line ≡ true → same_tid t u ≡ false → count_in u (rest line) ≡ count_in u line
+other_left u t line is other =
+    let none : one_if (is_thread u (first line)) ≡ 0 = ap (λ o. one_if (is_thread u o)) (first_is t line is) ∙ ap one_if other in
+    omega (arith, none, count_front u line)
+
+-- whoever is first stands in the list
+pub front_counted : (u : Tid) (list : List Tid) → is_thread u (first list) ≡ true → 0 < count_in u list
+front_counted u list is = let one : one_if (is_thread u (first list)) ≡ 1 = ap one_if is in omega (arith, one, count_front u list)
+
+-- a signal has taken out whom it woke
+pub signal_left : (u : Tid) (woke : Option Tid) (list : List Tid) → count_in u (without_any woke list) ≡ (if is_thread u woke then 0 else count_in u list)
+signal_left u None list = refl
+signal_left u (Some t) list = count_without u t list
+
+-- whom a signal wakes was waiting
+woken_waits : (u : Tid) (line list : List Tid) (can : Bool) → is_thread u (if front_stands_in line list && can then first line else None) ≡ true → 0 < count_in u list
+woken_waits u [] list can woke = by_test can woke
+  where
+    by_test : (b : Bool) → is_thread u (if false && b then None else None) ≡ true → 0 < count_in u list
+    by_test true on = absurd (cc on)
+    by_test false on = absurd (cc on)
+woken_waits u (x ∷ line) list can woke = by_test (is_in x list) refl can woke
+  where
+    by_test : (b : Bool) → is_in x list ≡ b → (c : Bool) → is_thread u (if b && c then Some x else None) ≡ true → 0 < count_in u list
+    by_test true there true on = in_counted u list (subst (λ y. is_in y list ≡ true) (same_tid_true x u on) there)
+    by_test true there false on = absurd (cc on)
+    by_test false there c on = absurd (cc on)
+
+-- Spots.
+
+pub buffer_self : (b : BufId) → is_buffer b b ≡ true
+buffer_self b = eq-eqb b.0 b.0 refl
+
+abbrev buffer_numbered : ℕ → BufId
+buffer_numbered n = record { 0 = n }
+
+pub buffer_true : (b d : BufId) → is_buffer b d ≡ true → b ≡ d
+buffer_true b d same = ap buffer_numbered (eqb-true b.0 d.0 same)
+
+-- a woken thread sleeps nowhere
+pub woken_no_lock : (b : BufId) (here : Bool) (c : CpuId) → is_lock b (spot_by here c) ≡ false
+woken_no_lock b true c = refl
+woken_no_lock b false c = refl
+
+pub woken_no_wait : (b : BufId) (side : Side) (here : Bool) (c : CpuId) → is_wait b side (spot_by here c) ≡ false
+woken_no_wait b side true c = refl
+woken_no_wait b side false c = refl
+
+-- whoever sleeps at the lock waits at no buffer
+lock_no_wait : (b : BufId) (side : Side) (x : Spot) → is_lock b x ≡ true → is_wait b side x ≡ false
+lock_no_wait b side (AtLock d) on = refl
+lock_no_wait b side Home on = refl
+lock_no_wait b side (InHand c) on = refl
+lock_no_wait b side IsPending on = refl
+lock_no_wait b side (AtWait d other) on = absurd (cc on)
+
+wait_no_lock : (b : BufId) (side : Side) (x : Spot) → is_wait b side x ≡ true → is_lock b x ≡ false
+wait_no_lock b side (AtWait d other) on = refl
+wait_no_lock b side Home on = refl
+wait_no_lock b side (InHand c) on = refl
+wait_no_lock b side IsPending on = refl
+wait_no_lock b side (AtLock d) on = absurd (cc on)
+
+no_other_side : (p q : Side) → is_side p q ≡ false → (x : Side) → is_side p x ≡ true → is_side q x ≡ false
+no_other_side Receivers Senders off Receivers on = refl
+no_other_side Senders Receivers off Senders on = refl
+no_other_side Receivers Receivers off x on = absurd (cc off)
+no_other_side Senders Senders off x on = absurd (cc off)
+no_other_side Receivers Senders off Senders on = absurd (cc on)
+no_other_side Senders Receivers off Receivers on = absurd (cc on)
+
+wait_one_side : (b : BufId) (p q : Side) (x : Spot) → is_side p q ≡ false → is_wait b p x ≡ true → is_wait b q x ≡ false
+wait_one_side b p q (AtWait d other) off on =
+    let parts = and_parts (is_buffer b d) (is_side p other) on in
+    false_from_ne_true (is_buffer b d && is_side q other) (λ e. refuted (no_other_side p q off other parts.1) (and_parts (is_buffer b d) (is_side q other) e).1)
+wait_one_side b p q Home off on = refl
+wait_one_side b p q (InHand c) off on = refl
+wait_one_side b p q IsPending off on = refl
+wait_one_side b p q (AtLock d) off on = refl
+
+pub lock_asleep : (b : BufId) (x : Spot) → is_lock b x ≡ true → is_asleep x ≡ true
+lock_asleep b (AtLock d) on = refl
+lock_asleep b Home on = absurd (cc on)
+lock_asleep b (InHand c) on = absurd (cc on)
+lock_asleep b IsPending on = absurd (cc on)
+lock_asleep b (AtWait d other) on = absurd (cc on)
+
+pub wait_asleep : (b : BufId) (side : Side) (x : Spot) → is_wait b side x ≡ true → is_asleep x ≡ true
+wait_asleep b side (AtWait d other) on = refl
+wait_asleep b side Home on = absurd (cc on)
+wait_asleep b side (InHand c) on = absurd (cc on)
+wait_asleep b side IsPending on = absurd (cc on)
+wait_asleep b side (AtLock d) on = absurd (cc on)
+
+-- The thread sleeps at this buffer.
+abbrev pub sleeps_at : BufId → Spot → Bool
+sleeps_at b (AtLock d) = is_buffer b d
+sleeps_at b (AtWait d side) = is_buffer b d
+sleeps_at b Home = false
+sleeps_at b (InHand c) = false
+sleeps_at b IsPending = false
+
+lock_sleeps : (b : BufId) (x : Spot) → is_lock b x ≡ true → sleeps_at b x ≡ true
+lock_sleeps b (AtLock d) on = on
+lock_sleeps b Home on = absurd (cc on)
+lock_sleeps b (InHand c) on = absurd (cc on)
+lock_sleeps b IsPending on = absurd (cc on)
+lock_sleeps b (AtWait d other) on = absurd (cc on)
+
+wait_sleeps : (b : BufId) (side : Side) (x : Spot) → is_wait b side x ≡ true → sleeps_at b x ≡ true
+wait_sleeps b side (AtWait d other) on = (and_parts (is_buffer b d) (is_side side other) on).0
+wait_sleeps b side Home on = absurd (cc on)
+wait_sleeps b side (InHand c) on = absurd (cc on)
+wait_sleeps b side IsPending on = absurd (cc on)
+wait_sleeps b side (AtLock d) on = absurd (cc on)
+
+pub sleeps_asleep : (b : BufId) (x : Spot) → sleeps_at b x ≡ true → is_asleep x ≡ true
+sleeps_asleep b (AtLock d) on = refl
+sleeps_asleep b (AtWait d side) on = refl
+sleeps_asleep b Home on = absurd (cc on)
+sleeps_asleep b (InHand c) on = absurd (cc on)
+sleeps_asleep b IsPending on = absurd (cc on)
+
+acquire_wakes_none : (o : Option Tid) → (answer_of_acquire o).woke ≡ None
+acquire_wakes_none None = refl
+acquire_wakes_none (Some owner) = refl
+
+pub thread_some : (u : Tid) (o : Option Tid) → is_thread u o ≡ true → o ≡ Some u
+thread_some u None is = absurd (cc is)
+thread_some u (Some t) is = ap Some (same_tid_true t u is)
+
+module _ (b : BufId) (u : Tid) (k : Buffer) (g : Progress) (turn : Turn) (spot : Spot) (pair : Pair b u k g turn spot) where
+  pub first_sleeps : is_thread u (first k.sleepers) ≡ true → (nat_lt u.0 THREADS ≡ true) × (is_lock b spot ≡ true)
+  first_sleeps is = marked_some u (is_lock b spot) (subst (λ n. 0 < n) pair.sleepers (front_counted u k.sleepers is))
+
+  pub due_sends : is_thread u (due_sender k) ≡ true → (nat_lt u.0 THREADS ≡ true) × (is_wait b Senders spot ≡ true)
+  due_sends is = marked_some u (is_wait b Senders spot) (subst (λ n. 0 < n) pair.senders (woken_waits u k.send_line k.waiting_senders (can_put k) is))
+
+  pub due_receives : is_thread u (due_receiver k) ≡ true → (nat_lt u.0 THREADS ≡ true) × (is_wait b Receivers spot ≡ true)
+  due_receives is = marked_some u (is_wait b Receivers spot) (subst (λ n. 0 < n) pair.receivers (woken_waits u k.receive_line k.waiting_receivers (can_take k) is))
+
+  -- whoever is woken sleeps at the buffer, and its number is a thread's
+  pub woken_sleeps : (name : Name) → is_thread u (answer_of_buffer name k).woke ≡ true → (nat_lt u.0 THREADS ≡ true) × (sleeps_at b spot ≡ true)
+  woken_sleeps (AcqQ t) is = refuted (ap (is_thread u) (acquire_wakes_none k.busy)) is
+  woken_sleeps (Enter t side) is = absurd (cc is)
+  woken_sleeps (TryPut t m) is = absurd (cc is)
+  woken_sleeps (TryTake t) is = absurd (cc is)
+  woken_sleeps (WaitOn t side) is = let at = first_sleeps is in (at.0, lock_sleeps b spot at.1)
+  woken_sleeps (SigRecv t) is = let at = due_receives is in (at.0, wait_sleeps b Receivers spot at.1)
+  woken_sleeps (SigSend t) is = let at = due_sends is in (at.0, wait_sleeps b Senders spot at.1)
+  woken_sleeps (RelQ t) is = let at = first_sleeps is in (at.0, lock_sleeps b spot at.1)
+  woken_sleeps (Pend s) is = absurd (cc is)
+  woken_sleeps TakeAll is = absurd (cc is)
+
+-- A section of another thread on the buffer.
+
+start_inside : (b : BufId) (turn : Turn) → is_starting b turn ≡ true → (is_inside b turn ≡ true) × InStep turn Begins
+start_inside b Outside on = absurd (cc on)
+start_inside b (In d GotIt) on = (on, refl)
+start_inside b (In d (Trying side)) on = (on, tt)
+start_inside b (In d (Failed side)) on = absurd (cc (and_parts (is_buffer b d) false on).1)
+start_inside b (In d (Waiting side)) on = absurd (cc (and_parts (is_buffer b d) false on).1)
+start_inside b (In d (Owing r s)) on = absurd (cc (and_parts (is_buffer b d) false on).1)
+
+-- another thread owns the lock
+not_mine : {A : Type 0} (u t : Tid) (o : Option Tid) → o ≡ Some t → same_tid t u ≡ false → o ≡ Some u → A
+not_mine u t o owner other mine = refuted other (subst (λ x. same_tid t x ≡ true) (some_is t u (sym owner ∙ mine)) (same_tid_self t))
+
+module _ (setup : Setup) (c : CpuId) (b : BufId) (u t : Tid) (other : same_tid t u ≡ false) (turn : Turn) (spot : Spot) where
+  other_acquire : (k : Buffer) (g : Progress) (o : Option Tid) → k.busy ≡ o → Pair b u k g turn spot → Pair b u (acquired t o k) g turn spot
+  other_acquire k g None is pair = record {
+    owner = λ e. not_mine u t (Some t) refl other e;
+    inside = λ ins awake. none_is_not (sym is ∙ pair.inside ins awake);
+    starts = pair.starts;
+    sleepers = pair.sleepers;
+    senders = pair.senders;
+    receivers = pair.receivers;
+    send_line = pair.send_line;
+    receive_line = pair.receive_line;
+  }
+  other_acquire k g (Some owner) is pair = record {
+    owner = pair.owner;
+    inside = pair.inside;
+    starts = pair.starts;
+    sleepers = other_joined u t k.sleepers other ∙ pair.sleepers;
+    senders = pair.senders;
+    receivers = pair.receivers;
+    send_line = pair.send_line;
+    receive_line = pair.receive_line;
+  }
+
+  -- the lines and the owner's progress alone are changed
+  with_lines : (k : Buffer) (g h : Progress) → k.busy ≡ Some t → Pair b u k g turn spot
+      → (sends receives : List Tid) → count_in u sends ≡ count_in u k.send_line → count_in u receives ≡ count_in u k.receive_line
+      → Pair b u (record k { send_line = sends; receive_line = receives }) h turn spot
+  with_lines k g h owner pair sends receives same_sends same_receives = record {
+    owner = λ e. not_mine u t k.busy owner other e;
+    inside = pair.inside;
+    starts = pair.starts;
+    sleepers = pair.sleepers;
+    senders = pair.senders;
+    receivers = pair.receivers;
+    send_line = same_sends ∙ pair.send_line;
+    receive_line = same_receives ∙ pair.receive_line;
+  }
+
+  -- nor do the items and the counters matter
+  with_items : (k : Buffer) (g : Progress) (items : List Message) (e s r : ℕ) → Pair b u k g turn spot
+      → Pair b u (record k { items = items; effects = e; send_positions = s; receive_positions = r }) g turn spot
+  with_items k g items e s r pair = record {
+    owner = pair.owner;
+    inside = pair.inside;
+    starts = pair.starts;
+    sleepers = pair.sleepers;
+    senders = pair.senders;
+    receivers = pair.receivers;
+    send_line = pair.send_line;
+    receive_line = pair.receive_line;
+  }
+
+  other_enter : (k : Buffer) (g : Progress) (side : Side) (joins : Bool) → k.busy ≡ Some t → Pair b u k g turn spot
+      → Pair b u (if joins then entered t side k else k) (HasEntered side) turn spot
+  other_enter k g Senders true owner pair =
+      let grown = with_lines k g (HasEntered Senders) owner pair (k.send_line ++ t ∷ []) k.receive_line (other_behind u t k.send_line other) refl in
+      with_items _ (HasEntered Senders) k.items k.effects (entered t Senders k).send_positions k.receive_positions grown
+  other_enter k g Receivers true owner pair =
+      let grown = with_lines k g (HasEntered Receivers) owner pair k.send_line (k.receive_line ++ t ∷ []) refl (other_behind u t k.receive_line other) in
+      with_items _ (HasEntered Receivers) k.items k.effects k.send_positions (entered t Receivers k).receive_positions grown
+  other_enter k g side false owner pair = with_lines k g (HasEntered side) owner pair k.send_line k.receive_line refl refl
+
+  other_put : (k : Buffer) (g : Progress) (m : Message) (may : Bool) → may_put t k ≡ may → k.busy ≡ Some t → Pair b u k g turn spot
+      → Pair b u (if may then put m k else k) (if may then Owes true true else WasRefused Senders) turn spot
+  other_put k g m true is owner pair =
+      let front = (and_parts (is_first t k.send_line) (can_put k) is).0 in
+      let left = with_lines k g (Owes true true) owner pair (rest k.send_line) k.receive_line (other_left u t k.send_line front other) refl in
+      with_items _ (Owes true true) (k.items ++ m ∷ []) (put m k).effects k.send_positions k.receive_positions left
+  other_put k g m false is owner pair = with_lines k g (WasRefused Senders) owner pair k.send_line k.receive_line refl refl
+
+  other_take : (k : Buffer) (g : Progress) (may : Bool) → may_take t k ≡ may → k.busy ≡ Some t → Pair b u k g turn spot
+      → Pair b u (if may then taken k else k) (if may then Owes true true else WasRefused Receivers) turn spot
+  other_take k g true is owner pair =
+      let front = (and_parts (is_first t k.receive_line) (can_take k) is).0 in
+      let left = with_lines k g (Owes true true) owner pair k.send_line (rest k.receive_line) refl (other_left u t k.receive_line front other) in
+      with_items _ (Owes true true) (taken k).items (taken k).effects k.send_positions k.receive_positions left
+  other_take k g false is owner pair = with_lines k g (WasRefused Receivers) owner pair k.send_line k.receive_line refl refl
+
+  other_release : (k : Buffer) (g : Progress) → k.busy ≡ Some t → Pair b u k g turn spot
+      → Pair b u (released k) Begins turn (if is_thread u (first k.sleepers) then spot_woken setup c u else spot)
+  other_release k g owner pair = by_test (is_thread u (first k.sleepers)) refl
+    where
+      most : count_in u k.sleepers ≤ 1
+      most = subst (λ n. n ≤ 1) (sym pair.sleepers) (marked_most u (is_lock b spot))
+
+      by_test : (w : Bool) → is_thread u (first k.sleepers) ≡ w → Pair b u (released k) Begins turn (if w then spot_woken setup c u else spot)
+      by_test true is =
+          let on = (first_sleeps b u k g turn spot pair is).1 in
+          let no_lock = woken_no_lock b (same_cpu (home_of setup u) c) c in
+          let start = start_inside b turn (pair.starts on) in
+          record {
+            owner = λ e. (start.0, start.1, no_lock);
+            inside = λ ins awake. thread_some u (first k.sleepers) is;
+            starts = λ now. refuted no_lock now;
+            sleepers = first_left u k.sleepers most ∙ ap (λ x. if x then 0 else count_in u k.sleepers) is ∙ sym (marked_none u _ no_lock);
+            senders = pair.senders ∙ ap (marked u) (lock_no_wait b Senders spot on ∙ sym (woken_no_wait b Senders (same_cpu (home_of setup u) c) c));
+            receivers = pair.receivers ∙ ap (marked u) (lock_no_wait b Receivers spot on ∙ sym (woken_no_wait b Receivers (same_cpu (home_of setup u) c) c));
+            send_line = pair.send_line;
+            receive_line = pair.receive_line;
+          }
+      by_test false is = record {
+        owner = λ e. refuted is (ap (is_thread u) e ∙ same_tid_self u);
+        inside = λ ins awake. not_mine u t k.busy owner other (pair.inside ins awake);
+        starts = pair.starts;
+        sleepers = first_left u k.sleepers most ∙ ap (λ x. if x then 0 else count_in u k.sleepers) is ∙ pair.sleepers;
+        senders = pair.senders;
+        receivers = pair.receivers;
+        send_line = pair.send_line;
+        receive_line = pair.receive_line;
+      }
+
+  with_waiting : (k : Buffer) (g : Progress) (side : Side) → Pair b u k g turn spot → Pair b u (waiting t side k) g turn spot
+  with_waiting k g Senders pair = record {
+    owner = pair.owner;
+    inside = pair.inside;
+    starts = pair.starts;
+    sleepers = pair.sleepers;
+    senders = other_joined u t k.waiting_senders other ∙ pair.senders;
+    receivers = pair.receivers;
+    send_line = pair.send_line;
+    receive_line = pair.receive_line;
+  }
+  with_waiting k g Receivers pair = record {
+    owner = pair.owner;
+    inside = pair.inside;
+    starts = pair.starts;
+    sleepers = pair.sleepers;
+    senders = pair.senders;
+    receivers = other_joined u t k.waiting_receivers other ∙ pair.receivers;
+    send_line = pair.send_line;
+    receive_line = pair.receive_line;
+  }
+
+  other_wait : (k : Buffer) (g : Progress) (side : Side) → k.busy ≡ Some t → Pair b u k g turn spot
+      → Pair b u (released (waiting t side k)) Begins turn (if is_thread u (first k.sleepers) then spot_woken setup c u else spot)
+  other_wait k g Senders owner pair = other_release (waiting t Senders k) g owner (with_waiting k g Senders pair)
+  other_wait k g Receivers owner pair = other_release (waiting t Receivers k) g owner (with_waiting k g Receivers pair)
+
+  other_sig_recv : (k : Buffer) (g h : Progress) → k.busy ≡ Some t → Pair b u k g turn spot
+      → Pair b u (edited_buffer (SigRecv t) k) h turn (if is_thread u (due_receiver k) then spot_woken setup c u else spot)
+  other_sig_recv k g h owner pair = by_test (is_thread u (due_receiver k)) refl
+    where
+      by_test : (w : Bool) → is_thread u (due_receiver k) ≡ w → Pair b u (edited_buffer (SigRecv t) k) h turn (if w then spot_woken setup c u else spot)
+      by_test true is =
+          let on = (due_receives b u k g turn spot pair is).1 in
+          let off = wait_no_lock b Receivers spot on in
+          let no_lock = woken_no_lock b (same_cpu (home_of setup u) c) c in
+          record {
+            owner = λ e. not_mine u t k.busy owner other e;
+            inside = λ ins awake. pair.inside ins off;
+            starts = λ now. refuted no_lock now;
+            sleepers = pair.sleepers ∙ ap (marked u) (off ∙ sym no_lock);
+            senders = pair.senders ∙ ap (marked u) (wait_one_side b Receivers Senders spot refl on ∙ sym (woken_no_wait b Senders (same_cpu (home_of setup u) c) c));
+            receivers = signal_left u (due_receiver k) k.waiting_receivers ∙ ap (λ x. if x then 0 else count_in u k.waiting_receivers) is
+                ∙ sym (marked_none u _ (woken_no_wait b Receivers (same_cpu (home_of setup u) c) c));
+            send_line = pair.send_line;
+            receive_line = pair.receive_line;
+          }
+      by_test false is = record {
+        owner = λ e. not_mine u t k.busy owner other e;
+        inside = pair.inside;
+        starts = pair.starts;
+        sleepers = pair.sleepers;
+        senders = pair.senders;
+        receivers = signal_left u (due_receiver k) k.waiting_receivers ∙ ap (λ x. if x then 0 else count_in u k.waiting_receivers) is ∙ pair.receivers;
+        send_line = pair.send_line;
+        receive_line = pair.receive_line;
+      }
+
+  other_sig_send : (k : Buffer) (g h : Progress) → k.busy ≡ Some t → Pair b u k g turn spot
+      → Pair b u (edited_buffer (SigSend t) k) h turn (if is_thread u (due_sender k) then spot_woken setup c u else spot)
+  other_sig_send k g h owner pair = by_test (is_thread u (due_sender k)) refl
+    where
+      by_test : (w : Bool) → is_thread u (due_sender k) ≡ w → Pair b u (edited_buffer (SigSend t) k) h turn (if w then spot_woken setup c u else spot)
+      by_test true is =
+          let on = (due_sends b u k g turn spot pair is).1 in
+          let off = wait_no_lock b Senders spot on in
+          let no_lock = woken_no_lock b (same_cpu (home_of setup u) c) c in
+          record {
+            owner = λ e. not_mine u t k.busy owner other e;
+            inside = λ ins awake. pair.inside ins off;
+            starts = λ now. refuted no_lock now;
+            sleepers = pair.sleepers ∙ ap (marked u) (off ∙ sym no_lock);
+            senders = signal_left u (due_sender k) k.waiting_senders ∙ ap (λ x. if x then 0 else count_in u k.waiting_senders) is
+                ∙ sym (marked_none u _ (woken_no_wait b Senders (same_cpu (home_of setup u) c) c));
+            receivers = pair.receivers ∙ ap (marked u) (wait_one_side b Senders Receivers spot refl on ∙ sym (woken_no_wait b Receivers (same_cpu (home_of setup u) c) c));
+            send_line = pair.send_line;
+            receive_line = pair.receive_line;
+          }
+      by_test false is = record {
+        owner = λ e. not_mine u t k.busy owner other e;
+        inside = pair.inside;
+        starts = pair.starts;
+        sleepers = pair.sleepers;
+        senders = signal_left u (due_sender k) k.waiting_senders ∙ ap (λ x. if x then 0 else count_in u k.waiting_senders) is ∙ pair.senders;
+        receivers = pair.receivers;
+        send_line = pair.send_line;
+        receive_line = pair.receive_line;
+      }
+
+by_acquire : (setup : Setup) (c : CpuId) (u : Tid) (o : Option Tid) (x : Spot) → (if is_thread u (answer_of_acquire o).woke then spot_woken setup c u else x) ≡ x
+by_acquire setup c u None x = refl
+by_acquire setup c u (Some owner) x = refl
+
+other_section : (setup : Setup) (c : CpuId) (b : BufId) (u : Tid) (name : Name) (k : Buffer) (g : Progress) (turn : Turn) (spot : Spot)
+    → is_caller u name ≡ false → MayEdit name k g → Pair b u k g turn spot
+    → Pair b u (edited_buffer name k) (progress_after name k g) turn (if is_thread u (answer_of_buffer name k).woke then spot_woken setup c u else spot)
+other_section setup c b u (AcqQ t) k g turn spot other may pair =
+    subst (λ x. Pair b u (acquired t k.busy k) g turn x) (sym (by_acquire setup c u k.busy spot)) (other_acquire setup c b u t other turn spot k g k.busy refl pair)
+other_section setup c b u (Enter t side) k g turn spot other may pair = other_enter setup c b u t other turn spot k g side (may_join t (line_of side k)) may.0 pair
+other_section setup c b u (TryPut t m) k g turn spot other may pair = other_put setup c b u t other turn spot k g m (may_put t k) refl may.0 pair
+other_section setup c b u (TryTake t) k g turn spot other may pair = other_take setup c b u t other turn spot k g (may_take t k) refl may.0 pair
+other_section setup c b u (WaitOn t side) k g turn spot other may pair = other_wait setup c b u t other turn spot k g side may.0 pair
+other_section setup c b u (SigRecv t) k g turn spot other may pair = other_sig_recv setup c b u t other turn spot k g (receivers_signalled g) may.0 pair
+other_section setup c b u (SigSend t) k g turn spot other may pair = other_sig_send setup c b u t other turn spot k g (senders_signalled g) may.0 pair
+other_section setup c b u (RelQ t) k g turn spot other may pair = other_release setup c b u t other turn spot k g may.0 pair
+other_section setup c b u (Pend s) k g turn spot other may pair = absurd may
+other_section setup c b u TakeAll k g turn spot other may pair = absurd may
+
+spot_of_other : (setup : Setup) (c : CpuId) (b : BufId) (u : Tid) (name : Name) (slept : Bool) (woke : Option Tid) (x : Spot) → is_caller u name ≡ false
+    → spot_moved setup c b u name slept woke x ≡ (if is_thread u woke then spot_woken setup c u else x)
+spot_of_other setup c b u name slept woke x other =
+    ap (λ d. if is_thread u woke then spot_woken setup c u else (if d then bed b name else x)) (and_right slept (is_caller u name) other)
+
+-- a section of another thread on the buffer keeps the pair
+pub other_pair : (setup : Setup) (c : CpuId) (b : BufId) (u : Tid) (name : Name) (k : Buffer) (g : Progress) (turn : Turn) (spot : Spot)
+    → is_caller u name ≡ false → MayEdit name k g → Pair b u k g turn spot
+    → Pair b u (edited_buffer name k) (progress_after name k g) (turn_moved b u name k turn)
+        (spot_moved setup c b u name (answer_of_buffer name k).slept (answer_of_buffer name k).woke spot)
+other_pair setup c b u name k g turn spot other may pair =
+    let at_spot = spot_of_other setup c b u name (answer_of_buffer name k).slept (answer_of_buffer name k).woke spot other in
+    let at_turn : turn_moved b u name k turn ≡ turn = ap (λ d. if d then next_turn b name k turn else turn) other in
+    subst (λ z. Pair b u (edited_buffer name k) (progress_after name k g) z
+        (spot_moved setup c b u name (answer_of_buffer name k).slept (answer_of_buffer name k).woke spot)) (sym at_turn)
+    (subst (λ x. Pair b u (edited_buffer name k) (progress_after name k g) turn x) (sym at_spot) (other_section setup c b u name k g turn spot other may pair))
