@@ -5,3 +5,4 @@ pub mod Spots
 pub mod Pairs
 pub mod Owns
 pub mod Called
+pub mod Agreement
