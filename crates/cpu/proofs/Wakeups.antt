@@ -6,3 +6,4 @@ pub mod Pairs
 pub mod Owns
 pub mod Called
 pub mod Agreement
+pub mod Sits

@@ -39,6 +39,8 @@ pub record Good (setup : Setup) (past : List (Section Name)) : Type 0 where
       → count_in u threads ≡ one_if (same_cpu (home_of setup u) d && is_pending (spot setup u past))
   -- only a number that is a thread's was ever woken
   pub small : (u : Tid) → is_moved (spot setup u past) ≡ true → nat_lt u.0 THREADS ≡ true
+  -- whoever is not at home has a home
+  pub known : (u : Tid) → is_home (spot setup u past) ≡ false → nat_lt u.0 (length setup.homes) ≡ true
 
 -- A new log.
 
@@ -48,6 +50,7 @@ good_none setup = record {
   pairs = λ b u k is. opening_pair b u k (slice_get setup.caps b.0) is;
   pending = λ d u threads is. opening_pending d u threads is;
   small = λ u on. absurd (cc on);
+  known = λ u off. absurd (cc off);
 }
   where
     opening_pair : (b : BufId) (u : Tid) (k : Buffer) (o : Option ℕ) → opening_buffer o ≡ Some (OfBuffer k) → Pair b u k Begins Outside Home
@@ -152,6 +155,13 @@ pub woken_not_pending : (here : Bool) (c : CpuId) → is_pending (spot_by here c
 woken_not_pending true c = refl
 woken_not_pending false c = refl
 
+pub sleeps_not_home : (d : BufId) (x : Spot) → sleeps_at d x ≡ true → is_home x ≡ false
+sleeps_not_home d (AtLock e) on = refl
+sleeps_not_home d (AtWait e side) on = refl
+sleeps_not_home d Home on = absurd (cc on)
+sleeps_not_home d (InHand c) on = refl
+sleeps_not_home d IsPending on = refl
+
 pub sleeps_not_pending : (d : BufId) (x : Spot) → sleeps_at d x ≡ true → is_pending x ≡ false
 sleeps_not_pending d (AtLock e) on = refl
 sleeps_not_pending d (AtWait e side) on = refl
@@ -181,6 +191,12 @@ module _ (setup : Setup) (c : CpuId) (d : BufId) (u : Tid) (name : Name) (x now 
   small_moves (was_woken small sleeps is) before on = small
   small_moves (has_slept home own is) before on = refuted (ap is_moved is ∙ bed_not_moved d name) on
   small_moves (stays is) before on = before (ap is_moved (sym is) ∙ on)
+
+  known_moves : Moves setup c d u name x now → (is_caller u name ≡ true → nat_lt u.0 (length setup.homes) ≡ true)
+      → (is_home x ≡ false → nat_lt u.0 (length setup.homes) ≡ true) → is_home now ≡ false → nat_lt u.0 (length setup.homes) ≡ true
+  known_moves (was_woken small sleeps is) mine before off = before (sleeps_not_home d x sleeps)
+  known_moves (has_slept home own is) mine before off = mine own
+  known_moves (stays is) mine before off = before (ap is_home (sym is) ∙ off)
 
 -- A section at a buffer.
 
@@ -253,6 +269,9 @@ module _ (setup : Setup) (past : List (Section Name)) (good : Good setup past) (
           (sym (no_pending_moves setup c d u name (spot setup u past) _ (moves_at setup past good c d name callers u (block_of setup (AtBuffer d) past) refl)));
     small = λ u on.
       small_moves setup c d u name (spot setup u past) _ (moves_at setup past good c d name callers u (block_of setup (AtBuffer d) past) refl) (good.small u) on;
+    known = λ u off.
+      known_moves setup c d u name (spot setup u past) _ (moves_at setup past good c d name callers u (block_of setup (AtBuffer d) past) refl)
+      (λ own. (and_parts (same_cpu (home_of setup u) c) (nat_lt u.0 (length setup.homes)) (callers u (is_the_caller u name own)).local).1) (good.known u) off;
   }
     where
       log : List (Section Name)
@@ -298,6 +317,13 @@ drained_moved (InHand c) on = refl
 drained_moved IsPending on = refl
 drained_moved (AtLock d) on = on
 drained_moved (AtWait d other) on = on
+
+pub drained_home : (x : Spot) → is_home (spot_drained x) ≡ false → is_home x ≡ false
+drained_home Home off = off
+drained_home (InHand c) off = refl
+drained_home IsPending off = refl
+drained_home (AtLock d) off = refl
+drained_home (AtWait d other) off = refl
 
 abbrev threads_or : Option Block → List Tid
 threads_or None = []
@@ -416,6 +442,20 @@ module _ (setup : Setup) (past : List (Section Name)) (good : Good setup past) (
       by_test false now = good.small u now
   small_pending name may u on = absurd may
 
+  known_pending : (name : Name) → MayComeTo setup past c d name → (u : Tid) → is_home (spot_pending setup d u name (spot setup u past)) ≡ false
+      → nat_lt u.0 (length setup.homes) ≡ true
+  known_pending (Pend s) may u off = by_test (same_tid s u) refl off
+    where
+      by_test : (mine : Bool) → same_tid s u ≡ mine → is_home (if mine then IsPending else spot setup u past) ≡ false → nat_lt u.0 (length setup.homes) ≡ true
+      by_test true same now = subst (λ v. nat_lt v.0 (length setup.homes) ≡ true) (same_tid_true s u same) (good.known s (ap is_home may.0))
+      by_test false other now = good.known u now
+  known_pending TakeAll may u off = by_test (same_cpu (home_of setup u) d) off
+    where
+      by_test : (mine : Bool) → is_home (if mine then spot_drained (spot setup u past) else spot setup u past) ≡ false → nat_lt u.0 (length setup.homes) ≡ true
+      by_test true now = good.known u (drained_home (spot setup u past) now)
+      by_test false now = good.known u now
+  known_pending name may u off = absurd may
+
   good_pending : (name : Name) → MayComeTo setup past c d name → Good setup (record { cpu = c; lock = Pending d; edit = name } ∷ past)
   good_pending name may = record {
     ordered = (tt, good.ordered);
@@ -424,6 +464,7 @@ module _ (setup : Setup) (past : List (Section Name)) (good : Good setup past) (
       (same_lock_pending name may u b) (same_wait_pending name may u b) (good.pairs b u k is);
     pending = λ e u now is. by_test e u now (same_cpu e d) refl is;
     small = λ u on. small_pending name may u on;
+    known = λ u off. known_pending name may u off;
   }
     where
       by_test : (e : CpuId) (u : Tid) (now : List Tid) (here : Bool) → same_cpu e d ≡ here

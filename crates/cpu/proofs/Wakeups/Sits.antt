@@ -1,0 +1,339 @@
+-- What a section leaves of the agreement: the caller's CPU moves on, and all others stay in agreement.
+use Rattle.std.proofs.Common.{◌≡◌, ◌≢◌, ℕ, ◌+◌, ◌<◌, ◌≤◌, Bool, true, false, not, ◌&&◌, List, [], ◌∷◌, ◌++◌, length, Option, Some, None, is_some, nat_lt, if◌then◌else◌, refl, sym, ap, ◌∙◌, subst, arith}
+use Rattle.std.proofs.lemmas.Bool.{and_parts, and_from, and_left, and_right, false_from_ne_true}
+use Rattle.event_log.specs.declared.ids.CpuId.{CpuId}
+use Rattle.event_log.specs.declared.ids.Tid.{Tid}
+use Rattle.event_log.specs.declared.ids.BufId.{BufId}
+use Rattle.event_log.specs.declared.ids.LockId.{LockId}
+use Rattle.event_log.specs.declared.ids.LockId.TheVariants.{Pending, Buffer as AtBuffer}
+use Rattle.event_log.specs.declared.entries.Entry.{Entry}
+use Rattle.event_log.specs.History.{same_cpu}
+use Rattle.event_log.specs.Messages.{Message}
+use Rattle.event_log.specs.Sections.{Section}
+use Rattle.event_log.proofs.Same.{same_cpu_self, same_cpu_true}
+use Rattle.guest.specs.State.{State, after_yield}
+use Rattle.thread_blocks.specs.Queues.{same_tid, is_in, first, rest}
+use Rattle.thread_blocks.proofs.Members.{same_tid_self, same_tid_true}
+use Rattle.layer_traits.specs.declared.locked.Side.{Side}
+use Rattle.layer_traits.specs.declared.locked.Side.TheVariants.{Receivers, Senders}
+use Rattle.layer_traits.specs.Places.{is_thread, one_if, count_in}
+use Rattle.layer_traits.proofs.CountLemmas.{same_tid_sym, same_cpu_sym, count_append}
+use Rattle.cpu.specs.Table.Blocks.{Buffer, Name, AcqQ, Enter, TryPut, TryTake, WaitOn, SigRecv, SigSend, RelQ, Pend, TakeAll, Asks, Sends, Receives, side_of, Told, Nothing, Position, Done, NotYet, Drained, Answer}
+use Rattle.cpu.specs.Table.Edits.{may_put, may_take, tells, answer_of_acquire, answer_of_buffer, drawn_position}
+use Rattle.cpu.specs.Table.Setups.{Setup, Stage, Acquires, Enters, Tries, Waits, AcquiresAgain, Signals, SignalsOwn, Releases, Returns, Call, Thread, Private, new_thread, thread_at, with_thread, home_of, stands_at}
+use Rattle.cpu.specs.Table.Choice.{section_at, first_section, try_of, first_signal, second_signal, with_call, with_guest, goes_to, effected, heard, heard_entry, heard_position, heard_try, entry_of}
+use Rattle.cpu.specs.Table.Choice.{slept_if, woken, returned, returned_at, returned_by, returned_in, settled, guest_after, after_call, after_yielding, after_drain, drained}
+use Rattle.cpu.specs.Wakeups.Order.{block_of}
+use Rattle.cpu.proofs.Wakeups.Lists.{refuted, some_is, none_is_not}
+use Rattle.cpu.proofs.Wakeups.Spots.{Spot, Home, InHand, IsPending, AtLock, AtWait, Doing, GotIt, Trying, Failed, Waiting, Owing, Turn, Outside, In}
+use Rattle.cpu.proofs.Wakeups.Spots.{is_home, is_hand, is_pending, is_asleep, caller_in, is_caller, bed, spot_by, spot_woken, spot_slept, spot_moved, spot_drained, spot_pending, signalled, acquired_turn, next_turn, turn_moved, is_local}
+use Rattle.cpu.proofs.Wakeups.Pairs.{thread_some}
+use Rattle.cpu.proofs.Wakeups.Agreement.{owing_own, turn_of_stage, turn_of_call, is_last, is_done, seat, Agrees, IsSettled, at_same, at_other, Same, same_refl, same_with, agrees_same, seated, runs, home_is, hand_is, within, agrees_slept, agrees_woken}
+
+-- A call returns once the hand is empty.
+
+-- a call that is done is the current thread's
+abbrev pub DoneRuns : Setup → CpuId → Private → Type 0
+DoneRuns setup c p = (u : Tid) → is_local setup c u ≡ true → is_done (thread_at p u).call ≡ true → is_thread u p.current ≡ true
+
+module _ (setup : Setup) (c : CpuId) where
+  settled_in : (p : Private) (T : Tid → Turn) (P : Tid → Spot) → Agrees setup c p T P → DoneRuns setup c p → (hand current : Option Tid) → p.hand ≡ hand → p.current ≡ current
+      → Agrees setup c (returned_in setup p hand current) T P × IsSettled setup c (returned_in setup p hand current)
+  settled_in p T P agrees done (Some s) current holds runs_now = (agrees, λ u local is. (ap is_some holds, done u local is))
+  settled_in p T P agrees done None None holds runs_now = (agrees, λ u local is. refuted (ap (is_thread u) runs_now) (done u local is))
+  settled_in p T P agrees done None (Some t) holds runs_now = by_call (thread_at p t).call refl
+    where
+      others_done : (u : Tid) → is_local setup c u ≡ true → is_done (thread_at p u).call ≡ true → same_tid t u ≡ true
+      others_done u local is = sym (ap (is_thread u) runs_now) ∙ done u local is
+
+      not_yet : is_done (thread_at p t).call ≡ false → IsSettled setup c p
+      not_yet off u local is = refuted off (subst (λ v. is_done (thread_at p v).call ≡ true) (sym (same_tid_true t u (others_done u local is))) is)
+
+      by_stage : (call : Call) → (thread_at p t).call ≡ Some call → (stage : Stage) → call.stage ≡ stage
+          → Agrees setup c (returned_at setup p t call stage) T P × IsSettled setup c (returned_at setup p t call stage)
+      by_stage call is Returns at =
+          let local = (runs setup c p T P agrees t runs_now).0 in
+          let known = within setup c p T P agrees t local in
+          let x : Thread = record (thread_at p t) { guest = guest_after call.asks (stands_at setup p t) call.message (thread_at p t).guest; call = None } in
+          let same : Same p (with_thread p t x) t = same_with p t x known refl in
+          let none : (thread_at (with_thread p t x) t).call ≡ None = ap (λ y. y.call) (at_same p t x known) in
+          let turn_now : T t ≡ Outside = agrees.calls t local ∙ ap turn_of_call is ∙ ap (turn_of_stage call.buffer (side_of call.asks)) at in (
+            agrees_same setup c p (with_thread p t x) t T T P agrees same (λ u other. refl) (turn_now ∙ ap turn_of_call (sym none)),
+            λ u mine done_now. returned_done u mine done_now (same_tid t u) refl x same none,
+          )
+        where
+          returned_done : (u : Tid) → is_local setup c u ≡ true
+              → is_done (thread_at (with_thread p t (record (thread_at p t) { guest = guest_after call.asks (stands_at setup p t) call.message (thread_at p t).guest; call = None })) u).call ≡ true
+              → (mine : Bool) → same_tid t u ≡ mine → (x : Thread) → Same p (with_thread p t x) t
+              → (thread_at (with_thread p t (record (thread_at p t) { guest = guest_after call.asks (stands_at setup p t) call.message (thread_at p t).guest; call = None })) t).call ≡ None
+              → (is_some p.hand ≡ true) × (is_thread u p.current ≡ true)
+          returned_done u mine on true is x same none =
+              refuted (ap is_done none)
+              (subst (λ v. is_done (thread_at (with_thread p t (record (thread_at p t) { guest = guest_after call.asks (stands_at setup p t) call.message (thread_at p t).guest; call = None })) v).call ≡ true)
+              (sym (same_tid_true t u is)) on)
+          returned_done u mine on false other x same none =
+              refuted other (others_done u mine (subst (λ y. is_done y.call ≡ true)
+              (at_other p t u (record (thread_at p t) { guest = guest_after call.asks (stands_at setup p t) call.message (thread_at p t).guest; call = None }) other) on))
+      by_stage call is stage at = (agrees, not_yet (ap is_done is ∙ ap is_last at))
+
+      by_call : (call : Option Call) → (thread_at p t).call ≡ call → Agrees setup c (returned_by setup p t call) T P × IsSettled setup c (returned_by setup p t call)
+      by_call None is = (agrees, not_yet (ap is_done is))
+      by_call (Some call) is = by_stage call is call.stage refl
+
+  pub agrees_settled : (p : Private) (T : Tid → Turn) (P : Tid → Spot) → Agrees setup c p T P → DoneRuns setup c p
+      → Agrees setup c (settled setup p) T P × IsSettled setup c (settled setup p)
+  agrees_settled p T P agrees done = settled_in p T P agrees done p.hand p.current refl refl
+
+-- The stage of a call, and what its section tells.
+
+pub section_caller : (t : Tid) (call : Call) (stage : Stage) → caller_in (section_at t call stage) ≡ Some t
+section_caller t call stage = by_asks call.asks stage
+  where
+    by_side : (side : Side) → (caller_in (try_of t call side) ≡ Some t) × (caller_in (first_signal t side) ≡ Some t) × (caller_in (second_signal t side) ≡ Some t)
+    by_side Senders = (refl, refl, refl)
+    by_side Receivers = (refl, refl, refl)
+
+    by_first : (asks : Asks) → caller_in (first_section t asks) ≡ Some t
+    by_first Sends = refl
+    by_first Receives = refl
+
+    by_asks : (asks : Asks) (stage : Stage) → caller_in (section_at t call stage) ≡ Some t
+    by_asks asks Acquires = refl
+    by_asks asks Enters = by_first call.asks
+    by_asks asks Tries = (by_side (side_of call.asks)).0
+    by_asks asks Waits = refl
+    by_asks asks AcquiresAgain = refl
+    by_asks asks Signals = (by_side (side_of call.asks)).1
+    by_asks asks SignalsOwn = (by_side (side_of call.asks)).2
+    by_asks asks Releases = refl
+    by_asks asks Returns = refl
+
+-- whether the section is the last of its call
+abbrev pub is_release : Stage → Bool
+is_release Releases = true
+is_release Acquires = false
+is_release Enters = false
+is_release Tries = false
+is_release Waits = false
+is_release AcquiresAgain = false
+is_release Signals = false
+is_release SignalsOwn = false
+is_release Returns = false
+
+-- the state after a section was heard: all but the call is as it was, and the call stands where its next turn says
+pub record Heard (p q : Private) (t : Tid) (next : Turn) (ends : Bool) : Type 0 where
+  pub same : Same p q t
+  pub call : turn_of_call (thread_at q t).call ≡ next
+  pub last : is_done (thread_at q t).call ≡ ends
+
+module _ (p : Private) (t : Tid) (known : t.0 < length p.threads) where
+  heard_call : (call : Call) → Heard p (with_call p t (Some call)) t (turn_of_call (Some call)) (is_last call.stage)
+  heard_call call = record {
+    same = same_with p t (record (thread_at p t) { call = Some call }) known refl;
+    call = ap (λ y. turn_of_call y.call) (at_same p t (record (thread_at p t) { call = Some call }) known);
+    last = ap (λ y. is_done y.call) (at_same p t (record (thread_at p t) { call = Some call }) known);
+  }
+
+  heard_traced : (q : Private) (next : Turn) (ends : Bool) (trace : List Entry) → Heard p q t next ends → Heard p (record q { trace = trace }) t next ends
+  heard_traced q next ends trace was = record {
+    same = record {
+      current = was.same.current;
+      ready = was.same.ready;
+      hand = was.same.hand;
+      size = was.same.size;
+      ended = was.same.ended;
+      others = was.same.others;
+    };
+    call = was.call;
+    last = was.last;
+  }
+
+  module _ (c : CpuId) (call : Call) (k : Buffer) where
+    at_entry : (asks : Asks) → call.asks ≡ asks
+        → Heard p (heard_entry c p t call asks (answer_of_buffer (first_section t asks) k).told) t (In call.buffer (Trying (side_of asks))) false
+    at_entry Sends is =
+        let now : Call = record call { position = drawn_position Senders k; stage = Tries } in
+        subst (λ a. Heard p (with_call p t (Some now)) t (In call.buffer (Trying (side_of a))) false) is (heard_call now)
+    at_entry Receives is =
+        let now : Call = record call { position = drawn_position Receivers k; stage = Tries } in
+        subst (λ a. Heard p (with_call p t (Some now)) t (In call.buffer (Trying (side_of a))) false) is (heard_call now)
+
+    at_try : (may : Bool) (op : ℕ) (m : Message)
+        → Heard p (heard_try c p t call (if may then Done op m else NotYet)) t (if may then In call.buffer (Owing true true) else In call.buffer (Failed (side_of call.asks))) false
+    at_try true op m =
+        heard_traced _ (In call.buffer (Owing true true)) false (p.trace ++ entry_of c t (record call { message = m }) op m ∷ [])
+        (heard_call (record call { message = m; effect = Some op; stage = Signals }))
+    at_try false op m = heard_call (record call { stage = Waits })
+
+    at_tries : (asks : Asks) → call.asks ≡ asks
+        → Heard p (heard_try c p t call (answer_of_buffer (try_of t call (side_of asks)) k).told) t
+            (next_turn call.buffer (try_of t call (side_of asks)) k (In call.buffer (Trying (side_of asks)))) false
+    at_tries Sends is =
+        subst (λ a. Heard p (heard_try c p t call (if may_put t k then Done k.effects call.message else NotYet)) t
+            (if may_put t k then In call.buffer (Owing true true) else In call.buffer (Failed (side_of a))) false) is (at_try (may_put t k) k.effects call.message)
+    at_tries Receives is =
+        subst (λ a. Heard p (heard_try c p t call (answer_of_buffer (TryTake t) k).told) t
+            (if may_take t k then In call.buffer (Owing true true) else In call.buffer (Failed (side_of a))) false) is (at_try (may_take t k) k.effects _)
+
+    signal_turn : (side : Side) → next_turn call.buffer (first_signal t side) k (In call.buffer (Owing true true)) ≡ In call.buffer (owing_own side)
+    signal_turn Senders = refl
+    signal_turn Receivers = refl
+
+    own_turn : (side : Side) → next_turn call.buffer (second_signal t side) k (In call.buffer (owing_own side)) ≡ In call.buffer (Owing false false)
+    own_turn Senders = refl
+    own_turn Receivers = refl
+
+    entry_turn : (asks : Asks) → In call.buffer (Trying (side_of asks)) ≡ next_turn call.buffer (first_section t asks) k (In call.buffer GotIt)
+    entry_turn Sends = refl
+    entry_turn Receives = refl
+
+    -- what a call hears at each stage
+    pub heard_at : (stage : Stage) → is_last stage ≡ false
+        → Heard p (heard c p t call stage (answer_of_buffer (section_at t call stage) k).told) t
+            (next_turn call.buffer (section_at t call stage) k (turn_of_stage call.buffer (side_of call.asks) stage)) (is_release stage)
+    heard_at Acquires going = heard_call (record call { stage = Enters })
+    heard_at Enters going =
+        subst (λ z. Heard p (heard_entry c p t call call.asks (answer_of_buffer (first_section t call.asks) k).told) t z false) (entry_turn call.asks) (at_entry call.asks refl)
+    heard_at Tries going = at_tries call.asks refl
+    heard_at Waits going = heard_call (record call { stage = AcquiresAgain })
+    heard_at AcquiresAgain going = heard_call (record call { stage = Tries })
+    heard_at Signals going =
+        subst (λ z. Heard p (goes_to p t call SignalsOwn) t z false) (sym (signal_turn (side_of call.asks))) (heard_call (record call { stage = SignalsOwn }))
+    heard_at SignalsOwn going =
+        subst (λ z. Heard p (goes_to p t call Releases) t z false) (sym (own_turn (side_of call.asks))) (heard_call (record call { stage = Releases }))
+    heard_at Releases going = heard_call (record call { stage = Returns })
+    heard_at Returns going = absurd (cc going)
+
+-- the section after which a call is done puts nobody to sleep
+pub release_awake : (t : Tid) (call : Call) (k : Buffer) (stage : Stage) → is_release stage ≡ true → (answer_of_buffer (section_at t call stage) k).slept ≡ false
+release_awake t call k Releases on = refl
+release_awake t call k Acquires on = absurd (cc on)
+release_awake t call k Enters on = absurd (cc on)
+release_awake t call k Tries on = absurd (cc on)
+release_awake t call k Waits on = absurd (cc on)
+release_awake t call k AcquiresAgain on = absurd (cc on)
+release_awake t call k Signals on = absurd (cc on)
+release_awake t call k SignalsOwn on = absurd (cc on)
+release_awake t call k Returns on = absurd (cc on)
+
+pub bed_not_home : (d : BufId) (name : Name) → is_home (bed d name) ≡ false
+bed_not_home d (WaitOn t side) = refl
+bed_not_home d name = refl
+
+pub bed_not_hand : (c : CpuId) (d : BufId) (name : Name) → is_hand c (bed d name) ≡ false
+bed_not_hand c d (WaitOn t side) = refl
+bed_not_hand c d name = refl
+
+-- A section of the current thread's call.
+
+pub slept_hand : (slept : Bool) (p : Private) → (slept_if slept p).hand ≡ p.hand
+slept_hand true p = refl
+slept_hand false p = refl
+
+pub slept_calls : (slept : Bool) (p : Private) (u : Tid) → (thread_at (slept_if slept p) u).call ≡ (thread_at p u).call
+slept_calls true p u = refl
+slept_calls false p u = refl
+
+pub woken_threads : (setup : Setup) (c : CpuId) (woke : Option Tid) (p : Private) (u : Tid) → (thread_at (woken setup c woke p) u).call ≡ (thread_at p u).call
+woken_threads setup c None p u = refl
+woken_threads setup c (Some s) p u = by_test (same_cpu (home_of setup s) c)
+  where
+    by_test : (here : Bool) → (thread_at (if here then record p { ready = p.ready ++ s ∷ [] } else record p { hand = Some s }) u).call ≡ (thread_at p u).call
+    by_test true = refl
+    by_test false = refl
+
+pub woken_current : (setup : Setup) (c : CpuId) (woke : Option Tid) (p : Private) → (woken setup c woke p).current ≡ p.current
+woken_current setup c None p = refl
+woken_current setup c (Some s) p = by_test (same_cpu (home_of setup s) c)
+  where
+    by_test : (here : Bool) → (if here then record p { ready = p.ready ++ s ∷ [] } else record p { hand = Some s }).current ≡ p.current
+    by_test true = refl
+    by_test false = refl
+
+module _ (setup : Setup) (c : CpuId) (p : Private) (T : Tid → Turn) (P : Tid → Spot) (agrees : Agrees setup c p T P) (settled_before : IsSettled setup c p) (empty : p.hand ≡ None) (t : Tid) (runs_now : p.current ≡ Some t) (call : Call) (is : (thread_at p t).call ≡ Some call) where
+  local_now : is_local setup c t ≡ true
+  local_now = (runs setup c p T P agrees t runs_now).0
+
+  going : is_last call.stage ≡ false
+  going = false_from_ne_true (is_last call.stage) (λ on. refuted (ap is_some empty) (settled_before t local_now (ap is_done is ∙ on)).0)
+
+  module _ (k : Buffer) (asleep : (s : Tid) → (answer_of_buffer (section_at t call call.stage) k).woke ≡ Some s → (is_home (P s) ≡ false) × (nat_lt s.0 (length setup.homes) ≡ true)) where
+    abbrev name : Name
+    name = section_at t call call.stage
+
+    abbrev a : Answer
+    a = answer_of_buffer (section_at t call call.stage) k
+
+    abbrev N : Tid → Turn
+    N u = turn_moved call.buffer u name k (T u)
+
+    abbrev bedded : Tid → Spot
+    bedded u = spot_slept call.buffer u name a.slept (P u)
+
+    abbrev now : Tid → Spot
+    now u = spot_moved setup c call.buffer u name a.slept a.woke (P u)
+
+    abbrev heard_now : Private
+    heard_now = heard c p t call call.stage a.told
+
+    heard_is : Heard p heard_now t (next_turn call.buffer name k (turn_of_stage call.buffer (side_of call.asks) call.stage)) (is_release call.stage)
+    heard_is = heard_at p t (within setup c p T P agrees t local_now) c call k call.stage going
+
+    mine : is_caller t name ≡ true
+    mine = ap (is_thread t) (section_caller t call call.stage) ∙ same_tid_self t
+
+    others : (u : Tid) → same_tid t u ≡ false → is_caller u name ≡ false
+    others u other = ap (is_thread u) (section_caller t call call.stage) ∙ other
+
+    turn_now : N t ≡ turn_of_call (thread_at heard_now t).call
+    turn_now =
+        ap (λ d. if d then next_turn call.buffer name k (T t) else T t) mine
+        ∙ ap (next_turn call.buffer name k) (agrees.calls t local_now ∙ ap turn_of_call is)
+        ∙ sym heard_is.call
+
+    agrees_heard : Agrees setup c heard_now N P
+    agrees_heard =
+        agrees_same setup c p heard_now t T N P agrees heard_is.same (λ u other. ap (λ d. if d then next_turn call.buffer name k (T u) else T u) (others u other)) turn_now
+
+    runs_heard : heard_now.current ≡ Some t
+    runs_heard = heard_is.same.current ∙ runs_now
+
+    agrees_bedded : Agrees setup c (slept_if a.slept heard_now) N bedded
+    agrees_bedded =
+        agrees_slept setup c heard_now t N P bedded a.slept agrees_heard runs_heard
+        (λ u other. ap (λ d. if d then bed call.buffer name else P u) (and_right a.slept (is_caller u name) (others u other)))
+        (λ off. ap (λ d. if d then bed call.buffer name else P t) (and_left a.slept (is_caller t name) off))
+        (λ on.
+          let at : bedded t ≡ bed call.buffer name = ap (λ d. if d then bed call.buffer name else P t) (and_from a.slept (is_caller t name) on mine) in
+          (ap is_home at ∙ bed_not_home call.buffer name, ap (is_hand c) at ∙ bed_not_hand c call.buffer name))
+
+    no_home : (s : Tid) → a.woke ≡ Some s → (is_home (bedded s) ≡ false) × (nat_lt s.0 (length setup.homes) ≡ true)
+    no_home s woke = (by_test (a.slept && is_caller s name), (asleep s woke).1)
+      where
+        by_test : (d : Bool) → is_home (if d then bed call.buffer name else P s) ≡ false
+        by_test true = bed_not_home call.buffer name
+        by_test false = (asleep s woke).0
+
+    agrees_after : Agrees setup c (woken setup c a.woke (slept_if a.slept heard_now)) N now
+    agrees_after =
+        agrees_woken setup c (slept_if a.slept heard_now) N bedded a.woke agrees_bedded (slept_hand a.slept heard_now ∙ heard_is.same.hand ∙ empty) no_home
+
+    done_after : DoneRuns setup c (woken setup c a.woke (slept_if a.slept heard_now))
+    done_after u local done =
+        by_test (same_tid t u) refl (sym (woken_threads setup c a.woke (slept_if a.slept heard_now) u ∙ slept_calls a.slept heard_now u))
+      where
+        by_test : (own : Bool) → same_tid t u ≡ own
+            → (thread_at heard_now u).call ≡ (thread_at (woken setup c a.woke (slept_if a.slept heard_now)) u).call
+            → is_thread u (woken setup c a.woke (slept_if a.slept heard_now)).current ≡ true
+        by_test true same calls =
+            let release : is_release call.stage ≡ true =
+            sym heard_is.last ∙ subst (λ v. is_done (thread_at heard_now v).call ≡ true) (sym (same_tid_true t u same)) (ap is_done calls ∙ done) in
+            let awake : a.slept ≡ false = release_awake t call k call.stage release in
+            let current : (woken setup c a.woke (slept_if a.slept heard_now)).current ≡ Some t =
+            woken_current setup c a.woke (slept_if a.slept heard_now) ∙ ap (λ d. (slept_if d heard_now).current) awake ∙ runs_heard in
+            ap (is_thread u) current ∙ same
+        by_test false other calls =
+            refuted (ap is_some empty) (settled_before u local (ap is_done (sym (heard_is.same.others u other) ∙ calls) ∙ done)).0
+
+    pub agrees_call : Agrees setup c (after_call setup c p t call a) N now × IsSettled setup c (after_call setup c p t call a)
+    agrees_call = agrees_settled setup c (woken setup c a.woke (slept_if a.slept heard_now)) N now agrees_after done_after
