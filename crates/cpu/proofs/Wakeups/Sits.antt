@@ -337,3 +337,167 @@ module _ (setup : Setup) (c : CpuId) (p : Private) (T : Tid → Turn) (P : Tid �
 
     pub agrees_call : Agrees setup c (after_call setup c p t call a) N now × IsSettled setup c (after_call setup c p t call a)
     agrees_call = agrees_settled setup c (woken setup c a.woke (slept_if a.slept heard_now)) N now agrees_after done_after
+
+-- A section on pending threads.
+
+pub hand_not_home : (c : CpuId) (x : Spot) → is_hand c x ≡ true → is_home x ≡ false
+hand_not_home c (InHand d) on = refl
+hand_not_home c Home on = absurd (cc on)
+hand_not_home c IsPending on = refl
+hand_not_home c (AtLock b) on = refl
+hand_not_home c (AtWait b side) on = refl
+
+pub drained_hand : (c : CpuId) (x : Spot) → is_hand c (spot_drained x) ≡ is_hand c x
+drained_hand c Home = refl
+drained_hand c (InHand d) = refl
+drained_hand c IsPending = refl
+drained_hand c (AtLock b) = refl
+drained_hand c (AtWait b side) = refl
+
+drained_stays_home : (x : Spot) → is_home x ≡ true → is_home (spot_drained x) ≡ true
+drained_stays_home Home on = refl
+drained_stays_home (InHand d) on = absurd (cc on)
+drained_stays_home IsPending on = refl
+drained_stays_home (AtLock b) on = absurd (cc on)
+drained_stays_home (AtWait b side) on = absurd (cc on)
+
+module _ (setup : Setup) (c : CpuId) (p : Private) (T : Tid → Turn) (P : Tid → Spot) (agrees : Agrees setup c p T P) (settled_before : IsSettled setup c p) where
+  -- the thread in the hand is put among the pending
+  pub agrees_pended : (d : CpuId) (s : Tid) → p.hand ≡ Some s
+      → Agrees setup c (settled setup (record p { hand = None })) T (λ u. spot_pending setup d u (Pend s) (P u)) × IsSettled setup c (settled setup (record p { hand = None }))
+  agrees_pended d s holds =
+      agrees_settled setup c (record p { hand = None }) T (λ u. spot_pending setup d u (Pend s) (P u)) emptied (λ u local done. (settled_before u local done).1)
+    where
+      held : is_hand c (P s) ≡ true
+      held = sym (agrees.hands s) ∙ ap (is_thread s) holds ∙ same_tid_self s
+
+      sits : (u : Tid) (mine : Bool) → same_tid s u ≡ mine
+          → one_if (is_thread u p.current) + count_in u p.ready ≡ one_if (seat setup c u (if mine then IsPending else P u) (thread_at p u).ended)
+      sits u true is =
+          agrees.seats u ∙ ap (λ h. one_if (is_local setup c u && (h && not (thread_at p u).ended)))
+          (subst (λ v. is_home (P v) ≡ false) (same_tid_true s u is) (hand_not_home c (P s) held))
+      sits u false other = agrees.seats u
+
+      empties : (u : Tid) (mine : Bool) → same_tid s u ≡ mine → is_thread u None ≡ is_hand c (if mine then IsPending else P u)
+      empties u true is = refl
+      empties u false other = sym (ap (is_thread u) holds ∙ other) ∙ agrees.hands u
+
+      at_home : (u : Tid) → is_local setup c u ≡ true → (thread_at p u).ended ≡ true → (mine : Bool) → same_tid s u ≡ mine → is_home (if mine then IsPending else P u) ≡ true
+      at_home u local ended true is =
+          refuted (subst (λ v. is_home (P v) ≡ false) (same_tid_true s u is) (hand_not_home c (P s) held)) (agrees.ends u local ended)
+      at_home u local ended false other = agrees.ends u local ended
+
+      emptied : Agrees setup c (record p { hand = None }) T (λ u. spot_pending setup d u (Pend s) (P u))
+      emptied = record {
+        size = agrees.size;
+        calls = agrees.calls;
+        seats = λ u. sits u (same_tid s u) refl;
+        hands = λ u. empties u (same_tid s u) refl;
+        ends = λ u local ended. at_home u local ended (same_tid s u) refl;
+      }
+
+  -- those that were pending are ready
+  pub agrees_drained : (list : List Tid) → ((u : Tid) → count_in u list ≡ one_if (same_cpu (home_of setup u) c && is_pending (P u)))
+      → ((u : Tid) → is_home (P u) ≡ false → nat_lt u.0 (length setup.homes) ≡ true)
+      → Agrees setup c (record p { ready = p.ready ++ list }) T (λ u. spot_pending setup c u TakeAll (P u))
+  agrees_drained list counts known = record {
+    size = agrees.size;
+    calls = agrees.calls;
+    seats = λ u. sits u (same_cpu (home_of setup u) c) refl (P u) refl;
+    hands = λ u. agrees.hands u ∙ held u (same_cpu (home_of setup u) c);
+    ends = λ u local ended. at_home u (same_cpu (home_of setup u) c) (agrees.ends u local ended);
+  }
+    where
+      unmoved : (u : Tid) → same_cpu (home_of setup u) c ≡ true → (x : Spot) → P u ≡ x → is_pending x ≡ false → spot_drained x ≡ x
+          → one_if (is_thread u p.current) + count_in u (p.ready ++ list) ≡ one_if (seat setup c u (spot_drained (P u)) (thread_at p u).ended)
+      unmoved u here x at off still =
+          let none : count_in u list ≡ 0 = counts u ∙ (λ i. one_if (here i && is_pending (at i))) ∙ ap one_if off in
+          let more : count_in u (p.ready ++ list) ≡ count_in u p.ready + count_in u list = count_append u p.ready list in
+          let now : one_if (is_thread u p.current) + count_in u (p.ready ++ list) ≡ one_if (is_thread u p.current) + count_in u p.ready = omega (arith, none, more) in
+          let same : P u ≡ spot_drained (P u) = at ∙ sym still ∙ ap spot_drained (sym at) in
+          now ∙ agrees.seats u ∙ ap (λ y. one_if (seat setup c u y (thread_at p u).ended)) same
+
+      sits : (u : Tid) (here : Bool) → same_cpu (home_of setup u) c ≡ here → (x : Spot) → P u ≡ x
+          → one_if (is_thread u p.current) + count_in u (p.ready ++ list) ≡ one_if (seat setup c u (if here then spot_drained (P u) else P u) (thread_at p u).ended)
+      sits u false away x at =
+          let none : count_in u list ≡ 0 = counts u ∙ ap (λ b. one_if (b && is_pending (P u))) away in
+          let more : count_in u (p.ready ++ list) ≡ count_in u p.ready + count_in u list = count_append u p.ready list in
+          let now : one_if (is_thread u p.current) + count_in u (p.ready ++ list) ≡ one_if (is_thread u p.current) + count_in u p.ready = omega (arith, none, more) in
+          now ∙ agrees.seats u
+      sits u true here IsPending at =
+          let one : count_in u list ≡ 1 = counts u ∙ (λ i. one_if (here i && is_pending (at i))) in
+          let more : count_in u (p.ready ++ list) ≡ count_in u p.ready + count_in u list = count_append u p.ready list in
+          let none : one_if (is_thread u p.current) + count_in u p.ready ≡ 0 =
+          agrees.seats u ∙ ap (λ h. one_if (is_local setup c u && (h && not (thread_at p u).ended))) (ap is_home at)
+          ∙ ap one_if (and_right (is_local setup c u) false refl) in
+          let now : one_if (is_thread u p.current) + count_in u (p.ready ++ list) ≡ 1 = omega (arith, one, more, none) in
+          let local : is_local setup c u ≡ true = and_from (same_cpu (home_of setup u) c) (nat_lt u.0 (length setup.homes)) here (known u (ap is_home at)) in
+          let alive : (thread_at p u).ended ≡ false = false_from_ne_true (thread_at p u).ended (λ e. refuted (ap is_home at) (agrees.ends u local e)) in
+          now ∙ sym ((λ i. one_if (local i && (is_home (spot_drained (at i)) && not (alive i)))))
+      sits u true here Home at = unmoved u here Home at refl refl
+      sits u true here (InHand e) at = unmoved u here (InHand e) at refl refl
+      sits u true here (AtLock b) at = unmoved u here (AtLock b) at refl refl
+      sits u true here (AtWait b side) at = unmoved u here (AtWait b side) at refl refl
+
+      held : (u : Tid) (here : Bool) → is_hand c (P u) ≡ is_hand c (if here then spot_drained (P u) else P u)
+      held u true = sym (drained_hand c (P u))
+      held u false = refl
+
+      at_home : (u : Tid) (here : Bool) → is_home (P u) ≡ true → is_home (if here then spot_drained (P u) else P u) ≡ true
+      at_home u true on = drained_stays_home (P u) on
+      at_home u false on = on
+
+-- the current thread yields: it stands behind those that are ready, and nobody runs
+pub agrees_yielded : (setup : Setup) (c : CpuId) (p : Private) (T : Tid → Turn) (P : Tid → Spot) → Agrees setup c p T P → (t : Tid) → p.current ≡ Some t → (guest : State)
+    → Agrees setup c (record (with_guest p t guest) { current = None; ready = p.ready ++ t ∷ [] }) T P
+agrees_yielded setup c p T P agrees t runs_now guest = record {
+  size = moved.size;
+  calls = moved.calls;
+  seats = λ u.
+    let one : one_if (is_thread u p.current) ≡ one_if (same_tid u t) = ap one_if (ap (is_thread u) runs_now ∙ same_tid_sym t u) in
+    let more : count_in u (p.ready ++ t ∷ []) ≡ count_in u p.ready + (one_if (same_tid u t) + 0) = count_append u p.ready (t ∷ []) in
+    let now : one_if (is_thread u None) + count_in u (p.ready ++ t ∷ []) ≡ one_if (is_thread u p.current) + count_in u p.ready = omega (arith, one, more) in
+    now ∙ moved.seats u;
+  hands = moved.hands;
+  ends = moved.ends;
+}
+  where
+    x : Thread
+    x = record (thread_at p t) { guest = guest }
+
+    known : t.0 < length p.threads
+    known = within setup c p T P agrees t (runs setup c p T P agrees t runs_now).0
+
+    moved : Agrees setup c (with_guest p t guest) T P
+    moved =
+        agrees_same setup c p (with_guest p t guest) t T T P agrees (same_with p t (record (thread_at p t) { guest = guest }) known refl) (λ u other. refl)
+        (agrees.calls t (runs setup c p T P agrees t runs_now).0
+        ∙ ap (λ y. turn_of_call y.call) (sym (at_same p t (record (thread_at p t) { guest = guest }) known)))
+
+-- what a thread stands at does not matter
+pub guest_calls : (p : Private) (t : Tid) (guest : State) → t.0 < length p.threads → (u : Tid) → (thread_at (with_guest p t guest) u).call ≡ (thread_at p u).call
+guest_calls p t guest known u = by_test (same_tid t u) refl
+  where
+    by_test : (mine : Bool) → same_tid t u ≡ mine → (thread_at (with_guest p t guest) u).call ≡ (thread_at p u).call
+    by_test true is =
+        subst (λ v. (thread_at (with_guest p t guest) v).call ≡ (thread_at p v).call) (same_tid_true t u is)
+        (ap (λ y. y.call) (at_same p t (record (thread_at p t) { guest = guest }) known))
+    by_test false other = ap (λ y. y.call) (at_other p t u (record (thread_at p t) { guest = guest }) other)
+
+-- A section of another CPU.
+
+pub agrees_foreign : (setup : Setup) (c : CpuId) (p : Private) (T N : Tid → Turn) (P M : Tid → Spot) → Agrees setup c p T P
+    → ((u : Tid) → is_local setup c u ≡ true → N u ≡ T u) → ((u : Tid) → is_local setup c u ≡ true → is_home (M u) ≡ is_home (P u))
+    → ((u : Tid) → is_hand c (M u) ≡ is_hand c (P u)) → Agrees setup c p N M
+agrees_foreign setup c p T N P M agrees turns homes in_hands = record {
+  size = agrees.size;
+  calls = λ u local. turns u local ∙ agrees.calls u local;
+  seats = λ u. agrees.seats u ∙ by_test u (is_local setup c u) refl;
+  hands = λ u. agrees.hands u ∙ sym (in_hands u);
+  ends = λ u local ended. homes u local ∙ agrees.ends u local ended;
+}
+  where
+    by_test : (u : Tid) (local : Bool) → is_local setup c u ≡ local
+        → one_if (local && (is_home (P u) && not (thread_at p u).ended)) ≡ one_if (local && (is_home (M u) && not (thread_at p u).ended))
+    by_test u true local = ap (λ h. one_if (h && not (thread_at p u).ended)) (sym (homes u local))
+    by_test u false local = refl
