@@ -7,3 +7,4 @@ pub mod Owns
 pub mod Called
 pub mod Agreement
 pub mod Sits
+pub mod CpuStep
