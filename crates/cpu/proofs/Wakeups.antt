@@ -8,3 +8,5 @@ pub mod Called
 pub mod Agreement
 pub mod Sits
 pub mod CpuStep
+pub mod Chosen
+pub mod Reaching
