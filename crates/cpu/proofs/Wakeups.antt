@@ -10,3 +10,4 @@ pub mod Sits
 pub mod CpuStep
 pub mod Chosen
 pub mod Reaching
+pub mod Working

@@ -2,7 +2,7 @@
 //! the law is proved with the crate.
 
 ghost use Rattle.cpu.specs.Table.Worked.{AloneRuns, RunsOfTwo, RunsOfThree};
-ghost use Rattle.cpu.specs.Wakeups.Lost.{OrderLosesNoWakeUp};
+ghost use Rattle.cpu.specs.Wakeups.Lost.{OrderLosesNoWakeUp, SystemsKeepOrder, SystemsLoseNoWakeUp, FreeLocksHaveNoSleepers, WorkersLoseNoWakeUp};
 ghost use Rattle.cpu.specs.Wakeups.OneSignal.{OneSignalLosesAWakeUp};
 
 /// Worked runs of one thread on one CPU, by computation: what each leaves after its schedule.
@@ -32,4 +32,27 @@ pub fn order_loses_no_wake_up()
 /// a message that nobody else is to take.
 pub fn one_signal_loses_a_wake_up()
     ensures { OneSignalLosesAWakeUp }
+{}
+
+/// Whichever CPU of a system steps when, the sections of each buffer come in the order of their
+/// calls.
+pub fn systems_keep_order()
+    ensures { SystemsKeepOrder }
+{}
+
+/// No state that a system reaches has lost a wake-up: while nobody owns the lock of a buffer, the
+/// first of neither line sleeps although the buffer allows its call.
+pub fn systems_lose_no_wake_up()
+    ensures { SystemsLoseNoWakeUp }
+{}
+
+/// In every state that a system reaches nobody sleeps at a lock that nobody owns.
+pub fn free_locks_have_no_sleepers()
+    ensures { FreeLocksHaveNoSleepers }
+{}
+
+/// CPUs that each work by the table on one list of actions lose no wake-up, however their actions
+/// come between one another.
+pub fn workers_lose_no_wake_up()
+    ensures { WorkersLoseNoWakeUp }
 {}

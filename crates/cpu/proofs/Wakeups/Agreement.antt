@@ -1,28 +1,25 @@
 -- One CPU's private state against where its threads are and what they do: whoever is current or ready is at home, the hand holds whom it
 -- woke, and each call stands at the stage that its turn says.
-use Rattle.std.proofs.Common.{◌≡◌, ◌≢◌, ℕ, ◌+◌, ◌<◌, ◌≤◌, Bool, true, false, not, ◌&&◌, List, [], ◌∷◌, ◌++◌, length, Option, Some, None, is_some, nat_lt, if◌then◌else◌, refl, sym, ap, ◌∙◌, subst, arith}
+use Rattle.std.proofs.Common.{◌≡◌, ◌+◌, ◌<◌, Bool, true, false, not, ◌&&◌, [], ◌∷◌, ◌++◌, length, Option, Some, None, is_some, nat_lt, if◌then◌else◌, refl, sym, ap, ◌∙◌, subst, arith}
 use Rattle.std.proofs.lemmas.Bool.{and_parts, and_from, and_left, and_right, false_from_ne_true, ltb-true, eqb-false}
 use Rattle.std.proofs.lemmas.List.{length-set, get_or-set_same, get_or-set_other}
 use Rattle.event_log.specs.declared.ids.CpuId.{CpuId}
 use Rattle.event_log.specs.declared.ids.Tid.{Tid}
 use Rattle.event_log.specs.declared.ids.BufId.{BufId}
-use Rattle.event_log.specs.declared.entries.Entry.{Entry}
 use Rattle.event_log.specs.History.{same_cpu}
 use Rattle.event_log.proofs.Same.{same_cpu_self, same_cpu_true}
-use Rattle.guest.specs.State.{State}
-use Rattle.thread_blocks.specs.Queues.{same_tid, is_in, first, rest}
+use Rattle.thread_blocks.specs.Queues.{same_tid}
 use Rattle.thread_blocks.proofs.Members.{same_tid_self, same_tid_true}
 use Rattle.layer_traits.specs.declared.locked.Side.{Side}
 use Rattle.layer_traits.specs.declared.locked.Side.TheVariants.{Receivers, Senders}
 use Rattle.layer_traits.specs.Places.{is_thread, one_if, count_in}
-use Rattle.layer_traits.proofs.CountLemmas.{same_tid_sym, count_append, one_if_true, one_if_false}
-use Rattle.cpu.specs.Table.Blocks.{Buffer, Name, Asks, side_of}
-use Rattle.cpu.specs.Table.Setups.{Setup, Stage, Acquires, Enters, Tries, Waits, AcquiresAgain, Signals, SignalsOwn, Releases, Returns, Call, Thread, Private, new_thread, thread_at, with_thread, home_of, stands_at}
-use Rattle.cpu.specs.Table.Choice.{with_call, with_guest, slept_if, woken, returned, returned_at, returned_by, returned_in, settled, guest_after}
-use Rattle.cpu.proofs.Wakeups.Lists.{refuted, some_is, none_is_not}
+use Rattle.layer_traits.proofs.CountLemmas.{same_tid_sym, count_append}
+use Rattle.cpu.specs.Table.Blocks.{side_of}
+use Rattle.cpu.specs.Table.Setups.{Setup, Stage, Acquires, Enters, Tries, Waits, AcquiresAgain, Signals, SignalsOwn, Releases, Returns, Call, Thread, Private, new_thread, thread_at, with_thread, home_of}
+use Rattle.cpu.specs.Table.Choice.{slept_if, woken}
+use Rattle.cpu.proofs.Wakeups.Lists.{refuted}
 use Rattle.cpu.proofs.Wakeups.Spots.{Spot, Home, InHand, IsPending, AtLock, AtWait, Doing, GotIt, Trying, Failed, Waiting, Owing, Turn, Outside, In}
-use Rattle.cpu.proofs.Wakeups.Spots.{is_home, is_hand, is_asleep, spot_by, spot_woken, is_local}
-use Rattle.cpu.proofs.Wakeups.Pairs.{thread_some}
+use Rattle.cpu.proofs.Wakeups.Spots.{is_home, is_hand, spot_by, spot_woken, is_local}
 
 -- once the other side is signalled, the own side is owed its signal
 abbrev pub owing_own : Side → Doing
@@ -118,7 +115,7 @@ agrees_same setup c p q t T N P agrees same others mine = record {
   size = same.size ∙ agrees.size;
   calls = λ u local. by_test u local (same_tid t u) refl;
   seats = λ u.
-    (λ i. one_if (is_thread u (same.current i)) + count_in u (same.ready i)) ∙ agrees.seats u ∙ ap (λ e. one_if (seat setup c u (P u) e)) (sym (same.ended u));
+      (λ i. one_if (is_thread u (same.current i)) + count_in u (same.ready i)) ∙ agrees.seats u ∙ ap (λ e. one_if (seat setup c u (P u) e)) (sym (same.ended u));
   hands = λ u. ap (is_thread u) same.hand ∙ agrees.hands u;
   ends = λ u local ended. agrees.ends u local (sym (same.ended u) ∙ ended);
 }

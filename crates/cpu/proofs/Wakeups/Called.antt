@@ -1,34 +1,34 @@
 -- What holds after any section log in which each section may come: every buffer with every thread, and where each thread is.
-use Rattle.std.proofs.Common.{◌≡◌, ◌≢◌, ℕ, ◌+◌, ◌<◌, ◌≤◌, Bool, true, false, not, ◌&&◌, List, [], ◌∷◌, ◌++◌, length, slice_get, Option, Some, None, option_map, nat_lt, if◌then◌else◌, refl, sym, ap, ◌∙◌, subst, arith}
-use Rattle.std.proofs.lemmas.Bool.{and_parts, and_from, and_left, and_right, false_from_ne_true}
+use Rattle.std.proofs.Common.{◌≡◌, ℕ, Bool, true, false, ◌&&◌, List, [], ◌∷◌, length, slice_get, Option, Some, None, option_map, nat_lt, if◌then◌else◌, refl, sym, ap, ◌∙◌, subst}
+use Rattle.std.proofs.lemmas.Bool.{and_parts, and_left, and_right}
 use Rattle.event_log.specs.declared.ids.CpuId.{CpuId}
 use Rattle.event_log.specs.declared.ids.Tid.{Tid}
 use Rattle.event_log.specs.declared.ids.BufId.{BufId}
 use Rattle.event_log.specs.declared.ids.LockId.{LockId}
 use Rattle.event_log.specs.declared.ids.LockId.TheVariants.{Pending, Buffer as AtBuffer}
 use Rattle.event_log.specs.declared.ids.TheConstants.{THREADS}
-use Rattle.event_log.specs.History.{same_cpu, same_lock, IsLawful}
+use Rattle.event_log.specs.History.{same_cpu}
 use Rattle.event_log.specs.Sections.{Section}
-use Rattle.event_log.proofs.Same.{same_cpu_self, same_cpu_true, same_lock_true}
-use Rattle.thread_blocks.specs.Queues.{same_tid, is_in}
-use Rattle.thread_blocks.proofs.Members.{same_tid_self, same_tid_true}
+use Rattle.event_log.proofs.Same.{same_cpu_self, same_cpu_true}
+use Rattle.thread_blocks.specs.Queues.{same_tid}
+use Rattle.thread_blocks.proofs.Members.{same_tid_true}
 use Rattle.layer_traits.specs.declared.locked.Side.{Side}
 use Rattle.layer_traits.specs.Places.{is_thread, one_if, count_in}
 use Rattle.layer_traits.specs.Sleeping.{joined}
-use Rattle.layer_traits.proofs.CountLemmas.{same_cpu_sym, same_tid_sym}
-use Rattle.cpu.specs.Table.Blocks.{Buffer, Block, OfBuffer, OfPending, Name, AcqQ, Enter, TryPut, TryTake, WaitOn, SigRecv, SigSend, RelQ, Pend, TakeAll}
-use Rattle.cpu.specs.Table.Edits.{edited, edited_buffer, edited_pending, answer_of_buffer}
-use Rattle.cpu.specs.Table.Setups.{Setup, home_of, opening, opening_buffer, empty_buffer}
-use Rattle.cpu.specs.Wakeups.Order.{Progress, Begins, progress, progress_by, progress_after, block_of, MayEdit, MayEditBlock, KeepsOrder, KeepsOrderAt, IsInOrder}
-use Rattle.cpu.proofs.Wakeups.Lists.{refuted, some_is, none_is_not}
+use Rattle.layer_traits.proofs.CountLemmas.{same_cpu_sym}
+use Rattle.cpu.specs.Table.Blocks.{Buffer, Block, OfBuffer, OfPending, Name, WaitOn, Pend, TakeAll}
+use Rattle.cpu.specs.Table.Edits.{edited, edited_buffer, answer_of_buffer}
+use Rattle.cpu.specs.Table.Setups.{Setup, home_of, opening_buffer, empty_buffer}
+use Rattle.cpu.specs.Wakeups.Order.{Progress, Begins, progress, progress_by, progress_after, block_of, MayEdit, MayEditBlock, IsInOrder}
+use Rattle.cpu.proofs.Wakeups.Lists.{refuted, none_is_not}
 use Rattle.cpu.proofs.Wakeups.Awake.{IsAwake}
 use Rattle.cpu.proofs.Wakeups.Ordered.{same_buffer, buffer_awake}
-use Rattle.cpu.proofs.Wakeups.Spots.{Spot, Home, InHand, IsPending, AtLock, AtWait, Turn, Outside, In}
-use Rattle.cpu.proofs.Wakeups.Spots.{is_buffer, is_home, is_hand, is_pending, is_lock, is_wait, is_asleep, is_moved, is_lined, is_side, names}
-use Rattle.cpu.proofs.Wakeups.Spots.{caller_in, is_caller, bed, spot_by, spot_woken, spot_slept, spot_moved, spot_drained, spot_pending, spot_buffer, spot_at, spot}
-use Rattle.cpu.proofs.Wakeups.Spots.{next_turn, turn_moved, turn_buffer, turn_at, turn, IsTurn, is_local, IsCallers, MayComeBy, MayComeTo, MayComeAt, MayCome, marked}
-use Rattle.cpu.proofs.Wakeups.Pairs.{Pair, marked_none, grown_list, buffer_self, buffer_true, sleeps_at, sleeps_asleep, woken_sleeps, woken_no_lock, woken_no_wait, other_pair, thread_some, other_joined}
-use Rattle.cpu.proofs.Wakeups.Owns.{ByCaller, may_edit, own_pair, Apart, away, turn_apart, spot_apart}
+use Rattle.cpu.proofs.Wakeups.Spots.{Spot, Home, InHand, IsPending, AtLock, AtWait, Outside}
+use Rattle.cpu.proofs.Wakeups.Spots.{is_buffer, is_home, is_pending, is_lock, is_wait, is_moved, is_side}
+use Rattle.cpu.proofs.Wakeups.Spots.{caller_in, is_caller, bed, spot_by, spot_woken, spot_moved, spot_drained, spot_pending, spot_buffer, spot}
+use Rattle.cpu.proofs.Wakeups.Spots.{next_turn, turn_moved, turn_buffer, turn, IsCallers, MayComeBy, MayComeTo, MayComeAt, MayCome, marked}
+use Rattle.cpu.proofs.Wakeups.Pairs.{Pair, marked_none, grown_list, buffer_true, sleeps_at, woken_sleeps, woken_no_lock, woken_no_wait, other_pair, thread_some, other_joined}
+use Rattle.cpu.proofs.Wakeups.Owns.{ByCaller, may_edit, own_pair, away, turn_apart, spot_apart}
 
 -- what holds after a section log
 pub record Good (setup : Setup) (past : List (Section Name)) : Type 0 where
@@ -97,7 +97,7 @@ is_the_caller u name on = thread_some u (caller_in name) on
 moves_buffer : (setup : Setup) (past : List (Section Name)) (c : CpuId) (d : BufId) (name : Name) (u : Tid) (k : Buffer) (g : Progress)
     → CallersAre setup past c d name → Pair d u k g (turn setup u past) (spot setup u past)
     → Moves setup c d u name (spot setup u past)
-        (spot_moved setup c d u name (answer_of_buffer name k).slept (answer_of_buffer name k).woke (spot setup u past))
+    (spot_moved setup c d u name (answer_of_buffer name k).slept (answer_of_buffer name k).woke (spot setup u past))
 moves_buffer setup past c d name u k g callers pair =
     by_test (is_thread u (answer_of_buffer name k).woke) refl (answer_of_buffer name k).slept (is_caller u name) refl
   where
@@ -216,7 +216,7 @@ module _ (setup : Setup) (past : List (Section Name)) (good : Good setup past) (
 
   edited_pair : (u : Tid) (k : Buffer) → block_of setup (AtBuffer d) past ≡ Some (OfBuffer k) → (mine : Bool) → is_caller u name ≡ mine
       → Pair d u (edited_buffer name k) (progress_after name k (progress setup (AtBuffer d) past)) (turn_moved d u name k (turn setup u past))
-          (spot_moved setup c d u name (answer_of_buffer name k).slept (answer_of_buffer name k).woke (spot setup u past))
+      (spot_moved setup c d u name (answer_of_buffer name k).slept (answer_of_buffer name k).woke (spot setup u past))
   edited_pair u k block true own =
       let is = is_the_caller u name own in
       let mine = callers u is in
@@ -232,7 +232,7 @@ module _ (setup : Setup) (past : List (Section Name)) (good : Good setup past) (
   here_pair u k (Some (OfPending threads)) block is = absurd (cc is)
   here_pair u k (Some (OfBuffer was)) block is =
       subst (λ x. Pair d u x (progress_after name was (progress setup (AtBuffer d) past)) (turn_moved d u name was (turn setup u past))
-          (spot_moved setup c d u name (answer_of_buffer name was).slept (answer_of_buffer name was).woke (spot setup u past)))
+      (spot_moved setup c d u name (answer_of_buffer name was).slept (answer_of_buffer name was).woke (spot setup u past)))
       (same_buffer (edited_buffer name was) k is) (edited_pair u was block (is_caller u name) refl)
 
   turn_there : (b : BufId) → is_buffer b d ≡ false → (u : Tid) (k : Buffer) (g : Progress) (x : Spot) (o : Option Block)
@@ -249,7 +249,7 @@ module _ (setup : Setup) (past : List (Section Name)) (good : Good setup past) (
 
   there_pair : (b : BufId) → is_buffer b d ≡ false → (u : Tid) (k : Buffer) → block_of setup (AtBuffer b) past ≡ Some (OfBuffer k)
       → Pair b u k (progress setup (AtBuffer b) past) (turn setup u (record { cpu = c; lock = AtBuffer d; edit = name } ∷ past))
-          (spot setup u (record { cpu = c; lock = AtBuffer d; edit = name } ∷ past))
+      (spot setup u (record { cpu = c; lock = AtBuffer d; edit = name } ∷ past))
   there_pair b off u k block =
       let o = block_of setup (AtBuffer d) past in
       let g = progress setup (AtBuffer b) past in
@@ -264,14 +264,14 @@ module _ (setup : Setup) (past : List (Section Name)) (good : Good setup past) (
     ordered = (keeps_block (block_of setup (AtBuffer d) past) refl, good.ordered);
     pairs = λ b u k is. by_test b u k (is_buffer b d) refl is;
     pending = λ e u threads is.
-      good.pending e u threads is
-      ∙ ap (λ p. one_if (same_cpu (home_of setup u) e && p))
-          (sym (no_pending_moves setup c d u name (spot setup u past) _ (moves_at setup past good c d name callers u (block_of setup (AtBuffer d) past) refl)));
+        good.pending e u threads is
+        ∙ ap (λ p. one_if (same_cpu (home_of setup u) e && p))
+        (sym (no_pending_moves setup c d u name (spot setup u past) _ (moves_at setup past good c d name callers u (block_of setup (AtBuffer d) past) refl)));
     small = λ u on.
-      small_moves setup c d u name (spot setup u past) _ (moves_at setup past good c d name callers u (block_of setup (AtBuffer d) past) refl) (good.small u) on;
+        small_moves setup c d u name (spot setup u past) _ (moves_at setup past good c d name callers u (block_of setup (AtBuffer d) past) refl) (good.small u) on;
     known = λ u off.
-      known_moves setup c d u name (spot setup u past) _ (moves_at setup past good c d name callers u (block_of setup (AtBuffer d) past) refl)
-      (λ own. (and_parts (same_cpu (home_of setup u) c) (nat_lt u.0 (length setup.homes)) (callers u (is_the_caller u name own)).local).1) (good.known u) off;
+        known_moves setup c d u name (spot setup u past) _ (moves_at setup past good c d name callers u (block_of setup (AtBuffer d) past) refl)
+        (λ own. (and_parts (same_cpu (home_of setup u) c) (nat_lt u.0 (length setup.homes)) (callers u (is_the_caller u name own)).local).1) (good.known u) off;
   }
     where
       log : List (Section Name)
@@ -280,12 +280,12 @@ module _ (setup : Setup) (past : List (Section Name)) (good : Good setup past) (
       by_test : (b : BufId) (u : Tid) (k : Buffer) (here : Bool) → is_buffer b d ≡ here
           → (if here then option_map (edited name) (block_of setup (AtBuffer b) past) else block_of setup (AtBuffer b) past) ≡ Some (OfBuffer k)
           → Pair b u k (if here then progress_by name (block_of setup (AtBuffer b) past) (progress setup (AtBuffer b) past) else progress setup (AtBuffer b) past)
-              (turn setup u (record { cpu = c; lock = AtBuffer d; edit = name } ∷ past)) (spot setup u (record { cpu = c; lock = AtBuffer d; edit = name } ∷ past))
+          (turn setup u (record { cpu = c; lock = AtBuffer d; edit = name } ∷ past)) (spot setup u (record { cpu = c; lock = AtBuffer d; edit = name } ∷ past))
       by_test b u k false off is = there_pair b off u k is
       by_test b u k true same is =
           let P : BufId → Type 0 = λ x. option_map (edited name) (block_of setup (AtBuffer x) past) ≡ Some (OfBuffer k)
-              → Pair x u k (progress_by name (block_of setup (AtBuffer x) past) (progress setup (AtBuffer x) past))
-                  (turn setup u (record { cpu = c; lock = AtBuffer d; edit = name } ∷ past)) (spot setup u (record { cpu = c; lock = AtBuffer d; edit = name } ∷ past)) in
+          → Pair x u k (progress_by name (block_of setup (AtBuffer x) past) (progress setup (AtBuffer x) past))
+          (turn setup u (record { cpu = c; lock = AtBuffer d; edit = name } ∷ past)) (spot setup u (record { cpu = c; lock = AtBuffer d; edit = name } ∷ past)) in
           subst P (sym (buffer_true b d same)) (here_pair u k (block_of setup (AtBuffer d) past) refl) is
 
 -- A section on pending threads.
@@ -344,7 +344,7 @@ module _ (setup : Setup) (past : List (Section Name)) (good : Good setup past) (
       by_test true same =
           let is : s ≡ u = same_tid_true s u same in
           let none : count_in s list ≡ 0 = good.pending d s list block ∙ ap (λ x. one_if (same_cpu (home_of setup s) d && is_pending x)) held
-              ∙ ap one_if (and_right (same_cpu (home_of setup s) d) false refl) in
+          ∙ ap one_if (and_right (same_cpu (home_of setup s) d) false refl) in
           let one : count_in s (joined s list) ≡ marked s true = grown_list s list none in
           let counts : marked s true ≡ 1 = ap (λ b. one_if (b && true)) (good.small s (ap is_moved held)) in
           let there : one_if (same_cpu (home_of setup s) d && true) ≡ 1 = ap (λ b. one_if (b && true)) (ap (λ e. same_cpu e d) home ∙ same_cpu_self d) in
@@ -460,8 +460,8 @@ module _ (setup : Setup) (past : List (Section Name)) (good : Good setup past) (
   good_pending name may = record {
     ordered = (tt, good.ordered);
     pairs = λ b u k is.
-      spot_apart b u k (progress setup (AtBuffer b) past) (turn setup u past) (spot setup u past) (spot_pending setup d u name (spot setup u past))
-      (same_lock_pending name may u b) (same_wait_pending name may u b) (good.pairs b u k is);
+        spot_apart b u k (progress setup (AtBuffer b) past) (turn setup u past) (spot setup u past) (spot_pending setup d u name (spot setup u past))
+        (same_lock_pending name may u b) (same_wait_pending name may u b) (good.pairs b u k is);
     pending = λ e u now is. by_test e u now (same_cpu e d) refl is;
     small = λ u on. small_pending name may u on;
     known = λ u off. known_pending name may u off;
@@ -472,7 +472,7 @@ module _ (setup : Setup) (past : List (Section Name)) (good : Good setup past) (
           → count_in u now ≡ one_if (same_cpu (home_of setup u) e && is_pending (spot_pending setup d u name (spot setup u past)))
       by_test e u now true same is =
           let P : CpuId → Type 0 = λ x. option_map (edited name) (block_of setup (Pending x) past) ≡ Some (OfPending now)
-              → count_in u now ≡ one_if (same_cpu (home_of setup u) x && is_pending (spot_pending setup d u name (spot setup u past))) in
+          → count_in u now ≡ one_if (same_cpu (home_of setup u) x && is_pending (spot_pending setup d u name (spot setup u past))) in
           subst P (sym (same_cpu_true e d same)) (here_pending name may u now (block_of setup (Pending d) past) refl) is
       by_test e u now false off is = good.pending e u now is ∙ ap one_if (sym (there_pending name may u e off))
 

@@ -1,6 +1,6 @@
 -- What a CPU chooses to do leaves it in agreement.
-use Rattle.std.proofs.Common.{◌≡◌, ◌≢◌, ℕ, ◌+◌, ◌<◌, ◌≤◌, ◌==◌, Bool, true, false, not, ◌&&◌, List, [], ◌∷◌, ◌++◌, length, Option, Some, None, is_some, nat_lt, if◌then◌else◌, refl, sym, ap, ◌∙◌, subst, arith}
-use Rattle.std.proofs.lemmas.Bool.{and_parts, and_left, and_right}
+use Rattle.std.proofs.Common.{◌≡◌, ◌+◌, ◌<◌, ◌==◌, Bool, true, false, ◌&&◌, List, [], ◌∷◌, length, Option, Some, None, is_some, if◌then◌else◌, refl, sym, ap, ◌∙◌, subst, arith}
+use Rattle.std.proofs.lemmas.Bool.{and_right}
 use Rattle.std.proofs.lemmas.List.{length-set}
 use Rattle.event_log.specs.declared.ids.CpuId.{CpuId}
 use Rattle.event_log.specs.declared.ids.Tid.{Tid}
@@ -8,15 +8,15 @@ use Rattle.guest.specs.declared.instructions.Instruction.{Instruction}
 use Rattle.guest.specs.declared.instructions.Instruction.TheVariants.{Set, Add, Sub, Jnz, Send, Recv, Yield as YieldLine, Exit}
 use Rattle.guest.specs.State.{State}
 use Rattle.thread_blocks.specs.Queues.{same_tid}
-use Rattle.thread_blocks.proofs.Members.{same_tid_self, same_tid_true}
+use Rattle.thread_blocks.proofs.Members.{same_tid_true}
 use Rattle.layer_traits.specs.declared.steps.Reason.TheVariants.{AllEnded, TraceFull}
 use Rattle.layer_traits.specs.Places.{is_thread, one_if, count_in}
 use Rattle.layer_traits.proofs.CountLemmas.{same_tid_sym}
-use Rattle.cpu.specs.Table.Setups.{Setup, Acquires, Call, Thread, Private, thread_at, with_thread, stands_at, home_threads, open_calls, have_ended}
+use Rattle.cpu.specs.Table.Setups.{Setup, Acquires, Call, Thread, Private, thread_at, stands_at, home_threads, open_calls, have_ended}
 use Rattle.cpu.specs.Table.Choice.{Choice, Halts, Alone, Goes, new_call, with_call, with_guest, begins, ends, at_instruction, at_call, at_ready, at_current, at_hand, choice}
 use Rattle.cpu.proofs.Wakeups.Lists.{refuted}
 use Rattle.cpu.proofs.Wakeups.Spots.{Spot, Turn, is_home, is_local}
-use Rattle.cpu.proofs.Wakeups.Agreement.{turn_of_call, is_done, seat, Agrees, IsSettled, at_same, at_other, Same, same_with, agrees_same, runs, within}
+use Rattle.cpu.proofs.Wakeups.Agreement.{turn_of_call, is_done, seat, Agrees, IsSettled, at_same, at_other, same_with, agrees_same, runs, within}
 use Rattle.cpu.proofs.Wakeups.Sits.{guest_calls}
 
 -- the state that is chosen agrees
@@ -33,11 +33,11 @@ module _ (setup : Setup) (c : CpuId) (p : Private) (T : Tid → Turn) (P : Tid �
       size = agrees.size;
       calls = agrees.calls;
       seats = λ u.
-        let turned : one_if (same_tid t u) ≡ one_if (same_tid u t) = ap one_if (same_tid_sym t u) in
-        let was : one_if (is_thread u None) + count_in u (t ∷ rest) ≡ one_if (seat setup c u (P u) (thread_at p u).ended) =
-        (λ i. one_if (is_thread u (sym idle i)) + count_in u (sym is i)) ∙ agrees.seats u in
-        let now : one_if (same_tid t u) + count_in u rest ≡ one_if (is_thread u None) + (one_if (same_tid u t) + count_in u rest) = omega (arith, turned) in
-        now ∙ was;
+          let turned : one_if (same_tid t u) ≡ one_if (same_tid u t) = ap one_if (same_tid_sym t u) in
+          let was : one_if (is_thread u None) + count_in u (t ∷ rest) ≡ one_if (seat setup c u (P u) (thread_at p u).ended) =
+          (λ i. one_if (is_thread u (sym idle i)) + count_in u (sym is i)) ∙ agrees.seats u in
+          let now : one_if (same_tid t u) + count_in u rest ≡ one_if (is_thread u None) + (one_if (same_tid u t) + count_in u rest) = omega (arith, turned) in
+          now ∙ was;
       hands = agrees.hands;
       ends = agrees.ends;
     },
@@ -54,15 +54,15 @@ module _ (setup : Setup) (c : CpuId) (p : Private) (T : Tid → Turn) (P : Tid �
     computes : (guest : State) → Agrees setup c (with_guest p t guest) T P × IsSettled setup c (with_guest p t guest)
     computes guest = (
       agrees_same setup c p (with_guest p t guest) t T T P agrees (same_with p t (record (thread_at p t) { guest = guest }) known refl) (λ u other. refl)
-      (agrees.calls t (runs setup c p T P agrees t runs_now).0
-      ∙ ap (λ y. turn_of_call y.call) (sym (at_same p t (record (thread_at p t) { guest = guest }) known))),
+          (agrees.calls t (runs setup c p T P agrees t runs_now).0
+          ∙ ap (λ y. turn_of_call y.call) (sym (at_same p t (record (thread_at p t) { guest = guest }) known))),
       λ u local done. not_done u local (ap is_done (sym (guest_calls p t guest known u)) ∙ done),
     )
 
     calls_now : (call : Call) → call.stage ≡ Acquires → Agrees setup c (with_call p t (Some call)) T P × IsSettled setup c (with_call p t (Some call))
     calls_now call first = (
       agrees_same setup c p (with_call p t (Some call)) t T T P agrees (same_with p t (record (thread_at p t) { call = Some call }) known refl) (λ u other. refl)
-      (agrees.calls t (runs setup c p T P agrees t runs_now).0 ∙ ap turn_of_call outside ∙ sym (now_called ∙ at_start)),
+          (agrees.calls t (runs setup c p T P agrees t runs_now).0 ∙ ap turn_of_call outside ∙ sym (now_called ∙ at_start)),
       λ u local done. by_test u local done (same_tid t u) refl,
     )
       where

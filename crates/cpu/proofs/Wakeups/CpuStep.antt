@@ -1,40 +1,35 @@
 -- One step of a CPU: each section that it ends is one that may come, and every CPU stays in agreement with the log.
-use Rattle.std.proofs.Common.{◌≡◌, ◌≢◌, ℕ, ◌+◌, ◌<◌, ◌≤◌, Bool, true, false, not, ◌&&◌, List, [], ◌∷◌, ◌++◌, length, slice_get, Option, Some, None, option_map, is_some, nat_lt, if◌then◌else◌, refl, sym, ap, ◌∙◌, subst, arith}
-use Rattle.std.proofs.lemmas.Bool.{and_parts, and_from, and_left, and_right, false_from_ne_true}
+use Rattle.std.proofs.Common.{◌≡◌, ℕ, Bool, true, false, List, [], ◌∷◌, ◌++◌, length, slice_get, Option, Some, None, option_map, is_some, nat_lt, if◌then◌else◌, refl, sym, ap, ◌∙◌, subst}
+use Rattle.std.proofs.lemmas.Bool.{and_parts, false_from_ne_true}
 use Rattle.event_log.specs.declared.ids.CpuId.{CpuId}
 use Rattle.event_log.specs.declared.ids.Tid.{Tid}
 use Rattle.event_log.specs.declared.ids.BufId.{BufId}
 use Rattle.event_log.specs.declared.ids.LockId.{LockId}
 use Rattle.event_log.specs.declared.ids.LockId.TheVariants.{Pending, Buffer as AtBuffer}
 use Rattle.event_log.specs.History.{same_cpu, same_lock}
-use Rattle.event_log.specs.Sections.{Section, sections_in, block_after}
-use Rattle.event_log.specs.Actions.{Action, Take, Try, Give, Phase, Rests, Waits as WaitsAt, Holds, phase, left_in, doer, place, gives, action_in, next_action}
-use Rattle.event_log.proofs.Same.{same_cpu_self, same_cpu_true}
-use Rattle.event_log.proofs.Exclusion.{phase_own, phase_other}
-use Rattle.guest.specs.State.{State, after_yield}
+use Rattle.event_log.specs.Sections.{Section}
+use Rattle.event_log.proofs.Same.{same_cpu_true}
+use Rattle.guest.specs.State.{after_yield}
 use Rattle.thread_blocks.specs.Queues.{same_tid}
 use Rattle.thread_blocks.proofs.Members.{same_tid_self, same_tid_true}
 use Rattle.layer_traits.specs.declared.locked.Side.{Side}
 use Rattle.layer_traits.specs.declared.locked.Side.TheVariants.{Receivers, Senders}
-use Rattle.layer_traits.specs.Places.{is_thread, one_if, count_in}
-use Rattle.layer_traits.specs.Plans.{is_in_section, at_give, reply}
-use Rattle.layer_traits.specs.Along.{Outcome}
-use Rattle.layer_traits.proofs.CountLemmas.{same_cpu_sym}
-use Rattle.cpu.specs.Table.Blocks.{Buffer, Block, OfBuffer, OfPending, Name, AcqQ, Enter, TryPut, TryTake, WaitOn, SigRecv, SigSend, RelQ, Pend, TakeAll, Asks, Sends, Receives, side_of, Drained, Answer}
-use Rattle.cpu.specs.Table.Edits.{edited, answer, answer_of_buffer, kernel}
-use Rattle.cpu.specs.Table.Setups.{Setup, Stage, Acquires, Enters, Tries, Waits, AcquiresAgain, Signals, SignalsOwn, Releases, Returns, Call, Private, thread_at, home_of, stands_at, opening, opening_buffer}
+use Rattle.layer_traits.specs.Places.{is_thread, count_in}
+use Rattle.cpu.specs.Table.Blocks.{Block, OfBuffer, OfPending, Name, Pend, TakeAll, Asks, Sends, Receives, side_of}
+use Rattle.cpu.specs.Table.Edits.{edited, answer, answer_of_buffer}
+use Rattle.cpu.specs.Table.Setups.{Setup, Stage, Acquires, Enters, Tries, Waits, AcquiresAgain, Signals, SignalsOwn, Releases, Returns, Call, Private, thread_at, home_of, stands_at, opening_buffer}
 use Rattle.cpu.specs.Table.Choice.{Ask, at_pending, at_buffer, section_at, first_section, try_of, first_signal, second_signal, asked_by, asked_at, asked_in, asked, with_guest, settled}
-use Rattle.cpu.specs.Table.Choice.{after_call, after_yielding, after_drain, after_by, after_at, after_in, after_section}
-use Rattle.cpu.specs.Table.Steps.{after_reply, acting_on, acting}
-use Rattle.cpu.specs.Wakeups.Order.{progress, block_of}
-use Rattle.cpu.proofs.Wakeups.Lists.{refuted, some_is, none_is_not}
-use Rattle.cpu.proofs.Wakeups.Spots.{Spot, Home, InHand, IsPending, AtLock, AtWait, GotIt, Trying, Owing, Turn, Outside, In}
-use Rattle.cpu.proofs.Wakeups.Spots.{is_home, is_hand, is_pending, caller_in, is_caller, bed, spot_by, spot_woken, spot_drained, spot_pending, spot_buffer, spot, next_turn, turn_moved, turn_buffer, turn}
+use Rattle.cpu.specs.Table.Choice.{after_call, after_by, after_at, after_in}
+use Rattle.cpu.specs.Table.Steps.{after_reply}
+use Rattle.cpu.specs.Wakeups.Order.{block_of}
+use Rattle.cpu.proofs.Wakeups.Lists.{refuted}
+use Rattle.cpu.proofs.Wakeups.Spots.{Spot, Home, InHand, IsPending, AtLock, AtWait, GotIt, Trying, Owing, In}
+use Rattle.cpu.proofs.Wakeups.Spots.{is_home, is_hand, caller_in, is_caller, spot_by, spot_drained, spot_pending, spot_buffer, spot, next_turn, turn_moved, turn_buffer, turn}
 use Rattle.cpu.proofs.Wakeups.Spots.{IsTurn, is_local, IsCallers, MayComeBy, MayComeTo, MayComeAt, MayCome}
 use Rattle.cpu.proofs.Wakeups.Pairs.{sleeps_at, woken_sleeps}
-use Rattle.cpu.proofs.Wakeups.Called.{Good, good_step, Moves, was_woken, has_slept, stays, moves_at, CallersAre, callers_are, is_the_caller, sleeps_not_home, drained_home}
+use Rattle.cpu.proofs.Wakeups.Called.{Good, Moves, was_woken, has_slept, stays, moves_at, CallersAre, callers_are, is_the_caller, sleeps_not_home}
 use Rattle.cpu.proofs.Wakeups.Agreement.{owing_own, turn_of_stage, turn_of_call, is_last, is_done, Agrees, IsSettled, runs, home_is, hand_is, within}
-use Rattle.cpu.proofs.Wakeups.Sits.{section_caller, bed_not_home, bed_not_hand, agrees_call, agrees_pended, agrees_drained, agrees_yielded, guest_calls, agrees_foreign, hand_not_home, drained_hand}
+use Rattle.cpu.proofs.Wakeups.Sits.{section_caller, bed_not_hand, agrees_call, agrees_pended, agrees_drained, agrees_yielded, guest_calls, agrees_foreign, drained_hand}
 
 -- The locks' blocks are of their kinds.
 
@@ -238,7 +233,7 @@ module _ (setup : Setup) (past : List (Section Name)) (good : Good setup past) (
         may = refl;
         agrees = subst (λ x. Agrees setup c x (λ u. turn setup u past) (λ u. spot_pending setup c u TakeAll (spot setup u past))) (sym is) now;
         settled = subst (IsSettled setup c) (sym is) (λ u local done.
-          refuted (ap is_some empty) (settled_before u local (ap is_done (sym (guest_calls p t guest known u)) ∙ done)).0);
+            refuted (ap is_some empty) (settled_before u local (ap is_done (sym (guest_calls p t guest known u)) ∙ done)).0);
       }
 
   give_call : p.hand ≡ None → (t : Tid) → p.current ≡ Some t → (call : Call) → (thread_at p t).call ≡ Some call
@@ -275,12 +270,12 @@ module _ (setup : Setup) (past : List (Section Name)) (good : Good setup past) (
       by_block (Some (OfPending list)) block = absurd (no_pending_at_buffer setup call.buffer past list block)
       by_block (Some (OfBuffer k)) block =
           let asleep : (s : Tid) → (answer_of_buffer (section_at t call call.stage) k).woke ≡ Some s
-              → (is_home (spot setup s past) ≡ false) × (nat_lt s.0 (length setup.homes) ≡ true) =
+          → (is_home (spot setup s past) ≡ false) × (nat_lt s.0 (length setup.homes) ≡ true) =
           λ s woke.
-            let pair = good.pairs call.buffer s k block in
-            let sleeps = (woken_sleeps call.buffer s k _ _ _ pair (section_at t call call.stage) (ap (is_thread s) woke ∙ same_tid_self s)).1 in
-            let off = sleeps_not_home call.buffer (spot setup s past) sleeps in
-            (off, good.known s off) in
+          let pair = good.pairs call.buffer s k block in
+          let sleeps = (woken_sleeps call.buffer s k _ _ _ pair (section_at t call call.stage) (ap (is_thread s) woke ∙ same_tid_self s)).1 in
+          let off = sleeps_not_home call.buffer (spot setup s past) sleeps in
+          (off, good.known s off) in
           let now = agrees_call setup c p (λ u. turn setup u past) (λ u. spot setup u past) agrees settled_before empty t runs_now call is k asleep in
           let a = answer_of_buffer (section_at t call call.stage) k in
           let gives : after_reply setup c p (option_map (answer (section_at t call call.stage)) (Some (OfBuffer k))) ≡ after_call setup c p t call a =
@@ -290,10 +285,10 @@ module _ (setup : Setup) (past : List (Section Name)) (good : Good setup past) (
             agrees = subst (λ o. Agrees setup c (after_reply setup c p (option_map (answer (section_at t call call.stage)) o))
                 (λ u. turn_buffer call.buffer u (section_at t call call.stage) o (turn setup u past))
                 (λ u. spot_buffer setup c call.buffer u (section_at t call call.stage) o (spot setup u past))) (sym block)
-            (subst (λ q. Agrees setup c q (λ u. turn_moved call.buffer u (section_at t call call.stage) k (turn setup u past))
+                (subst (λ q. Agrees setup c q (λ u. turn_moved call.buffer u (section_at t call call.stage) k (turn setup u past))
                 (λ u. spot_buffer setup c call.buffer u (section_at t call call.stage) (Some (OfBuffer k)) (spot setup u past))) (sym gives) now.0);
             settled = subst (λ o. IsSettled setup c (after_reply setup c p (option_map (answer (section_at t call call.stage)) o))) (sym block)
-            (subst (IsSettled setup c) (sym gives) now.1);
+                (subst (IsSettled setup c) (sym gives) now.1);
           }
 
   give_asked : (ask : Ask) → asked setup c p ≡ ask → GiveOk setup past c p ask.lock ask.name → GiveOk setup past c p (asked setup c p).lock (asked setup c p).name

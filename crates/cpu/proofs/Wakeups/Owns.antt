@@ -1,30 +1,29 @@
 -- One thread and one buffer: what its own sections leave, and what its sections at another buffer do.
-use Rattle.std.proofs.Common.{◌≡◌, ◌≢◌, ℕ, ◌+◌, ◌<◌, ◌≤◌, Bool, true, false, not, ◌&&◌, List, [], ◌∷◌, ◌++◌, Option, Some, None, nat_lt, if◌then◌else◌, refl, sym, ap, ◌∙◌, subst, arith}
+use Rattle.std.proofs.Common.{◌≡◌, ◌≢◌, ℕ, ◌+◌, ◌≤◌, Bool, true, false, not, ◌&&◌, List, [], ◌∷◌, ◌++◌, Option, Some, None, nat_lt, if◌then◌else◌, refl, sym, ap, ◌∙◌, subst, arith}
 use Rattle.std.proofs.lemmas.Bool.{and_parts, and_from, and_right, false_from_ne_true}
 use Rattle.event_log.specs.declared.ids.CpuId.{CpuId}
 use Rattle.event_log.specs.declared.ids.Tid.{Tid}
 use Rattle.event_log.specs.declared.ids.BufId.{BufId}
 use Rattle.event_log.specs.declared.ids.TheConstants.{THREADS}
 use Rattle.event_log.specs.Messages.{Message}
-use Rattle.event_log.specs.History.{same_cpu}
 use Rattle.thread_blocks.specs.Queues.{same_tid, is_in, first, rest}
-use Rattle.thread_blocks.proofs.Members.{same_tid_self, same_tid_true}
+use Rattle.thread_blocks.proofs.Members.{same_tid_self}
 use Rattle.layer_traits.specs.declared.locked.Side.{Side}
 use Rattle.layer_traits.specs.declared.locked.Side.TheVariants.{Receivers, Senders}
 use Rattle.layer_traits.specs.Places.{is_thread, one_if, count_in}
 use Rattle.layer_traits.specs.Sleeping.{joined}
 use Rattle.layer_traits.specs.BufferBlocks.{may_join, is_first}
 use Rattle.layer_traits.proofs.CountLemmas.{count_append, not_counted}
-use Rattle.cpu.specs.Table.Blocks.{Buffer, Name, AcqQ, Enter, TryPut, TryTake, WaitOn, SigRecv, SigSend, RelQ, Pend, TakeAll}
+use Rattle.cpu.specs.Table.Blocks.{Buffer, Name, AcqQ, Enter, TryPut, TryTake, WaitOn, SigRecv, SigSend, RelQ}
 use Rattle.cpu.specs.Table.Edits.{can_put, can_take, may_put, may_take, due_sender, due_receiver, without_any}
 use Rattle.cpu.specs.Table.Edits.{acquired, line_of, entered, put, taken, waiting, released, edited_buffer, answer_of_acquire, answer_of_buffer}
-use Rattle.cpu.specs.Table.Setups.{Setup, home_of}
+use Rattle.cpu.specs.Table.Setups.{Setup}
 use Rattle.cpu.specs.Wakeups.Order.{Progress, Begins, HasEntered, WasRefused, Owes, progress_after, receivers_signalled, senders_signalled, MayTry, IsOwing, MayEdit}
-use Rattle.cpu.proofs.Wakeups.Lists.{refuted, some_is, none_is_not, first_is, is_the_first}
-use Rattle.cpu.proofs.Wakeups.Spots.{Spot, Home, InHand, IsPending, AtLock, AtWait, Doing, GotIt, Trying, Failed, Waiting, Owing, Turn, Outside, In}
-use Rattle.cpu.proofs.Wakeups.Spots.{is_buffer, is_side, is_lock, is_wait, names, goes_on, is_inside, starts_here, is_starting, stands, is_lined, InStep}
-use Rattle.cpu.proofs.Wakeups.Spots.{caller_in, is_caller, bed, spot_by, spot_woken, spot_slept, spot_moved, acquired_turn, signalled, next_turn, turn_moved, IsTurn, marked}
-use Rattle.cpu.proofs.Wakeups.Pairs.{Pair, marked_none, marked_some, marked_most, buffer_self, grown_list, first_left, signal_left, front_counted, woken_sleeps, woken_no_lock, woken_no_wait, sleeps_at, thread_some}
+use Rattle.cpu.proofs.Wakeups.Lists.{refuted, some_is, first_is}
+use Rattle.cpu.proofs.Wakeups.Spots.{Spot, Home, AtLock, AtWait, Doing, GotIt, Trying, Failed, Waiting, Owing, Turn, Outside, In}
+use Rattle.cpu.proofs.Wakeups.Spots.{is_buffer, is_lock, is_wait, names, goes_on, is_inside, starts_here, stands, is_lined, InStep}
+use Rattle.cpu.proofs.Wakeups.Spots.{caller_in, is_caller, bed, spot_woken, spot_slept, spot_moved, acquired_turn, next_turn, turn_moved, IsTurn, marked}
+use Rattle.cpu.proofs.Wakeups.Pairs.{Pair, marked_none, marked_most, buffer_self, grown_list, first_left, signal_left, front_counted, woken_sleeps}
 
 -- where the section that is due to a thread may come, it is in order
 inside_owns : (b : BufId) (t : Tid) (k : Buffer) (g : Progress) (d : BufId) (doing : Doing) → goes_on (In b doing) ≡ true → d ≡ b → Pair b t k g (In d doing) Home
@@ -300,13 +299,13 @@ module _ (b : BufId) (u : Tid) where
       let at_b : Pair b u k g (In b (Trying Senders)) Home = subst (λ x. Pair b u k g (In x (Trying Senders)) Home) due pair in
       let same : u ≡ t = some_is u t (sym is) in
       subst (λ v. Pair b u (if may_put v k then put m k else k) (if may_put v k then Owes true true else WasRefused Senders)
-          (if may_put v k then In b (Owing true true) else In b (Failed Senders)) Home) same
+      (if may_put v k then In b (Owing true true) else In b (Failed Senders)) Home) same
       (own_put k g m (may_put u k) refl (subst (λ v. k.busy ≡ Some v) (sym same) may.0) at_b)
   own_at (TryTake t) k g (In d (Trying Receivers)) is idle may due pair =
       let at_b : Pair b u k g (In b (Trying Receivers)) Home = subst (λ x. Pair b u k g (In x (Trying Receivers)) Home) due pair in
       let same : u ≡ t = some_is u t (sym is) in
       subst (λ v. Pair b u (if may_take v k then taken k else k) (if may_take v k then Owes true true else WasRefused Receivers)
-          (if may_take v k then In b (Owing true true) else In b (Failed Receivers)) Home) same
+      (if may_take v k then In b (Owing true true) else In b (Failed Receivers)) Home) same
       (own_take k g (may_take u k) refl (subst (λ v. k.busy ≡ Some v) (sym same) may.0) at_b)
   own_at (WaitOn t side) k g (In d (Failed other)) is idle may due pair =
       let at_b : Pair b u k g (In b (Failed side)) Home = subst (λ x. x) (λ i. Pair b u k g (In (due.0 i) (Failed (due.1 i))) Home) pair in
@@ -338,7 +337,7 @@ module _ (b : BufId) (u : Tid) where
   pub own_pair : (setup : Setup) (c : CpuId) (name : Name) (k : Buffer) (g : Progress) (turn : Turn) (spot : Spot) → caller_in name ≡ Some u → spot ≡ Home
       → (k.busy ≡ None → g ≡ Begins) → MayEdit name k g → IsTurn b name turn → Pair b u k g turn spot
       → Pair b u (edited_buffer name k) (progress_after name k g) (turn_moved b u name k turn)
-          (spot_moved setup c b u name (answer_of_buffer name k).slept (answer_of_buffer name k).woke spot)
+      (spot_moved setup c b u name (answer_of_buffer name k).slept (answer_of_buffer name k).woke spot)
   own_pair setup c name k g turn spot is here idle may due was =
       let pair : Pair b u k g turn Home = subst (Pair b u k g turn) here was in
       let calls : is_caller u name ≡ true = ap (is_thread u) is ∙ same_tid_self u in

@@ -1,14 +1,14 @@
 -- One thread and one buffer: that its places at the buffer are those that its spot and its turn say, by count, and that it owns the
 -- lock exactly where its turn says. Everything here speaks of plain values; the log comes later.
-use Rattle.std.proofs.Common.{◌≡◌, ◌≢◌, ℕ, ◌+◌, ◌<◌, ◌≤◌, Bool, true, false, not, ◌&&◌, ◌||◌, List, [], ◌∷◌, ◌++◌, Option, Some, None, nat_lt, if◌then◌else◌, refl, sym, ap, ◌∙◌, subst, arith}
-use Rattle.std.proofs.lemmas.Bool.{eq-eqb, eqb-true, and_parts, and_from, and_right, false_from_ne_true}
+use Rattle.std.proofs.Common.{◌≡◌, ℕ, ◌+◌, ◌<◌, ◌≤◌, Bool, true, false, not, ◌&&◌, List, [], ◌∷◌, ◌++◌, Option, Some, None, nat_lt, if◌then◌else◌, refl, sym, ap, ◌∙◌, subst, arith}
+use Rattle.std.proofs.lemmas.Bool.{eq-eqb, eqb-true, and_parts, and_right, false_from_ne_true}
 use Rattle.event_log.specs.declared.ids.CpuId.{CpuId}
 use Rattle.event_log.specs.declared.ids.Tid.{Tid}
 use Rattle.event_log.specs.declared.ids.BufId.{BufId}
 use Rattle.event_log.specs.declared.ids.TheConstants.{THREADS}
 use Rattle.event_log.specs.Messages.{Message}
 use Rattle.event_log.specs.History.{same_cpu}
-use Rattle.thread_blocks.specs.Queues.{same_tid, is_in, first, rest, without}
+use Rattle.thread_blocks.specs.Queues.{same_tid, is_in, first, rest}
 use Rattle.thread_blocks.proofs.Members.{same_tid_self, same_tid_true}
 use Rattle.layer_traits.specs.declared.locked.Side.{Side}
 use Rattle.layer_traits.specs.declared.locked.Side.TheVariants.{Receivers, Senders}
@@ -16,16 +16,16 @@ use Rattle.layer_traits.specs.Places.{is_thread, one_if, count_in}
 use Rattle.layer_traits.specs.Sleeping.{joined}
 use Rattle.layer_traits.specs.BufferBlocks.{may_join, is_first}
 use Rattle.layer_traits.proofs.CountLemmas.{same_tid_sym, count_append, count_front, in_counted, not_counted}
-use Rattle.layer_traits.proofs.ListsLemmas.{count_none, count_without}
+use Rattle.layer_traits.proofs.ListsLemmas.{count_without}
 use Rattle.cpu.specs.Table.Blocks.{Buffer, Name, AcqQ, Enter, TryPut, TryTake, WaitOn, SigRecv, SigSend, RelQ, Pend, TakeAll, front_stands_in}
-use Rattle.cpu.specs.Table.Edits.{can_put, can_take, may_put, may_take, sender_is_due, receiver_is_due, due_sender, due_receiver, without_any}
+use Rattle.cpu.specs.Table.Edits.{can_put, can_take, may_put, may_take, due_sender, due_receiver, without_any}
 use Rattle.cpu.specs.Table.Edits.{acquired, line_of, entered, put, taken, waiting, released, edited_buffer, answer_of_acquire, answer_of_buffer}
 use Rattle.cpu.specs.Table.Setups.{Setup, home_of}
-use Rattle.cpu.specs.Wakeups.Order.{Progress, Begins, HasEntered, WasRefused, Owes, progress_after, receivers_signalled, senders_signalled, MayTry, IsOwing, MayEdit}
-use Rattle.cpu.proofs.Wakeups.Lists.{refuted, some_is, none_is_not, first_is, is_the_first}
-use Rattle.cpu.proofs.Wakeups.Spots.{Spot, Home, InHand, IsPending, AtLock, AtWait, Doing, GotIt, Trying, Failed, Waiting, Owing, Turn, Outside, In}
-use Rattle.cpu.proofs.Wakeups.Spots.{is_buffer, is_side, is_home, is_hand, is_pending, is_lock, is_wait, is_asleep, is_moved, names, goes_on, is_inside, starts_here, is_starting, stands, is_lined, InStep}
-use Rattle.cpu.proofs.Wakeups.Spots.{caller_in, is_caller, bed, spot_by, spot_woken, spot_slept, spot_moved, acquired_turn, signalled, next_turn, turn_moved, IsTurn, marked}
+use Rattle.cpu.specs.Wakeups.Order.{Progress, Begins, HasEntered, WasRefused, Owes, progress_after, receivers_signalled, senders_signalled, MayEdit}
+use Rattle.cpu.proofs.Wakeups.Lists.{refuted, some_is, none_is_not, first_is}
+use Rattle.cpu.proofs.Wakeups.Spots.{Spot, Home, InHand, IsPending, AtLock, AtWait, GotIt, Trying, Failed, Waiting, Owing, Turn, Outside, In}
+use Rattle.cpu.proofs.Wakeups.Spots.{is_buffer, is_side, is_lock, is_wait, is_asleep, is_inside, is_starting, is_lined, InStep}
+use Rattle.cpu.proofs.Wakeups.Spots.{is_caller, bed, spot_by, spot_woken, spot_moved, next_turn, turn_moved, marked}
 
 pub record Pair (b : BufId) (u : Tid) (k : Buffer) (g : Progress) (turn : Turn) (spot : Spot) : Type 0 where
   -- who owns the lock is inside and awake, and the owner's progress is what its turn says
@@ -504,10 +504,10 @@ spot_of_other setup c b u name slept woke x other =
 pub other_pair : (setup : Setup) (c : CpuId) (b : BufId) (u : Tid) (name : Name) (k : Buffer) (g : Progress) (turn : Turn) (spot : Spot)
     → is_caller u name ≡ false → MayEdit name k g → Pair b u k g turn spot
     → Pair b u (edited_buffer name k) (progress_after name k g) (turn_moved b u name k turn)
-        (spot_moved setup c b u name (answer_of_buffer name k).slept (answer_of_buffer name k).woke spot)
+    (spot_moved setup c b u name (answer_of_buffer name k).slept (answer_of_buffer name k).woke spot)
 other_pair setup c b u name k g turn spot other may pair =
     let at_spot = spot_of_other setup c b u name (answer_of_buffer name k).slept (answer_of_buffer name k).woke spot other in
     let at_turn : turn_moved b u name k turn ≡ turn = ap (λ d. if d then next_turn b name k turn else turn) other in
     subst (λ z. Pair b u (edited_buffer name k) (progress_after name k g) z
-        (spot_moved setup c b u name (answer_of_buffer name k).slept (answer_of_buffer name k).woke spot)) (sym at_turn)
+    (spot_moved setup c b u name (answer_of_buffer name k).slept (answer_of_buffer name k).woke spot)) (sym at_turn)
     (subst (λ x. Pair b u (edited_buffer name k) (progress_after name k g) turn x) (sym at_spot) (other_section setup c b u name k g turn spot other may pair))

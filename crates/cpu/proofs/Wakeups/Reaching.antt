@@ -1,36 +1,33 @@
 -- Every state that a system reaches is sound: each section of its log may come where it stands, and each CPU agrees with the log.
-use Rattle.std.proofs.Common.{◌≡◌, ◌≢◌, ℕ, zero, suc, ◌+◌, ◌<◌, ◌≤◌, ◌==◌, Bool, true, false, not, ◌&&◌, List, [], ◌∷◌, ◌++◌, length, map, slice_get, slice_set, get_or, Option, Some, None, option_map, is_some, nat_lt, if◌then◌else◌, refl, sym, ap, ◌∙◌, subst, arith}
-use Rattle.std.proofs.lemmas.Bool.{and_parts, and_left, and_right, eq-eqb, ne_eqb, eqb-true, eqb-false, lt-ltb, le-ltb, ltb-true, ltb-false}
+use Rattle.std.proofs.Common.{◌≡◌, ℕ, zero, suc, ◌+◌, ◌<◌, ◌==◌, Bool, true, false, ◌&&◌, List, [], ◌∷◌, ◌++◌, length, map, slice_get, slice_set, get_or, Option, Some, None, option_map, nat_lt, if◌then◌else◌, refl, sym, ap, ◌∙◌, subst, arith}
+use Rattle.std.proofs.lemmas.Bool.{and_right, eq-eqb, ne_eqb, eqb-true, eqb-false, lt-ltb, le-ltb, ltb-true, ltb-false}
 use Rattle.std.proofs.lemmas.List.{length-map}
 use Rattle.event_log.specs.declared.ids.CpuId.{CpuId}
 use Rattle.event_log.specs.declared.ids.Tid.{Tid}
 use Rattle.event_log.specs.declared.ids.LockId.{LockId}
 use Rattle.event_log.specs.History.{same_cpu, IsLawful}
-use Rattle.event_log.specs.Sections.{Section, sections_in}
-use Rattle.event_log.specs.Actions.{Action, Take, Try, Give, Phase, Rests, Waits as WaitsAt, Holds, phase, left_in, doer, place, gives, action_in}
-use Rattle.event_log.proofs.Same.{same_cpu_self, same_cpu_true}
+use Rattle.event_log.specs.Sections.{sections_in}
+use Rattle.event_log.specs.Actions.{Action, Take, Try, Give, Phase, Rests, Waits as WaitsAt, Holds, phase, doer, place, gives, action_in}
+use Rattle.event_log.proofs.Same.{same_cpu_true}
 use Rattle.event_log.proofs.Exclusion.{phase_own, phase_other}
-use Rattle.thread_blocks.specs.Queues.{same_tid}
-use Rattle.layer_traits.specs.declared.steps.Reason.{Reason}
 use Rattle.layer_traits.specs.declared.steps.Step.{Step}
 use Rattle.layer_traits.specs.declared.steps.Step.TheVariants.{Stepped, Halted}
 use Rattle.layer_traits.specs.Places.{is_thread, one_if, count_in}
 use Rattle.layer_traits.specs.Plans.{is_in_section, at_give}
 use Rattle.layer_traits.specs.Along.{Outcome}
-use Rattle.layer_traits.proofs.CountLemmas.{same_cpu_sym}
 use Rattle.cpu.specs.Table.Blocks.{Name}
 use Rattle.cpu.specs.Table.Edits.{answer}
-use Rattle.cpu.specs.Table.Setups.{Setup, Thread, Private, new_thread, thread_at, cpu_or, home_of, home_threads_from, home_threads, at_boot}
+use Rattle.cpu.specs.Table.Setups.{Setup, Private, new_thread, cpu_or, home_threads_from, home_threads, at_boot}
 use Rattle.cpu.specs.Table.Choice.{asked, Choice, Halts, Alone, Goes, choice}
-use Rattle.cpu.specs.Table.Steps.{after_reply, acting, chosen, step_in, cpu_step, Whole, cpu_numbered, boots_from, whole_at_boot, whole_after, Stepping, roomy, answered_by, stepping, step_at, system_step, IsReached, boots, steps}
-use Rattle.cpu.specs.Wakeups.Order.{block_of, IsInOrder}
+use Rattle.cpu.specs.Table.Steps.{after_reply, chosen, step_in, cpu_step, Whole, cpu_numbered, boots_from, whole_at_boot, whole_after, roomy, answered_by, step_at, system_step, IsReached, boots, steps}
+use Rattle.cpu.specs.Wakeups.Order.{block_of}
 use Rattle.cpu.specs.Wakeups.Lost.{SystemsKeepOrder, SystemsLoseNoWakeUp, FreeLocksHaveNoSleepers}
 use Rattle.cpu.proofs.Wakeups.Lists.{refuted}
 use Rattle.cpu.proofs.Wakeups.Ordered.{buffer_awake, order_loses_no_wake_up}
-use Rattle.cpu.proofs.Wakeups.Spots.{Spot, Home, Turn, Outside, is_local, spot, turn, MayComeAt, MayCome}
+use Rattle.cpu.proofs.Wakeups.Spots.{Home, is_local, spot, turn, MayComeAt}
 use Rattle.cpu.proofs.Wakeups.Called.{Good, good_none, good_step}
 use Rattle.cpu.proofs.Wakeups.Agreement.{turn_of_call, is_done, seat, Agrees, IsSettled}
-use Rattle.cpu.proofs.Wakeups.CpuStep.{foreign_step, GiveOk, give_ok}
+use Rattle.cpu.proofs.Wakeups.CpuStep.{foreign_step, give_ok}
 use Rattle.cpu.proofs.Wakeups.Chosen.{ChoiceOk, choice_ok}
 
 -- Logs of actions.
@@ -245,9 +242,9 @@ ok_at_boot setup c = record {
     size = length-map setup.homes (λ home. new_thread);
     calls = λ u local. ap (λ y. turn_of_call y.call) (sym (all_new setup.homes u.0));
     seats = λ u.
-      let is = homed_at c setup.homes 0 u.0 u (omega arith) in
-      let now : one_if (is_thread u None) + count_in u (home_threads setup c) ≡ count_in u (home_threads setup c) = omega arith in
-      now ∙ is ∙ sym (ap (λ y. one_if (seat setup c u Home y.ended)) (all_new setup.homes u.0) ∙ ap one_if (and_true (is_local setup c u)));
+        let is = homed_at c setup.homes 0 u.0 u (omega arith) in
+        let now : one_if (is_thread u None) + count_in u (home_threads setup c) ≡ count_in u (home_threads setup c) = omega arith in
+        now ∙ is ∙ sym (ap (λ y. one_if (seat setup c u Home y.ended)) (all_new setup.homes u.0) ∙ ap one_if (and_true (is_local setup c u)));
     hands = λ u. refl;
     ends = λ u local ended. refl;
   };
@@ -303,9 +300,9 @@ sound_at_boot : (setup : Setup) (room : ℕ) → Sound setup (whole_at_boot setu
 sound_at_boot setup room = record {
   fair = tt;
   cpus = λ e p is.
-    let zero_plus : 0 + e.0 ≡ e.0 = omega arith in
-    let at : at_boot setup e ≡ p = ap (λ m. at_boot setup (cpu_numbered m)) (sym zero_plus) ∙ boots_at setup 0 setup.cpus e.0 p is in
-    subst (λ q. Ok setup e q []) at (ok_at_boot setup e);
+      let zero_plus : 0 + e.0 ≡ e.0 = omega arith in
+      let at : at_boot setup e ≡ p = ap (λ m. at_boot setup (cpu_numbered m)) (sym zero_plus) ∙ boots_at setup 0 setup.cpus e.0 p is in
+      subst (λ q. Ok setup e q []) at (ok_at_boot setup e);
 }
 
 module _ (setup : Setup) (s : Whole) (sound : Sound setup s) (c : CpuId) where

@@ -1,34 +1,28 @@
 -- What a section leaves of the agreement: the caller's CPU moves on, and all others stay in agreement.
-use Rattle.std.proofs.Common.{◌≡◌, ◌≢◌, ℕ, ◌+◌, ◌<◌, ◌≤◌, Bool, true, false, not, ◌&&◌, List, [], ◌∷◌, ◌++◌, length, Option, Some, None, is_some, nat_lt, if◌then◌else◌, refl, sym, ap, ◌∙◌, subst, arith}
-use Rattle.std.proofs.lemmas.Bool.{and_parts, and_from, and_left, and_right, false_from_ne_true}
+use Rattle.std.proofs.Common.{◌≡◌, ℕ, ◌+◌, ◌<◌, Bool, true, false, not, ◌&&◌, List, [], ◌∷◌, ◌++◌, length, Option, Some, None, is_some, nat_lt, if◌then◌else◌, refl, sym, ap, ◌∙◌, subst, arith}
+use Rattle.std.proofs.lemmas.Bool.{and_from, and_left, and_right, false_from_ne_true}
 use Rattle.event_log.specs.declared.ids.CpuId.{CpuId}
 use Rattle.event_log.specs.declared.ids.Tid.{Tid}
 use Rattle.event_log.specs.declared.ids.BufId.{BufId}
-use Rattle.event_log.specs.declared.ids.LockId.{LockId}
-use Rattle.event_log.specs.declared.ids.LockId.TheVariants.{Pending, Buffer as AtBuffer}
 use Rattle.event_log.specs.declared.entries.Entry.{Entry}
 use Rattle.event_log.specs.History.{same_cpu}
 use Rattle.event_log.specs.Messages.{Message}
-use Rattle.event_log.specs.Sections.{Section}
-use Rattle.event_log.proofs.Same.{same_cpu_self, same_cpu_true}
-use Rattle.guest.specs.State.{State, after_yield}
-use Rattle.thread_blocks.specs.Queues.{same_tid, is_in, first, rest}
+use Rattle.guest.specs.State.{State}
+use Rattle.thread_blocks.specs.Queues.{same_tid}
 use Rattle.thread_blocks.proofs.Members.{same_tid_self, same_tid_true}
 use Rattle.layer_traits.specs.declared.locked.Side.{Side}
 use Rattle.layer_traits.specs.declared.locked.Side.TheVariants.{Receivers, Senders}
 use Rattle.layer_traits.specs.Places.{is_thread, one_if, count_in}
-use Rattle.layer_traits.proofs.CountLemmas.{same_tid_sym, same_cpu_sym, count_append}
-use Rattle.cpu.specs.Table.Blocks.{Buffer, Name, AcqQ, Enter, TryPut, TryTake, WaitOn, SigRecv, SigSend, RelQ, Pend, TakeAll, Asks, Sends, Receives, side_of, Told, Nothing, Position, Done, NotYet, Drained, Answer}
-use Rattle.cpu.specs.Table.Edits.{may_put, may_take, tells, answer_of_acquire, answer_of_buffer, drawn_position}
-use Rattle.cpu.specs.Table.Setups.{Setup, Stage, Acquires, Enters, Tries, Waits, AcquiresAgain, Signals, SignalsOwn, Releases, Returns, Call, Thread, Private, new_thread, thread_at, with_thread, home_of, stands_at}
-use Rattle.cpu.specs.Table.Choice.{section_at, first_section, try_of, first_signal, second_signal, with_call, with_guest, goes_to, effected, heard, heard_entry, heard_position, heard_try, entry_of}
-use Rattle.cpu.specs.Table.Choice.{slept_if, woken, returned, returned_at, returned_by, returned_in, settled, guest_after, after_call, after_yielding, after_drain, drained}
-use Rattle.cpu.specs.Wakeups.Order.{block_of}
-use Rattle.cpu.proofs.Wakeups.Lists.{refuted, some_is, none_is_not}
-use Rattle.cpu.proofs.Wakeups.Spots.{Spot, Home, InHand, IsPending, AtLock, AtWait, Doing, GotIt, Trying, Failed, Waiting, Owing, Turn, Outside, In}
-use Rattle.cpu.proofs.Wakeups.Spots.{is_home, is_hand, is_pending, is_asleep, caller_in, is_caller, bed, spot_by, spot_woken, spot_slept, spot_moved, spot_drained, spot_pending, signalled, acquired_turn, next_turn, turn_moved, is_local}
-use Rattle.cpu.proofs.Wakeups.Pairs.{thread_some}
-use Rattle.cpu.proofs.Wakeups.Agreement.{owing_own, turn_of_stage, turn_of_call, is_last, is_done, seat, Agrees, IsSettled, at_same, at_other, Same, same_refl, same_with, agrees_same, seated, runs, home_is, hand_is, within, agrees_slept, agrees_woken}
+use Rattle.layer_traits.proofs.CountLemmas.{same_tid_sym, count_append}
+use Rattle.cpu.specs.Table.Blocks.{Buffer, Name, TryTake, WaitOn, Pend, TakeAll, Asks, Sends, Receives, side_of, Done, NotYet, Answer}
+use Rattle.cpu.specs.Table.Edits.{may_put, may_take, answer_of_buffer, drawn_position}
+use Rattle.cpu.specs.Table.Setups.{Setup, Stage, Acquires, Enters, Tries, Waits, AcquiresAgain, Signals, SignalsOwn, Releases, Returns, Call, Thread, Private, thread_at, with_thread, home_of, stands_at}
+use Rattle.cpu.specs.Table.Choice.{section_at, first_section, try_of, first_signal, second_signal, with_call, with_guest, goes_to, heard, heard_entry, heard_try, entry_of}
+use Rattle.cpu.specs.Table.Choice.{slept_if, woken, returned_at, returned_by, returned_in, settled, guest_after, after_call}
+use Rattle.cpu.proofs.Wakeups.Lists.{refuted}
+use Rattle.cpu.proofs.Wakeups.Spots.{Spot, Home, InHand, IsPending, AtLock, AtWait, GotIt, Trying, Failed, Owing, Turn, Outside, In}
+use Rattle.cpu.proofs.Wakeups.Spots.{is_home, is_hand, is_pending, caller_in, is_caller, bed, spot_slept, spot_moved, spot_drained, spot_pending, next_turn, turn_moved, is_local}
+use Rattle.cpu.proofs.Wakeups.Agreement.{owing_own, turn_of_stage, turn_of_call, is_last, is_done, seat, Agrees, IsSettled, at_same, at_other, Same, same_with, agrees_same, runs, within, agrees_slept, agrees_woken}
 
 -- A call returns once the hand is empty.
 
@@ -167,13 +161,13 @@ module _ (p : Private) (t : Tid) (known : t.0 < length p.threads) where
 
     at_tries : (asks : Asks) → call.asks ≡ asks
         → Heard p (heard_try c p t call (answer_of_buffer (try_of t call (side_of asks)) k).told) t
-            (next_turn call.buffer (try_of t call (side_of asks)) k (In call.buffer (Trying (side_of asks)))) false
+        (next_turn call.buffer (try_of t call (side_of asks)) k (In call.buffer (Trying (side_of asks)))) false
     at_tries Sends is =
         subst (λ a. Heard p (heard_try c p t call (if may_put t k then Done k.effects call.message else NotYet)) t
-            (if may_put t k then In call.buffer (Owing true true) else In call.buffer (Failed (side_of a))) false) is (at_try (may_put t k) k.effects call.message)
+        (if may_put t k then In call.buffer (Owing true true) else In call.buffer (Failed (side_of a))) false) is (at_try (may_put t k) k.effects call.message)
     at_tries Receives is =
         subst (λ a. Heard p (heard_try c p t call (answer_of_buffer (TryTake t) k).told) t
-            (if may_take t k then In call.buffer (Owing true true) else In call.buffer (Failed (side_of a))) false) is (at_try (may_take t k) k.effects _)
+        (if may_take t k then In call.buffer (Owing true true) else In call.buffer (Failed (side_of a))) false) is (at_try (may_take t k) k.effects _)
 
     signal_turn : (side : Side) → next_turn call.buffer (first_signal t side) k (In call.buffer (Owing true true)) ≡ In call.buffer (owing_own side)
     signal_turn Senders = refl
@@ -190,7 +184,7 @@ module _ (p : Private) (t : Tid) (known : t.0 < length p.threads) where
     -- what a call hears at each stage
     pub heard_at : (stage : Stage) → is_last stage ≡ false
         → Heard p (heard c p t call stage (answer_of_buffer (section_at t call stage) k).told) t
-            (next_turn call.buffer (section_at t call stage) k (turn_of_stage call.buffer (side_of call.asks) stage)) (is_release stage)
+        (next_turn call.buffer (section_at t call stage) k (turn_of_stage call.buffer (side_of call.asks) stage)) (is_release stage)
     heard_at Acquires going = heard_call (record call { stage = Enters })
     heard_at Enters going =
         subst (λ z. Heard p (heard_entry c p t call call.asks (answer_of_buffer (first_section t call.asks) k).told) t z false) (entry_turn call.asks) (at_entry call.asks refl)
@@ -304,8 +298,8 @@ module _ (setup : Setup) (c : CpuId) (p : Private) (T : Tid → Turn) (P : Tid �
         (λ u other. ap (λ d. if d then bed call.buffer name else P u) (and_right a.slept (is_caller u name) (others u other)))
         (λ off. ap (λ d. if d then bed call.buffer name else P t) (and_left a.slept (is_caller t name) off))
         (λ on.
-          let at : bedded t ≡ bed call.buffer name = ap (λ d. if d then bed call.buffer name else P t) (and_from a.slept (is_caller t name) on mine) in
-          (ap is_home at ∙ bed_not_home call.buffer name, ap (is_hand c) at ∙ bed_not_hand c call.buffer name))
+        let at : bedded t ≡ bed call.buffer name = ap (λ d. if d then bed call.buffer name else P t) (and_from a.slept (is_caller t name) on mine) in
+        (ap is_home at ∙ bed_not_home call.buffer name, ap (is_hand c) at ∙ bed_not_hand c call.buffer name))
 
     no_home : (s : Tid) → a.woke ≡ Some s → (is_home (bedded s) ≡ false) × (nat_lt s.0 (length setup.homes) ≡ true)
     no_home s woke = (by_test (a.slept && is_caller s name), (asleep s woke).1)
@@ -454,10 +448,10 @@ agrees_yielded setup c p T P agrees t runs_now guest = record {
   size = moved.size;
   calls = moved.calls;
   seats = λ u.
-    let one : one_if (is_thread u p.current) ≡ one_if (same_tid u t) = ap one_if (ap (is_thread u) runs_now ∙ same_tid_sym t u) in
-    let more : count_in u (p.ready ++ t ∷ []) ≡ count_in u p.ready + (one_if (same_tid u t) + 0) = count_append u p.ready (t ∷ []) in
-    let now : one_if (is_thread u None) + count_in u (p.ready ++ t ∷ []) ≡ one_if (is_thread u p.current) + count_in u p.ready = omega (arith, one, more) in
-    now ∙ moved.seats u;
+      let one : one_if (is_thread u p.current) ≡ one_if (same_tid u t) = ap one_if (ap (is_thread u) runs_now ∙ same_tid_sym t u) in
+      let more : count_in u (p.ready ++ t ∷ []) ≡ count_in u p.ready + (one_if (same_tid u t) + 0) = count_append u p.ready (t ∷ []) in
+      let now : one_if (is_thread u None) + count_in u (p.ready ++ t ∷ []) ≡ one_if (is_thread u p.current) + count_in u p.ready = omega (arith, one, more) in
+      now ∙ moved.seats u;
   hands = moved.hands;
   ends = moved.ends;
 }

@@ -1,6 +1,6 @@
 -- Where each thread is, and what it does at which buffer, as the section log tells: two folds over the log. Both are needed only to show
 -- that the steps of the table keep the order of a call's sections: a thread that was woken runs again exactly when it may go on.
-use Rattle.std.proofs.Common.{◌≡◌, ℕ, ◌<◌, Bool, true, false, ◌&&◌, ◌==◌, List, [], ◌∷◌, length, Option, Some, None, nat_lt, if◌then◌else◌}
+use Rattle.std.proofs.Common.{◌≡◌, ℕ, Bool, true, false, ◌&&◌, ◌==◌, List, [], ◌∷◌, length, Option, Some, None, nat_lt, if◌then◌else◌}
 use Rattle.event_log.specs.declared.ids.CpuId.{CpuId}
 use Rattle.event_log.specs.declared.ids.Tid.{Tid}
 use Rattle.event_log.specs.declared.ids.BufId.{BufId}
@@ -12,11 +12,11 @@ use Rattle.event_log.specs.Sections.{Section}
 use Rattle.thread_blocks.specs.Queues.{same_tid}
 use Rattle.layer_traits.specs.declared.locked.Side.{Side}
 use Rattle.layer_traits.specs.declared.locked.Side.TheVariants.{Receivers, Senders}
-use Rattle.layer_traits.specs.Places.{is_thread, one_if, count_in}
+use Rattle.layer_traits.specs.Places.{is_thread, one_if}
 use Rattle.cpu.specs.Table.Blocks.{Buffer, Block, OfBuffer, OfPending, Name, AcqQ, Enter, TryPut, TryTake, WaitOn, SigRecv, SigSend, RelQ, Pend, TakeAll}
 use Rattle.cpu.specs.Table.Edits.{may_put, may_take, answer_of_buffer}
 use Rattle.cpu.specs.Table.Setups.{Setup, home_of}
-use Rattle.cpu.specs.Wakeups.Order.{Progress, Begins, HasEntered, WasRefused, Owes, MayTry, block_of}
+use Rattle.cpu.specs.Wakeups.Order.{Progress, Begins, WasRefused, Owes, MayTry, block_of}
 
 -- where a thread is: at home (it runs, is ready or has ended), in the hand of a CPU, among the pending, or asleep at a buffer
 pub data Spot : Type 0 where

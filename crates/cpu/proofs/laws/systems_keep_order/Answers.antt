@@ -1,0 +1,5 @@
+use Rattle.cpu.proofs.Wakeups.Reaching.{systems_keep_order}
+use Rattle.cpu.proofs.laws.systems_keep_order.Goals as goal
+
+pub returns : goal.returns
+returns c = systems_keep_order
