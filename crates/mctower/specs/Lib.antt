@@ -20,3 +20,4 @@ pub mod Boots
 pub mod Workers
 pub mod Plans
 pub mod Running
+pub mod Refusals

@@ -1,34 +1,52 @@
--- What serving an order gives: the exit status, what is on standard output and on standard error, and whether the input is read.
-use Rattle.std.specs.Prelude.{◌≡◌, ◌*◌, ◌++◌, ◌⊎◌, ℕ, Bool, true, false, List, [], ◌∷◌, Option, Some, None, Result, Ok, Err, IfSome, IsUtf8, codes, decimal, if◌then◌else◌, is_some}
+-- What serving an order gives: the answer, what is on standard output and on standard error, and whether the input is read.
+use Rattle.std.specs.Prelude.{◌≡◌, ◌*◌, ◌++◌, ◌⊎◌, ℕ, Bool, true, false, List, [], ◌∷◌, Option, Some, None, Result, Ok, Err, Vec, IfSome, IsUtf8, codes, decimal, if◌then◌else◌, is_some}
+use Rattle.std.specs.declared.io.ErrorKind.{ErrorKind}
+use Rattle.std.specs.declared.io.ErrorKind.TheVariants.{OutOfMemory}
 use Rattle.clap.specs.Walk.{Text}
 use Rattle.event_log.specs.declared.ids.CpuId.{CpuId}
+use Rattle.boot.specs.declared.refusals.BootError.{BootError}
+use Rattle.boot.specs.declared.refusals.BootError.TheVariants.{BadToml}
 use Rattle.boot.specs.Plan.{Plan, plan_of}
 use Rattle.tracer.specs.declared.verdicts.Verdict.{Verdict}
 use Rattle.tracer.specs.declared.verdicts.Verdict.TheVariants as verdict
 use Rattle.tracer.specs.Judging.{verdict_of}
+use Rattle.tracer.specs.Reasons as reasons
 use Rattle.tracer.specs.Sinks.{Outs}
-use Rattle.mctower.specs.Help.{help_of, topic_of}
 use Rattle.mctower.specs.Line.{Meant, count, run, threads, check}
-use Rattle.mctower.specs.Print.{PrintsRefusal}
+use Rattle.mctower.specs.Refusals.{Told, status_of_refusal, text_of}
+use Rattle.mctower.specs.declared.refusals.Refusal.{Refusal}
+use Rattle.mctower.specs.declared.refusals.Refusal.TheVariants.{BadLine, NoMemory, BadCpu, NoThread, ReadFault, WriteFault, BadSchedule, Plan as BadPlan}
 use Rattle.mctower.specs.Running.{AreCpus, IsTextOf, IsUntouched, ran}
 use Rattle.mctower.specs.Schedule.{steps_of}
 
--- the exit status of what was served: that of its end, or 1 where it was refused
-abbrev pub status_of : {E : Type 0} → Result ℕ E → ℕ
+-- the exit status of an answer
+abbrev pub status_of : Result ℕ Refusal → ℕ
 status_of (Ok status) = status
-status_of (Err error) = 1
+status_of (Err refusal) = status_of_refusal refusal
 
--- the order was refused, and nothing was written
-abbrev pub IsRefused : ℕ → Bool → Option (List ℕ) → Option (List ℕ) → Type 0
-IsRefused status failed old new = (status ≡ 1) × IsUntouched failed old new
+-- the answer is this refusal, and nothing was written
+abbrev pub RefusedBy : Refusal → Result ℕ Refusal → Bool → Option (List ℕ) → Option (List ℕ) → Type 0
+RefusedBy refusal answer failed old new = (answer ≡ Err refusal) × IsUntouched failed old new
 
--- the text is out, and the exit status is this one; or the output failed, a beginning of the text is out, and the status is 1
-abbrev pub Puts : ℕ → List ℕ → ℕ → Bool → Option (List ℕ) → Option (List ℕ) → Type 0
-Puts good text status failed old new = (status ≡ (if failed then 1 else good)) × Outs failed old new text
+-- the text is out, and the answer is this exit status; or the output failed, a beginning of the text is out, and that is the answer
+abbrev pub Puts : ℕ → List ℕ → Result ℕ Refusal → Bool → Option (List ℕ) → Option (List ℕ) → Type 0
+Puts status text answer failed old new = (answer ≡ (if failed then Err WriteFault else Ok status)) × Outs failed old new text
+
+-- ---- the input
 
 -- the text is all that was on standard input, where that is known
 abbrev pub IsInput : Option (List ℕ) → List ℕ → Type 0
 IsInput input text = IfSome input (λ known. text ≡ known)
+
+-- what a failed read refuses: want of memory is told from a fault of the input
+abbrev pub kind_refused : ErrorKind → Refusal
+kind_refused OutOfMemory = NoMemory
+kind_refused kind = ReadFault
+
+-- all of the input was read, or the reader failed or had no memory
+abbrev pub ReadsAll : {A : Type 0} → Option (List ℕ) → Result (Vec ℕ A) Refusal → Type 0
+ReadsAll input (Ok bytes) = IsInput input bytes.items
+ReadsAll input (Err refusal) = (kind : ErrorKind) × (refusal ≡ kind_refused kind)
 
 -- ---- count
 
@@ -36,88 +54,96 @@ IsInput input text = IfSome input (λ known. text ≡ known)
 abbrev pub count_lines : ℕ → List ℕ
 count_lines number = codes "plain " ++ (decimal number ++ (codes "\ntable " ++ (decimal number ++ 10 ∷ [])))
 
--- this number was counted: it is printed, or the order is refused
-abbrev pub Counts : ℕ → ℕ → Bool → Option (List ℕ) → Option (List ℕ) → Type 0
-Counts number status failed old new = IsRefused status failed old new ⊎ Puts 0 (count_lines number) status failed old new
+-- this number was counted: it is printed, or the order is refused for want of memory or of a thread
+abbrev pub Counts : ℕ → Result ℕ Refusal → Bool → Option (List ℕ) → Option (List ℕ) → Type 0
+Counts number answer failed old new = RefusedBy NoMemory answer failed old new
+    ⊎ (RefusedBy NoThread answer failed old new
+    ⊎ Puts 0 (count_lines number) answer failed old new)
 
 -- ---- check
 
--- the exit status of a verdict: 0 for a yes and 3 for a no
-abbrev pub verdict_status : Verdict → ℕ
-verdict_status verdict.Yes = 0
-verdict_status (verdict.No line reason) = 3
-verdict_status verdict.NoMemory = 1
+-- a verdict is printed: a yes with status 0, a no with the number of the line and the name of the reason with status 3
+abbrev pub Tells : Verdict → Result ℕ Refusal → Bool → Option (List ℕ) → Option (List ℕ) → Type 0
+Tells verdict.Yes answer failed old new = Puts 0 (codes "yes\n") answer failed old new
+Tells (verdict.No line reason) answer failed old new =
+    Puts 3 (codes "no " ++ (decimal line ++ (codes " " ++ (reasons.name_of reason ++ codes "\n")))) answer failed old new
+Tells verdict.NoMemory answer failed old new = RefusedBy NoMemory answer failed old new
 
--- a verdict is printed as this text: a yes, or a no with the number of the line and some name of the reason
-abbrev pub Spells : Verdict → List ℕ → Type 0
-Spells verdict.Yes text = text ≡ codes "yes\n"
-Spells (verdict.No line reason) text = (name : List ℕ) × (text ≡ codes "no " ++ (decimal line ++ (codes " " ++ (name ++ codes "\n"))))
-Spells verdict.NoMemory text = ⊥
-
--- a verdict is printed
-pub record Tells (verdict : Verdict) (status : ℕ) (failed : Bool) (old new : Option (List ℕ)) : Type 0 where
-  pub text : List ℕ
-  pub spelled : Spells verdict text
-  pub put : Puts (verdict_status verdict) text status failed old new
-
--- the verdict on the input is printed, or the order is refused
-abbrev pub Checks : Option (List ℕ) → ℕ → Bool → Option (List ℕ) → Option (List ℕ) → Type 0
-Checks input status failed old new = IsRefused status failed old new ⊎ ((text : List ℕ) × IsInput input text × Tells (verdict_of text) status failed old new)
+-- the verdict on the input is printed, or the input was not read
+abbrev pub Checks : Option (List ℕ) → Result ℕ Refusal → Bool → Option (List ℕ) → Option (List ℕ) → Type 0
+Checks input answer failed old new = RefusedBy NoMemory answer failed old new
+    ⊎ (RefusedBy ReadFault answer failed old new
+    ⊎ ((text : List ℕ) × IsInput input text × Tells (verdict_of text) answer failed old new))
 
 -- ---- run
 
--- the input is the text of a plan, each step is of one of its CPUs, and the trace text of its run under these steps is written
-pub record RunsInput (input : Option (List ℕ)) (steps : List CpuId) (status : ℕ) (failed : Bool) (old new : Option (List ℕ)) : Type 0 where
-  pub text : List ℕ
-  pub read : IsInput input text
-  pub utf8 : IsUtf8 text
-  pub plan : Plan
-  pub is : plan_of text ≡ Ok plan
+-- the trace text of the plan's run under these steps is written
+pub record RunsTrace (plan : Plan) (steps : List CpuId) (answer : Result ℕ Refusal) (failed : Bool) (old new : Option (List ℕ)) : Type 0 where
   pub cpus : AreCpus plan.cpus steps
   pub trace : List ℕ
   pub traced : IsTextOf plan.caps (ran plan steps) trace
-  pub put : Puts 0 trace status failed old new
+  pub put : Puts 0 trace answer failed old new
 
--- the input's plan is run under these steps, or the order is refused
-abbrev pub Runs : Option (List ℕ) → List CpuId → ℕ → Bool → Option (List ℕ) → Option (List ℕ) → Type 0
-Runs input steps status failed old new = IsRefused status failed old new ⊎ RunsInput input steps status failed old new
+-- the plan is run, or a step is of no CPU of it; or the text is no plan, and that is told as its first fault
+abbrev pub RunsPlan : Result Plan BootError → List CpuId → Result ℕ Refusal → Bool → Option (List ℕ) → Option (List ℕ) → Type 0
+RunsPlan (Ok plan) steps answer failed old new = ((¬ AreCpus plan.cpus steps) × RefusedBy BadCpu answer failed old new)
+    ⊎ RunsTrace plan steps answer failed old new
+RunsPlan (Err error) steps answer failed old new = RefusedBy (BadPlan error) answer failed old new
+
+-- the plan of these bytes is run; bytes that are no UTF-8 are no document; want of memory aside
+abbrev pub RunsBytes : List ℕ → List CpuId → Result ℕ Refusal → Bool → Option (List ℕ) → Option (List ℕ) → Type 0
+RunsBytes bytes steps answer failed old new = RefusedBy NoMemory answer failed old new
+    ⊎ (((¬ IsUtf8 bytes) × RefusedBy (BadPlan BadToml) answer failed old new)
+    ⊎ (IsUtf8 bytes × RunsPlan (plan_of bytes) steps answer failed old new))
+
+-- the input's plan is run under these steps, or the input was not read
+abbrev pub Runs : Option (List ℕ) → List CpuId → Result ℕ Refusal → Bool → Option (List ℕ) → Option (List ℕ) → Type 0
+Runs input steps answer failed old new = RefusedBy NoMemory answer failed old new
+    ⊎ (RefusedBy ReadFault answer failed old new
+    ⊎ ((bytes : List ℕ) × IsInput input bytes × RunsBytes bytes steps answer failed old new))
 
 -- the steps that a schedule asks for: none without one
 abbrev pub steps_asked : Option Text → Option (List CpuId)
 steps_asked None = Some []
 steps_asked (Some text) = steps_of text
 
--- the steps are run; what is no schedule has the status of a bad command line, want of memory aside
-abbrev pub RunsAsked : Option (List CpuId) → Option (List ℕ) → ℕ → Bool → Option (List ℕ) → Option (List ℕ) → Type 0
-RunsAsked (Some steps) input status failed old new = Runs input steps status failed old new
-RunsAsked None input status failed old new = ((status ≡ 1) ⊎ (status ≡ 2)) × IsUntouched failed old new
+-- the steps are run; what is no schedule is a bad command line, want of memory aside
+abbrev pub RunsAsked : Option (List CpuId) → Option (List ℕ) → Result ℕ Refusal → Bool → Option (List ℕ) → Option (List ℕ) → Type 0
+RunsAsked (Some steps) input answer failed old new = Runs input steps answer failed old new
+RunsAsked None input answer failed old new = RefusedBy NoMemory answer failed old new ⊎ RefusedBy BadSchedule answer failed old new
 
 -- ---- any order
 
--- Serving what the words mean: the exit status, whether standard output failed, and its bytes before and after. The bytes on
--- standard input are `input`, where they are known. A refusal may be want of memory or of the input, so it may come always.
-abbrev pub Serves : Option Meant → Option (List ℕ) → ℕ → Bool → Option (List ℕ) → Option (List ℕ) → Type 0
-Serves None input status failed old new = ((status ≡ 1) ⊎ (status ≡ 2)) × IsUntouched failed old new
-Serves (Some (count cpus times)) input status failed old new = Counts (times * cpus) status failed old new
-Serves (Some check) input status failed old new = Checks input status failed old new
-Serves (Some (run schedule)) input status failed old new = RunsAsked (steps_asked schedule) input status failed old new
+-- Serving what the words mean: the answer, whether standard output failed, and its bytes before and after. The bytes on standard
+-- input are `input`, where they are known. Memory or the input may be wanting always.
+abbrev pub Serves : Option Meant → Option (List ℕ) → Result ℕ Refusal → Bool → Option (List ℕ) → Option (List ℕ) → Type 0
+Serves None input answer failed old new = RefusedBy NoMemory answer failed old new ⊎ RefusedBy BadLine answer failed old new
+Serves (Some (count cpus times)) input answer failed old new = Counts (times * cpus) answer failed old new
+Serves (Some check) input answer failed old new = Checks input answer failed old new
+Serves (Some (run schedule)) input answer failed old new = RunsAsked (steps_asked schedule) input answer failed old new
 -- no such order is taken
-Serves (Some (threads turns)) input status failed old new = ⊥
+Serves (Some (threads turns)) input answer failed old new = ⊥
 
 -- ---- standard error
 
--- at a bad command line the help on the command that its words name is printed; where the words are an order all the same, its
--- schedule is none, and a refusal is printed
-abbrev pub PrintsBadLine : List Text → Option Meant → Bool → Option (List ℕ) → Option (List ℕ) → Type 0
-PrintsBadLine words None failed old new = Outs failed old new (help_of (topic_of words))
-PrintsBadLine words (Some meant) failed old new = PrintsRefusal failed old new
+-- what is on standard error, by the answer to these words: nothing after a good run, a yes or a no; else what tells the refusal
+abbrev pub Reports : List Text → Result ℕ Refusal → Bool → Option (List ℕ) → Option (List ℕ) → Type 0
+Reports words (Ok status) failed old new = IsUntouched failed old new
+Reports words (Err refusal) failed old new = Told (text_of words refusal) failed old new
 
--- What is on standard error, by the exit status, whether it failed, and its bytes before and after: nothing after a good run, a
--- yes or a no; a refusal's line where the status is 1; and where it is 2, what a bad command line gets.
-abbrev pub Reports : List Text → Option Meant → ℕ → Bool → Option (List ℕ) → Option (List ℕ) → Type 0
-Reports words meant status failed old new = (((status ≡ 0) ⊎ (status ≡ 3)) × IsUntouched failed old new)
-    ⊎ (((status ≡ 1) × PrintsRefusal failed old new)
-    ⊎ ((status ≡ 2) × PrintsBadLine words meant failed old new))
+-- there is one answer by which the exit status and standard error are
+pub record EndsTold (words : List Text) (status : ℕ) (failed : Bool) (old new : Option (List ℕ)) : Type 0 where
+  pub answer : Result ℕ Refusal
+  pub ends : status ≡ status_of answer
+  pub told : Reports words answer failed old new
+
+-- A command line is served: there is one answer by which the exit status, standard output and standard error are.
+pub record Ends (words : List Text) (meant : Option Meant) (input : Option (List ℕ)) (status : ℕ)
+    (out_failed : Bool) (out_old out_new : Option (List ℕ)) (err_failed : Bool) (err_old err_new : Option (List ℕ)) : Type 0 where
+  pub answer : Result ℕ Refusal
+  pub ends : status ≡ status_of answer
+  pub served : Serves meant input answer out_failed out_old out_new
+  pub told : Reports words answer err_failed err_old err_new
 
 -- ---- standard input
 

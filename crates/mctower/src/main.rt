@@ -1,8 +1,10 @@
 //! The program `mctower`: a command line over the thread tower.
 #![tactic(auto)]
 
-ghost use Rattle.std.specs.Prelude.{◌≡◌, false};
-ghost use Rattle.tracer.specs.Sinks.{has_failed};
+ghost use Rattle.std.specs.Prelude.{◌≡◌, false, map};
+ghost use Rattle.std.specs.Process.{exit_status};
+ghost use Rattle.tracer.specs.Sinks.{has_failed, writer_of};
+ghost use Rattle.mctower.specs.Serve.{EndsTold};
 
 pub mod count;
 mod help;
@@ -13,6 +15,7 @@ mod plan_tests;
 pub mod print;
 #[cfg(test)]
 mod refusal_tests;
+pub mod refusals;
 #[cfg(test)]
 mod refused_tests;
 pub mod run;
@@ -27,6 +30,7 @@ mod twin_tests;
 pub mod workers;
 
 use line::LineError;
+use refusals::{Refusal, line_refused, status_of_refusal, tell};
 use std::io::{BufWriter, Write};
 use std::process::ExitCode;
 use std::sync::Wait;
@@ -36,15 +40,15 @@ use tracer::Sink;
 
 fn main(rt: HostRuntime) -> ExitCode {
     let mut err = Sink::new(rt.stderr());
-    let status = match words_after_the_name(&rt) {
-        Ok(words) => serve_words(&rt, &words, &mut err),
-        Err(LineError::NoMemory) => print::refuse(&mut err, &LineError::NoMemory),
-        Err(LineError::Refused) => {
-            let _ = print::print(&mut err, &[help::help_on(&[]).as_bytes()]);
-            2
-        }
+    let words = match words_after_the_name(&rt) {
+        Ok(words) => words,
+        Err(error) => return refused(&mut err, &[], line_refused(error)),
     };
-    ExitCode::from(status)
+    let texts: Result<Vec<&str>, _> = words.iter().map(|word| word.as_str()).collect(rt.alloc());
+    match texts {
+        Ok(texts) => serve_words(&rt, texts.as_slice(), &mut err),
+        Err(_) => refused(&mut err, &[], Refusal::NoMemory),
+    }
 }
 
 /// The words of the command line. One that is no UTF-8 text makes it a bad one.
@@ -61,28 +65,29 @@ fn words_after_the_name(rt: &HostRuntime) -> Result<Vec<String>, LineError> {
     }
 }
 
-/// Serves the words over the standard streams.
+/// Tells a refusal of these words, and gives the exit status of the process.
+fn refused<E: Write>(err: &mut Sink<E>, words: &[&str], refusal: Refusal) -> ExitCode
+    requires { has_failed err.old ≡ false }
+    ensures { EndsTold (map (λ w. w.now) words.now) (exit_status result) (has_failed err.new) (E.contents (writer_of err.old)) (E.contents (writer_of err.new)) }
+{
+    tell(err, words, refusal);
+    ExitCode::from(status_of_refusal(refusal))
+}
+
+/// Serves the words over the standard streams, and gives the exit status of the process: that of
+/// the answer that standard error tells.
 fn serve_words<T: AllocGlobal + Input + Print + Threads + Wait + Sync, E: Write>(
     rt: &T,
-    words: &Vec<String>,
+    words: &[&str],
     err: &mut Sink<E>,
-) -> u8
+) -> ExitCode
     requires { has_failed err.old ≡ false }
+    ensures { EndsTold (map (λ w. w.now) words.now) (exit_status result) (has_failed err.new) (E.contents (writer_of err.old)) (E.contents (writer_of err.new)) }
 {
-    let texts: Result<Vec<&str>, _> = words.iter().map(|word| word.as_str()).collect(rt.alloc());
-    let Ok(texts) = texts else {
-        return print::refuse(err, &LineError::NoMemory);
-    };
     let Ok(buffered) = BufWriter::new(rt.alloc(), io::writer(rt)) else {
-        return print::refuse(err, &LineError::NoMemory);
+        return refused(err, words, Refusal::NoMemory);
     };
     let mut out = Sink::new(buffered);
-    serve::serve(
-        rt,
-        rt.alloc(),
-        texts.as_slice(),
-        &mut rt.reader(),
-        &mut out,
-        err,
-    )
+    let status = serve::serve(rt, rt.alloc(), words, &mut rt.reader(), &mut out, err);
+    ExitCode::from(status)
 }

@@ -1,9 +1,9 @@
 //! What the program prints: lines on standard output, and one line for each refusal.
 
-ghost use Rattle.std.specs.Prelude.{◌≡◌, false, is_err};
-ghost use Rattle.std.specs.List.{flat_map};
-ghost use Rattle.tracer.specs.Sinks.{Outs, has_failed, writer_of};
-ghost use Rattle.mctower.specs.Print.{PrintsRefusal};
+ghost use Rattle.std.specs.Prelude.{◌≡◌, IfOk, false, is_err, true};
+ghost use Rattle.std.specs.List.{before_first, flat_map};
+ghost use Rattle.tracer.specs.Sinks.{Outs, has_failed, is_flushed, writer_of};
+ghost use Rattle.mctower.specs.Print.{PrintsRefusal, is_line_feed, shown_as};
 
 use arrayvec::ArrayString;
 use std::fmt;
@@ -25,10 +25,11 @@ fn put_all<W: Write>(sink: &mut Sink<W>, pieces: &[&[u8]]) -> Result<(), WriteFa
 
 /// Writes all pieces and sees that they are out.
 ///
-/// Errors: `WriteFault` exactly where a write failed; then a beginning is out.
+/// Errors: `WriteFault` exactly where a write or the flush failed; then a beginning is out.
 pub fn print<W: Write>(sink: &mut Sink<W>, pieces: &[&[u8]]) -> Result<(), WriteFault>
     requires { has_failed sink.old ≡ false }
     ensures failed { is_err result ≡ has_failed sink.new }
+    ensures flushed { IfOk result (λ _. is_flushed sink.new ≡ true) }
     ensures out { Outs (has_failed sink.new) (W.contents (writer_of sink.old)) (W.contents (writer_of sink.new)) (flat_map (λ p. p.now) pieces.now) }
 {
     put_all(sink, pieces)?;
@@ -38,15 +39,32 @@ pub fn print<W: Write>(sink: &mut Sink<W>, pieces: &[&[u8]]) -> Result<(), Write
 /// How many bytes of what a refusal says are shown at most.
 const LONGEST: usize = 200;
 
-/// Prints the line `error: ..` for a refusal, if it can, and gives the exit status. Takes no memory.
-pub fn refuse<W: Write, F: fmt::Display>(sink: &mut Sink<W>, fault: &F) -> u8
+/// The text before its first line feed.
+fn first_line(text: &str) -> &str
+    ensures { result.now ≡ before_first is_line_feed text.now }
+{
+    match text.split_once('\n') {
+        Some((line, _)) => line,
+        None => text,
+    }
+}
+
+/// The first line of a text, or a question mark where that is empty.
+fn line_in(text: &str) -> &str
+    ensures { result.now ≡ shown_as (before_first is_line_feed text.now) }
+{
+    let line = first_line(text);
+    if line.is_empty() { "?" } else { line }
+}
+
+/// Prints the line `error: ..` for a refusal, if it can: what it says, cut to one line. Takes no
+/// memory.
+pub(crate) fn refuse<W: Write, F: fmt::Display>(sink: &mut Sink<W>, fault: &F)
     requires { has_failed sink.old ≡ false }
-    ensures status { result ≡ 1 }
-    ensures line { PrintsRefusal (has_failed sink.new) (W.contents (writer_of sink.old)) (W.contents (writer_of sink.new)) }
+    ensures { PrintsRefusal (has_failed sink.new) (W.contents (writer_of sink.old)) (W.contents (writer_of sink.new)) }
 {
     let mut shown = ArrayString::<LONGEST>::new();
     let _ = write!(shown, "{fault}");
-    let shown = shown.as_str().as_bytes();
+    let shown = line_in(shown.as_str()).as_bytes();
     let _ = print(sink, &[b"error: ".as_slice(), shown, b"\n".as_slice()]);
-    1
 }

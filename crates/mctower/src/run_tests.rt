@@ -1,9 +1,9 @@
 //! A run whose writer fails, and how each refusal of this crate prints.
 
 use crate::line::LineError;
+use crate::print::refuse;
 use crate::run::{Fault, run_text};
 use crate::schedule::StepsError;
-use crate::serve::ServeError;
 use crate::workers::CountFault;
 use boot::{BootError, PlanKey};
 use event_log::CpuId;
@@ -51,6 +51,12 @@ fn refusals_print_their_names(rt: HostRuntime) {
     assert!(rt; shows(alloc, &Fault::NoOrder, "NoOrder(6)"));
     assert!(rt; shows(alloc, &Fault::WriteFault, "WriteFault(8)"));
     assert!(rt; shows(alloc, &boot, "OutOfRange(22) cpus"));
-    assert!(rt; shows(alloc, &ServeError::NoMemory, "NoMemory(1)"));
-    assert!(rt; shows(alloc, &ServeError::NoThread, "NoThread(5)"));
+}
+
+#[test]
+fn a_refusal_is_one_line(rt: HostRuntime) {
+    let mut page = Vec::new(rt.alloc());
+    refuse(&mut Sink::new(&mut page), &"one\ntwo");
+    refuse(&mut Sink::new(&mut page), &"");
+    assert_eq!(rt; page.as_slice(), b"error: one\nerror: ?\n".as_slice());
 }

@@ -1,62 +1,41 @@
 //! Serving a command line: reads the order, does it, prints, and gives the exit status.
 
-ghost use Rattle.std.specs.Prelude.{◌≡◌, ◌≤◌, ◌*◌, ◌⊎◌, IfOk, false, length, map, option_map, string_bytes};
+ghost use Rattle.std.specs.Prelude.{◌≡◌, ◌≤◌, ◌*◌, ◌⊎◌, IfOk, false, true, length, map, option_map, string_bytes};
 ghost use Rattle.std.specs.List.{flat_map};
 ghost use Rattle.event_log.specs.declared.ids.TheConstants.{CPUS};
-ghost use Rattle.tracer.specs.Sinks.{has_failed, writer_of};
+ghost use Rattle.tracer.specs.Sinks.{has_failed, is_flushed, writer_of};
 ghost use Rattle.mctower.specs.Line.{order_of};
 ghost use Rattle.mctower.specs.Schedule.{ReadsSteps};
-ghost use Rattle.mctower.specs.Serve.{Checks, Counts, IsInput, IsRefused, Puts, Reports, Runs, Serves, Tells, reads_input, status_of, steps_asked};
+ghost use Rattle.mctower.specs.Serve.{Checks, Counts, Ends, Puts, ReadsAll, Runs, RunsBytes, Serves, Tells, kind_refused, reads_input, steps_asked};
 
 use crate::count::count_plain;
-use crate::help::help_on;
-use crate::line::{LineError, MOST_TIMES, Order, read_line};
-use crate::print::{print, refuse};
-use crate::run::{Fault, run_text};
+use crate::line::{MOST_TIMES, Order, read_line};
+use crate::print::print;
+use crate::refusals::{
+    Refusal, count_refused, line_refused, run_refused, status_of_refusal, steps_refused, tell,
+};
+use crate::run::run_text;
 use crate::schedule::{MOST_STEPS, StepsError, read_steps};
-use crate::workers::{CountFault, count_table};
-use arrayvec::ArrayString;
+use crate::workers::count_table;
 use boot::BootError;
 use event_log::CpuId;
 use itoa::Buffer;
 use std::alloc::Global;
-use std::fmt::Write as _;
 use std::io;
 use std::io::{Read, Write};
 use std::sync::Wait;
 use std::thread::Threads;
-use thiserror::Error;
 use tracer::{Sink, Verdict, WriteFault, check};
 
-/// Why an order was refused. Each prints as its name and its number.
-#[derive(Clone, Copy, Debug, PartialEq, Eq, Error)]
-pub enum ServeError {
-    /// Memory ran out.
-    #[error("NoMemory(1)")]
-    NoMemory,
-    /// A thread could not be started.
-    #[error("NoThread(5)")]
-    NoThread,
-    /// Standard input could not be read.
-    #[error("ReadFault(7)")]
-    ReadFault,
-    /// Standard output could not be written; a beginning may be out.
-    #[error("WriteFault(8)")]
-    WriteFault,
-    /// A plan could not be run.
-    #[error("{0}")]
-    Run(Fault),
-}
-
-/// Puts the pieces out; the exit status is then this one.
-fn put_out<O: Write>(out: &mut Sink<O>, pieces: &[&[u8]], status: u8) -> Result<u8, ServeError>
+/// Puts the pieces out and flushes; the exit status is then this one.
+fn put_out<O: Write>(out: &mut Sink<O>, pieces: &[&[u8]], status: u8) -> Result<u8, Refusal>
     requires { has_failed out.old ≡ false }
-    ensures end { IfOk result (λ given. given ≡ status) }
-    ensures put { Puts status (flat_map (λ p. p.now) pieces.now) (status_of result) (has_failed out.new) (O.contents (writer_of out.old)) (O.contents (writer_of out.new)) }
+    ensures put { Puts status (flat_map (λ p. p.now) pieces.now) result (has_failed out.new) (O.contents (writer_of out.old)) (O.contents (writer_of out.new)) }
+    ensures flushed { IfOk result (λ _. is_flushed out.new ≡ true) }
 {
     match print(out, pieces) {
         Ok(()) => Ok(status),
-        Err(WriteFault) => Err(ServeError::WriteFault),
+        Err(WriteFault) => Err(Refusal::WriteFault),
     }
 }
 
@@ -67,20 +46,19 @@ fn serve_count<O: Write, T: Threads + Wait + Sync>(
     cpus: u8,
     times: u64,
     out: &mut Sink<O>,
-) -> Result<u8, ServeError>
+) -> Result<u8, Refusal>
     requires cpus { cpus ≤ CPUS }
     requires times { times ≤ MOST_TIMES }
     requires live { has_failed out.old ≡ false }
-    ensures end { IfOk result (λ given. given ≡ 0) }
-    ensures counts { Counts (times * cpus) (status_of result) (has_failed out.new) (O.contents (writer_of out.old)) (O.contents (writer_of out.new)) }
+    ensures counts { Counts (times * cpus) result (has_failed out.new) (O.contents (writer_of out.old)) (O.contents (writer_of out.new)) }
+    ensures flushed { IfOk result (λ _. is_flushed out.new ≡ true) }
 {
     let Ok(number) = count_plain(alloc, cpus, times) else {
-        return Err(ServeError::NoMemory);
+        return Err(Refusal::NoMemory);
     };
     let shared = match count_table(rt, alloc, cpus, times) {
         Ok(shared) => shared,
-        Err(CountFault::NoMemory) => return Err(ServeError::NoMemory),
-        Err(CountFault::NoThread) => return Err(ServeError::NoThread),
+        Err(fault) => return Err(count_refused(fault)),
     };
     let mut plain = Buffer::new();
     let mut table = Buffer::new();
@@ -96,41 +74,39 @@ fn serve_count<O: Write, T: Threads + Wait + Sync>(
     put_out(out, &lines, 0)
 }
 
+/// What a failed read refuses, by its kind.
+fn read_refused(kind: io::ErrorKind) -> Refusal
+    ensures { result ≡ kind_refused kind }
+{
+    match kind {
+        io::ErrorKind::OutOfMemory => Refusal::NoMemory,
+        _ => Refusal::ReadFault,
+    }
+}
+
 /// All of the input.
-fn read_all<R: Read>(alloc: Global, input: &mut R) -> Result<Vec<u8>, ServeError>
-    ensures { IfOk result (λ bytes. IsInput (R.remaining input.old) bytes.items) }
+fn read_all<R: Read>(alloc: Global, input: &mut R) -> Result<Vec<u8>, Refusal>
+    ensures { ReadsAll (R.remaining input.old) result }
 {
     let mut bytes = Vec::new(alloc);
     match input.read_to_end(&mut bytes) {
         Ok(_) => Ok(bytes),
-        Err(error) => {
-            if error.kind() == io::ErrorKind::OutOfMemory {
-                Err(ServeError::NoMemory)
-            } else {
-                Err(ServeError::ReadFault)
-            }
-        }
+        Err(error) => Err(read_refused(error.kind())),
     }
 }
 
-/// The longest name of a reason.
-const LONGEST_NAME: usize = 32;
-
 /// Prints a verdict: `yes`, or `no L Name(N)`. Gives the exit status.
-fn print_verdict<O: Write>(verdict: Verdict, out: &mut Sink<O>) -> Result<u8, ServeError>
+fn print_verdict<O: Write>(verdict: Verdict, out: &mut Sink<O>) -> Result<u8, Refusal>
     requires { has_failed out.old ≡ false }
-    ensures end { IfOk result (λ given. (given ≡ 0) ⊎ (given ≡ 3)) }
-    ensures tells { IsRefused (status_of result) (has_failed out.new) (O.contents (writer_of out.old)) (O.contents (writer_of out.new))
-        ⊎ Tells verdict (status_of result) (has_failed out.new) (O.contents (writer_of out.old)) (O.contents (writer_of out.new)) }
+    ensures tells { Tells verdict result (has_failed out.new) (O.contents (writer_of out.old)) (O.contents (writer_of out.new)) }
+    ensures flushed { IfOk result (λ _. is_flushed out.new ≡ true) }
 {
     match verdict {
         Verdict::Yes => put_out(out, &[b"yes\n".as_slice()], 0),
         Verdict::No(line, reason) => {
-            let mut name = ArrayString::<LONGEST_NAME>::new();
-            let _ = write!(name, "{reason}");
             let mut number = Buffer::new();
             let number = number.format(line).as_bytes();
-            let name = name.as_str().as_bytes();
+            let name = reason.name().as_bytes();
             let pieces = [
                 b"no ".as_slice(),
                 number,
@@ -140,7 +116,7 @@ fn print_verdict<O: Write>(verdict: Verdict, out: &mut Sink<O>) -> Result<u8, Se
             ];
             put_out(out, &pieces, 3)
         }
-        Verdict::NoMemory => Err(ServeError::NoMemory),
+        Verdict::NoMemory => Err(Refusal::NoMemory),
     }
 }
 
@@ -149,12 +125,15 @@ fn serve_check<R: Read, O: Write>(
     alloc: Global,
     input: &mut R,
     out: &mut Sink<O>,
-) -> Result<u8, ServeError>
+) -> Result<u8, Refusal>
     requires { has_failed out.old ≡ false }
-    ensures end { IfOk result (λ given. (given ≡ 0) ⊎ (given ≡ 3)) }
-    ensures checks { Checks (R.remaining input.old) (status_of result) (has_failed out.new) (O.contents (writer_of out.old)) (O.contents (writer_of out.new)) }
+    ensures checks { Checks (R.remaining input.old) result (has_failed out.new) (O.contents (writer_of out.old)) (O.contents (writer_of out.new)) }
+    ensures flushed { IfOk result (λ _. is_flushed out.new ≡ true) }
 {
-    let text = read_all(alloc, input)?;
+    let text = match read_all(alloc, input) {
+        Ok(text) => text,
+        Err(refusal) => return Err(refusal),
+    };
     print_verdict(check(text.as_slice()), out)
 }
 
@@ -168,26 +147,70 @@ fn steps_in(alloc: Global, schedule: Option<String>) -> Result<Vec<CpuId>, Steps
     }
 }
 
+/// Runs the plan of these bytes under a schedule's steps.
+fn run_bytes<O: Write>(
+    alloc: Global,
+    bytes: &[u8],
+    steps: &[CpuId],
+    out: &mut Sink<O>,
+) -> Result<u8, Refusal>
+    requires live { has_failed out.old ≡ false }
+    requires few { length steps.now ≤ MOST_STEPS }
+    ensures runs { RunsBytes bytes.now steps.now result (has_failed out.new) (O.contents (writer_of out.old)) (O.contents (writer_of out.new)) }
+    ensures flushed { IfOk result (λ _. is_flushed out.new ≡ true) }
+{
+    let Ok(plan) = str::from_utf8(bytes) else {
+        return Err(Refusal::Plan(BootError::BadToml));
+    };
+    if let Err(fault) = run_text(alloc, plan, steps, out) {
+        return Err(run_refused(fault));
+    }
+    put_out(out, &[], 0)
+}
+
 /// Runs the plan on the input under a schedule's steps.
 fn serve_run<R: Read, O: Write>(
     alloc: Global,
     steps: &[CpuId],
     input: &mut R,
     out: &mut Sink<O>,
-) -> Result<u8, ServeError>
+) -> Result<u8, Refusal>
     requires live { has_failed out.old ≡ false }
     requires few { length steps.now ≤ MOST_STEPS }
-    ensures end { IfOk result (λ given. given ≡ 0) }
-    ensures runs { Runs (R.remaining input.old) steps.now (status_of result) (has_failed out.new) (O.contents (writer_of out.old)) (O.contents (writer_of out.new)) }
+    ensures runs { Runs (R.remaining input.old) steps.now result (has_failed out.new) (O.contents (writer_of out.old)) (O.contents (writer_of out.new)) }
+    ensures flushed { IfOk result (λ _. is_flushed out.new ≡ true) }
 {
-    let bytes = read_all(alloc, input)?;
-    let Ok(plan) = str::from_utf8(bytes.as_slice()) else {
-        return Err(ServeError::Run(Fault::Boot(BootError::BadToml)));
+    let bytes = match read_all(alloc, input) {
+        Ok(bytes) => bytes,
+        Err(refusal) => return Err(refusal),
     };
-    if let Err(fault) = run_text(alloc, plan, steps, out) {
-        return Err(ServeError::Run(fault));
+    run_bytes(alloc, bytes.as_slice(), steps, out)
+}
+
+/// Does what the words order, and gives the exit status. Nothing is told on standard error.
+fn answer<R: Read, O: Write, T: Threads + Wait + Sync>(
+    rt: &T,
+    alloc: Global,
+    words: &[&str],
+    input: &mut R,
+    out: &mut Sink<O>,
+) -> Result<u8, Refusal>
+    requires { has_failed out.old ≡ false }
+    ensures served { Serves (order_of (map (λ w. w.now) words.now)) (R.remaining input.old) result
+        (has_failed out.new) (O.contents (writer_of out.old)) (O.contents (writer_of out.new)) }
+    ensures flushed { IfOk result (λ _. is_flushed out.new ≡ true) }
+    ensures unread { reads_input (order_of (map (λ w. w.now) words.now)) ≡ false → input.new ≡ input.old }
+{
+    match read_line(alloc, words) {
+        Err(error) => Err(line_refused(error)),
+        Ok(Order::Count(cpus, times)) => serve_count(rt, alloc, cpus, times, out),
+        Ok(Order::Check) => serve_check(alloc, input, out),
+        Ok(Order::Run(schedule)) => match steps_in(alloc, schedule) {
+            Ok(steps) => serve_run(alloc, steps.as_slice(), input, out),
+            Err(error) => Err(steps_refused(error)),
+        },
+        Ok(Order::Threads(_)) => unreachable!(),
     }
-    put_out(out, &[], 0)
 }
 
 /// Serves one command line: `words` are those after the program's name.
@@ -195,7 +218,8 @@ fn serve_run<R: Read, O: Write>(
 /// Gives the exit status: 0 for a good run or a yes of `check`; 1 for a refusal, with the line
 /// `error: Name(N)` on `err`; 2 for a bad command line, with the help on its command on `err` (a
 /// bad schedule has the line of a refusal there) and nothing on `out`; 3 for a no of `check`. With
-/// 0 and 3 nothing is on `err`. The input is read for a check, and for a run whose schedule is one.
+/// 0 and 3 nothing is on `err`, and `out` is flushed. The input is read for a check, and for a run
+/// whose schedule is one.
 pub fn serve<R: Read, O: Write, E: Write, T: Threads + Wait + Sync>(
     rt: &T,
     alloc: Global,
@@ -206,33 +230,18 @@ pub fn serve<R: Read, O: Write, E: Write, T: Threads + Wait + Sync>(
 ) -> u8
     requires out { has_failed out.old ≡ false }
     requires err { has_failed err.old ≡ false }
-    ensures served { Serves (order_of (map (λ w. w.now) words.now)) (R.remaining input.old)
-        result (has_failed out.new) (O.contents (writer_of out.old)) (O.contents (writer_of out.new)) }
-    ensures told { Reports (map (λ w. w.now) words.now) (order_of (map (λ w. w.now) words.now))
-        result (has_failed err.new) (E.contents (writer_of err.old)) (E.contents (writer_of err.new)) }
+    ensures served { Ends (map (λ w. w.now) words.now) (order_of (map (λ w. w.now) words.now)) (R.remaining input.old) result
+        (has_failed out.new) (O.contents (writer_of out.old)) (O.contents (writer_of out.new))
+        (has_failed err.new) (E.contents (writer_of err.old)) (E.contents (writer_of err.new)) }
+    ensures flushed { (result ≡ 0) ⊎ (result ≡ 3) → is_flushed out.new ≡ true }
     ensures unread { reads_input (order_of (map (λ w. w.now) words.now)) ≡ false → input.new ≡ input.old }
 {
-    let served = match read_line(alloc, words) {
-        Err(LineError::Refused) => {
-            let _ = print(err, &[help_on(words).as_bytes()]);
-            return 2;
-        }
-        Err(LineError::NoMemory) => Err(ServeError::NoMemory),
-        Ok(Order::Count(cpus, times)) => serve_count(rt, alloc, cpus, times, out),
-        Ok(Order::Check) => serve_check(alloc, input, out),
-        Ok(Order::Run(schedule)) => match steps_in(alloc, schedule) {
-            Ok(steps) => serve_run(alloc, steps.as_slice(), input, out),
-            Err(StepsError::NoMemory) => Err(ServeError::NoMemory),
-            Err(StepsError::BadSchedule) => {
-                let _ = refuse(err, &StepsError::BadSchedule);
-                return 2;
-            }
-        },
-        Ok(Order::Threads(_)) => unreachable!(),
-    };
-    match served {
+    match answer(rt, alloc, words, input, out) {
         Ok(status) => status,
-        Err(error) => refuse(err, &error),
+        Err(refusal) => {
+            tell(err, words, refusal);
+            status_of_refusal(refusal)
+        }
     }
 }
 
@@ -374,6 +383,62 @@ mod tests {
             &mut Sink::new(&mut err),
         );
         assert!(rt; Served { status, out, err }.is(1, b"", b"error: ReadFault(7)\n"));
+    }
+
+    /// A reader that has no memory to read with.
+    #[derive(Drop)]
+    struct Poor;
+
+    impl Read for Poor {
+        fn read(&mut self, _buf: &mut [u8]) -> io::Result<usize> {
+            Err(io::Error::from(io::ErrorKind::OutOfMemory))
+        }
+    }
+
+    #[test]
+    fn a_read_without_memory_is_told(rt: HostRuntime) {
+        let mut out = Vec::new(rt.alloc());
+        let mut err = Vec::new(rt.alloc());
+        let status = serve(
+            &rt,
+            rt.alloc(),
+            ["check"].as_slice(),
+            &mut Poor,
+            &mut Sink::new(&mut out),
+            &mut Sink::new(&mut err),
+        );
+        assert!(rt; Served { status, out, err }.is(1, b"", b"error: NoMemory(1)\n"));
+    }
+
+    /// A writer that takes all, and fails when it is to pass that on.
+    #[derive(Drop)]
+    struct Held<'a>(&'a mut Vec<u8>);
+
+    impl Write for Held<'_> {
+        fn write(&mut self, buf: &[u8]) -> io::Result<usize> {
+            self.0.extend_from_slice(buf)?;
+            Ok(buf.len())
+        }
+
+        fn flush(&mut self) -> io::Result<()> {
+            Err(io::Error::from(io::ErrorKind::StorageFull))
+        }
+    }
+
+    #[test]
+    fn a_flush_that_fails_is_told(rt: HostRuntime) {
+        let mut out = Vec::new(rt.alloc());
+        let mut err = Vec::new(rt.alloc());
+        let status = serve(
+            &rt,
+            rt.alloc(),
+            ["count", "--cpus", "1", "--times", "1"].as_slice(),
+            &mut b"".as_slice(),
+            &mut Sink::new(Held(&mut out)),
+            &mut Sink::new(&mut err),
+        );
+        let served = Served { status, out, err };
+        assert!(rt; served.is(1, b"plain 1\ntable 1\n", b"error: WriteFault(8)\n"));
     }
 
     /// A writer that takes so many bytes, one at a time, and then fails.

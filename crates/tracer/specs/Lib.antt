@@ -6,3 +6,4 @@ pub mod Judging
 pub mod Lines
 pub mod Tallies
 pub mod Verdicts
+pub mod Reasons

@@ -7,6 +7,10 @@ use Rattle.tracer.specs.declared.sinks.Sink.{Sink}
 abbrev pub has_failed : {W : Type 0} → Sink W → Bool
 has_failed sink = sink.failed
 
+-- whether nothing was put since the last good flush, or ever
+abbrev pub is_flushed : {W : Type 0} → Sink W → Bool
+is_flushed sink = sink.flushed
+
 -- the writer behind a sink
 abbrev pub writer_of : {W : Type 0} → Sink W → W
 writer_of sink = sink.writer

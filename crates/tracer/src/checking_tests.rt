@@ -193,6 +193,7 @@ fn reasons_print_with_their_numbers(rt: HostRuntime) -> Result<(), Fail> {
         (Reason::Left, "Left(37)"),
     ];
     for (reason, text) in reasons {
+        assert_eq!(rt; reason.name(), text);
         assert_eq!(rt; reason.to_string(rt.alloc())?.as_str(), text);
     }
     Ok(())

@@ -1,8 +1,8 @@
-//! A writer that remembers whether it failed.
+//! A writer that remembers whether it failed and whether it was flushed.
 
-ghost use Rattle.std.specs.Prelude.{◌≡◌, ◌<◌, length, take, is_err, Bool, true, false};
+ghost use Rattle.std.specs.Prelude.{◌≡◌, ◌<◌, length, take, is_err, Bool, true, false, if◌then◌else◌};
 ghost use Rattle.std.specs.Io.KnownBytes.{Keeps};
-ghost use Rattle.tracer.specs.Sinks.{has_failed, writer_of, Outs};
+ghost use Rattle.tracer.specs.Sinks.{has_failed, is_flushed, writer_of, Outs};
 
 use std::io::Write;
 use thiserror::Error;
@@ -12,23 +12,26 @@ use thiserror::Error;
 #[error("WriteFault(8)")]
 pub struct WriteFault;
 
-/// A writer, and whether a write of it failed. A write fails where it answers an error, of whatever
-/// kind, or takes no byte of a piece that isn't empty.
+/// A writer, whether a write of it failed, and whether it was flushed since anything was put. A write
+/// fails where it answers an error, of whatever kind, or takes no byte of a piece that isn't empty.
 #[derive(Drop)]
 pub struct Sink<W> {
     writer: W,
     failed: bool,
+    flushed: bool,
 }
 
 impl<W: Write> Sink<W> {
-    /// A sink over `writer` that has not failed.
+    /// A sink over `writer` that has not failed and to which nothing was put.
     pub fn new(writer: W) -> Sink<W>
         ensures failed { has_failed result ≡ false }
+        ensures flushed { is_flushed result ≡ true }
         ensures writer { writer_of result ≡ writer }
     {
         Sink {
             writer,
             failed: false,
+            flushed: true,
         }
     }
 
@@ -40,15 +43,25 @@ impl<W: Write> Sink<W> {
         *failed
     }
 
+    /// Whether nothing was put since the last good flush, or ever.
+    pub fn flushed(&self) -> bool
+        ensures { result ≡ is_flushed self.now }
+    {
+        let Sink { flushed, .. } = self;
+        *flushed
+    }
+
     /// Writes all of `piece`, by as many writes as the writer needs.
     ///
     /// Errors: `WriteFault` exactly where a write failed; then a beginning of `piece` is out, and
-    /// the sink has failed.
+    /// the sink has failed. Either way it is not flushed.
     pub fn put(&mut self, piece: &[u8]) -> Result<(), WriteFault>
         requires { has_failed self.old ≡ false }
         ensures failed { is_err result ≡ has_failed self.new }
+        ensures flushed { is_flushed self.new ≡ false }
         ensures out { Outs (has_failed self.new) (W.contents (writer_of self.old)) (W.contents (writer_of self.new)) piece.now }
     {
+        self.flushed = false;
         let mut rest = piece;
         while !rest.is_empty() {
             match self.writer.write(rest) {
@@ -64,16 +77,19 @@ impl<W: Write> Sink<W> {
 
     /// Asks the writer to pass on what it holds back.
     ///
-    /// Errors: `WriteFault` exactly where the writer answers an error; then the sink has failed.
+    /// Errors: `WriteFault` exactly where the writer answers an error; then the sink has failed, and
+    /// is as little flushed as before.
     pub fn flush(&mut self) -> Result<(), WriteFault>
         requires { has_failed self.old ≡ false }
         ensures failed { is_err result ≡ has_failed self.new }
+        ensures flushed { is_flushed self.new ≡ (if has_failed self.new then is_flushed self.old else true) }
         ensures out { Keeps (W.contents (writer_of self.old)) (W.contents (writer_of self.new)) }
     {
         self.failed = self.writer.flush().is_err();
         if self.failed {
             return Err(WriteFault);
         }
+        self.flushed = true;
         Ok(())
     }
 }

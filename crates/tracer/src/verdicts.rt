@@ -1,36 +1,61 @@
 //! What a trace text is judged to be.
 
+ghost use Rattle.std.specs.Prelude.{◌≡◌};
+ghost use Rattle.tracer.specs.Reasons.{name_of};
+
+use std::fmt;
 use thiserror::Error;
 
-/// The first reason against a line of a trace text.
+/// The first reason against a line of a trace text. Each prints as its name and its number.
 #[derive(Clone, Copy, Debug, PartialEq, Eq, Error)]
 pub enum Reason {
     /// The line is no spelling of a line that may stand here, whatever the size of its numbers; or
     /// it is not ended by a line feed, the text ends where a line is wanted, or a byte stands behind
     /// the last line.
-    #[error("Spelling(30)")]
     Spelling,
     /// A number is out of its range, or there are more than 524,288 entries.
-    #[error("Range(31)")]
     Range,
     /// The op is not the number of entries of that buffer before it.
-    #[error("Op(32)")]
     Op,
     /// The pos is not the number of entries of that buffer and kind before it.
-    #[error("Pos(33)")]
     Pos,
     /// A send where the buffer holds as many items as its capacity.
-    #[error("Full(34)")]
     Full,
     /// A receive where the buffer holds nothing.
-    #[error("EmptyTake(35)")]
     EmptyTake,
     /// A receive of a value that is not the buffer's first item.
-    #[error("WrongValue(36)")]
     WrongValue,
     /// The values of a `left` line are not the items of the buffer.
-    #[error("Left(37)")]
     Left,
+}
+
+impl Reason {
+    /// The name of the reason with its number, as `Spelling(30)`.
+    pub fn name(self) -> &'static str
+        ensures { result.now ≡ name_of self }
+    {
+        match self {
+            Reason::Spelling => "Spelling(30)",
+            Reason::Range => "Range(31)",
+            Reason::Op => "Op(32)",
+            Reason::Pos => "Pos(33)",
+            Reason::Full => "Full(34)",
+            Reason::EmptyTake => "EmptyTake(35)",
+            Reason::WrongValue => "WrongValue(36)",
+            Reason::Left => "Left(37)",
+        }
+    }
+}
+
+impl fmt::Display for Reason {
+    ghost use Rattle.std.specs.Prelude.{Some};
+    ghost use Rattle.tracer.specs.Reasons.{name_of};
+
+    ghost output = { λ reason. Some (name_of reason) };
+
+    fn fmt<W: fmt::Write>(&self, f: &mut fmt::Formatter<W>) -> fmt::Result {
+        f.write_str(self.name())
+    }
 }
 
 /// What the judge says of a text.

@@ -109,3 +109,14 @@ fn a_writer_that_takes_no_byte_has_failed(rt: HostRuntime) {
     assert_eq!(rt; sink.flush(), Err(WriteFault));
     assert!(rt; sink.failed());
 }
+
+#[test]
+fn a_sink_is_flushed_until_something_is_put(rt: HostRuntime) {
+    let mut writer = writer_with(rt.alloc(), 1, 1);
+    let mut sink = Sink::new(&mut writer);
+    assert!(rt; sink.flushed());
+    assert_eq!(rt; sink.put(b"a"), Ok(()));
+    assert!(rt; !sink.flushed());
+    assert_eq!(rt; sink.flush(), Ok(()));
+    assert!(rt; sink.flushed());
+}

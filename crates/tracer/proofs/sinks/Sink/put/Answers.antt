@@ -12,6 +12,7 @@ loop-rest-preserved g c =
     let cut : take n rest ++ c.split_at.result.1.now ≡ rest = rw c.split_at.ensures.back (take-append-drop n rest) in
     record {
       live = c.loop-rest.invariant.live;
+      held = c.loop-rest.invariant.held;
       out = (
         so_far.0 ++ take n rest,
         so_far.1 ∙ ap (λ (t : List ℕ). so_far.0 ++ t) (sym cut)

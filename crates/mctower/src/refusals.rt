@@ -1,0 +1,121 @@
+//! Refusals: why an order was not done, what tells it on standard error, and the exit status.
+
+ghost use Rattle.std.specs.Prelude.{◌≡◌, false, map, MatchResult, Ok, Err};
+ghost use Rattle.tracer.specs.Sinks.{has_failed, writer_of};
+ghost use Rattle.mctower.specs.Refusals.{Told, from_count, from_fault, from_line, from_steps, status_of_refusal, text_of};
+
+use crate::help::help_on;
+use crate::line::LineError;
+use crate::print::{print, refuse};
+use crate::run::Fault;
+use crate::schedule::StepsError;
+use crate::workers::CountFault;
+use boot::BootError;
+use std::io::Write;
+use tracer::Sink;
+
+/// Why an order was not done. Each but `BadLine` is told by its name and its number.
+#[derive(Clone, Copy, Debug, PartialEq, Eq)]
+pub enum Refusal {
+    /// The words are no command line of this program, or ask for help: the help is told.
+    BadLine,
+    /// Memory ran out.
+    NoMemory,
+    /// The schedule names a CPU that the plan has not.
+    BadCpu,
+    /// A thread could not be started.
+    NoThread,
+    /// The traces have no order that keeps each of them. It never comes.
+    NoOrder,
+    /// Standard input could not be read.
+    ReadFault,
+    /// Standard output could not be written; a beginning may be out.
+    WriteFault,
+    /// The schedule is none.
+    BadSchedule,
+    /// The plan is refused.
+    Plan(BootError),
+}
+
+/// A fault of a run as a refusal.
+pub(crate) fn run_refused(fault: Fault) -> Refusal
+    ensures { result ≡ from_fault fault }
+{
+    match fault {
+        Fault::NoMemory => Refusal::NoMemory,
+        Fault::Boot(error) => Refusal::Plan(error),
+        Fault::BadCpu => Refusal::BadCpu,
+        Fault::NoOrder => Refusal::NoOrder,
+        Fault::WriteFault => Refusal::WriteFault,
+    }
+}
+
+/// A fault of a count as a refusal.
+pub(crate) fn count_refused(fault: CountFault) -> Refusal
+    ensures { result ≡ from_count fault }
+{
+    match fault {
+        CountFault::NoMemory => Refusal::NoMemory,
+        CountFault::NoThread => Refusal::NoThread,
+    }
+}
+
+/// Words that are no order, as a refusal.
+pub(crate) fn line_refused(error: LineError) -> Refusal
+    ensures { result ≡ from_line error }
+{
+    match error {
+        LineError::NoMemory => Refusal::NoMemory,
+        LineError::Refused => Refusal::BadLine,
+    }
+}
+
+/// A text that is no schedule, as a refusal.
+pub(crate) fn steps_refused(error: StepsError) -> Refusal
+    ensures { result ≡ from_steps error }
+{
+    match error {
+        StepsError::NoMemory => Refusal::NoMemory,
+        StepsError::BadSchedule => Refusal::BadSchedule,
+    }
+}
+
+/// The exit status of a refusal: 2 where the command line is a bad one, else 1.
+pub(crate) fn status_of_refusal(refusal: Refusal) -> u8
+    ensures { result ≡ status_of_refusal refusal }
+{
+    match refusal {
+        Refusal::BadLine | Refusal::BadSchedule => 2,
+        _ => 1,
+    }
+}
+
+/// The whole text that tells a refusal of these words, or why the plan is refused, which tells it.
+fn text_of(words: &[&str], refusal: Refusal) -> Result<&'static str, BootError>
+    ensures { MatchResult result (λ text. text_of (map (λ w. w.now) words.now) refusal ≡ Ok text.now) (λ error. text_of (map (λ w. w.now) words.now) refusal ≡ Err error) }
+{
+    match refusal {
+        Refusal::BadLine => Ok(help_on(words)),
+        Refusal::NoMemory => Ok("error: NoMemory(1)\n"),
+        Refusal::BadCpu => Ok("error: BadCpu(4)\n"),
+        Refusal::NoThread => Ok("error: NoThread(5)\n"),
+        Refusal::NoOrder => Ok("error: NoOrder(6)\n"),
+        Refusal::ReadFault => Ok("error: ReadFault(7)\n"),
+        Refusal::WriteFault => Ok("error: WriteFault(8)\n"),
+        Refusal::BadSchedule => Ok("error: BadSchedule(9)\n"),
+        Refusal::Plan(error) => Err(error),
+    }
+}
+
+/// Tells a refusal of these words, if the sink takes it. Takes no memory.
+pub(crate) fn tell<W: Write>(sink: &mut Sink<W>, words: &[&str], refusal: Refusal)
+    requires { has_failed sink.old ≡ false }
+    ensures { Told (text_of (map (λ w. w.now) words.now) refusal) (has_failed sink.new) (W.contents (writer_of sink.old)) (W.contents (writer_of sink.new)) }
+{
+    match text_of(words, refusal) {
+        Ok(text) => {
+            let _ = print(sink, &[text.as_bytes()]);
+        }
+        Err(error) => refuse(sink, &error),
+    }
+}

@@ -1,0 +1,88 @@
+#!/usr/bin/env bash
+# Runs the built program where no contract sees it: the exit status of the process, what is on each of its streams, an output
+# that is full or closed, an input that cannot be read, memory and threads that are not there. It takes seconds.
+#
+#   tests/edge.sh [PROGRAM..]
+#
+# Without a name it runs each build of mctower that `rt ci` or `rt run` left. The last line is 'edge: N passed, M failed'.
+set -u
+export LC_ALL=C
+cd "$(dirname "$0")/.."
+room=$(mktemp -d)
+trap 'rm -rf "$room"' EXIT
+passed=0
+failed=0
+
+# Runs a command line with at most 20 seconds: $1 is the wanted status, $2 the wanted output and $3 what is wanted on standard
+# error, where '~TEXT' is any text that begins so; the rest is the command line, a shell's, in which `mctower` is the program.
+row() {
+  local status=0 out err
+  bash -c "mctower() { timeout 20 '$program' \"\$@\"; }; $4" > "$room/out" 2> "$room/err" || status=$?
+  out=$(cat "$room/out"; echo .)
+  err=$(cat "$room/err"; echo .)
+  if [ "$status" = "$1" ] && [ "$out" = "$2." ] && is "$3" "${err%.}"; then
+    passed=$((passed + 1))
+  else
+    failed=$((failed + 1))
+    printf 'edge: %s\n  %s\n  status %s, wanted %s\n  output: %s\n  error: %s\n' "$program" "$4" "$status" "$1" "${out%.}" "${err%.}"
+  fi
+}
+is() {
+  if [ "${1#\~}" != "$1" ]; then [ "${2#"${1#\~}"}" != "$2" ]; else [ "$1" = "$2" ]; fi
+}
+
+send="mctower run --schedule '0*6' < plans/one-send.toml"
+sent=$'mctower-trace 1\nbuffers 1\ncap 0 1\ne 0 0 send 0 7 0 0\nleft 0 7\nend\n'
+one_stack='ulimit -s 1000000; ulimit -v 1500000'
+takes='mctower-trace 1\nbuffers 1\ncap 0 2\ne 0 0 recv 0 7 0 0\nleft 0\nend\n'
+
+rows() {
+  # a good run, a yes, a no
+  row 0 $'plain 6\ntable 6\n' '' 'mctower count --cpus 2 --times 3'
+  row 0 "$sent" '' "$send"
+  row 0 $'yes\n' '' "$send | mctower check"
+  row 3 $'no 4 EmptyTake(35)\n' '' "printf '$takes' | mctower check"
+  row 3 $'no 1 Spelling(30)\n' '' 'mctower check < /dev/null'
+  # a bad command line
+  row 2 '' '~mctower: ' 'mctower'
+  row 2 '' '~mctower count' 'mctower count --cpus 0 --times 1'
+  row 2 '' '~mctower threads' 'mctower threads --turns 5 < plans/one-send.toml'
+  row 2 '' '~mctower: ' "mctower \$'\\xff'"
+  row 2 '' $'error: BadSchedule(9)\n' 'mctower run --schedule 0, < plans/one-send.toml'
+  # a refusal
+  row 1 '' $'error: BadCpu(4)\n' 'mctower run --schedule 0,1 < plans/one-send.toml'
+  row 1 '' $'error: OutOfRange(22) cpus\n' 'echo cpus = 99 | mctower run'
+  row 1 '' $'error: BadToml(20)\n' "printf '# \\xff\\n' | mctower run"
+  # an input that cannot be read
+  row 1 '' $'error: ReadFault(7)\n' 'mctower check < .'
+  row 1 '' $'error: ReadFault(7)\n' 'mctower run < .'
+  row 1 '' $'error: ReadFault(7)\n' 'mctower check <&-'
+  # it is not read where the words do not ask for it
+  row 0 $'plain 1\ntable 1\n' '' 'mctower count --cpus 1 --times 1 < .'
+  row 2 '' $'error: BadSchedule(9)\n' 'mctower run --schedule x < .'
+  # a full disk, and a reader that is gone
+  row 1 '' $'error: WriteFault(8)\n' 'mctower count --cpus 1 --times 1 > /dev/full'
+  row 1 '' $'error: WriteFault(8)\n' "$send > /dev/full"
+  row 1 '' $'error: WriteFault(8)\n' 'mctower check < /dev/null > /dev/full'
+  row 1 '' $'error: WriteFault(8)\n' 'set -o pipefail; { sleep 0.2; mctower check < /dev/null; } | true'
+  row 1 '' $'error: WriteFault(8)\n' 'mctower count --cpus 1 --times 1 >&-'
+  # room for one thread's stack, and not for two; no room for the longest schedule
+  row 0 $'plain 3\ntable 3\n' '' "$one_stack; mctower count --cpus 1 --times 3"
+  row 1 '' $'error: NoThread(5)\n' "$one_stack; mctower count --cpus 2 --times 3"
+  row 1 '' $'error: NoMemory(1)\n' "ulimit -v 5000; mctower run --schedule '0*1048576' < plans/one-send.toml"
+  # nothing can be told: the status tells it
+  row 2 '' '' 'mctower 2> /dev/full'
+  row 2 '' '' 'mctower 2>&-'
+  row 1 '' '' 'mctower check < . 2> /dev/full'
+}
+
+[ $# -gt 0 ] || set -- crates/mctower/out/mctower crates/mctower/out/mctower.by-rattle
+for program; do
+  if [ -x "$program" ]; then
+    program=$(realpath "$program")
+    rows
+  fi
+done
+[ $((passed + failed)) -gt 0 ] || { echo "edge: build the program first: (cd crates/mctower && rt run -- count --cpus 1 --times 1)"; exit 1; }
+echo "edge: $passed passed, $failed failed"
+[ "$failed" = 0 ]
