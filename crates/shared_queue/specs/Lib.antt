@@ -1,2 +1,3 @@
 pub mod SharedLaws
 pub mod Opening
+pub mod OwnedLaws

@@ -1,10 +1,13 @@
 //! Shared queues under locks.
 
-ghost use Rattle.std.specs.Prelude.{◌≡◌};
+ghost use Rattle.std.specs.Prelude.{◌≡◌, true, refl};
 ghost use Rattle.layer_traits.specs.Queues.{lock_of, edit_of};
 
-use event_log::{CpuId, LockId};
-use layer_traits::{LockLayer, Moves, QueueAnswer, QueueCall, QueueEdit, QueueLayer};
+use event_log::{BufId, CpuId, LockId, Tid};
+use layer_traits::{
+    LockLayer, Moves, OwnedLocks, OwnedQueues, QueueAnswer, QueueBlock, QueueCall, QueueEdit,
+    QueueLayer,
+};
 
 /// The lock of a call, and its edit of the block that the lock guards.
 #[inline(always)]
@@ -93,4 +96,68 @@ impl<E: Moves, L: LockLayer<QueueEdit<E>>> QueueLayer<E> for SharedQueues<L> {
     ghost seen_is = { λ step m. ap (map event_of) (L.seen_is step m) };
 
     ghost busy = { λ p m fits step. same_busy event_of (L.under_way p.lower) ∙ L.busy p.lower m fits.0 step };
+}
+
+impl<E: Moves, L: OwnedLocks<QueueEdit<E>>> OwnedQueues<E> for SharedQueues<L> {
+    ghost use Rattle.std.specs.Option.{option_and_then};
+    ghost use Rattle.event_log.specs.declared.ids.LockId.TheVariants.{Buffer, Pending};
+    ghost use Rattle.event_log.specs.Actions.{phase};
+    ghost use Rattle.event_log.specs.Sections.{block_after};
+    ghost use Rattle.layer_traits.proofs.OwnedLemmas.{shown_under};
+    ghost use Rattle.layer_traits.specs.Plans.{is_in_section};
+    ghost use Rattle.layer_traits.specs.QueueBlocks.{StartsWell};
+    ghost use Rattle.layer_traits.specs.QueueRules.{IsProperCall, queue_edited};
+    ghost use Rattle.shared_queue.specs.OwnedLaws.{above_in, queue_in, buffer_shown, queue_shown};
+
+    ghost block_at = { λ m b. option_and_then above_in (L.block_at m (Buffer b)) };
+
+    ghost block_with = { λ p b. option_and_then above_in (L.block_with p.lower (Buffer b)) };
+
+    ghost queue_at = { λ m d. option_and_then queue_in (L.block_at m (Pending d)) };
+
+    ghost queue_with = { λ p d. option_and_then queue_in (L.block_with p.lower (Pending d)) };
+
+    fn block_in(m: &L::Machine, b: BufId) -> Option<&E::Block> {
+        match L::block_in(m, LockId::Buffer(b)) {
+            Some(QueueBlock::Above(room)) => Some(room.content()),
+            _ => None,
+        }
+    }
+
+    fn block_here(&self, b: BufId) -> Option<&E::Block> {
+        match self.lower.block_here(LockId::Buffer(b)) {
+            Some(QueueBlock::Above(room)) => Some(room.content()),
+            _ => None,
+        }
+    }
+
+    fn pends_in(m: &L::Machine, d: CpuId, t: Tid) -> Option<bool> {
+        match L::block_in(m, LockId::Pending(d)) {
+            Some(QueueBlock::Queue(queue, _)) => Some(queue.content().contains(t)),
+            _ => None,
+        }
+    }
+
+    fn pends_here(&self, d: CpuId, t: Tid) -> Option<bool> {
+        match self.lower.block_here(LockId::Pending(d)) {
+            Some(QueueBlock::Queue(queue, _)) => Some(queue.content().contains(t)),
+            _ => None,
+        }
+    }
+
+    ghost shown = { λ m c b acts there. buffer_shown E.rules E.moves (L.opening m) (L.seen m) acts.1 (L.lawful m c acts.0)
+        (λ (p : Self). L.Fits p.lower m × StartsWell (L.opening m) × IsProperCall (L.under_way p.lower)) (λ p. L.cpu_of p.lower)
+        (λ d. L.IsStepwise × (is_in_section (phase d (L.acts m)) ≡ true)) b (λ p. L.block_with p.lower (Buffer b)) (L.block_at m (Buffer b))
+        (shown_under (λ (p : Self). p.lower) (λ p. L.Fits p m) (λ p. L.Fits p.lower m × StartsWell (L.opening m) × IsProperCall (L.under_way p.lower))
+        (λ p. L.cpu_of p) (λ p. L.cpu_of p.lower) (λ d. L.IsStepwise × (is_in_section (phase d (L.acts m)) ≡ true)) (λ d. L.IsStepwise × (is_in_section (phase d (L.acts m)) ≡ true))
+        (λ p. L.block_with p (Buffer b)) (L.block_at m (Buffer b)) (block_after (queue_edited E.rules.edited) (L.opening m) (Buffer b) (L.seen m))
+        (λ p fits. fits.0) (λ p fits. refl) (λ d inside. inside) (L.shown m c (Buffer b) acts.0 there)) };
+
+    ghost queues = { λ m c d acts there. queue_shown E.rules E.moves (L.opening m) (L.seen m) acts.1 (L.lawful m c acts.0)
+        (λ (p : Self). L.Fits p.lower m × StartsWell (L.opening m) × IsProperCall (L.under_way p.lower)) (λ p. L.cpu_of p.lower)
+        (λ d. L.IsStepwise × (is_in_section (phase d (L.acts m)) ≡ true)) E.wakes_sleepers d there (λ p. L.block_with p.lower (Pending d)) (L.block_at m (Pending d))
+        (shown_under (λ (p : Self). p.lower) (λ p. L.Fits p m) (λ p. L.Fits p.lower m × StartsWell (L.opening m) × IsProperCall (L.under_way p.lower))
+        (λ p. L.cpu_of p) (λ p. L.cpu_of p.lower) (λ d. L.IsStepwise × (is_in_section (phase d (L.acts m)) ≡ true)) (λ d. L.IsStepwise × (is_in_section (phase d (L.acts m)) ≡ true))
+        (λ p. L.block_with p (Pending d)) (L.block_at m (Pending d)) (block_after (queue_edited E.rules.edited) (L.opening m) (Pending d) (L.seen m))
+        (λ p fits. fits.0) (λ p fits. refl) (λ d inside. inside) (L.shown m c (Pending d) acts.0 there)) };
 }
