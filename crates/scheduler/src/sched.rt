@@ -5,8 +5,10 @@ ghost use Rattle.std.specs.Prelude.{◌≡◌};
 use crate::calls::{call_beneath, kept};
 use crate::owns::OwnThreads;
 use arrayvec::ArrayVec;
-use event_log::{CpuId, THREADS, Tid};
-use layer_traits::{Moves, QueueLayer, SchedAnswer, SchedCall, SchedLayer};
+use event_log::{BufId, CpuId, THREADS, Tid};
+use layer_traits::{
+    Moves, OwnedQueues, OwnedScheds, QueueLayer, SchedAnswer, SchedCall, SchedLayer,
+};
 
 /// One CPU's part of a scheduler over shared queues: it does its CPU's calls one by one, and keeps
 /// what the CPU has of its own. A thread that it wakes is ready at once if its home is here; else it
@@ -123,4 +125,54 @@ impl<E: Moves, Q: QueueLayer<E>> SchedLayer<E> for Sched<Q> {
     ghost busy = { λ p m fits step. busy_under (Q.acts m) (Q.under_way p.lower) p.own.current p.cpu (Q.cpu_of p.lower) fits.1.cpu (Q.busy p.lower m fits.0 step) };
 
     ghost stands = { λ p m fits. fits.1.stands };
+}
+
+impl<E: Moves, Q: OwnedQueues<E>> OwnedScheds<E> for Sched<Q> {
+    ghost use Rattle.event_log.specs.Actions.{phase};
+    ghost use Rattle.layer_traits.proofs.OwnedLemmas.{shown_under};
+    ghost use Rattle.layer_traits.specs.Plans.{is_in_section};
+    ghost use Rattle.std.specs.Prelude.{true, Some};
+    ghost use Rattle.event_log.specs.Sections.{block_after};
+    ghost use Rattle.event_log.specs.declared.ids.LockId.TheVariants.{Buffer};
+    ghost use Rattle.layer_traits.specs.Places.{pending_by};
+    ghost use Rattle.layer_traits.specs.QueueBlocks.{inner};
+    ghost use Rattle.layer_traits.specs.Queues.{buffer_sections, kernel, moves_in};
+
+    ghost block_at = { λ m b. Q.block_at m b };
+
+    ghost block_with = { λ p b. Q.block_with p.lower b };
+
+    ghost queue_at = { λ m d. Q.queue_at m d };
+
+    ghost queue_with = { λ p d. Q.queue_with p.lower d };
+
+    #[inline(always)]
+    fn block_in(m: &Q::Machine, b: BufId) -> Option<&E::Block> {
+        Q::block_in(m, b)
+    }
+
+    #[inline(always)]
+    fn block_here(&self, b: BufId) -> Option<&E::Block> {
+        self.lower.block_here(b)
+    }
+
+    #[inline(always)]
+    fn pends_in(m: &Q::Machine, d: CpuId, t: Tid) -> Option<bool> {
+        Q::pends_in(m, d, t)
+    }
+
+    #[inline(always)]
+    fn pends_here(&self, d: CpuId, t: Tid) -> Option<bool> {
+        self.lower.pends_here(d, t)
+    }
+
+    ghost shown = { λ m c b acts there. shown_under (λ (p : Self). p.lower) (λ p. Q.Fits p m) (λ (p : Self). Self.Fits p m) (λ p. Q.cpu_of p) (λ (p : Self). p.cpu)
+        (λ d. Q.IsStepwise × (is_in_section (phase d (Q.acts m)) ≡ true)) (λ d. Q.IsStepwise × (is_in_section (phase d (Q.acts m)) ≡ true))
+        (λ p. Q.block_with p b) (Q.block_at m b) (block_after E.rules.edited (inner (Q.opening m)) (Buffer b) (buffer_sections (Q.seen m)))
+        (λ p fits. fits.0) (λ p fits. fits.1.cpu) (λ d inside. inside) (Q.shown m c b acts there) };
+
+    ghost queues = { λ m c d acts there. shown_under (λ (p : Self). p.lower) (λ p. Q.Fits p m) (λ (p : Self). Self.Fits p m) (λ p. Q.cpu_of p) (λ (p : Self). p.cpu)
+        (λ d. Q.IsStepwise × (is_in_section (phase d (Q.acts m)) ≡ true)) (λ d. Q.IsStepwise × (is_in_section (phase d (Q.acts m)) ≡ true))
+        (λ p. Q.queue_with p d) (Q.queue_at m d) (Some (pending_by (moves_in (kernel E.rules E.moves (Q.opening m)) (Q.seen m)) d))
+        (λ p fits. fits.0) (λ p fits. fits.1.cpu) (λ d inside. inside) (Q.queues m c d acts there) };
 }
