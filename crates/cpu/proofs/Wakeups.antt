@@ -11,3 +11,6 @@ pub mod CpuStep
 pub mod Chosen
 pub mod Reaching
 pub mod Working
+pub mod Placed
+pub mod Says
+pub mod Kept

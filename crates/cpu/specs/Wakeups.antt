@@ -1,3 +1,4 @@
 pub mod Order
 pub mod Lost
 pub mod OneSignal
+pub mod Quiet

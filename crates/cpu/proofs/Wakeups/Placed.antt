@@ -1,0 +1,157 @@
+-- More of each thread after any section log: a CPU holds threads only if the machine has it, a thread sleeps at buffers of the machine,
+-- and whoever waits stands at its wait.
+use Rattle.std.proofs.Common.{◌≡◌, ◌≢◌, ℕ, zero, suc, ◌+◌, ◌<◌, ◌≤◌, Bool, true, false, not, ◌&&◌, List, [], ◌∷◌, ◌++◌, length, slice_get, Option, Some, None, option_map, nat_lt, if◌then◌else◌, refl, sym, ap, ◌∙◌, subst, arith}
+use Rattle.std.proofs.lemmas.Bool.{and_parts, and_from, and_left, and_right, false_from_ne_true}
+use Rattle.std.proofs.lemmas.Option.{slice_get_within}
+use Rattle.event_log.specs.declared.ids.CpuId.{CpuId}
+use Rattle.event_log.specs.declared.ids.Tid.{Tid}
+use Rattle.event_log.specs.declared.ids.BufId.{BufId}
+use Rattle.event_log.specs.declared.ids.LockId.{LockId}
+use Rattle.event_log.specs.declared.ids.LockId.TheVariants.{Pending, Buffer as AtBuffer}
+use Rattle.event_log.specs.History.{same_cpu, same_lock}
+use Rattle.event_log.specs.Sections.{Section}
+use Rattle.thread_blocks.specs.Queues.{same_tid}
+use Rattle.thread_blocks.proofs.Members.{same_tid_self, same_tid_true}
+use Rattle.layer_traits.specs.declared.locked.Side.{Side}
+use Rattle.layer_traits.specs.declared.locked.Side.TheVariants.{Receivers, Senders}
+use Rattle.layer_traits.specs.Places.{is_thread}
+use Rattle.cpu.specs.Table.Blocks.{Buffer, Block, OfBuffer, OfPending, Name, AcqQ, Enter, TryPut, TryTake, WaitOn, SigRecv, SigSend, RelQ, Pend, TakeAll}
+use Rattle.cpu.specs.Table.Edits.{edited, answer_of_acquire, answer_of_buffer}
+use Rattle.cpu.specs.Table.Setups.{Setup, home_of, opening_buffer}
+use Rattle.cpu.specs.Wakeups.Order.{progress, block_of}
+use Rattle.cpu.proofs.Wakeups.Lists.{refuted, some_is, none_is_not}
+use Rattle.cpu.proofs.Wakeups.Spots.{Spot, Home, InHand, IsPending, AtLock, AtWait, Doing, Waiting, Turn, Outside, In}
+use Rattle.cpu.proofs.Wakeups.Spots.{caller_in, is_caller, bed, spot_by, spot_woken, spot_slept, spot_moved, spot_drained, spot_pending, spot_buffer, spot, next_turn, turn_moved, turn_buffer, turn}
+use Rattle.cpu.proofs.Wakeups.Spots.{is_local, IsCallers, MayComeBy, MayComeTo, MayComeAt, MayCome}
+use Rattle.cpu.proofs.Wakeups.Pairs.{woken_sleeps}
+use Rattle.cpu.proofs.Wakeups.Called.{Good, CallersAre, callers_are, is_the_caller}
+
+-- what a spot says of the machine and of the turn
+abbrev pub IsPlaced : Setup → Turn → Spot → Type 0
+IsPlaced setup turn Home = Unit {0}
+IsPlaced setup turn (InHand c) = c.0 < setup.cpus
+IsPlaced setup turn IsPending = Unit {0}
+IsPlaced setup turn (AtLock b) = b.0 < length setup.caps
+IsPlaced setup turn (AtWait b side) = (b.0 < length setup.caps) × (turn ≡ In b (Waiting side))
+
+-- who is inside a call has a home
+abbrev pub HasHome : Setup → Tid → Turn → Type 0
+HasHome setup u Outside = Unit {0}
+HasHome setup u (In b doing) = nat_lt u.0 (length setup.homes) ≡ true
+
+pub record Placed (setup : Setup) (past : List (Section Name)) : Type 0 where
+  pub spots : (u : Tid) → IsPlaced setup (turn setup u past) (spot setup u past)
+  pub callers : (u : Tid) → HasHome setup u (turn setup u past)
+
+-- a buffer's block is there only for a buffer of the machine
+pub buffer_within : (setup : Setup) (b : BufId) (past : List (Section Name)) (k : Buffer) → block_of setup (AtBuffer b) past ≡ Some (OfBuffer k) → b.0 < length setup.caps
+buffer_within setup b [] k is = opens (slice_get setup.caps b.0) refl is
+  where
+    opens : (o : Option ℕ) → slice_get setup.caps b.0 ≡ o → opening_buffer o ≡ Some (OfBuffer k) → b.0 < length setup.caps
+    opens None at now = absurd (cc now)
+    opens (Some capacity) at now = slice_get_within setup.caps b.0 capacity at
+buffer_within setup b (s ∷ past) k is = by_test (same_lock (AtBuffer b) s.lock) (block_of setup (AtBuffer b) past) (buffer_within setup b past) is
+  where
+    by_test : (here : Bool) (o : Option Block) → ((before : Buffer) → o ≡ Some (OfBuffer before) → b.0 < length setup.caps)
+        → (if here then option_map (edited s.edit) o else o) ≡ Some (OfBuffer k) → b.0 < length setup.caps
+    by_test false o before now = before k now
+    by_test true None before now = absurd (cc now)
+    by_test true (Some (OfPending threads)) before now = absurd (cc now)
+    by_test true (Some (OfBuffer was)) before now = before was refl
+
+-- and there is one for each
+pub buffer_there : (setup : Setup) (b : BufId) (past : List (Section Name)) → b.0 < length setup.caps → (k : Buffer) × (block_of setup (AtBuffer b) past ≡ Some (OfBuffer k))
+buffer_there setup b [] within = opens setup.caps b.0 within
+  where
+    opens : (caps : List ℕ) (i : ℕ) → i < length caps → (k : Buffer) × (opening_buffer (slice_get caps i) ≡ Some (OfBuffer k))
+    opens [] i below = absurd (omega (arith, below))
+    opens (cap ∷ caps) zero below = (_, refl)
+    opens (cap ∷ caps) (suc i) below = opens caps i (omega (arith, below))
+buffer_there setup b (s ∷ past) within = by_test (same_lock (AtBuffer b) s.lock) (block_of setup (AtBuffer b) past) (buffer_there setup b past within)
+  where
+    by_test : (here : Bool) (o : Option Block) → ((k : Buffer) × (o ≡ Some (OfBuffer k)))
+        → (k : Buffer) × ((if here then option_map (edited s.edit) o else o) ≡ Some (OfBuffer k))
+    by_test true o before = (_, ap (option_map (edited s.edit)) before.1)
+    by_test false o before = before
+
+placed_by : (setup : Setup) (turn : Turn) (here : Bool) (c : CpuId) → c.0 < setup.cpus → IsPlaced setup turn (spot_by here c)
+placed_by setup turn true c within = tt
+placed_by setup turn false c within = within
+
+-- only those that ask for the lock or wait are put to sleep
+placed_bed : (setup : Setup) (d : BufId) (name : Name) (k : Buffer) (turn : Turn) → d.0 < length setup.caps → IsPlaced setup (next_turn d name k turn) (bed d name)
+placed_bed setup d (AcqQ t) k turn within = within
+placed_bed setup d (Enter t side) k turn within = within
+placed_bed setup d (TryPut t m) k turn within = within
+placed_bed setup d (TryTake t) k turn within = within
+placed_bed setup d (WaitOn t side) k turn within = (within, refl)
+placed_bed setup d (SigRecv t) k turn within = within
+placed_bed setup d (SigSend t) k turn within = within
+placed_bed setup d (RelQ t) k turn within = within
+placed_bed setup d (Pend s) k turn within = within
+placed_bed setup d TakeAll k turn within = within
+
+has_home : (setup : Setup) (u : Tid) (turn : Turn) → nat_lt u.0 (length setup.homes) ≡ true → HasHome setup u turn
+has_home setup u Outside known = tt
+has_home setup u (In b doing) known = known
+
+module _ (setup : Setup) (past : List (Section Name)) (placed : Placed setup past) (c : CpuId) (within : c.0 < setup.cpus) (d : BufId) (name : Name) (callers : CallersAre setup past c d name) where
+  known_caller : (u : Tid) → is_caller u name ≡ true → nat_lt u.0 (length setup.homes) ≡ true
+  known_caller u own = (and_parts (same_cpu (home_of setup u) c) (nat_lt u.0 (length setup.homes)) (callers u (is_the_caller u name own)).local).1
+
+  spots_buffer : (u : Tid) (o : Option Block) → block_of setup (AtBuffer d) past ≡ o
+      → IsPlaced setup (turn_buffer d u name o (turn setup u past)) (spot_buffer setup c d u name o (spot setup u past))
+  spots_buffer u None is = placed.spots u
+  spots_buffer u (Some (OfPending threads)) is = placed.spots u
+  spots_buffer u (Some (OfBuffer k)) is = by_test (is_thread u (answer_of_buffer name k).woke) (answer_of_buffer name k).slept (is_caller u name) refl
+    where
+      by_test : (w slept mine : Bool) → is_caller u name ≡ mine
+          → IsPlaced setup (if mine then next_turn d name k (turn setup u past) else turn setup u past)
+              (if w then spot_woken setup c u else (if slept && mine then bed d name else spot setup u past))
+      by_test true slept mine own = placed_by setup _ (same_cpu (home_of setup u) c) c within
+      by_test false true true own = placed_bed setup d name k (turn setup u past) (buffer_within setup d past k is)
+      by_test false false true own =
+          subst (IsPlaced setup (next_turn d name k (turn setup u past))) (sym (callers u (is_the_caller u name own)).here) tt
+      by_test false true false own = placed.spots u
+      by_test false false false own = placed.spots u
+
+  callers_buffer : (u : Tid) (o : Option Block) → HasHome setup u (turn_buffer d u name o (turn setup u past))
+  callers_buffer u None = placed.callers u
+  callers_buffer u (Some (OfPending threads)) = placed.callers u
+  callers_buffer u (Some (OfBuffer k)) = by_test (is_caller u name) refl
+    where
+      by_test : (mine : Bool) → is_caller u name ≡ mine → HasHome setup u (if mine then next_turn d name k (turn setup u past) else turn setup u past)
+      by_test true own = has_home setup u (next_turn d name k (turn setup u past)) (known_caller u own)
+      by_test false own = placed.callers u
+
+module _ (setup : Setup) (past : List (Section Name)) (placed : Placed setup past) (c d : CpuId) where
+  placed_drained : (turn : Turn) (x : Spot) → IsPlaced setup turn x → IsPlaced setup turn (spot_drained x)
+  placed_drained turn Home at = tt
+  placed_drained turn (InHand e) at = at
+  placed_drained turn IsPending at = tt
+  placed_drained turn (AtLock b) at = at
+  placed_drained turn (AtWait b side) at = at
+
+  spots_pending : (name : Name) → MayComeTo setup past c d name → (u : Tid) → IsPlaced setup (turn setup u past) (spot_pending setup d u name (spot setup u past))
+  spots_pending (Pend s) may u = by_test (same_tid s u)
+    where
+      by_test : (mine : Bool) → IsPlaced setup (turn setup u past) (if mine then IsPending else spot setup u past)
+      by_test true = tt
+      by_test false = placed.spots u
+  spots_pending TakeAll may u = by_test (same_cpu (home_of setup u) d)
+    where
+      by_test : (mine : Bool) → IsPlaced setup (turn setup u past) (if mine then spot_drained (spot setup u past) else spot setup u past)
+      by_test true = placed_drained (turn setup u past) (spot setup u past) (placed.spots u)
+      by_test false = placed.spots u
+  spots_pending name may u = absurd may
+
+pub placed_none : (setup : Setup) → Placed setup []
+placed_none setup = record { spots = λ u. tt; callers = λ u. tt }
+
+module _ (setup : Setup) (past : List (Section Name)) (placed : Placed setup past) (c : CpuId) (within : c.0 < setup.cpus) (name : Name) where
+  pub placed_at : (lock : LockId) → MayComeAt setup past c lock name → Placed setup (record { cpu = c; lock = lock; edit = name } ∷ past)
+  placed_at (Pending d) may = record { spots = λ u. spots_pending setup past placed c d name may u; callers = placed.callers }
+  placed_at (AtBuffer d) may = record {
+    spots = λ u. spots_buffer setup past placed c within d name (callers_are setup past c d name may) u (block_of setup (AtBuffer d) past) refl;
+    callers = λ u. callers_buffer setup past placed c within d name (callers_are setup past c d name may) u (block_of setup (AtBuffer d) past);
+  }

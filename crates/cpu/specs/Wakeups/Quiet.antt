@@ -1,0 +1,72 @@
+-- A quiet system: no CPU has anything to do. It is stuck: no call of a live thread could take effect, whoever steps when.
+use Rattle.std.specs.Prelude.{◌≡◌, ℕ, ◌<◌, ◌≤◌, true, false, List, [], ◌∷◌, length, Option, Some, None, slice_get}
+use Rattle.event_log.specs.declared.ids.CpuId.{CpuId}
+use Rattle.event_log.specs.declared.ids.Tid.{Tid}
+use Rattle.event_log.specs.declared.ids.BufId.{BufId}
+use Rattle.event_log.specs.declared.ids.LockId.TheVariants.{Pending, Buffer as AtBuffer}
+use Rattle.event_log.specs.declared.ids.TheConstants.{THREADS}
+use Rattle.event_log.specs.declared.entries.Kind.{Kind}
+use Rattle.event_log.specs.Messages.{Message}
+use Rattle.event_log.specs.Actions.{phase}
+use Rattle.layer_traits.specs.declared.steps.Reason.{Reason}
+use Rattle.layer_traits.specs.Plans.{is_in_section}
+use Rattle.guest.specs.declared.instructions.Instruction.{Instruction}
+use Rattle.guest.specs.declared.instructions.Instruction.TheVariants.{Set, Add, Sub, Jnz, Send, Recv, Yield as YieldLine, Exit}
+use Rattle.guest.specs.State.{State, sent_from}
+use Rattle.cpu.specs.Table.Blocks.{Buffer, OfBuffer, OfPending, Asks, Sends, Receives}
+use Rattle.cpu.specs.Table.Setups.{Setup, Call, Private, thread_at, home_of, stands_at}
+use Rattle.cpu.specs.Table.Steps.{Whole, IsReached, block_at, halted_at}
+use Rattle.cpu.specs.Wakeups.Lost.{asks_of, Allows}
+
+-- no more threads than a machine may have
+abbrev pub AreFew : Setup → Type 0
+AreFew setup = length setup.homes ≤ THREADS
+
+-- and each is at home on a CPU of this machine
+abbrev pub HomesExist : Setup → Type 0
+HomesExist setup = AreFew setup × ((t : Tid) → t.0 < length setup.homes → (home_of setup t).0 < setup.cpus)
+
+-- a halted CPU is quiet where each of its threads has ended, any other where nobody runs, is ready or is in its hand
+abbrev pub IsQuietBy : Setup → CpuId → Private → Option Reason → Type 0
+IsQuietBy setup c p (Some reason) = (u : Tid) → home_of setup u ≡ c → u.0 < length setup.homes → (thread_at p u).ended ≡ true
+IsQuietBy setup c p None = (p.current ≡ None) × (p.ready ≡ []) × (p.hand ≡ None)
+
+-- no section is under way, each CPU is quiet, and nobody is pending
+pub record IsQuiet (setup : Setup) (s : Whole) : Type 0 where
+  pub outside : (c : CpuId) → c.0 < setup.cpus → is_in_section (phase c s.log) ≡ false
+  pub cpus : (c : CpuId) (p : Private) → slice_get s.cpus c.0 ≡ Some p → IsQuietBy setup c p (halted_at setup c p)
+  pub pending : (c : CpuId) → c.0 < setup.cpus → block_at setup (Pending c) s.log ≡ Some (OfPending [])
+
+-- what a thread asks next that stands at this instruction: a send or a receive at this buffer, with this message where it sends
+abbrev pub IsNextEffect : Instruction → State → Asks → BufId → Message → Type 0
+IsNextEffect (Send b r) s asks d m = (asks ≡ Sends) × (d ≡ b) × (m ≡ sent_from s r)
+IsNextEffect (Recv b r) s asks d m = (asks ≡ Receives) × (d ≡ b)
+IsNextEffect (Set r n) s asks d m = ⊥
+IsNextEffect (Add r q) s asks d m = ⊥
+IsNextEffect (Sub r q) s asks d m = ⊥
+IsNextEffect (Jnz r k) s asks d m = ⊥
+IsNextEffect YieldLine s asks d m = ⊥
+IsNextEffect Exit s asks d m = ⊥
+
+-- a call that has not taken effect, is what its thread asks next, and whose buffer allows no effect of it
+pub record IsStuckCall (setup : Setup) (s : Whole) (p : Private) (u : Tid) (call : Call) : Type 0 where
+  pub unfinished : call.effect ≡ None
+  pub next : IsNextEffect (stands_at setup p u) (thread_at p u).guest call.asks call.buffer call.message
+  pub refused : (k : Buffer) (m : Message) (e : Kind) → asks_of e ≡ call.asks → block_at setup (AtBuffer call.buffer) s.log ≡ Some (OfBuffer k) → Allows k e m → ⊥
+
+-- a thread that has not ended, at home on a CPU with this private state
+pub record IsLive (setup : Setup) (s : Whole) (p : Private) (u : Tid) : Type 0 where
+  pub known : u.0 < length setup.homes
+  pub here : slice_get s.cpus (home_of setup u).0 ≡ Some p
+  pub alive : (thread_at p u).ended ≡ false
+
+-- nobody owns a lock or sleeps at one; each live thread is inside a call that its buffer refuses; and no next effect of a live thread is allowed
+pub record IsStuck (setup : Setup) (s : Whole) : Type 0 where
+  pub unowned : (b : BufId) (k : Buffer) → block_at setup (AtBuffer b) s.log ≡ Some (OfBuffer k) → (k.busy ≡ None) × (k.sleepers ≡ [])
+  pub threads : (p : Private) (u : Tid) → IsLive setup s p u → (call : Call) × ((thread_at p u).call ≡ Some call) × IsStuckCall setup s p u call
+  pub effects : (p : Private) (u : Tid) → IsLive setup s p u → (e : Kind) (b : BufId) (m : Message) → IsNextEffect (stands_at setup p u) (thread_at p u).guest (asks_of e) b m
+      → (k : Buffer) → block_at setup (AtBuffer b) s.log ≡ Some (OfBuffer k) → Allows k e m → ⊥
+
+-- a quiet state that a system reaches is stuck
+abbrev pub QuietIsStuck : Type 0
+QuietIsStuck = (setup : Setup) (room : ℕ) (s : Whole) → HomesExist setup → IsReached setup room s → IsQuiet setup s → IsStuck setup s
