@@ -14,3 +14,4 @@ pub mod Working
 pub mod Placed
 pub mod Says
 pub mod Kept
+pub mod Stuck

@@ -2,3 +2,4 @@ pub mod Order
 pub mod Lost
 pub mod OneSignal
 pub mod Quiet
+pub mod Alone

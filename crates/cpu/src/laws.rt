@@ -4,6 +4,7 @@
 ghost use Rattle.cpu.specs.Table.Worked.{AloneRuns, RunsOfTwo, RunsOfThree};
 ghost use Rattle.cpu.specs.Wakeups.Lost.{OrderLosesNoWakeUp, SystemsKeepOrder, SystemsLoseNoWakeUp, FreeLocksHaveNoSleepers, WorkersLoseNoWakeUp};
 ghost use Rattle.cpu.specs.Wakeups.OneSignal.{OneSignalLosesAWakeUp};
+ghost use Rattle.cpu.specs.Wakeups.Quiet.{QuietIsStuck};
 
 /// Worked runs of one thread on one CPU, by computation: what each leaves after its schedule.
 pub fn runs_alone()
@@ -55,4 +56,10 @@ pub fn free_locks_have_no_sleepers()
 /// come between one another.
 pub fn workers_lose_no_wake_up()
     ensures { WorkersLoseNoWakeUp }
+{}
+
+/// A quiet state that a system reaches is stuck: nobody owns a lock or sleeps at one, and each live
+/// thread is inside a call that its buffer refuses, so that no schedule moves it on.
+pub fn quiet_is_stuck()
+    ensures { QuietIsStuck }
 {}

@@ -4,7 +4,7 @@
 mod laws;
 
 pub use laws::{
-    free_locks_have_no_sleepers, one_signal_loses_a_wake_up, order_loses_no_wake_up, runs_alone,
-    runs_of_three, runs_of_two, systems_keep_order, systems_lose_no_wake_up,
-    workers_lose_no_wake_up,
+    free_locks_have_no_sleepers, one_signal_loses_a_wake_up, order_loses_no_wake_up,
+    quiet_is_stuck, runs_alone, runs_of_three, runs_of_two, systems_keep_order,
+    systems_lose_no_wake_up, workers_lose_no_wake_up,
 };

@@ -1,27 +1,25 @@
 -- All that is known of every state that a system reaches.
-use Rattle.std.proofs.Common.{◌≡◌, ◌≢◌, ℕ, zero, suc, ◌+◌, ◌<◌, ◌≤◌, ◌==◌, Bool, true, false, List, [], ◌∷◌, ◌++◌, length, slice_get, slice_set, Option, Some, None, is_some, if◌then◌else◌, refl, sym, ap, ◌∙◌, subst, arith}
+use Rattle.std.proofs.Common.{◌≡◌, ℕ, zero, suc, ◌+◌, ◌<◌, ◌==◌, Bool, true, false, List, [], ◌∷◌, ◌++◌, length, slice_get, slice_set, Option, Some, None, refl, sym, ap, ◌∙◌, subst, arith}
 use Rattle.std.proofs.lemmas.Bool.{eqb-true, eqb-false}
 use Rattle.std.proofs.lemmas.List.{length-set}
 use Rattle.event_log.specs.declared.ids.CpuId.{CpuId}
 use Rattle.event_log.specs.declared.ids.Tid.{Tid}
 use Rattle.event_log.specs.History.{same_cpu}
-use Rattle.event_log.specs.Sections.{Section, sections_in}
-use Rattle.event_log.specs.Actions.{Action, Take, Try, Give, doer, phase}
-use Rattle.event_log.proofs.Same.{same_cpu_true}
-use Rattle.layer_traits.specs.declared.steps.Reason.{Reason}
+use Rattle.event_log.specs.Sections.{sections_in}
+use Rattle.event_log.specs.Actions.{Action, Take, Try, Give, phase}
 use Rattle.layer_traits.specs.declared.steps.Step.{Step}
 use Rattle.layer_traits.specs.declared.steps.Step.TheVariants.{Stepped, Halted}
 use Rattle.layer_traits.specs.Plans.{is_in_section}
 use Rattle.cpu.specs.Table.Blocks.{Name}
 use Rattle.cpu.specs.Table.Setups.{Setup, Private, thread_at, at_boot}
 use Rattle.cpu.specs.Table.Choice.{Choice, Halts, Alone, Goes, choice}
-use Rattle.cpu.specs.Table.Steps.{acting, chosen, step_in, cpu_step, Whole, cpu_numbered, boots_from, whole_at_boot, whole_after, roomy, answered_by, step_at, system_step, IsReached, boots, steps}
+use Rattle.cpu.specs.Table.Steps.{chosen, step_in, cpu_step, Whole, cpu_numbered, boots_from, whole_at_boot, whole_after, roomy, answered_by, step_at, system_step, IsReached, boots, steps}
 use Rattle.cpu.proofs.Wakeups.Spots.{spot, turn}
 use Rattle.cpu.proofs.Wakeups.Placed.{Placed, placed_none, placed_at}
-use Rattle.cpu.proofs.Wakeups.Agreement.{Agrees, IsSettled, runs, within}
+use Rattle.cpu.proofs.Wakeups.Agreement.{Agrees, runs, within}
 use Rattle.cpu.proofs.Wakeups.Chosen.{ChoiceOk, choice_ok}
 use Rattle.cpu.proofs.Wakeups.Says.{AllFine, fine_at_boot, FineChoice, fine_choice, fine_acting}
-use Rattle.cpu.proofs.Wakeups.Reaching.{IsFairLog, Ok, StepOk, step_ok, AllDo, Sound, sound_step, reached_sound, same_private, get_set, get_set_other, boots_at}
+use Rattle.cpu.proofs.Wakeups.Reaching.{IsFairLog, Ok, StepOk, step_ok, AllDo, Sound, sound_step, reached_sound, get_set, get_set_other, boots_at}
 
 -- what a step of a system leaves: the same, or the state after its CPU's step
 pub data NextIs (setup : Setup) (c : CpuId) (s : Whole) : Whole → Type 0 where
@@ -92,9 +90,9 @@ kept_at_boot setup room = record {
   sound = reached_sound setup room (whole_at_boot setup room) boots;
   placed = placed_none setup;
   fine = λ e p is.
-    let zero_plus : 0 + e.0 ≡ e.0 = omega arith in
-    let at : at_boot setup e ≡ p = ap (λ m. at_boot setup (cpu_numbered m)) (sym zero_plus) ∙ boots_at setup 0 setup.cpus e.0 p is in
-    subst (AllFine setup) at (fine_at_boot setup e);
+      let zero_plus : 0 + e.0 ≡ e.0 = omega arith in
+      let at : at_boot setup e ≡ p = ap (λ m. at_boot setup (cpu_numbered m)) (sym zero_plus) ∙ boots_at setup 0 setup.cpus e.0 p is in
+      subst (AllFine setup) at (fine_at_boot setup e);
   size = boots_length setup 0 setup.cpus;
 }
 

@@ -1,7 +1,7 @@
 -- More of each thread after any section log: a CPU holds threads only if the machine has it, a thread sleeps at buffers of the machine,
 -- and whoever waits stands at its wait.
-use Rattle.std.proofs.Common.{◌≡◌, ◌≢◌, ℕ, zero, suc, ◌+◌, ◌<◌, ◌≤◌, Bool, true, false, not, ◌&&◌, List, [], ◌∷◌, ◌++◌, length, slice_get, Option, Some, None, option_map, nat_lt, if◌then◌else◌, refl, sym, ap, ◌∙◌, subst, arith}
-use Rattle.std.proofs.lemmas.Bool.{and_parts, and_from, and_left, and_right, false_from_ne_true}
+use Rattle.std.proofs.Common.{◌≡◌, ℕ, zero, suc, ◌<◌, Bool, true, false, ◌&&◌, List, [], ◌∷◌, length, slice_get, Option, Some, None, option_map, nat_lt, if◌then◌else◌, refl, sym, ap, subst, arith}
+use Rattle.std.proofs.lemmas.Bool.{and_parts}
 use Rattle.std.proofs.lemmas.Option.{slice_get_within}
 use Rattle.event_log.specs.declared.ids.CpuId.{CpuId}
 use Rattle.event_log.specs.declared.ids.Tid.{Tid}
@@ -11,20 +11,15 @@ use Rattle.event_log.specs.declared.ids.LockId.TheVariants.{Pending, Buffer as A
 use Rattle.event_log.specs.History.{same_cpu, same_lock}
 use Rattle.event_log.specs.Sections.{Section}
 use Rattle.thread_blocks.specs.Queues.{same_tid}
-use Rattle.thread_blocks.proofs.Members.{same_tid_self, same_tid_true}
-use Rattle.layer_traits.specs.declared.locked.Side.{Side}
-use Rattle.layer_traits.specs.declared.locked.Side.TheVariants.{Receivers, Senders}
 use Rattle.layer_traits.specs.Places.{is_thread}
 use Rattle.cpu.specs.Table.Blocks.{Buffer, Block, OfBuffer, OfPending, Name, AcqQ, Enter, TryPut, TryTake, WaitOn, SigRecv, SigSend, RelQ, Pend, TakeAll}
-use Rattle.cpu.specs.Table.Edits.{edited, answer_of_acquire, answer_of_buffer}
+use Rattle.cpu.specs.Table.Edits.{edited, answer_of_buffer}
 use Rattle.cpu.specs.Table.Setups.{Setup, home_of, opening_buffer}
-use Rattle.cpu.specs.Wakeups.Order.{progress, block_of}
-use Rattle.cpu.proofs.Wakeups.Lists.{refuted, some_is, none_is_not}
-use Rattle.cpu.proofs.Wakeups.Spots.{Spot, Home, InHand, IsPending, AtLock, AtWait, Doing, Waiting, Turn, Outside, In}
-use Rattle.cpu.proofs.Wakeups.Spots.{caller_in, is_caller, bed, spot_by, spot_woken, spot_slept, spot_moved, spot_drained, spot_pending, spot_buffer, spot, next_turn, turn_moved, turn_buffer, turn}
-use Rattle.cpu.proofs.Wakeups.Spots.{is_local, IsCallers, MayComeBy, MayComeTo, MayComeAt, MayCome}
-use Rattle.cpu.proofs.Wakeups.Pairs.{woken_sleeps}
-use Rattle.cpu.proofs.Wakeups.Called.{Good, CallersAre, callers_are, is_the_caller}
+use Rattle.cpu.specs.Wakeups.Order.{block_of}
+use Rattle.cpu.proofs.Wakeups.Spots.{Spot, Home, InHand, IsPending, AtLock, AtWait, Waiting, Turn, Outside, In}
+use Rattle.cpu.proofs.Wakeups.Spots.{is_caller, bed, spot_by, spot_woken, spot_drained, spot_pending, spot_buffer, spot, next_turn, turn_buffer, turn}
+use Rattle.cpu.proofs.Wakeups.Spots.{MayComeTo, MayComeAt}
+use Rattle.cpu.proofs.Wakeups.Called.{CallersAre, callers_are, is_the_caller}
 
 -- what a spot says of the machine and of the turn
 abbrev pub IsPlaced : Setup → Turn → Spot → Type 0
@@ -107,7 +102,7 @@ module _ (setup : Setup) (past : List (Section Name)) (placed : Placed setup pas
     where
       by_test : (w slept mine : Bool) → is_caller u name ≡ mine
           → IsPlaced setup (if mine then next_turn d name k (turn setup u past) else turn setup u past)
-              (if w then spot_woken setup c u else (if slept && mine then bed d name else spot setup u past))
+          (if w then spot_woken setup c u else (if slept && mine then bed d name else spot setup u past))
       by_test true slept mine own = placed_by setup _ (same_cpu (home_of setup u) c) c within
       by_test false true true own = placed_bed setup d name k (turn setup u past) (buffer_within setup d past k is)
       by_test false false true own =

@@ -1,27 +1,26 @@
 -- The private states alone: a thread that has ended is inside no call, and a call that has not taken effect is what its thread asks next.
-use Rattle.std.proofs.Common.{◌≡◌, ◌≢◌, ℕ, ◌+◌, ◌<◌, ◌≤◌, ◌==◌, Bool, true, false, not, ◌&&◌, List, [], ◌∷◌, ◌++◌, length, map, get_or, ◌⊎◌, inl, inr, zero, suc, Option, Some, None, option_map, is_some, if◌then◌else◌, refl, sym, ap, ◌∙◌, subst, arith}
+use Rattle.std.proofs.Common.{◌≡◌, ℕ, ◌+◌, ◌<◌, ◌≤◌, ◌==◌, Bool, true, false, List, [], ◌∷◌, ◌++◌, length, map, get_or, ◌⊎◌, inl, inr, zero, suc, Option, Some, None, if◌then◌else◌, refl, sym, ap, subst}
 use Rattle.std.proofs.lemmas.Bool.{cases_lt}
 use Rattle.std.proofs.lemmas.List.{set_past}
 use Rattle.event_log.specs.declared.ids.CpuId.{CpuId}
 use Rattle.event_log.specs.declared.ids.Tid.{Tid}
-use Rattle.event_log.specs.Actions.{Action, Phase, Rests, Waits as WaitsAt, Holds, phase}
+use Rattle.event_log.specs.Actions.{Action}
 use Rattle.event_log.specs.History.{same_cpu}
 use Rattle.event_log.specs.Messages.{no_message}
-use Rattle.event_log.specs.Sections.{sections_in}
 use Rattle.guest.specs.declared.instructions.Instruction.{Instruction}
 use Rattle.guest.specs.declared.instructions.Instruction.TheVariants.{Set, Add, Sub, Jnz, Send, Recv, Yield as YieldLine, Exit}
 use Rattle.guest.specs.State.{State, next_of, sent_from, after_yield}
 use Rattle.thread_blocks.specs.Queues.{same_tid}
 use Rattle.thread_blocks.proofs.Members.{same_tid_true}
 use Rattle.layer_traits.specs.declared.steps.Reason.TheVariants.{AllEnded, TraceFull}
-use Rattle.layer_traits.specs.Plans.{is_in_section, at_give, reply}
-use Rattle.cpu.specs.Table.Blocks.{Name, Asks, Sends, Receives, side_of, Told, Nothing, Position, Done, NotYet, Drained, Answer}
+use Rattle.layer_traits.specs.Plans.{reply}
+use Rattle.cpu.specs.Table.Blocks.{Name, Asks, Sends, Receives, Told, Nothing, Position, Done, NotYet, Drained, Answer}
 use Rattle.cpu.specs.Table.Edits.{kernel}
 use Rattle.cpu.specs.Table.Setups.{Setup, Stage, Acquires, Enters, Tries, Waits, AcquiresAgain, Signals, SignalsOwn, Releases, Returns, Call, Thread, Private, new_thread, thread_at, with_thread, program_of, stands_at, at_boot, home_of, home_threads, open_calls, have_ended, opening}
-use Rattle.cpu.specs.Table.Choice.{asked, Choice, Halts, Alone, Goes, new_call, with_call, with_guest, begins, ends, at_instruction, at_call, at_ready, at_current, at_hand, choice}
-use Rattle.cpu.specs.Table.Choice.{goes_to, effected, heard, heard_entry, heard_position, heard_try, slept_if, woken, guest_after, returned, returned_at, returned_by, returned_in, settled}
-use Rattle.cpu.specs.Table.Choice.{drained, after_call, after_yielding, after_drain, after_by, after_at, after_in, after_section}
-use Rattle.cpu.specs.Table.Steps.{after_reply, acting, acting_on, chosen, step_in, cpu_step}
+use Rattle.cpu.specs.Table.Choice.{asked, Choice, Halts, Alone, Goes, new_call, with_call, with_guest, begins, at_instruction, at_call, at_ready, at_current, at_hand, choice}
+use Rattle.cpu.specs.Table.Choice.{heard, heard_entry, heard_position, slept_if, woken, guest_after, returned_at, returned_by, returned_in, settled}
+use Rattle.cpu.specs.Table.Choice.{after_by, after_at, after_in, after_section}
+use Rattle.cpu.specs.Table.Steps.{after_reply, acting}
 use Rattle.cpu.specs.Wakeups.Quiet.{IsNextEffect}
 use Rattle.cpu.proofs.Wakeups.Lists.{refuted}
 use Rattle.cpu.proofs.Wakeups.Agreement.{at_same, at_other}

@@ -1,0 +1,322 @@
+-- A quiet state that a system reaches is stuck.
+use Rattle.std.proofs.Common.{◌≡◌, ◌+◌, ◌<◌, Bool, true, false, not, ◌&&◌, List, [], ◌∷◌, length, slice_get, Option, Some, None, nat_lt, refl, sym, ap, ◌∙◌, subst, arith}
+use Rattle.std.proofs.lemmas.Bool.{and_parts, and_from, false_from_ne_true, lt-ltb, ltb-true}
+use Rattle.event_log.specs.declared.ids.CpuId.{CpuId}
+use Rattle.event_log.specs.declared.ids.Tid.{Tid}
+use Rattle.event_log.specs.declared.ids.BufId.{BufId}
+use Rattle.event_log.specs.declared.ids.LockId.TheVariants.{Buffer as AtBuffer}
+use Rattle.event_log.specs.declared.ids.TheConstants.{THREADS}
+use Rattle.event_log.specs.declared.entries.Kind.{Kind}
+use Rattle.event_log.specs.Messages.{Message}
+use Rattle.event_log.specs.History.{same_cpu}
+use Rattle.event_log.specs.Sections.{sections_in}
+use Rattle.event_log.proofs.Same.{same_cpu_self}
+use Rattle.guest.specs.declared.instructions.Instruction.{Instruction}
+use Rattle.guest.specs.declared.instructions.Instruction.TheVariants.{Set, Add, Sub, Jnz, Send, Recv, Yield as YieldLine, Exit}
+use Rattle.guest.specs.State.{State}
+use Rattle.thread_blocks.specs.Queues.{is_in, first}
+use Rattle.thread_blocks.proofs.Members.{same_tid_self}
+use Rattle.layer_traits.specs.declared.steps.Reason.{Reason}
+use Rattle.layer_traits.specs.declared.locked.Side.{Side}
+use Rattle.layer_traits.specs.declared.locked.Side.TheVariants.{Receivers, Senders}
+use Rattle.layer_traits.specs.Places.{is_thread, one_if, count_in}
+use Rattle.layer_traits.proofs.ListsLemmas.{counted_in}
+use Rattle.cpu.specs.Table.Blocks.{Buffer, OfBuffer, Asks, Sends, Receives, side_of}
+use Rattle.cpu.specs.Table.Edits.{line_of}
+use Rattle.cpu.specs.Table.Setups.{Setup, Stage, Acquires, Enters, Tries, Waits, AcquiresAgain, Signals, SignalsOwn, Releases, Returns, Call, Private, thread_at, home_of, stands_at}
+use Rattle.cpu.specs.Table.Choice.{at_hand}
+use Rattle.cpu.specs.Table.Steps.{Whole, block_at, halted_by, halted_at}
+use Rattle.cpu.specs.Wakeups.Order.{Progress, progress}
+use Rattle.cpu.specs.Wakeups.Lost.{asks_of, Allows, NoWakeUpIsLost}
+use Rattle.cpu.specs.Wakeups.Quiet.{HomesExist, IsQuietBy, IsQuiet, IsNextEffect, IsStuckCall, IsLive, IsStuck, QuietIsStuck}
+use Rattle.cpu.proofs.Wakeups.Lists.{refuted}
+use Rattle.cpu.proofs.Wakeups.Ordered.{buffer_awake, calm_loses_nothing}
+use Rattle.cpu.proofs.Wakeups.Spots.{Spot, Home, InHand, IsPending, AtLock, AtWait, Waiting, Turn, Outside, In}
+use Rattle.cpu.proofs.Wakeups.Spots.{is_buffer, is_side, is_home, is_hand, is_pending, is_lock, is_wait, names, goes_on, starts_here, stands, is_lined, is_local, spot, turn, marked}
+use Rattle.cpu.proofs.Wakeups.Pairs.{Pair, buffer_self, buffer_true, marked_some, front_counted}
+use Rattle.cpu.proofs.Wakeups.Called.{Good}
+use Rattle.cpu.proofs.Wakeups.Placed.{IsPlaced, HasHome, buffer_there}
+use Rattle.cpu.proofs.Wakeups.Agreement.{owing_own, turn_of_stage, turn_of_call, seat, Agrees}
+use Rattle.cpu.proofs.Wakeups.Says.{is_before, Says}
+use Rattle.cpu.proofs.Wakeups.Reaching.{fair_good}
+use Rattle.cpu.proofs.Wakeups.Kept.{Kept, reached_kept, cpu_there}
+
+-- a spot of a thread that sleeps
+pub data Asleep (x : Spot) : Type 0 where
+  at_lock : (b : BufId) → x ≡ AtLock b → Asleep x
+  at_wait : (b : BufId) (side : Side) → x ≡ AtWait b side → Asleep x
+
+-- Lines and waiting lists by side.
+
+abbrev waiting_of : Side → Buffer → List Tid
+waiting_of Senders k = k.waiting_senders
+waiting_of Receivers k = k.waiting_receivers
+
+line_count : (b : BufId) (u : Tid) (k : Buffer) (g : Progress) (turn : Turn) (x : Spot) → Pair b u k g turn x → (side : Side) → count_in u (line_of side k) ≡ marked u (is_lined b side turn)
+line_count b u k g turn x pair Senders = pair.send_line
+line_count b u k g turn x pair Receivers = pair.receive_line
+
+wait_count : (b : BufId) (u : Tid) (k : Buffer) (g : Progress) (turn : Turn) (x : Spot) → Pair b u k g turn x → (side : Side) → count_in u (waiting_of side k) ≡ marked u (is_wait b side x)
+wait_count b u k g turn x pair Senders = pair.senders
+wait_count b u k g turn x pair Receivers = pair.receivers
+
+lost_on : (k : Buffer) → NoWakeUpIsLost k → k.busy ≡ None → (asks : Asks) (t : Tid) (m : Message) → first (line_of (side_of asks) k) ≡ Some t
+    → is_in t (waiting_of (side_of asks) k) ≡ true → (e : Kind) → asks_of e ≡ asks → Allows k e m → ⊥
+lost_on k kept free Sends t m front there e is allowed = kept.senders free t m front there e is allowed
+lost_on k kept free Receives t m front there e is allowed = kept.receivers free t m front there e is allowed
+
+front_of : (u : Tid) (line : List Tid) → 0 < count_in u line → (t : Tid) × (first line ≡ Some t)
+front_of u [] some = absurd (omega (arith, some))
+front_of u (t ∷ line) some = (t, refl)
+
+side_self : (side : Side) → is_side side side ≡ true
+side_self Receivers = refl
+side_self Senders = refl
+
+side_true : (p q : Side) → is_side p q ≡ true → p ≡ q
+side_true Receivers Receivers on = refl
+side_true Senders Senders on = refl
+side_true Receivers Senders on = absurd (cc on)
+side_true Senders Receivers on = absurd (cc on)
+
+-- what a waiting turn is of
+abbrev buffer_or : BufId → Turn → BufId
+buffer_or b Outside = b
+buffer_or b (In d doing) = d
+
+abbrev side_or : Side → Turn → Side
+side_or side (In d (Waiting other)) = other
+side_or side other = side
+
+abbrev is_waiting : Turn → Bool
+is_waiting (In d (Waiting other)) = true
+is_waiting other = false
+
+owing_waits_not : (b : BufId) (side : Side) → is_waiting (In b (owing_own side)) ≡ false
+owing_waits_not b Senders = refl
+owing_waits_not b Receivers = refl
+
+-- the call whose turn is a wait has to ask for the lock again
+waits_again : (call : Call) (b : BufId) (side : Side) → turn_of_call (Some call) ≡ In b (Waiting side) → (is_before call.stage ≡ true) × (call.buffer ≡ b) × (side_of call.asks ≡ side)
+waits_again call b side is = by_stage call.stage refl is
+  where
+    by_stage : (stage : Stage) → call.stage ≡ stage → turn_of_stage call.buffer (side_of call.asks) stage ≡ In b (Waiting side)
+        → (is_before call.stage ≡ true) × (call.buffer ≡ b) × (side_of call.asks ≡ side)
+    by_stage AcquiresAgain at now = (ap is_before at, ap (buffer_or b) now, ap (side_or side) now)
+    by_stage Acquires at now = absurd (cc now)
+    by_stage Enters at now = absurd (cc now)
+    by_stage Tries at now = absurd (cc now)
+    by_stage Waits at now = absurd (cc now)
+    by_stage Signals at now = absurd (cc now)
+    by_stage SignalsOwn at now = refuted (owing_waits_not call.buffer (side_of call.asks)) (ap is_waiting now)
+    by_stage Releases at now = absurd (cc now)
+    by_stage Returns at now = absurd (cc now)
+
+-- an instruction asks for one effect
+same_effect : (line : Instruction) (s : State) (a x : Asks) (b d : BufId) (m n : Message) → IsNextEffect line s a b m → IsNextEffect line s x d n → (a ≡ x) × (b ≡ d)
+same_effect (Send e r) s a x b d m n one other = (one.0 ∙ sym other.0, one.1 ∙ sym other.1)
+same_effect (Recv e r) s a x b d m n one other = (one.0 ∙ sym other.0, one.1 ∙ sym other.1)
+same_effect (Set r i) s a x b d m n one other = absurd one
+same_effect (Add r q) s a x b d m n one other = absurd one
+same_effect (Sub r q) s a x b d m n one other = absurd one
+same_effect (Jnz r i) s a x b d m n one other = absurd one
+same_effect YieldLine s a x b d m n one other = absurd one
+same_effect Exit s a x b d m n one other = absurd one
+
+inside_known : (setup : Setup) (u : Tid) (b : BufId) (turn : Turn) → names b turn ≡ true → HasHome setup u turn → nat_lt u.0 (length setup.homes) ≡ true
+inside_known setup u b Outside on home = absurd (cc on)
+inside_known setup u b (In d doing) on home = home
+
+same_named : (b d : BufId) (turn : Turn) → names b turn ≡ true → names d turn ≡ true → b ≡ d
+same_named b d Outside on other = absurd (cc on)
+same_named b d (In e doing) on other = buffer_true b e on ∙ sym (buffer_true d e other)
+
+module _ (setup : Setup) (s : Whole) (homes : HomesExist setup) (kept : Kept setup s) (quiet : IsQuiet setup s) where
+  good : Good setup (sections_in s.log)
+  good = fair_good setup s.log kept.sound.fair
+
+  local : (u : Tid) → u.0 < length setup.homes → is_local setup (home_of setup u) u ≡ true
+  local u known = and_from (same_cpu (home_of setup u) (home_of setup u)) (nat_lt u.0 (length setup.homes)) (same_cpu_self (home_of setup u)) (lt-ltb u.0 (length setup.homes) known)
+
+  small : (u : Tid) → u.0 < length setup.homes → nat_lt u.0 THREADS ≡ true
+  small u known = let few = homes.0 in lt-ltb u.0 THREADS (omega (arith, known, few))
+
+  agrees : (c : CpuId) (p : Private) → slice_get s.cpus c.0 ≡ Some p → Agrees setup c p (λ u. turn setup u (sections_in s.log)) (λ u. spot setup u (sections_in s.log))
+  agrees c p here = (kept.sound.cpus c p here).agrees
+
+  -- a quiet CPU's hand is empty
+  empty : (c : CpuId) (p : Private) → slice_get s.cpus c.0 ≡ Some p → p.hand ≡ None
+  empty c p here = by_reason (halted_at setup c p) refl (quiet.cpus c p here)
+    where
+      by_hand : (reason : Reason) (hand : Option Tid) → p.hand ≡ hand → halted_by (at_hand setup c p hand) ≡ Some reason → p.hand ≡ None
+      by_hand reason None holds is = holds
+      by_hand reason (Some u) holds is = none_is_some is
+        where
+          none_is_some : {A : Type 0} → None ≡ Some reason → A
+          none_is_some {A = A} now = absurd (cc now)
+
+      by_reason : (r : Option Reason) → halted_at setup c p ≡ r → IsQuietBy setup c p r → p.hand ≡ None
+      by_reason None is at = at.2
+      by_reason (Some reason) is at = by_hand reason p.hand refl is
+
+  -- a live thread sleeps
+  asleep : (p : Private) (u : Tid) → IsLive setup s p u → Asleep (spot setup u (sections_in s.log))
+  asleep p u live = by_spot (spot setup u (sections_in s.log)) refl
+    where
+      c : CpuId
+      c = home_of setup u
+
+      by_reason : spot setup u (sections_in s.log) ≡ Home → (r : Option Reason) → IsQuietBy setup (home_of setup u) p r → Asleep (spot setup u (sections_in s.log))
+      by_reason at (Some reason) ended = refuted live.alive (ended u refl live.known)
+      by_reason at None idle =
+          let one : one_if (seat setup (home_of setup u) u (spot setup u (sections_in s.log)) (thread_at p u).ended) ≡ 1 =
+          (λ i. one_if (local u live.known i && (is_home (at i) && not (live.alive i)))) in
+          let none : one_if (is_thread u p.current) + count_in u p.ready ≡ 0 = (λ i. one_if (is_thread u (idle.0 i)) + count_in u (idle.1 i)) in
+          let sits = (agrees (home_of setup u) p live.here).seats u in
+          absurd (omega (arith, one, none, sits))
+
+      by_spot : (x : Spot) → spot setup u (sections_in s.log) ≡ x → Asleep (spot setup u (sections_in s.log))
+      by_spot (AtLock b) at = at_lock b at
+      by_spot (AtWait b side) at = at_wait b side at
+      by_spot Home at = by_reason at (halted_at setup (home_of setup u) p) (quiet.cpus (home_of setup u) p live.here)
+      by_spot (InHand e) at =
+          let known : e.0 < setup.cpus = subst (IsPlaced setup (turn setup u (sections_in s.log))) at (kept.placed.spots u) in
+          let cpu = cpu_there setup s kept e known in
+          let held : is_thread u cpu.0.hand ≡ true = (agrees e cpu.0 cpu.1).hands u ∙ ap (is_hand e) at ∙ same_cpu_self e in
+          refuted (ap (is_thread u) (empty e cpu.0 cpu.1)) held
+      by_spot IsPending at =
+          let none = good.pending (home_of setup u) u [] (quiet.pending (home_of setup u) (homes.1 u live.known)) in
+          let one : one_if (same_cpu (home_of setup u) (home_of setup u) && is_pending (spot setup u (sections_in s.log))) ≡ 1 =
+          (λ i. one_if (same_cpu_self (home_of setup u) i && is_pending (at i))) in
+          absurd (omega (arith, none, one))
+
+  -- whoever has a turn at a buffer is live
+  live_at : (u : Tid) (b : BufId) → names b (turn setup u (sections_in s.log)) ≡ true → (p : Private) × IsLive setup s p u
+  live_at u b on =
+      let known = ltb-true u.0 (length setup.homes) (inside_known setup u b (turn setup u (sections_in s.log)) on (kept.placed.callers u)) in
+      let cpu = cpu_there setup s kept (home_of setup u) (homes.1 u known) in
+      let alive : (thread_at cpu.0 u).ended ≡ false =
+      false_from_ne_true (thread_at cpu.0 u).ended (λ ended.
+      let out : turn setup u (sections_in s.log) ≡ Outside =
+      (agrees (home_of setup u) cpu.0 cpu.1).calls u (local u known) ∙ ap turn_of_call ((kept.fine (home_of setup u) cpu.0 cpu.1 u).quits ended) in
+      refuted (ap (names b) out) on) in
+      (cpu.0, record { known = known; here = cpu.1; alive = alive })
+
+  -- nobody owns a lock
+  unowned : (b : BufId) (k : Buffer) → block_at setup (AtBuffer b) s.log ≡ Some (OfBuffer k) → k.busy ≡ None
+  unowned b k block = by_owner k.busy refl
+    where
+      by_owner : (o : Option Tid) → k.busy ≡ o → o ≡ None
+      by_owner None is = refl
+      by_owner (Some t) is = by_sleep (asleep live.0 t live.1)
+        where
+          T : Turn
+          T = turn setup t (sections_in s.log)
+
+          pair : Pair b t k (progress setup (AtBuffer b) (sections_in s.log)) (turn setup t (sections_in s.log)) (spot setup t (sections_in s.log))
+          pair = good.pairs b t k block
+
+          inside : (names b (turn setup t (sections_in s.log)) ≡ true) × (goes_on (turn setup t (sections_in s.log)) ≡ true)
+          inside = and_parts (names b (turn setup t (sections_in s.log))) (goes_on (turn setup t (sections_in s.log))) (pair.owner is).0
+
+          live : (p : Private) × IsLive setup s p t
+          live = live_at t b inside.0
+
+          by_sleep : Asleep (spot setup t (sections_in s.log)) → Some t ≡ None
+          by_sleep (at_wait d side at) =
+              let placed : (d.0 < length setup.caps) × (turn setup t (sections_in s.log) ≡ In d (Waiting side)) =
+              subst (IsPlaced setup (turn setup t (sections_in s.log))) at (kept.placed.spots t) in
+              refuted (ap goes_on placed.1) inside.1
+          by_sleep (at_lock d at) =
+              let within : d.0 < length setup.caps = subst (IsPlaced setup (turn setup t (sections_in s.log))) at (kept.placed.spots t) in
+              let there = buffer_there setup d (sections_in s.log) within in
+              let starts = (good.pairs d t there.0 there.1).starts (ap (is_lock d) at ∙ buffer_self d) in
+              let named = (and_parts (names d (turn setup t (sections_in s.log))) (starts_here (turn setup t (sections_in s.log))) starts).0 in
+              let same : b ≡ d = same_named b d (turn setup t (sections_in s.log)) inside.0 named in
+              refuted (pair.owner is).2 (subst (λ x. is_lock x (spot setup t (sections_in s.log)) ≡ true) (sym same) (ap (is_lock d) at ∙ buffer_self d))
+
+  no_sleepers : (b : BufId) (k : Buffer) → block_at setup (AtBuffer b) s.log ≡ Some (OfBuffer k) → k.sleepers ≡ []
+  no_sleepers b k block = ((buffer_awake setup (sections_in s.log) good.ordered b k block).idle (unowned b k block)).1
+
+  -- so a live thread waits at its wait
+  waits : (p : Private) (u : Tid) → IsLive setup s p u
+      → (b : BufId) × (side : Side) × (spot setup u (sections_in s.log) ≡ AtWait b side) × (turn setup u (sections_in s.log) ≡ In b (Waiting side))
+  waits p u live = by_sleep (asleep p u live)
+    where
+      by_sleep : Asleep (spot setup u (sections_in s.log))
+          → (b : BufId) × (side : Side) × (spot setup u (sections_in s.log) ≡ AtWait b side) × (turn setup u (sections_in s.log) ≡ In b (Waiting side))
+      by_sleep (at_wait b side at) =
+          let placed : (b.0 < length setup.caps) × (turn setup u (sections_in s.log) ≡ In b (Waiting side)) =
+          subst (IsPlaced setup (turn setup u (sections_in s.log))) at (kept.placed.spots u) in
+          (b, side, at, placed.1)
+      by_sleep (at_lock b at) =
+          let within : b.0 < length setup.caps = subst (IsPlaced setup (turn setup u (sections_in s.log))) at (kept.placed.spots u) in
+          let there = buffer_there setup b (sections_in s.log) within in
+          let counts = (good.pairs b u there.0 there.1).sleepers in
+          let none : count_in u there.0.sleepers ≡ 0 = ap (count_in u) (no_sleepers b there.0 there.1) in
+          let one : marked u (is_lock b (spot setup u (sections_in s.log))) ≡ 1 =
+          (λ i. one_if (small u live.known i && is_lock b (at i))) ∙ ap one_if (buffer_self b) in
+          absurd (omega (arith, counts, none, one))
+
+  -- the call of a live thread
+  stuck_call : (p : Private) (u : Tid) → IsLive setup s p u → (call : Call) × ((thread_at p u).call ≡ Some call) × IsStuckCall setup s p u call
+  stuck_call p u live = by_call (thread_at p u).call refl
+    where
+      wait : (b : BufId) × (side : Side) × (spot setup u (sections_in s.log) ≡ AtWait b side) × (turn setup u (sections_in s.log) ≡ In b (Waiting side))
+      wait = waits p u live
+
+      turned : turn setup u (sections_in s.log) ≡ turn_of_call (thread_at p u).call
+      turned = (agrees (home_of setup u) p live.here).calls u (local u live.known)
+
+      by_call : (o : Option Call) → (thread_at p u).call ≡ o → (call : Call) × ((thread_at p u).call ≡ Some call) × IsStuckCall setup s p u call
+      by_call None is = absurd (cc (sym wait.3 ∙ turned ∙ ap turn_of_call is))
+      by_call (Some call) is =
+          let again = waits_again call wait.0 wait.1 (sym (ap turn_of_call is) ∙ sym turned ∙ wait.3) in
+          let says = subst (Says _ (thread_at p u).guest) is (kept.fine (home_of setup u) p live.here u).says again.0 in
+          (call, is, record { unfinished = says.0; next = says.1; refused = refused call again.1 again.2 })
+        where
+          refused : (call : Call) → call.buffer ≡ wait.0 → side_of call.asks ≡ wait.1 → (k : Buffer) (m : Message) (e : Kind) → asks_of e ≡ call.asks
+              → block_at setup (AtBuffer call.buffer) s.log ≡ Some (OfBuffer k) → Allows k e m → ⊥
+          refused call same_buffer same_side k m e asks block allowed =
+              let mine : turn setup u (sections_in s.log) ≡ In call.buffer (Waiting (side_of call.asks)) =
+              wait.3 ∙ (λ i. In (sym same_buffer i) (Waiting (sym same_side i))) in
+              let one : marked u (is_lined call.buffer (side_of call.asks) (turn setup u (sections_in s.log))) ≡ 1 =
+              (λ i. one_if (small u live.known i && is_lined call.buffer (side_of call.asks) (mine i)))
+              ∙ (λ i. one_if (buffer_self call.buffer i && side_self (side_of call.asks) i)) in
+              let counts = line_count call.buffer u k _ _ _ (good.pairs call.buffer u k block) (side_of call.asks) in
+              let front = front_of u (line_of (side_of call.asks) k) (omega (arith, one, counts)) in
+              first_waits call k m e asks block allowed front.0 front.1
+            where
+              first_waits : (call : Call) (k : Buffer) (m : Message) (e : Kind) → asks_of e ≡ call.asks → block_at setup (AtBuffer call.buffer) s.log ≡ Some (OfBuffer k)
+                  → Allows k e m → (t : Tid) → first (line_of (side_of call.asks) k) ≡ Some t → ⊥
+              first_waits call k m e asks block allowed t front =
+                  let pair = good.pairs call.buffer t k block in
+                  let some = front_counted t (line_of (side_of call.asks) k) (ap (is_thread t) front ∙ same_tid_self t) in
+                  let lined = (marked_some t (is_lined call.buffer (side_of call.asks) (turn setup t (sections_in s.log)))
+                  (subst (λ n. 0 < n) (line_count call.buffer t k _ _ _ pair (side_of call.asks)) some)).1 in
+                  let parts = and_parts (names call.buffer (turn setup t (sections_in s.log))) (stands (side_of call.asks) (turn setup t (sections_in s.log))) lined in
+                  let other = live_at t call.buffer parts.0 in
+                  let at = waits other.0 t other.1 in
+                  let there : is_wait call.buffer (side_of call.asks) (spot setup t (sections_in s.log)) ≡ true =
+                  ap (is_wait call.buffer (side_of call.asks)) at.2
+                  ∙ and_from (is_buffer call.buffer at.0) (is_side (side_of call.asks) at.1)
+                  (sym (ap (names call.buffer) at.3) ∙ parts.0) (sym (ap (stands (side_of call.asks)) at.3) ∙ parts.1) in
+                  let one : marked t (is_wait call.buffer (side_of call.asks) (spot setup t (sections_in s.log))) ≡ 1 =
+                  (λ i. one_if (small t other.1.known i && there i)) in
+                  let counts = wait_count call.buffer t k _ _ _ pair (side_of call.asks) in
+                  let stands_there = counted_in t (waiting_of (side_of call.asks) k) (omega (arith, one, counts)) in
+                  lost_on k (calm_loses_nothing k _ (buffer_awake setup (sections_in s.log) good.ordered call.buffer k block)) (unowned call.buffer k block) call.asks t m front
+                  stands_there e asks allowed
+
+  pub stuck : IsStuck setup s
+  stuck = record {
+    unowned = λ b k block. (unowned b k block, no_sleepers b k block);
+    threads = stuck_call;
+    effects = λ p u live e b m next k block allowed.
+        let call = stuck_call p u live in
+        let same = same_effect (stands_at setup p u) (thread_at p u).guest (asks_of e) call.0.asks b call.0.buffer m call.0.message next call.2.next in
+        call.2.refused k m e same.0 (subst (λ d. block_at setup (AtBuffer d) s.log ≡ Some (OfBuffer k)) same.1 block) allowed;
+  }
+
+pub quiet_is_stuck : QuietIsStuck
+quiet_is_stuck setup room s homes reached quiet = stuck setup s homes (reached_kept setup room s reached) quiet
