@@ -128,17 +128,20 @@ module _ {D E : Type 0} (name : D → E) where
   call_renamed lock edit.TakeAll = refl
   call_renamed lock (edit.Above d) = refl
 
-  sections_seen : (past : List (Section (QueueEdit D))) → renamed_events name (map event_of past) ≡ map event_of (map (renamed_section (renamed_edit name)) past)
+  sections_seen : (past : List (Section (QueueEdit D)))
+      → renamed_events name (map event_of past) ≡ map event_of (map (renamed_section (renamed_edit name)) past)
   sections_seen [] = refl
   sections_seen (s ∷ past) = λ i. event s.cpu (call_renamed s.lock s.edit i) ∷ sections_seen past i
 
   -- the events of actions are those of the actions under the other names
-  pub seen_renamed : (acts : List (Action (QueueEdit D))) → renamed_events name (map event_of (sections_in acts)) ≡ map event_of (sections_in (map (renamed (renamed_edit name)) acts))
+  pub seen_renamed : (acts : List (Action (QueueEdit D)))
+      → renamed_events name (map event_of (sections_in acts)) ≡ map event_of (sections_in (map (renamed (renamed_edit name)) acts))
   seen_renamed acts = sections_seen (sections_in acts) ∙ ap (map event_of) (sym (sections_in_renamed (renamed_edit name) acts))
 
 -- Plans under other names.
 
-pub named_raised : {M N R S T A C : Type 0} (name : M → N) (f : Left S A → Left T C) (plan : Plan M R S A) → named name (raised f plan) ≡ raised f (named name plan)
+pub named_raised : {M N R S T A C : Type 0} (name : M → N) (f : Left S A → Left T C) (plan : Plan M R S A)
+    → named name (raised f plan) ≡ raised f (named name plan)
 named_raised name f (Now left) = refl
 named_raised name f (Act lock m react) = refl
 
@@ -164,7 +167,8 @@ module _ {D E A B O : Type 0} (k : Kernel D A O) (j : Kernel E B O) (name : D �
   pub out_renamed : (past : List (QueueEvent D)) (b : BufId) (d : D) → out_at j (renamed_events name past) b (name d) ≡ out_at k past b d
   out_renamed past b d =
       ap (λ p. option_map (j.rules.answer (name d)) (block_after j.rules.edited j.opening (Buffer b) p)) (sections_renamed name past)
-      ∙ (ap (option_map (j.rules.answer (name d))) (block_renamed (Buffer b) (buffer_sections past)) ∙ out_viewed d (block_after k.rules.edited k.opening (Buffer b) (buffer_sections past)))
+      ∙ (ap (option_map (j.rules.answer (name d))) (block_renamed (Buffer b) (buffer_sections past))
+      ∙ out_viewed d (block_after k.rules.edited k.opening (Buffer b) (buffer_sections past)))
 
   move_out : (lock : LockId) (d : D) (o : Option O) → edit_move j.moves lock (name d) o ≡ edit_move k.moves lock d o
   move_out lock d None = refl
@@ -180,7 +184,8 @@ module _ {D E A B O : Type 0} (k : Kernel D A O) (j : Kernel E B O) (name : D �
   moves_renamed [] = refl
   moves_renamed (e ∷ past) = λ i. step e.cpu (move_renamed past e.call i) ∷ moves_renamed past i
 
-  allowed_renamed : (past : List (QueueEvent D)) (c : CpuId) (q : QueueCall D) → CallAllowed k past c q → CallAllowed j (renamed_events name past) c (renamed_call name q)
+  allowed_renamed : (past : List (QueueEvent D)) (c : CpuId) (q : QueueCall D) → CallAllowed k past c q
+      → CallAllowed j (renamed_events name past) c (renamed_call name q)
   allowed_renamed past c (queue.Push d t) may = transport (λ i. MayPush (sym homes i) (sym (moves_renamed past) i) c d t) may
   allowed_renamed past c (queue.TakeAll d) may = may
   allowed_renamed past c (queue.OnBuffer b d) may = record {
@@ -199,7 +204,8 @@ module _ {D E A B O : Type 0} (k : Kernel D A O) (j : Kernel E B O) (name : D �
       → (more : List (QueueEvent D)) → AreOthers event_actor c more → IsLawful (QueueAllowed k) (more ++ past)
       → j.rules.allowed j.opening (map (renamed_section name) (buffer_sections (more ++ past))) (section c (Buffer b) (name d))
   stays_renamed c past b d stays more others lawful =
-      subst (λ p. j.rules.allowed j.opening p (section c (Buffer b) (name d))) (ap buffer_sections (sym (events_append name more past)) ∙ sections_renamed name (more ++ past))
+      subst (λ p. j.rules.allowed j.opening p (section c (Buffer b) (name d)))
+      (ap buffer_sections (sym (events_append name more past)) ∙ sections_renamed name (more ++ past))
       (stays (renamed_events name more) (events_others name c more others)
       (subst (IsLawful (QueueAllowed j)) (events_append name more past) (lawful_renamed (more ++ past) lawful)))
 
@@ -207,9 +213,11 @@ module _ {D E A B O : Type 0} (k : Kernel D A O) (j : Kernel E B O) (name : D �
   answered_renamed c None own = refl
   answered_renamed c (Some out) own = λ i. own_woken (homes i) c (woke i out) (own_slept (slept i out) own)
 
-  own_renamed : (c : CpuId) (past : List (QueueEvent D)) (s : SchedCall D) (own : Threads) → own_after j c (renamed_events name past) (renamed_sched name s) own ≡ own_after k c past s own
+  own_renamed : (c : CpuId) (past : List (QueueEvent D)) (s : SchedCall D) (own : Threads)
+      → own_after j c (renamed_events name past) (renamed_sched name s) own ≡ own_after k c past s own
   own_renamed c past (call.Pass p) own = ap (λ moves. pass_after p (pending_by moves c) own) (moves_renamed past)
-  own_renamed c past (call.OnBuffer b d) own = ap (λ o. own_answered j.moves j.homes c o own) (out_renamed past b d) ∙ answered_renamed c (out_at k past b d) own
+  own_renamed c past (call.OnBuffer b d) own = ap (λ o. own_answered j.moves j.homes c o own) (out_renamed past b d)
+      ∙ answered_renamed c (out_at k past b d) own
 
   told_renamed : (past : List (QueueEvent D)) (s : SchedCall D) → answer_to j (renamed_events name past) (renamed_sched name s) ≡ answer_to k past s
   told_renamed past (call.Pass p) = refl
@@ -233,8 +241,10 @@ module _ {D E A B O : Type 0} (k : Kernel D A O) (j : Kernel E B O) (name : D �
   local_renamed (call.OnBuffer b d) local = local
 
   -- a poll beneath is a poll here
-  pub polled_renamed : (ActsFor : CpuId → Type 0) (c : CpuId) (s : SchedCall D) (result : Option (SchedAnswer O)) (old new : List (QueueEvent D)) (own own' : Threads)
-      → SchedPolled k ActsFor c s result old new own own' → SchedPolled j ActsFor c (renamed_sched name s) result (renamed_events name old) (renamed_events name new) own own'
+  pub polled_renamed : (ActsFor : CpuId → Type 0) (c : CpuId) (s : SchedCall D) (result : Option (SchedAnswer O)) (old new : List (QueueEvent D))
+      (own own' : Threads)
+      → SchedPolled k ActsFor c s result old new own own'
+      → SchedPolled j ActsFor c (renamed_sched name s) result (renamed_events name old) (renamed_events name new) own own'
   polled_renamed ActsFor c s result old new own own' polled = record {
     others = renamed_events name polled.others;
     foreign = λ d acts. events_others name d polled.others (polled.foreign d acts);
@@ -251,7 +261,8 @@ module _ {D E A B O : Type 0} (k : Kernel D A O) (j : Kernel E B O) (name : D �
       here = events_append name polled.others old
 
       seen : (b : Bool) → renamed_events name (if b then events_of c (queue_call k.homes c s) ++ (polled.others ++ old) else polled.others ++ old)
-          ≡ (if b then events_of c (queue_call j.homes c (renamed_sched name s)) ++ (renamed_events name polled.others ++ renamed_events name old) else renamed_events name polled.others ++ renamed_events name old)
+          ≡ (if b then events_of c (queue_call j.homes c (renamed_sched name s)) ++
+          (renamed_events name polled.others ++ renamed_events name old) else renamed_events name polled.others ++ renamed_events name old)
       seen true = call_seen c s (polled.others ++ old) ∙ ap (λ p. events_of c (queue_call j.homes c (renamed_sched name s)) ++ p) here
       seen false = here
 
@@ -283,7 +294,8 @@ module _ {D E A B O : Type 0} (k : Kernel D A O) (j : Kernel E B O) (name : D �
   plan_renamed h c (call.Pass End) own = refl
   plan_renamed h c (call.OnBuffer b d) own = λ i. Act (Buffer b) (edit.Above (name d)) (λ r. by_renamed c h own r i)
 
-  queue_edits : (m : QueueEdit D) (b : QueueBlock A) → viewed_block view (queue_edited k.rules.edited m b) ≡ queue_edited j.rules.edited (renamed_edit name m) (viewed_block view b)
+  queue_edits : (m : QueueEdit D) (b : QueueBlock A)
+      → viewed_block view (queue_edited k.rules.edited m b) ≡ queue_edited j.rules.edited (renamed_edit name m) (viewed_block view b)
   queue_edits (edit.Push t) (block.Queue queue h) = refl
   queue_edits (edit.Push t) (block.Above a) = refl
   queue_edits edit.TakeAll (block.Queue queue h) = refl
@@ -291,7 +303,8 @@ module _ {D E A B O : Type 0} (k : Kernel D A O) (j : Kernel E B O) (name : D �
   queue_edits (edit.Above d) (block.Queue queue h) = refl
   queue_edits (edit.Above d) (block.Above a) = ap block.Above (edits d a)
 
-  queue_answers : (m : QueueEdit D) (b : QueueBlock A) → queue_answer k.rules.answer m b ≡ queue_answer j.rules.answer (renamed_edit name m) (viewed_block view b)
+  queue_answers : (m : QueueEdit D) (b : QueueBlock A)
+      → queue_answer k.rules.answer m b ≡ queue_answer j.rules.answer (renamed_edit name m) (viewed_block view b)
   queue_answers (edit.Push t) b = refl
   queue_answers edit.TakeAll (block.Queue queue h) = refl
   queue_answers edit.TakeAll (block.Above a) = refl
@@ -303,7 +316,8 @@ module _ {D E A B O : Type 0} (k : Kernel D A O) (j : Kernel E B O) (name : D �
   same_option (Some x) = refl
 
   -- a poll that followed its plan beneath followed it here
-  pub follows_named : {S T : Type 0} (ActsFor : CpuId → Type 0) (opening : LockId → Option (QueueBlock A)) (cpu : CpuId) (plan : Plan (QueueEdit D) (QueueAnswer O) S T)
+  pub follows_named : {S T : Type 0} (ActsFor : CpuId → Type 0) (opening : LockId → Option (QueueBlock A)) (cpu : CpuId)
+      (plan : Plan (QueueEdit D) (QueueAnswer O) S T)
       (old new : List (Action (QueueEdit D))) (got : Left S T) → Follows ActsFor (table_of (queue_rules k.rules k.moves)) opening cpu plan old new got
       → Follows ActsFor (table_of (queue_rules j.rules j.moves)) (viewed view opening) cpu (named (renamed_edit name) plan)
       (map (renamed (renamed_edit name)) old) (map (renamed (renamed_edit name)) new) got
@@ -318,6 +332,7 @@ module _ {D E A B O : Type 0} (k : Kernel D A O) (j : Kernel E B O) (name : D �
           ∙ ap (λ a. a ∷ map (renamed (renamed_edit name)) follows.past) (sym (next_action_renamed (renamed_edit name) cpu lock m follows.past));
     };
     moves = follows.moves ∙ ap react (sym (same_option (reply (table_of (queue_rules k.rules k.moves)) opening cpu lock m follows.past))
-        ∙ reply_viewed (table_of (queue_rules k.rules k.moves)) (table_of (queue_rules j.rules j.moves)) (renamed_edit name) (viewed_block view) (λ r. r) queue_edits queue_answers opening
+        ∙ reply_viewed (table_of (queue_rules k.rules k.moves)) (table_of (queue_rules j.rules j.moves)) (renamed_edit name) (viewed_block view)
+        (λ r. r) queue_edits queue_answers opening
         cpu lock m follows.past);
   }

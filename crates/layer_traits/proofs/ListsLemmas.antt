@@ -174,7 +174,8 @@ module _ (lock : LockId) (lines : Line → List Tid) (asleep : Tid → Option Pl
           sym gone ∙ agrees line t
 
   -- the lists agree after these left
-  left_agrees : (leave : Leave) → Agrees lock (λ line. left line leave (lines line)) (λ t. if is_thread t (woken leave (lines Sleepers) (lines Receivers) (lines Senders)) then None else asleep t)
+  left_agrees : (leave : Leave) → Agrees lock (λ line. left line leave (lines line))
+      (λ t. if is_thread t (woken leave (lines Sleepers) (lines Receivers) (lines Senders)) then None else asleep t)
   left_agrees Nobody Sleepers t = agrees Sleepers t
   left_agrees Nobody Receivers t = agrees Receivers t
   left_agrees Nobody Senders t = agrees Senders t
@@ -198,10 +199,12 @@ module _ (lock : LockId) (lines : Line → List Tid) (asleep : Tid → Option Pl
 
   module _ (caller : Tid) (awake : asleep caller ≡ None) (small : caller.0 < THREADS) where
     -- the list that an awake thread joined
-    joined_here : (line : Line) (t : Tid) → count_in t (joined caller (lines line)) ≡ one_if (is_at lock line (if same_tid caller t then Some (At lock line) else asleep t))
+    joined_here : (line : Line) (t : Tid) → count_in t (joined caller (lines line))
+        ≡ one_if (is_at lock line (if same_tid caller t then Some (At lock line) else asleep t))
     joined_here line t = count_joined t caller (lines line) small (not_counted caller (lines line) (awake_out line caller awake)) ∙ go (same_tid caller t) refl
       where
-        go : (b : Bool) → same_tid caller t ≡ b → count_in t (lines line) + one_if (same_tid t caller) ≡ one_if (is_at lock line (if b then Some (At lock line) else asleep t))
+        go : (b : Bool) → same_tid caller t ≡ b → count_in t (lines line) + one_if (same_tid t caller)
+            ≡ one_if (is_at lock line (if b then Some (At lock line) else asleep t))
         go true same =
             let out : count_in t (lines line) ≡ 0 = subst (λ v. count_in v (lines line) ≡ 0) (same_tid_true caller t same) (awake_out line caller awake) in
             let once : one_if (same_tid t caller) ≡ 1 = ap one_if (same_tid_sym t caller ∙ same) in
@@ -212,12 +215,14 @@ module _ (lock : LockId) (lines : Line → List Tid) (asleep : Tid → Option Pl
             omega (arith, none, agrees line t)
 
     -- a list that it did not join
-    joined_there : (line at : Line) (t : Tid) → same_line at line ≡ false → count_in t (lines line) ≡ one_if (is_at lock line (if same_tid caller t then Some (At lock at) else asleep t))
+    joined_there : (line at : Line) (t : Tid) → same_line at line ≡ false
+        → count_in t (lines line) ≡ one_if (is_at lock line (if same_tid caller t then Some (At lock at) else asleep t))
     joined_there line at t apart = go (same_tid caller t) refl
       where
         go : (b : Bool) → same_tid caller t ≡ b → count_in t (lines line) ≡ one_if (is_at lock line (if b then Some (At lock at) else asleep t))
         go true same =
-            subst (λ v. count_in v (lines line) ≡ 0) (same_tid_true caller t same) (awake_out line caller awake) ∙ sym (ap one_if (other_line lock at line apart))
+            subst (λ v. count_in v (lines line) ≡ 0) (same_tid_true caller t same) (awake_out line caller awake)
+            ∙ sym (ap one_if (other_line lock at line apart))
         go false other = agrees line t
 
     joined_nowhere : (line : Line) (t : Tid) (b : Bool) → count_in t (lines line) ≡ one_if (is_at lock line (if b then asleep t else asleep t))
@@ -225,7 +230,8 @@ module _ (lock : LockId) (lines : Line → List Tid) (asleep : Tid → Option Pl
     joined_nowhere line t false = agrees line t
 
     -- the lists agree after an awake thread joined one
-    join_agrees : (joins : Option Line) → Agrees lock (λ line. line_joined line joins caller (lines line)) (λ t. if same_tid caller t then slept_at lock joins (asleep t) else asleep t)
+    join_agrees : (joins : Option Line) → Agrees lock (λ line. line_joined line joins caller (lines line))
+        (λ t. if same_tid caller t then slept_at lock joins (asleep t) else asleep t)
     join_agrees None Sleepers t = joined_nowhere Sleepers t (same_tid caller t)
     join_agrees None Receivers t = joined_nowhere Receivers t (same_tid caller t)
     join_agrees None Senders t = joined_nowhere Senders t (same_tid caller t)
@@ -263,8 +269,10 @@ module _ (lock : LockId) (lines : Line → List Tid) (asleep : Tid → Option Pl
   pub own_agrees : Agrees lock (λ line. line_joined line joins caller (left line leave (lines line)))
       (λ t. asleep_after (Moved lock caller joins (woken leave (lines Sleepers) (lines Receivers) (lines Senders))) t (asleep t))
   own_agrees line t =
-      join_agrees lock (λ l. left l leave (lines l)) (λ u. if is_thread u (woken leave (lines Sleepers) (lines Receivers) (lines Senders)) then None else asleep u)
-      (left_agrees lock lines asleep agrees leave) caller (after_leaving (is_thread caller (woken leave (lines Sleepers) (lines Receivers) (lines Senders)))) small joins line t
+      join_agrees lock (λ l. left l leave (lines l))
+      (λ u. if is_thread u (woken leave (lines Sleepers) (lines Receivers) (lines Senders)) then None else asleep u)
+      (left_agrees lock lines asleep agrees leave) caller
+      (after_leaving (is_thread caller (woken leave (lines Sleepers) (lines Receivers) (lines Senders)))) small joins line t
       ∙ ap (λ p. one_if (is_at lock line p)) (both_ways t (is_thread t (woken leave (lines Sleepers) (lines Receivers) (lines Senders))) refl)
 
   -- and those of another lock
@@ -279,14 +287,16 @@ module _ (lock : LockId) (lines : Line → List Tid) (asleep : Tid → Option Pl
       by_joins None = refl
       by_joins (Some at) = other_lock other lock line at turned
 
-      by_caller : (d : Bool) → same_tid caller t ≡ d → one_if (is_at other line (asleep t)) ≡ one_if (is_at other line (if d then slept_at lock joins (asleep t) else asleep t))
+      by_caller : (d : Bool) → same_tid caller t ≡ d
+          → one_if (is_at other line (asleep t)) ≡ one_if (is_at other line (if d then slept_at lock joins (asleep t) else asleep t))
       by_caller false is = refl
       by_caller true is =
           let none : asleep t ≡ None = subst (λ v. asleep v ≡ None) (same_tid_true caller t is) awake in
           subst (λ p. one_if (is_at other line p) ≡ one_if (is_at other line (slept_at lock joins p))) (sym none) (sym (ap one_if (by_joins joins)))
 
       by_woken : (b : Bool) → is_thread t (woken leave (lines Sleepers) (lines Receivers) (lines Senders)) ≡ b
-          → one_if (is_at other line (asleep t)) ≡ one_if (is_at other line (if b then None else (if same_tid caller t then slept_at lock joins (asleep t) else asleep t)))
+          → one_if (is_at other line (asleep t)) ≡ one_if
+          (is_at other line (if b then None else (if same_tid caller t then slept_at lock joins (asleep t) else asleep t)))
       by_woken false is = by_caller (same_tid caller t) refl
       by_woken true is =
           let some = woken_asleep lock lines asleep agrees leave t is in
@@ -311,16 +321,21 @@ module _ {E B O : Type 0} (rules : SleepRules E B O) (opening : LockId → Optio
   edited_agrees : (lock : LockId) (past : List (Section E)) (s : Section E) (state : SleepState B) → IsAwake rules opening past s
       → Agrees lock (λ line. line_of line state) (asleep past) → (line : Line) (t : Tid)
       → count_in t (line_of line (sleep_edited rules s.edit state))
-      ≡ one_if (is_at lock line (asleep_after (Moved lock (rules.caller s.edit) (rules.joins (answer_above rules s.edit state)) (sleep_woke rules s.edit state)) t (asleep past t)))
+      ≡ one_if (is_at lock line (asleep_after (Moved lock (rules.caller s.edit) (rules.joins (answer_above rules s.edit state))
+      (sleep_woke rules s.edit state)) t (asleep past t)))
   edited_agrees lock past s state awake agrees line t = by_line line
     where
-      own : Agrees lock (λ l. line_joined l (rules.joins (answer_above rules s.edit state)) (rules.caller s.edit) (left l (rules.leaves (answer_above rules s.edit state)) (line_of l state)))
-          (λ u. asleep_after (Moved lock (rules.caller s.edit) (rules.joins (answer_above rules s.edit state)) (sleep_woke rules s.edit state)) u (asleep past u))
-      own = own_agrees lock (λ l. line_of l state) (asleep past) agrees (rules.leaves (answer_above rules s.edit state)) (rules.caller s.edit) awake.awake awake.small
+      own : Agrees lock (λ l. line_joined l (rules.joins (answer_above rules s.edit state)) (rules.caller s.edit)
+          (left l (rules.leaves (answer_above rules s.edit state)) (line_of l state)))
+          (λ u. asleep_after (Moved lock (rules.caller s.edit) (rules.joins (answer_above rules s.edit state)) (sleep_woke rules s.edit state)) u
+          (asleep past u))
+      own = own_agrees lock (λ l. line_of l state) (asleep past) agrees (rules.leaves (answer_above rules s.edit state))
+          (rules.caller s.edit) awake.awake awake.small
           (rules.joins (answer_above rules s.edit state))
 
       by_line : (l : Line) → count_in t (line_of l (sleep_edited rules s.edit state))
-          ≡ one_if (is_at lock l (asleep_after (Moved lock (rules.caller s.edit) (rules.joins (answer_above rules s.edit state)) (sleep_woke rules s.edit state)) t (asleep past t)))
+          ≡ one_if (is_at lock l (asleep_after (Moved lock (rules.caller s.edit) (rules.joins (answer_above rules s.edit state))
+          (sleep_woke rules s.edit state)) t (asleep past t)))
       by_line Sleepers = own Sleepers t
       by_line Receivers = own Receivers t
       by_line Senders = own Senders t
@@ -336,14 +351,19 @@ module _ {E B O : Type 0} (rules : SleepRules E B O) (opening : LockId → Optio
       go None is false other = agree lock line t
       go None is true same =
           let none : after lock past ≡ None = ap (λ l. after l past) (same_lock_true lock s.lock same) ∙ is in
-          subst (λ o. count_in t (line_at line o) ≡ one_if (is_at lock line (asleep past t)) → count_in t (line_at line (option_map (sleep_edited rules s.edit) o)) ≡ one_if (is_at lock line (asleep past t)))
+          subst (λ o. count_in t (line_at line o) ≡ one_if (is_at lock line (asleep past t))
+          → count_in t (line_at line (option_map (sleep_edited rules s.edit) o)) ≡ one_if (is_at lock line (asleep past t)))
           (sym none) (λ agrees. agrees) (agree lock line t)
       go (Some state) is true same =
           let one : lock ≡ s.lock = same_lock_true lock s.lock same in
           let here : after lock past ≡ Some state = ap (λ l. after l past) one ∙ is in
-          subst (λ o. count_in t (line_at line (option_map (sleep_edited rules s.edit) o)) ≡ one_if (is_at lock line (asleep_after (Moved s.lock (rules.caller s.edit) (rules.joins (answer_above rules s.edit state)) (sleep_woke rules s.edit state)) t (asleep past t))))
+          subst (λ o. count_in t (line_at line (option_map (sleep_edited rules s.edit) o))
+          ≡ one_if (is_at lock line (asleep_after (Moved s.lock (rules.caller s.edit) (rules.joins (answer_above rules s.edit state))
+          (sleep_woke rules s.edit state)) t (asleep past t))))
           (sym here)
-          (subst (λ l. count_in t (line_of line (sleep_edited rules s.edit state)) ≡ one_if (is_at l line (asleep_after (Moved s.lock (rules.caller s.edit) (rules.joins (answer_above rules s.edit state)) (sleep_woke rules s.edit state)) t (asleep past t))))
+          (subst (λ l. count_in t (line_of line (sleep_edited rules s.edit state))
+          ≡ one_if (is_at l line (asleep_after (Moved s.lock (rules.caller s.edit) (rules.joins (answer_above rules s.edit state))
+          (sleep_woke rules s.edit state)) t (asleep past t))))
           (sym one)
           (edited_agrees s.lock past s state awake (subst (λ o. Agrees s.lock (λ l. line_at l o) (asleep past)) is (agree s.lock)) line t))
       go (Some state) is false other =
@@ -353,7 +373,8 @@ module _ {E B O : Type 0} (rules : SleepRules E B O) (opening : LockId → Optio
 
   -- after sections whose callers are awake the lists agree with the places
   pub lists_agree : (past : List (Section E)) → IsLawful (IsAwake rules opening) past → NobodySleeps opening
-      → (lock : LockId) → Agrees lock (λ line. line_at line (block_after (sleep_edited rules) opening lock past)) (λ t. asleep_by (section_moves (sleep_rules rules) (sleep_moves rules) opening past) t)
+      → (lock : LockId) → Agrees lock (λ line. line_at line (block_after (sleep_edited rules) opening lock past))
+      (λ t. asleep_by (section_moves (sleep_rules rules) (sleep_moves rules) opening past) t)
   lists_agree [] lawful nobody lock line t = ap (count_in t) (nobody lock line)
   lists_agree (s ∷ past) lawful nobody lock line t = agree_step past s lawful.0 (lists_agree past lawful.1 nobody) lock line t
 
@@ -363,9 +384,11 @@ module _ {E B O : Type 0} (rules : SleepRules E B O) (opening : LockId → Optio
       → is_place (asleep_by (section_moves (sleep_rules rules) (sleep_moves rules) opening past) u) ≡ true
   section_wakes past s outcome u lawful nobody answers wakes = go (after s.lock past) (lists_agree past lawful nobody s.lock) answers
     where
-      go : (o : Option (SleepState B)) → Agrees s.lock (λ line. line_at line o) (asleep past) → option_map (sleep_answer rules s.edit) o ≡ Some outcome → is_place (asleep past u) ≡ true
+      go : (o : Option (SleepState B)) → Agrees s.lock (λ line. line_at line o) (asleep past) → option_map (sleep_answer rules s.edit) o ≡ Some outcome
+          → is_place (asleep past u) ≡ true
       go None agrees none = absurd cc
       go (Some state) agrees some =
           let told : sleep_woke rules s.edit state ≡ Some u = ap (λ (o : Option (Outcome O)). woke_in o) some ∙ wakes in
-          let stood = woken_asleep s.lock (λ l. line_of l state) (asleep past) agrees (rules.leaves (answer_above rules s.edit state)) u (is_thread_self u _ told) in
+          let stood = woken_asleep s.lock (λ l. line_of l state) (asleep past) agrees (rules.leaves (answer_above rules s.edit state)) u
+          (is_thread_self u _ told) in
           ap is_place stood.1

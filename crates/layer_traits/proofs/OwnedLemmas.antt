@@ -4,13 +4,16 @@ use Rattle.event_log.specs.declared.ids.CpuId.{CpuId}
 use Rattle.layer_traits.specs.Owned.{IsHeld, IsShown}
 
 -- what is true under one name is true under another
-pub same_shown : {P A : Type 0} (Fits : P → Type 0) (cpu_of : P → CpuId) (IsInside : CpuId → Type 0) (here : P → Option A) (home truth other : Option A) → truth ≡ other
+pub same_shown : {P A : Type 0} (Fits : P → Type 0) (cpu_of : P → CpuId) (IsInside : CpuId → Type 0) (here : P → Option A) (home truth other : Option A)
+    → truth ≡ other
     → IsShown Fits cpu_of IsInside here home truth → IsShown Fits cpu_of IsInside here home other
 same_shown Fits cpu_of IsInside here home truth other same shown = subst (λ o. IsShown Fits cpu_of IsInside here home o) same shown
 
 -- parts that stand on those beneath tell what those tell
-pub shown_under : {P Q A : Type 0} (below : Q → P) (FitsP : P → Type 0) (FitsQ : Q → Type 0) (cpu_below : P → CpuId) (cpu_of : Q → CpuId) (InsideP InsideQ : CpuId → Type 0)
-    (here : P → Option A) (home truth : Option A) → ((q : Q) → FitsQ q → FitsP (below q)) → ((q : Q) → FitsQ q → cpu_below (below q) ≡ cpu_of q) → ((c : CpuId) → InsideP c → InsideQ c)
+pub shown_under : {P Q A : Type 0} (below : Q → P) (FitsP : P → Type 0) (FitsQ : Q → Type 0) (cpu_below : P → CpuId) (cpu_of : Q → CpuId)
+    (InsideP InsideQ : CpuId → Type 0)
+    (here : P → Option A) (home truth : Option A) → ((q : Q) → FitsQ q → FitsP (below q)) → ((q : Q) → FitsQ q → cpu_below (below q) ≡ cpu_of q)
+    → ((c : CpuId) → InsideP c → InsideQ c)
     → IsShown FitsP cpu_below InsideP here home truth → IsShown FitsQ cpu_of InsideQ (λ q. here (below q)) home truth
 shown_under below FitsP FitsQ cpu_below cpu_of InsideP InsideQ here home truth fits cpus inside shown = record {
   by_machine = shown.by_machine;
@@ -26,7 +29,8 @@ shown_under below FitsP FitsQ cpu_below cpu_of InsideP InsideQ here home truth f
       has = λ q at fit. is.has (below q) (cpus q fit ∙ at) (fits q fit);
     }
 
-viewed_some : {A B : Type 0} (view : A → B) (truth : Option A) (o : Option A) (y : B) → ((x : A) → o ≡ Some x → truth ≡ Some x) → option_map view o ≡ Some y → option_map view truth ≡ Some y
+viewed_some : {A B : Type 0} (view : A → B) (truth : Option A) (o : Option A) (y : B) → ((x : A) → o ≡ Some x → truth ≡ Some x) → option_map view o ≡ Some y
+    → option_map view truth ≡ Some y
 viewed_some view truth None y tells is = absurd cc
 viewed_some view truth (Some x) y tells is = ap (option_map view) (tells x refl) ∙ is
 
@@ -35,7 +39,8 @@ viewed_none view None none = refl
 viewed_none view (Some x) none = absurd cc
 
 -- what is told of a block is told of its view
-pub viewed_shown : {P A B : Type 0} (view : A → B) (Fits : P → Type 0) (cpu_of : P → CpuId) (IsInside : CpuId → Type 0) (here : P → Option A) (home truth : Option A) (seen : Option B)
+pub viewed_shown : {P A B : Type 0} (view : A → B) (Fits : P → Type 0) (cpu_of : P → CpuId) (IsInside : CpuId → Type 0) (here : P → Option A)
+    (home truth : Option A) (seen : Option B)
     → seen ≡ option_map view truth → IsShown Fits cpu_of IsInside here home truth
     → IsShown Fits cpu_of IsInside (λ p. option_map view (here p)) (option_map view home) seen
 viewed_shown view Fits cpu_of IsInside here home truth seen is shown = record {

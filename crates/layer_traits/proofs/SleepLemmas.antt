@@ -19,8 +19,10 @@ HandKept (Some t) (Some outcome) = Unit {0}
 HandKept None (Some outcome) = ⊥
 HandKept (Some t) None = ⊥
 
-module _ {E B O : Type 0} (k : Kernel E B (Outcome O)) (ActsFor : CpuId → Type 0) (c : CpuId) (b : BufId) (e : E) (old new : List (QueueEvent E)) (own : Sleeping O) (own' : Threads) where
-  answer_is : (past : List (QueueEvent E)) (outcome : Outcome O) → option_map Answer (out_at k past b e) ≡ Some (Answer outcome) → out_at k past b e ≡ Some outcome
+module _ {E B O : Type 0} (k : Kernel E B (Outcome O)) (ActsFor : CpuId → Type 0) (c : CpuId) (b : BufId) (e : E) (old new : List (QueueEvent E))
+    (own : Sleeping O) (own' : Threads) where
+  answer_is : (past : List (QueueEvent E)) (outcome : Outcome O) → option_map Answer (out_at k past b e) ≡ Some (Answer outcome)
+      → out_at k past b e ≡ Some outcome
   answer_is past outcome answers = go (out_at k past b e) answers
     where
       go : (o : Option (Outcome O)) → option_map Answer o ≡ Some (Answer outcome) → o ≡ Some outcome
@@ -35,7 +37,8 @@ module _ {E B O : Type 0} (k : Kernel E B (Outcome O)) (ActsFor : CpuId → Type
       go (Some out) some = cc
 
   -- what the scheduler's poll did is a poll here, and leaves what its answer tells
-  pub sleep_polled : (hand : Option Tid) (kept : Option (Outcome O)) (answer : Option (SchedAnswer (Outcome O))) → own.threads.hand ≡ hand → own.kept ≡ kept → HandKept hand kept
+  pub sleep_polled : (hand : Option Tid) (kept : Option (Outcome O)) (answer : Option (SchedAnswer (Outcome O))) → own.threads.hand ≡ hand → own.kept ≡ kept
+      → HandKept hand kept
       → SchedPolled k ActsFor c (due hand b e) answer old new own.threads own' → SleepPolled k ActsFor c b e old new own (left_told kept own' answer)
   sleep_polled None None None in_hand is_kept fits polled = record {
     others = polled.others;

@@ -45,10 +45,12 @@ module _ {D E A B O : Type 0} (k : Kernel D A (Outcome O)) (j : Kernel E B (Outc
   left_renamed c b d (Sends t) own = refl
 
   -- a poll beneath is a poll here
-  pub sleeps_renamed : (ActsFor : CpuId → Type 0) (c : CpuId) (b : BufId) (d : D) (old new : List (QueueEvent D)) (own : Sleeping O) (got : Left (Sleeping O) (Outcome O))
+  pub sleeps_renamed : (ActsFor : CpuId → Type 0) (c : CpuId) (b : BufId) (d : D) (old new : List (QueueEvent D)) (own : Sleeping O)
+      (got : Left (Sleeping O) (Outcome O))
       → SleepPolled k ActsFor c b d old new own got → SleepPolled j ActsFor c b (name d) (renamed_events name old) (renamed_events name new) own got
   sleeps_renamed ActsFor c b d old new own got polled =
-      let here : renamed_events name (polled.others ++ old) ≡ renamed_events name polled.others ++ renamed_events name old = events_append name polled.others old in
+      let here : renamed_events name (polled.others ++ old)
+      ≡ renamed_events name polled.others ++ renamed_events name old = events_append name polled.others old in
       record {
         others = renamed_events name polled.others;
         foreign = λ e acts. events_others name e polled.others (polled.foreign e acts);
@@ -71,7 +73,8 @@ module _ {D E A B O : Type 0} (k : Kernel D A (Outcome O)) (j : Kernel E B (Outc
       (plan_renamed k j name view edits answers openings homes callers slept woke allowed h c (due own.threads.hand b d) own.threads)
       ∙ ap (λ s. raised (λ l. left_told own.kept l.own l.answer) (sched_plan j.moves h c s own.threads)) (due_renamed own.threads.hand b d))
 
-  pub pass_plan_renamed : (h : List CpuId) (c : CpuId) (p : Pass) (own : Sleeping O) → named (renamed_edit name) (pass_plan k.moves h c p own) ≡ pass_plan j.moves h c p own
+  pub pass_plan_renamed : (h : List CpuId) (c : CpuId) (p : Pass) (own : Sleeping O)
+      → named (renamed_edit name) (pass_plan k.moves h c p own) ≡ pass_plan j.moves h c p own
   pass_plan_renamed h c p own =
       named_raised (renamed_edit name) (left_passed own.kept) (sched_plan k.moves h c (call.Pass p) own.threads)
       ∙ ap (raised (left_passed own.kept)) (plan_renamed k j name view edits answers openings homes callers slept woke allowed h c (call.Pass p) own.threads)

@@ -56,7 +56,8 @@ is_handed slept None = false
 is_handed slept (Some t) = is_some (slept_for slept t)
 
 -- a call may begin: nobody is in the CPU's hand, it is the owner's, and the edits above allow it and go on to do so
-pub record MayLock {F R B O : Type 0} (rules : LockRules F R B O) (k : Kernel (QEdit F R) (LockState B) (Outcome (QOut O))) (c : CpuId) (past : List (QueueEvent (QEdit F R))) (hand : Option Tid) (b : BufId) (e : QEdit F R) : Type 0 where
+pub record MayLock {F R B O : Type 0} (rules : LockRules F R B O) (k : Kernel (QEdit F R) (LockState B) (Outcome (QOut O))) (c : CpuId)
+    (past : List (QueueEvent (QEdit F R))) (hand : Option Tid) (b : BufId) (e : QEdit F R) : Type 0 where
   pub empty : hand ≡ None
   pub owners : IsOwners rules e (owner_of rules k.opening (buffer_sections past) (Buffer b))
   pub stays : (more : List (QueueEvent (QEdit F R))) → AreOthers event_actor c more → IsLawful (QueueAllowed k) (more ++ past)
@@ -94,7 +95,9 @@ abbrev pub left_handed : {O : Type 0} → Tid → List (Option BufId) → Sleepi
 left_handed t slept sleep = locking sleep (slice_set slept t.0 None) (Some (record { out = Acquired; slept = false; woke = None }))
 
 -- a poll that goes on with a call: one poll of the layer beneath; and where the call asks for the lock, no outcome was kept before
-pub record Locks {F R B O : Type 0} (k : Kernel (QEdit F R) (LockState B) (Outcome (QOut O))) (ActsFor : CpuId → Type 0) (c : CpuId) (b : BufId) (e : QEdit F R) (old new : List (QueueEvent (QEdit F R))) (own : Locking O) (under_way : Option (SchedCall (QEdit F R))) (got : Left (Locking O) (Outcome (QOut O))) : Type 0 where
+pub record Locks {F R B O : Type 0} (k : Kernel (QEdit F R) (LockState B) (Outcome (QOut O))) (ActsFor : CpuId → Type 0) (c : CpuId) (b : BufId)
+    (e : QEdit F R) (old new : List (QueueEvent (QEdit F R))) (own : Locking O) (under_way : Option (SchedCall (QEdit F R)))
+    (got : Left (Locking O) (Outcome (QOut O))) : Type 0 where
   pub left : Left (Sleeping (QOut O)) (Outcome (QOut O))
   pub polled : SleepPolled k ActsFor c b e old new own.sleep left
   pub ends : under_way ≡ (if is_some left.answer then None else Some (call.OnBuffer b e))
@@ -102,13 +105,16 @@ pub record Locks {F R B O : Type 0} (k : Kernel (QEdit F R) (LockState B) (Outco
   pub leaves : got ≡ left_after (k.moves.caller e) b own.slept left.own left.answer
 
 -- a poll by which a thread that slept for the lock is told that it owns it
-pub record Handed {F R B O : Type 0} (rules : LockRules F R B O) (opening : LockId → Option (LockState B)) (b : BufId) (t : Tid) (old : List (QueueEvent (QEdit F R))) (own : Locking O) (under_way : Option (SchedCall (QEdit F R))) (got : Left (Locking O) (Outcome (QOut O))) : Type 0 where
+pub record Handed {F R B O : Type 0} (rules : LockRules F R B O) (opening : LockId → Option (LockState B)) (b : BufId) (t : Tid)
+    (old : List (QueueEvent (QEdit F R))) (own : Locking O) (under_way : Option (SchedCall (QEdit F R)))
+    (got : Left (Locking O) (Outcome (QOut O))) : Type 0 where
   pub owns : owner_of rules opening (buffer_sections old) (Buffer b) ≡ Some t
   pub ends : under_way ≡ None
   pub leaves : got ≡ left_handed t own.slept own.sleep
 
 -- a poll of a queuing lock, by whether its caller slept for a lock
-abbrev pub LockPolled : {F R B O : Type 0} → LockRules F R B O → Kernel (QEdit F R) (LockState B) (Outcome (QOut O)) → (CpuId → Type 0) → CpuId → BufId → QEdit F R → Option BufId
+abbrev pub LockPolled : {F R B O : Type 0} → LockRules F R B O → Kernel (QEdit F R) (LockState B) (Outcome (QOut O)) → (CpuId → Type 0) → CpuId → BufId
+    → QEdit F R → Option BufId
     → List (QueueEvent (QEdit F R)) → List (QueueEvent (QEdit F R)) → Locking O → Option (SchedCall (QEdit F R)) → Left (Locking O) (Outcome (QOut O)) → Type 0
 LockPolled rules k ActsFor c b e None old new own under_way got = Locks k ActsFor c b e old new own under_way got
 LockPolled rules k ActsFor c b e (Some at) old new own under_way got = Handed rules k.opening b (lock_caller rules e) old own under_way got

@@ -171,7 +171,8 @@ module _ {F R B O : Type 0} (rules : LockRules F R B O) where
   owner_of opening past lock = owner_in (lock_after opening lock past)
 
 -- a call keeps the protocol: it is the owner's, and the edits above allow it
-pub record LockAllowed {F R B O : Type 0} (rules : LockRules F R B O) (opening : LockId → Option (LockState B)) (past : List (Section (QEdit F R))) (s : Section (QEdit F R)) : Type 0 where
+pub record LockAllowed {F R B O : Type 0} (rules : LockRules F R B O) (opening : LockId → Option (LockState B)) (past : List (Section (QEdit F R)))
+    (s : Section (QEdit F R)) : Type 0 where
   pub owners : IsOwners rules s.edit (owner_of rules opening past s.lock)
   pub granted : rules.allowed opening past s
 

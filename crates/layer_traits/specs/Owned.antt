@@ -17,7 +17,8 @@ pub record IsHeld {P A : Type 0} (Fits : P → Type 0) (cpu_of : P → CpuId) (I
   pub has : (p : P) → cpu_of p ≡ cpu → Fits p → here p ≢ None
 
 -- what the machine or a part tells is the truth, and what the machine does not tell some CPU has in its hands
-pub record IsShown {P A : Type 0} (Fits : P → Type 0) (cpu_of : P → CpuId) (IsInside : CpuId → Type 0) (here : P → Option A) (home truth : Option A) : Type 0 where
+pub record IsShown {P A : Type 0} (Fits : P → Type 0) (cpu_of : P → CpuId) (IsInside : CpuId → Type 0) (here : P → Option A)
+    (home truth : Option A) : Type 0 where
   pub by_machine : (x : A) → home ≡ Some x → truth ≡ Some x
   pub by_part : (p : P) (x : A) → Fits p → here p ≡ Some x → truth ≡ Some x
   pub somewhere : home ≡ None → IsHeld Fits cpu_of IsInside here
@@ -25,14 +26,17 @@ pub record IsShown {P A : Type 0} (Fits : P → Type 0) (cpu_of : P → CpuId) (
 -- the first line among these in which a thread stands
 abbrev pub line_among : Tid → (Line → List Tid) → Option Line
 line_among t lines =
-    if is_in t (lines Sleepers) then Some Sleepers else (if is_in t (lines Receivers) then Some Receivers else (if is_in t (lines Senders) then Some Senders else None))
+    if is_in t (lines Sleepers) then Some Sleepers
+    else (if is_in t (lines Receivers) then Some Receivers else (if is_in t (lines Senders) then Some Senders else None))
 
 -- the line of a lock in which a thread stands
 abbrev pub line_with : {B : Type 0} → Tid → SleepState B → Option Line
 line_with t state =
-    if is_in t state.sleepers then Some Sleepers else (if is_in t state.receivers then Some Receivers else (if is_in t state.senders then Some Senders else None))
+    if is_in t state.sleepers then Some Sleepers
+    else (if is_in t state.receivers then Some Receivers else (if is_in t state.senders then Some Senders else None))
 
 -- the same of a lock that has an owner
 abbrev pub line_under : {B : Type 0} → Tid → LockState B → Option Line
 line_under t state =
-    if is_in t state.sleepers then Some Sleepers else (if is_in t state.receivers then Some Receivers else (if is_in t state.senders then Some Senders else None))
+    if is_in t state.sleepers then Some Sleepers
+    else (if is_in t state.receivers then Some Receivers else (if is_in t state.senders then Some Senders else None))

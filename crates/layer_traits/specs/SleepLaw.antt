@@ -83,7 +83,8 @@ module _ {E B O : Type 0} (k : Kernel E B (Outcome O)) (c : CpuId) (b : BufId) (
   left_with (Sends t) own = record { own = record { threads = passed_on own.threads; kept = None }; answer = own.kept }
 
 -- a poll of a section: foreign events come first, then at most one deed, which leaves what was got
-pub record SleepPolled {E B O : Type 0} (k : Kernel E B (Outcome O)) (ActsFor : CpuId → Type 0) (c : CpuId) (b : BufId) (e : E) (old new : List (QueueEvent E)) (own : Sleeping O) (got : Left (Sleeping O) (Outcome O)) : Type 0 where
+pub record SleepPolled {E B O : Type 0} (k : Kernel E B (Outcome O)) (ActsFor : CpuId → Type 0) (c : CpuId) (b : BufId) (e : E)
+    (old new : List (QueueEvent E)) (own : Sleeping O) (got : Left (Sleeping O) (Outcome O)) : Type 0 where
   pub others : List (QueueEvent E)
   pub foreign : AreForeign ActsFor event_actor others
   pub deed : Deed O

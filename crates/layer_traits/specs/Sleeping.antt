@@ -126,6 +126,7 @@ abbrev pub NobodySleeps : {B : Type 0} → (LockId → Option (SleepState B)) �
 NobodySleeps opening = (lock : LockId) (line : Line) → line_at line (opening lock) ≡ []
 
 -- the caller of a section is a thread of the machine and does not sleep after these sections
-pub record IsAwake {E B O : Type 0} (rules : SleepRules E B O) (opening : LockId → Option (SleepState B)) (past : List (Section E)) (s : Section E) : Type 0 where
+pub record IsAwake {E B O : Type 0} (rules : SleepRules E B O) (opening : LockId → Option (SleepState B))
+    (past : List (Section E)) (s : Section E) : Type 0 where
   pub awake : asleep_by (section_moves (sleep_rules rules) (sleep_moves rules) opening past) (rules.caller s.edit) ≡ None
   pub small : (rules.caller s.edit).0 < THREADS

@@ -1,1 +1,2 @@
 pub mod PollLemmas
+pub mod BootLemmas

@@ -35,16 +35,19 @@ use Rattle.sleep_wakeup.specs.NestedLaws.{allowed_here, beneath, here, nested_st
 use Rattle.sleep_wakeup.specs.Parts.{KeptFits, answer_told, as_edit, done_of, kept_told, must_wait, outcome_in, own_of, under_of}
 
 -- where nobody sleeps at the opening here, nobody does beneath
-pub nobody_beneath : {B : Type 0} (opening : LockId → Option (QueueBlock (SleepBlock B))) → NobodySleeps (inner (viewed state_of opening)) → NobodySleeps (states (inner opening))
+pub nobody_beneath : {B : Type 0} (opening : LockId → Option (QueueBlock (SleepBlock B))) → NobodySleeps (inner (viewed state_of opening))
+    → NobodySleeps (states (inner opening))
 nobody_beneath opening nobody lock line = ap (line_at line) (sym (inner_viewed state_of opening lock)) ∙ nobody lock line
 
 -- a part at boot keeps nothing
-pub fresh_kept : {E : Type 0} (O : Type 0) (under : Option (SchedCall (SleepEdit E))) (hand : Option Tid) → under ≡ None → KeptFits {E = E} {O = O} None under hand
+pub fresh_kept : {E : Type 0} (O : Type 0) (under : Option (SchedCall (SleepEdit E))) (hand : Option Tid) → under ≡ None
+    → KeptFits {E = E} {O = O} None under hand
 fresh_kept O None hand none = tt
 fresh_kept O (Some s) hand none = absurd cc
 
 -- an outcome is kept exactly while a thread stands in the hand, where a section may be polled
-pub hand_kept : {E O : Type 0} (kept : Option (Kept E O)) (under : Option (SchedCall (SleepEdit E))) (hand : Option Tid) (b : BufId) (e : E) (duty : Type 0) → KeptFits kept under hand
+pub hand_kept : {E O : Type 0} (kept : Option (Kept E O)) (under : Option (SchedCall (SleepEdit E))) (hand : Option Tid) (b : BufId) (e : E) (duty : Type 0)
+    → KeptFits kept under hand
     → MayCall (under_of kept under) (call.OnBuffer b e) duty → (duty → hand ≡ None) → HandKept hand (outcome_in kept)
 hand_kept {O = O} None None hand b e duty fits may empty = go hand (empty may)
   where
@@ -63,12 +66,14 @@ hand_kept (Some k) None (Some t) b e duty fits may empty = tt
 hand_kept (Some k) (Some under) (Some t) b e duty fits may empty = tt
 
 -- the scheduler's answer to a call that is passed on tells no more than that it is done
-pub done_is : {O : Type 0} (answer : Option (SchedAnswer (Outcome O))) → ((a : SchedAnswer (Outcome O)) → answer ≡ Some a → a ≡ Done) → done_if (done_of answer) ≡ answer
+pub done_is : {O : Type 0} (answer : Option (SchedAnswer (Outcome O))) → ((a : SchedAnswer (Outcome O)) → answer ≡ Some a → a ≡ Done)
+    → done_if (done_of answer) ≡ answer
 done_is None only = refl
 done_is (Some a) only = ap Some (sym (only a refl))
 
 -- what is kept and answered is what the scheduler's answer tells
-pub told_is : {E O : Type 0} (kept : Option (Kept E O)) (threads : Threads) (b : BufId) (e : E) (answer : SchedAnswer (Outcome O)) (hand : Option Tid) (kept' : Option (Kept E O)) (result : Option (Outcome O))
+pub told_is : {E O : Type 0} (kept : Option (Kept E O)) (threads : Threads) (b : BufId) (e : E) (answer : SchedAnswer (Outcome O)) (hand : Option Tid)
+    (kept' : Option (Kept E O)) (result : Option (Outcome O))
     → hand ≡ threads.hand → kept' ≡ kept_told hand b e answer → result ≡ answer_told kept hand answer
     → left_told (outcome_in kept) threads (Some answer) ≡ record { own = own_of kept' threads; answer = result }
 told_is {O = O} kept threads b e Done hand kept' result in_hand keeps gives =
@@ -81,14 +86,23 @@ told_is {O = O} kept threads b e (Answer outcome) hand kept' result in_hand keep
     Now : Type 0
     Now = Left (Sleeping O) (Outcome O)
 
-    by_test : (w : Bool) → (let l : Left (Sleeping O) (Outcome O) = if w then record { own = record { threads = threads; kept = Some outcome }; answer = None } else record { own = record { threads = threads; kept = None }; answer = Some outcome } in l)
-        ≡ record { own = record { threads = threads; kept = outcome_in (if w then Some (record { buffer = b; edit = e; outcome = outcome }) else None) }; answer = if w then None else Some outcome }
+    by_test : (w : Bool) → (let l : Left (Sleeping O)
+        (Outcome O) = if w then record { own = record { threads = threads; kept = Some outcome }; answer = None } else record { own = record { threads = threads; kept = None }; answer = Some outcome } in l)
+        ≡ record {
+          own = record {
+            threads = threads;
+            kept = outcome_in
+                (if w then Some (record { buffer = b; edit = e; outcome = outcome }) else None);
+          };
+          answer = if w then None else Some outcome;
+        }
     by_test true = refl
     by_test false = refl
 
 module _ {E B O : Type 0} (rules : SleepRules E B O) (opening : LockId → Option (QueueBlock (SleepBlock B))) where
   -- the call that is due may be polled on the scheduler
-  pub nested_may : (c : CpuId) (past : List (QueueEvent (SleepEdit E))) (threads : Threads) (b : BufId) (e : E) → StartsWell opening → IsLawful (QueueAllowed (beneath rules opening)) past
+  pub nested_may : (c : CpuId) (past : List (QueueEvent (SleepEdit E))) (threads : Threads) (b : BufId) (e : E) → StartsWell opening
+      → IsLawful (QueueAllowed (beneath rules opening)) past
       → NobodySleeps (states (inner opening)) → Stands (homes_in opening) c (moves_in (beneath rules opening) past) threads
       → (kept : Option (Kept E O)) (under : Option (SchedCall (SleepEdit E))) (hand : Option Tid) → hand ≡ threads.hand → KeptFits kept under hand
       → MayCall (under_of kept under) (call.OnBuffer b e) (MaySleep (here rules opening) c (renamed_events edit_in past) threads b e)
@@ -114,24 +128,32 @@ module _ {E B O : Type 0} (rules : SleepRules E B O) (opening : LockId → Optio
   due_renamed (Some t) b e = refl
 
   -- the scheduler's poll of a call is one here
-  pub nested_polled : (ActsFor : CpuId → Type 0) (c : CpuId) (s : SchedCall (SleepEdit E)) (answer : Option (SchedAnswer (Outcome O))) (old new : List (QueueEvent (SleepEdit E))) (threads threads' : Threads)
+  pub nested_polled : (ActsFor : CpuId → Type 0) (c : CpuId) (s : SchedCall (SleepEdit E)) (answer : Option (SchedAnswer (Outcome O)))
+      (old new : List (QueueEvent (SleepEdit E))) (threads threads' : Threads)
       → SchedPolled (beneath rules opening) ActsFor c s answer old new threads threads'
       → SchedPolled (here rules opening) ActsFor c (renamed_sched edit_in s) answer (renamed_events edit_in old) (renamed_events edit_in new) threads threads'
   nested_polled ActsFor c s answer old new threads threads' polled =
-      polled_renamed (beneath rules opening) (here rules opening) edit_in state_of (λ d a. refl) (λ d a. refl) (inner_viewed state_of opening) (homes_viewed state_of opening) (λ d. refl) refl refl
+      polled_renamed (beneath rules opening) (here rules opening) edit_in state_of (λ d a. refl) (λ d a. refl) (inner_viewed state_of opening)
+      (homes_viewed state_of opening) (λ d. refl) refl refl
       (allowed_here rules opening) ActsFor c s answer old new threads threads' polled
 
   -- the poll of the call that is due is a poll of the section
-  pub nested_sleeps : (ActsFor : CpuId → Type 0) (c : CpuId) (b : BufId) (e : E) (answer : Option (SchedAnswer (Outcome O))) (old new : List (QueueEvent (SleepEdit E))) (threads threads' : Threads)
-      (kept : Option (Kept E O)) (hand : Option Tid) → hand ≡ threads.hand → HandKept hand (outcome_in kept) → SchedPolled (beneath rules opening) ActsFor c (due hand b (as_edit e)) answer old new threads threads'
-      → SleepPolled (here rules opening) ActsFor c b e (renamed_events edit_in old) (renamed_events edit_in new) (own_of kept threads) (left_told (outcome_in kept) threads' answer)
+  pub nested_sleeps : (ActsFor : CpuId → Type 0) (c : CpuId) (b : BufId) (e : E) (answer : Option (SchedAnswer (Outcome O)))
+      (old new : List (QueueEvent (SleepEdit E))) (threads threads' : Threads)
+      (kept : Option (Kept E O)) (hand : Option Tid) → hand ≡ threads.hand → HandKept hand (outcome_in kept)
+      → SchedPolled (beneath rules opening) ActsFor c (due hand b (as_edit e)) answer old new threads threads'
+      → SleepPolled (here rules opening) ActsFor c b e (renamed_events edit_in old) (renamed_events edit_in new) (own_of kept threads)
+      (left_told (outcome_in kept) threads' answer)
   nested_sleeps ActsFor c b e answer old new threads threads' kept hand is fits polled =
-      sleep_polled (here rules opening) ActsFor c b e (renamed_events edit_in old) (renamed_events edit_in new) (own_of kept threads) threads' hand (outcome_in kept) answer (sym is) refl fits
-      (subst (λ s. SchedPolled (here rules opening) ActsFor c s answer (renamed_events edit_in old) (renamed_events edit_in new) threads threads') (due_renamed hand b e)
+      sleep_polled (here rules opening) ActsFor c b e (renamed_events edit_in old) (renamed_events edit_in new) (own_of kept threads) threads' hand
+      (outcome_in kept) answer (sym is) refl fits
+      (subst (λ s. SchedPolled (here rules opening) ActsFor c s answer (renamed_events edit_in old) (renamed_events edit_in new) threads threads')
+      (due_renamed hand b e)
       (nested_polled ActsFor c (due hand b (as_edit e)) answer old new threads threads' polled))
 
   -- the poll of a call that is passed on is one here
-  pub nested_passed : (ActsFor : CpuId → Type 0) (c : CpuId) (p : Pass) (answer : Option (SchedAnswer (Outcome O))) (result : Option (Unit {0})) (old new : List (QueueEvent (SleepEdit E))) (threads threads' : Threads)
+  pub nested_passed : (ActsFor : CpuId → Type 0) (c : CpuId) (p : Pass) (answer : Option (SchedAnswer (Outcome O))) (result : Option (Unit {0}))
+      (old new : List (QueueEvent (SleepEdit E))) (threads threads' : Threads)
       → result ≡ done_of answer → SchedPolled (beneath rules opening) ActsFor c (call.Pass p) answer old new threads threads'
       → SchedPolled (here rules opening) ActsFor c (call.Pass p) (done_if result) (renamed_events edit_in old) (renamed_events edit_in new) threads threads'
   nested_passed ActsFor c p answer result old new threads threads' is polled =
@@ -139,34 +161,42 @@ module _ {E B O : Type 0} (rules : SleepRules E B O) (opening : LockId → Optio
       (sym (ap done_if is ∙ done_is answer (only answer (nested_polled ActsFor c (call.Pass p) answer old new threads threads' polled))))
       (nested_polled ActsFor c (call.Pass p) answer old new threads threads' polled)
     where
-      only : (r : Option (SchedAnswer (Outcome O))) → SchedPolled (here rules opening) ActsFor c (call.Pass p) r (renamed_events edit_in old) (renamed_events edit_in new) threads threads'
+      only : (r : Option (SchedAnswer (Outcome O)))
+          → SchedPolled (here rules opening) ActsFor c (call.Pass p) r (renamed_events edit_in old) (renamed_events edit_in new) threads threads'
           → (a : SchedAnswer (Outcome O)) → r ≡ Some a → a ≡ Done
       only None told a is = absurd cc
       only (Some b) told a is = let done = told.answers in cc
 
   -- a poll that followed the scheduler's plan followed its plan here
-  pub nested_follows : (ActsFor : CpuId → Type 0) (c : CpuId) (s : SchedCall (SleepEdit E)) (acts acts' : List (Action (QueueEdit (SleepEdit E)))) (threads threads' : Threads) (answer : Option (SchedAnswer (Outcome O)))
-      → Follows ActsFor (table_of (queue_rules (nested_rules rules) (nested_moves rules))) opening c (sched_plan (nested_moves rules) (homes_in opening) c s threads) acts acts' (left threads' answer)
+  pub nested_follows : (ActsFor : CpuId → Type 0) (c : CpuId) (s : SchedCall (SleepEdit E)) (acts acts' : List (Action (QueueEdit (SleepEdit E))))
+      (threads threads' : Threads) (answer : Option (SchedAnswer (Outcome O)))
+      → Follows ActsFor (table_of (queue_rules (nested_rules rules) (nested_moves rules))) opening c
+      (sched_plan (nested_moves rules) (homes_in opening) c s threads) acts acts' (left threads' answer)
       → Follows ActsFor (table_of (queue_rules (sleep_rules rules) (sleep_moves rules))) (viewed state_of opening) c
       (sched_plan (sleep_moves rules) (homes_in (viewed state_of opening)) c (renamed_sched edit_in s) threads)
       (map (renamed (renamed_edit edit_in)) acts) (map (renamed (renamed_edit edit_in)) acts') (left threads' answer)
   nested_follows ActsFor c s acts acts' threads threads' answer follows =
       subst (λ plan. Follows ActsFor (table_of (queue_rules (sleep_rules rules) (sleep_moves rules))) (viewed state_of opening) c plan
       (map (renamed (renamed_edit edit_in)) acts) (map (renamed (renamed_edit edit_in)) acts') (left threads' answer))
-      (plan_renamed (beneath rules opening) (here rules opening) edit_in state_of (λ d a. refl) (λ d a. refl) (inner_viewed state_of opening) (homes_viewed state_of opening) (λ d. refl) refl refl
+      (plan_renamed (beneath rules opening) (here rules opening) edit_in state_of (λ d a. refl) (λ d a. refl) (inner_viewed state_of opening)
+      (homes_viewed state_of opening) (λ d. refl) refl refl
       (allowed_here rules opening) (homes_in opening) c s threads
       ∙ ap (λ homes. sched_plan (sleep_moves rules) homes c (renamed_sched edit_in s) threads) (sym (homes_viewed state_of opening)))
-      (follows_named (beneath rules opening) (here rules opening) edit_in state_of (λ d a. refl) (λ d a. refl) (inner_viewed state_of opening) (homes_viewed state_of opening) (λ d. refl) refl refl
+      (follows_named (beneath rules opening) (here rules opening) edit_in state_of (λ d a. refl) (λ d a. refl) (inner_viewed state_of opening)
+      (homes_viewed state_of opening) (λ d. refl) refl refl
       (allowed_here rules opening) ActsFor opening c (sched_plan (nested_moves rules) (homes_in opening) c s threads) acts acts' (left threads' answer) follows)
 
-  pub nested_sleep_follows : (ActsFor : CpuId → Type 0) (c : CpuId) (b : BufId) (e : E) (acts acts' : List (Action (QueueEdit (SleepEdit E)))) (kept : Option (Kept E O)) (threads threads' : Threads)
+  pub nested_sleep_follows : (ActsFor : CpuId → Type 0) (c : CpuId) (b : BufId) (e : E) (acts acts' : List (Action (QueueEdit (SleepEdit E))))
+      (kept : Option (Kept E O)) (threads threads' : Threads)
       (hand : Option Tid) (answer : Option (SchedAnswer (Outcome O))) → hand ≡ threads.hand
-      → Follows ActsFor (table_of (queue_rules (nested_rules rules) (nested_moves rules))) opening c (sched_plan (nested_moves rules) (homes_in opening) c (due hand b (as_edit e)) threads) acts acts' (left threads' answer)
+      → Follows ActsFor (table_of (queue_rules (nested_rules rules) (nested_moves rules))) opening c
+      (sched_plan (nested_moves rules) (homes_in opening) c (due hand b (as_edit e)) threads) acts acts' (left threads' answer)
       → Follows ActsFor (table_of (queue_rules (sleep_rules rules) (sleep_moves rules))) (viewed state_of opening) c
       (sleep_plan (sleep_moves rules) (homes_in (viewed state_of opening)) c b e (own_of kept threads))
       (map (renamed (renamed_edit edit_in)) acts) (map (renamed (renamed_edit edit_in)) acts') (left_told (outcome_in kept) threads' answer)
   nested_sleep_follows ActsFor c b e acts acts' kept threads threads' hand answer is follows =
-      follows_raised ActsFor (table_of (queue_rules (sleep_rules rules) (sleep_moves rules))) (viewed state_of opening) c (λ l. left_told (outcome_in kept) l.own l.answer)
+      follows_raised ActsFor (table_of (queue_rules (sleep_rules rules) (sleep_moves rules))) (viewed state_of opening) c
+      (λ l. left_told (outcome_in kept) l.own l.answer)
       (sched_plan (sleep_moves rules) (homes_in (viewed state_of opening)) c (due threads.hand b e) threads)
       (map (renamed (renamed_edit edit_in)) acts) (map (renamed (renamed_edit edit_in)) acts') (left threads' answer)
       (subst (λ s. Follows ActsFor (table_of (queue_rules (sleep_rules rules) (sleep_moves rules))) (viewed state_of opening) c
@@ -175,9 +205,11 @@ module _ {E B O : Type 0} (rules : SleepRules E B O) (opening : LockId → Optio
       (due_renamed hand b e ∙ ap (λ h. due h b e) is)
       (nested_follows ActsFor c (due hand b (as_edit e)) acts acts' threads threads' answer follows))
 
-  pub nested_pass_follows : (ActsFor : CpuId → Type 0) (c : CpuId) (p : Pass) (acts acts' : List (Action (QueueEdit (SleepEdit E)))) (kept : Option (Kept E O)) (threads threads' : Threads)
+  pub nested_pass_follows : (ActsFor : CpuId → Type 0) (c : CpuId) (p : Pass) (acts acts' : List (Action (QueueEdit (SleepEdit E))))
+      (kept : Option (Kept E O)) (threads threads' : Threads)
       (answer : Option (SchedAnswer (Outcome O))) (result : Option (Unit {0})) → result ≡ done_of answer
-      → Follows ActsFor (table_of (queue_rules (nested_rules rules) (nested_moves rules))) opening c (sched_plan (nested_moves rules) (homes_in opening) c (call.Pass p) threads) acts acts' (left threads' answer)
+      → Follows ActsFor (table_of (queue_rules (nested_rules rules) (nested_moves rules))) opening c
+      (sched_plan (nested_moves rules) (homes_in opening) c (call.Pass p) threads) acts acts' (left threads' answer)
       → Follows ActsFor (table_of (queue_rules (sleep_rules rules) (sleep_moves rules))) (viewed state_of opening) c
       (pass_plan (sleep_moves rules) (homes_in (viewed state_of opening)) c p (own_of kept threads))
       (map (renamed (renamed_edit edit_in)) acts) (map (renamed (renamed_edit edit_in)) acts') (record { own = own_of kept threads'; answer = result })

@@ -41,7 +41,8 @@ abbrev pub nested_answer : {E B O : Type 0} → SleepRules E B O → SleepEdit E
 nested_answer rules d block = sleep_answer rules d.edit (state_of block)
 
 -- an edit keeps the protocol: nobody slept at the opening, its caller is awake, and the layer above allows it
-pub record NestedAllowed {E B O : Type 0} (rules : SleepRules E B O) (opening : LockId → Option (SleepBlock B)) (past : List (Section (SleepEdit E))) (s : Section (SleepEdit E)) : Type 0 where
+pub record NestedAllowed {E B O : Type 0} (rules : SleepRules E B O) (opening : LockId → Option (SleepBlock B)) (past : List (Section (SleepEdit E)))
+    (s : Section (SleepEdit E)) : Type 0 where
   pub start : NobodySleeps (states opening)
   pub awake : IsAwake rules (states opening) (map (renamed_section edit_in) past) (renamed_section edit_in s)
   pub upper : rules.allowed (states opening) (map (renamed_section edit_in) past) (renamed_section edit_in s)

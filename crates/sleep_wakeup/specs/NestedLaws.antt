@@ -54,22 +54,27 @@ module _ {E B O : Type 0} (rules : SleepRules E B O) (opening : LockId → Optio
   state_after lock past =
       block_viewed (table_of (nested_rules rules)) (table_of (sleep_rules rules)) edit_in state_of (λ (o : Outcome O). o) edits (λ d a. refl) opening lock past
 
-  answer_seen : (d : SleepEdit E) (o : Option (SleepBlock B)) → option_map (sleep_answer rules (edit_in d)) (option_map state_of o) ≡ option_map (nested_answer rules d) o
+  answer_seen : (d : SleepEdit E) (o : Option (SleepBlock B))
+      → option_map (sleep_answer rules (edit_in d)) (option_map state_of o) ≡ option_map (nested_answer rules d) o
   answer_seen d None = refl
   answer_seen d (Some a) = refl
 
   -- and so is its answer
-  out_after : (past : List (Section (SleepEdit E))) (s : Section (SleepEdit E)) → option_map (sleep_answer rules (edit_in s.edit)) (block_after (sleep_edited rules) (states opening) s.lock (above past))
+  out_after : (past : List (Section (SleepEdit E))) (s : Section (SleepEdit E))
+      → option_map (sleep_answer rules (edit_in s.edit)) (block_after (sleep_edited rules) (states opening) s.lock (above past))
       ≡ option_map (nested_answer rules s.edit) (block_after (nested_edited rules) opening s.lock past)
-  out_after past s = ap (option_map (sleep_answer rules (edit_in s.edit))) (state_after s.lock past) ∙ answer_seen s.edit (block_after (nested_edited rules) opening s.lock past)
+  out_after past s = ap (option_map (sleep_answer rules (edit_in s.edit))) (state_after s.lock past)
+      ∙ answer_seen s.edit (block_after (nested_edited rules) opening s.lock past)
 
-  move_out : (lock : LockId) (d : SleepEdit E) (o : Option (Outcome O)) → edit_move (sleep_moves rules) lock (edit_in d) o ≡ edit_move (nested_moves rules) lock d o
+  move_out : (lock : LockId) (d : SleepEdit E) (o : Option (Outcome O))
+      → edit_move (sleep_moves rules) lock (edit_in d) o ≡ edit_move (nested_moves rules) lock d o
   move_out lock d None = refl
   move_out lock d (Some out) = refl
 
   -- the sections move threads alike
   pub moves_above : (past : List (Section (SleepEdit E)))
-      → section_moves (sleep_rules rules) (sleep_moves rules) (states opening) (above past) ≡ section_moves (nested_rules rules) (nested_moves rules) opening past
+      → section_moves (sleep_rules rules) (sleep_moves rules) (states opening) (above past)
+      ≡ section_moves (nested_rules rules) (nested_moves rules) opening past
   moves_above [] = refl
   moves_above (s ∷ past) = λ i. step s.cpu ((ap (edit_move (sleep_moves rules) s.lock (edit_in s.edit)) (out_after past s)
       ∙ move_out s.lock s.edit (option_map (nested_answer rules s.edit) (block_after (nested_edited rules) opening s.lock past))) i) ∷ moves_above past i
@@ -83,7 +88,8 @@ module _ {E B O : Type 0} (rules : SleepRules E B O) (opening : LockId → Optio
 pub nested_wakes : {E B O : Type 0} (rules : SleepRules E B O) → WakesSleepers (nested_rules rules) (nested_moves rules)
 nested_wakes rules opening past s out u lawful allowed answers wakes =
     subst (λ moves. is_place (asleep_by moves u) ≡ true) (moves_above rules opening past)
-    (section_wakes rules (states opening) (map (renamed_section edit_in) past) (renamed_section edit_in s) out u (awake_above rules opening past lawful) allowed.start
+    (section_wakes rules (states opening) (map (renamed_section edit_in) past) (renamed_section edit_in s) out u
+    (awake_above rules opening past lawful) allowed.start
     (out_after rules opening past s ∙ answers) wakes)
 
 -- Histories. The kernel beneath is that of the nested edits over this opening, and the kernel here that of the layer's own.
@@ -103,15 +109,19 @@ module _ {E B O : Type 0} (rules : SleepRules E B O) (opening : LockId → Optio
   pub allowed_here : (past : List (Section (SleepEdit E))) (s : Section (SleepEdit E)) → NestedAllowed rules (inner opening) past s
       → rules.allowed (inner (viewed state_of opening)) (map (renamed_section edit_in) past) (renamed_section edit_in s)
   allowed_here past s allowed =
-      subst (λ (o : LockId → Option (SleepState B)). rules.allowed o (map (renamed_section edit_in) past) (renamed_section edit_in s)) (sym inner_states) allowed.upper
+      subst (λ (o : LockId → Option (SleepState B)). rules.allowed o (map (renamed_section edit_in) past) (renamed_section edit_in s))
+      (sym inner_states) allowed.upper
 
-  pub nested_lawful : (past : List (QueueEvent (SleepEdit E))) → IsLawful (QueueAllowed beneath) past → IsLawful (QueueAllowed here) (renamed_events edit_in past)
+  pub nested_lawful : (past : List (QueueEvent (SleepEdit E))) → IsLawful (QueueAllowed beneath) past
+      → IsLawful (QueueAllowed here) (renamed_events edit_in past)
   nested_lawful past lawful =
-      lawful_renamed beneath here edit_in state_of (λ d a. refl) (λ d a. refl) (inner_viewed state_of opening) (homes_viewed state_of opening) (λ d. refl) refl refl allowed_here past lawful
+      lawful_renamed beneath here edit_in state_of (λ d a. refl) (λ d a. refl) (inner_viewed state_of opening) (homes_viewed state_of opening)
+      (λ d. refl) refl refl allowed_here past lawful
 
   pub same_moves : (past : List (QueueEvent (SleepEdit E))) → moves_in here (renamed_events edit_in past) ≡ moves_in beneath past
   same_moves past =
-      moves_renamed beneath here edit_in state_of (λ d a. refl) (λ d a. refl) (inner_viewed state_of opening) (homes_viewed state_of opening) (λ d. refl) refl refl allowed_here past
+      moves_renamed beneath here edit_in state_of (λ d a. refl) (λ d a. refl) (inner_viewed state_of opening) (homes_viewed state_of opening)
+      (λ d. refl) refl refl allowed_here past
 
   -- the threads stand here as they stand beneath
   pub nested_stands : (c : CpuId) (past : List (QueueEvent (SleepEdit E))) (own : Threads) → Stands (homes_in opening) c (moves_in beneath past) own
@@ -136,7 +146,8 @@ module _ {E B O : Type 0} (rules : SleepRules E B O) (opening : LockId → Optio
   pub nested_lists : (past : List (QueueEvent (SleepEdit E))) → IsLawful (QueueAllowed beneath) past → NobodySleeps (states (inner opening))
       → ListsAgree rules (viewed state_of opening) (renamed_events edit_in past)
   nested_lists past lawful nobody lock line t =
-      ap (λ (o : LockId → Option (SleepState B)). count_in t (line_at line (block_after (sleep_edited rules) o lock (buffer_sections (renamed_events edit_in past))))) inner_states
+      ap (λ (o : LockId → Option (SleepState B)). count_in t
+      (line_at line (block_after (sleep_edited rules) o lock (buffer_sections (renamed_events edit_in past))))) inner_states
       ∙ (ap (λ sections. count_in t (line_at line (block_after (sleep_edited rules) (states (inner opening)) lock sections))) (sections_renamed edit_in past)
       ∙ (lists_agree rules (states (inner opening)) (map (renamed_section edit_in) (buffer_sections past))
       (awake_above rules (inner opening) (buffer_sections past) (upper_lawful beneath past lawful)) nobody lock line t
@@ -145,7 +156,8 @@ module _ {E B O : Type 0} (rules : SleepRules E B O) (opening : LockId → Optio
 
   -- A section that may begin here may begin beneath, and stays allowed there.
 
-  pub nested_stays : (c : CpuId) (past : List (QueueEvent (SleepEdit E))) (own : Threads) (b : BufId) (e : E) → StartsWell opening → IsLawful (QueueAllowed beneath) past
+  pub nested_stays : (c : CpuId) (past : List (QueueEvent (SleepEdit E))) (own : Threads) (b : BufId) (e : E) → StartsWell opening
+      → IsLawful (QueueAllowed beneath) past
       → NobodySleeps (states (inner opening)) → Stands (homes_in opening) c (moves_in beneath past) own
       → MaySleep here c (renamed_events edit_in past) own b e → EditStays beneath c past (call.OnBuffer b (as_edit e))
   nested_stays c past own b e starts lawful nobody stands may more others legal = record {
@@ -154,8 +166,10 @@ module _ {E B O : Type 0} (rules : SleepRules E B O) (opening : LockId → Optio
       awake = sym (asleep_here (more ++ past) (rules.caller e) legal) ∙ ap place_of at.1;
       small = omega (arith, slice_get_within (homes_in opening) (rules.caller e).0 c at.0, starts.room);
     };
-    upper = subst (λ (o : LockId → Option (SleepState B)). rules.allowed o (map (renamed_section edit_in) (buffer_sections (more ++ past))) (record { cpu = c; lock = Buffer b; edit = e })) inner_states
-        (stays_renamed beneath here edit_in state_of (λ d a. refl) (λ d a. refl) (inner_viewed state_of opening) (homes_viewed state_of opening) (λ d. refl) refl refl allowed_here
+    upper = subst (λ (o : LockId → Option (SleepState B)). rules.allowed o (map (renamed_section edit_in) (buffer_sections (more ++ past)))
+        (record { cpu = c; lock = Buffer b; edit = e })) inner_states
+        (stays_renamed beneath here edit_in state_of (λ d a. refl) (λ d a. refl) (inner_viewed state_of opening) (homes_viewed state_of opening)
+        (λ d. refl) refl refl allowed_here
         c past b (as_edit e) may.stays more others legal);
   }
     where

@@ -3,7 +3,8 @@ use Rattle.sleep_wakeup.specs.Nested.{resting}
 use Rattle.sleep_wakeup.proofs.blocks.sleep_blocks.Given as goal
 
 abbrev pub invariant-loop-made : goal.invariant-loop-made
-invariant-loop-made g l = (l.made.items ++ map resting l.left.items ≡ map resting l.fn.blocks.items) × (length l.made.items + length l.left.items ≤ vec_capacity l.made)
+invariant-loop-made g l = (l.made.items ++ map resting l.left.items ≡ map resting l.fn.blocks.items)
+    × (length l.made.items + length l.left.items ≤ vec_capacity l.made)
 
 abbrev pub decreases-loop-made : goal.decreases-loop-made
 decreases-loop-made g l = length l.left.items

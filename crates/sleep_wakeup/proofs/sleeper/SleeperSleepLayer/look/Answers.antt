@@ -14,4 +14,5 @@ pub returns-clause-tries : goal.returns-clause-tries
 returns-clause-tries g c = λ step looked.
     let S = g.S.SchedLayer in
     let m = c.args.m.now in
-    tries_renamed (renamed_edit edit_in) (λ d. S.ActsFor m d) (S.cpu_of c.args.self.now.lower) (S.acts m) (S.acts c.look.new.m) (c.look.ensures.tries step looked)
+    tries_renamed (renamed_edit edit_in) (λ d. S.ActsFor m d) (S.cpu_of c.args.self.now.lower) (S.acts m) (S.acts c.look.new.m)
+    (c.look.ensures.tries step looked)

@@ -7,7 +7,8 @@ returns-clause-seen g c =
     let self = c.args.self.now in
     let m = c.args.m.now in
     let said = c.poll-answer.ensures in
-    nested_passed g.E.Sleeps.rules (S.opening m) (λ d. S.ActsFor m d) (S.cpu_of self.lower) c.args.call c.poll-answer.result c.done.result (S.seen m) (S.seen c.poll-answer.new.m)
+    nested_passed g.E.Sleeps.rules (S.opening m) (λ d. S.ActsFor m d) (S.cpu_of self.lower) c.args.call c.poll-answer.result c.done.result (S.seen m)
+    (S.seen c.poll-answer.new.m)
     (S.threads self.lower) (S.threads c.poll-answer.new.self) c.done.ensures said.seen
 
 pub returns-clause-follows : goal.returns-clause-follows

@@ -1,0 +1,48 @@
+-- The blocks of a machine at boot: nobody sleeps, and each buffer is there.
+use Rattle.std.proofs.Common.{◌≡◌, List, [], Option, Some, None, IsSome, Result, Ok, Err, IfOk, map, option_map, refl, ap, ◌∙◌, slice_get}
+use Rattle.event_log.specs.declared.ids.CpuId.{CpuId}
+use Rattle.event_log.specs.declared.ids.BufId.{BufId}
+use Rattle.event_log.specs.declared.ids.LockId.{LockId}
+use Rattle.event_log.specs.declared.ids.LockId.TheVariants.{Pending, Buffer}
+use Rattle.layer_traits.specs.declared.moves.Line.{Line}
+use Rattle.layer_traits.specs.declared.moves.Line.TheVariants.{Sleepers, Receivers, Senders}
+use Rattle.layer_traits.specs.declared.queue_edits.QueueBlock.{QueueBlock}
+use Rattle.layer_traits.specs.declared.queue_edits.QueueBlock.TheVariants as block
+use Rattle.layer_traits.specs.QueueBlocks.{StartsAs, StartsWell, above_of, inner}
+use Rattle.layer_traits.specs.Renaming.{viewed}
+use Rattle.layer_traits.specs.Sleeping.{NobodySleeps, line_at}
+use Rattle.layer_traits.proofs.KernelRenaming.{inner_viewed}
+use Rattle.std.proofs.lemmas.Option.{slice_get-map}
+use Rattle.sleep_wakeup.specs.declared.edits.SleepBlock.{SleepBlock}
+use Rattle.sleep_wakeup.specs.Nested.{resting, state_of}
+
+-- what follows from what an Ok value is
+pub if_ok : {A E : Type 0} (r : Result A E) (P Q : A → Type 0) → IfOk r P → ((x : A) → P x → Q x) → IfOk r Q
+if_ok (Ok x) P Q is follows = follows x is
+if_ok (Err e) P Q is follows = tt
+
+-- a lock that holds a block of the layer above is there
+pub there_inside : {B : Type 0} (o : Option (QueueBlock B)) → IsSome (above_of o) → IsSome o
+there_inside None some = some
+there_inside (Some b) some = refl
+
+no_line : {B : Type 0} (line : Line) (o : Option B) → line_at line (option_map state_of (option_map resting o)) ≡ []
+no_line line None = refl
+no_line Sleepers (Some above) = refl
+no_line Receivers (Some above) = refl
+no_line Senders (Some above) = refl
+
+-- nobody sleeps where each buffer has a block at rest
+pub nobody_at_boot : {B : Type 0} (opening : LockId → Option (QueueBlock (SleepBlock B))) (above : List B) → StartsWell opening
+    → ((b : BufId) → inner opening (Buffer b) ≡ slice_get (map resting above) b.0) → NobodySleeps (inner (viewed state_of opening))
+nobody_at_boot {B} opening above starts blocks lock line = ap (line_at line) (inner_viewed state_of opening lock) ∙ by_lock lock (starts.kinds lock)
+  where
+    queue : (c : CpuId) (o : Option (QueueBlock (SleepBlock B))) → StartsAs (Pending c) o → line_at line (option_map state_of (above_of o)) ≡ []
+    queue c None kind = refl
+    queue c (Some (block.Queue threads homes)) kind = refl
+    queue c (Some (block.Above b)) kind = absurd kind
+
+    by_lock : (l : LockId) → StartsAs l (opening l) → line_at line (option_map state_of (inner opening l)) ≡ []
+    by_lock (Pending c) kind = queue c (opening (Pending c)) kind
+    by_lock (Buffer b) kind =
+        ap (λ o. line_at line (option_map state_of o)) (blocks b ∙ slice_get-map resting above b.0) ∙ no_line line (slice_get above b.0)
