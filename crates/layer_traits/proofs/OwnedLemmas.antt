@@ -29,7 +29,8 @@ shown_under below FitsP FitsQ cpu_below cpu_of InsideP InsideQ here home truth f
       has = λ q at fit. is.has (below q) (cpus q fit ∙ at) (fits q fit);
     }
 
-viewed_some : {A B : Type 0} (view : A → B) (truth : Option A) (o : Option A) (y : B) → ((x : A) → o ≡ Some x → truth ≡ Some x) → option_map view o ≡ Some y
+viewed_some : {A B : Type 0} (view : A → B) (truth : Option A) (o : Option A) (y : B)
+    → ((x : A) → o ≡ Some x → truth ≡ Some x) → option_map view o ≡ Some y
     → option_map view truth ≡ Some y
 viewed_some view truth None y tells is = absurd cc
 viewed_some view truth (Some x) y tells is = ap (option_map view) (tells x refl) ∙ is

@@ -71,6 +71,20 @@ pub done_is : {O : Type 0} (answer : Option (SchedAnswer (Outcome O))) → ((a :
 done_is None only = refl
 done_is (Some a) only = ap Some (sym (only a refl))
 
+-- what a section that is done leaves, by whether it has to wait
+abbrev left_if : {O : Type 0} → Bool → Outcome O → Threads → Left (Sleeping O) (Outcome O)
+left_if waits outcome threads =
+    if waits
+    then record { own = record { threads = threads; kept = Some outcome }; answer = None }
+    else record { own = record { threads = threads; kept = None }; answer = Some outcome }
+
+-- what the part keeps and answers then
+abbrev kept_if : {E O : Type 0} → Bool → BufId → E → Outcome O → Threads → Left (Sleeping O) (Outcome O)
+kept_if waits b e outcome threads = record {
+  own = own_of (if waits then Some (record { buffer = b; edit = e; outcome = outcome }) else None) threads;
+  answer = if waits then None else Some outcome;
+}
+
 -- what is kept and answered is what the scheduler's answer tells
 pub told_is : {E O : Type 0} (kept : Option (Kept E O)) (threads : Threads) (b : BufId) (e : E) (answer : SchedAnswer (Outcome O)) (hand : Option Tid)
     (kept' : Option (Kept E O)) (result : Option (Outcome O))
@@ -83,19 +97,7 @@ told_is {O = O} kept threads b e (Answer outcome) hand kept' result in_hand keep
     ∙ ((λ i. record { own = own_of (kept_told (sym in_hand i) b e (Answer outcome)) threads; answer = answer_told kept (sym in_hand i) (Answer outcome) })
     ∙ λ i. record { own = own_of (sym keeps i) threads; answer = sym gives i })
   where
-    Now : Type 0
-    Now = Left (Sleeping O) (Outcome O)
-
-    by_test : (w : Bool) → (let l : Left (Sleeping O)
-        (Outcome O) = if w then record { own = record { threads = threads; kept = Some outcome }; answer = None } else record { own = record { threads = threads; kept = None }; answer = Some outcome } in l)
-        ≡ record {
-          own = record {
-            threads = threads;
-            kept = outcome_in
-                (if w then Some (record { buffer = b; edit = e; outcome = outcome }) else None);
-          };
-          answer = if w then None else Some outcome;
-        }
+    by_test : (waits : Bool) → left_if waits outcome threads ≡ kept_if waits b e outcome threads
     by_test true = refl
     by_test false = refl
 

@@ -106,7 +106,8 @@ returns-in-Some-clause-seen g c =
     (S.seen n) threads after
     = transport (λ i. SchedPolled (beneath rules (S.opening m)) (λ d. S.ActsFor m d) cpu (c.next-call.ensures i) (c.in-Some.is i) (S.seen m)
     (S.seen n) threads after) c.poll.ensures.seen in
-    let left = told_is self.kept after buffer edit c.in-Some.answer c.hand-in-Some.result c.told.new.kept c.told.result c.hand-in-Some.ensures c.told.ensures.kept c.told.ensures.answer in
+    let left = told_is self.kept after buffer edit c.in-Some.answer c.hand-in-Some.result c.told.new.kept c.told.result
+    c.hand-in-Some.ensures c.told.ensures.kept c.told.ensures.answer in
     subst (λ l. SleepPolled (here rules (S.opening m)) (λ d. S.ActsFor m d) cpu buffer edit (renamed_events edit_in (S.seen m))
     (renamed_events edit_in (S.seen n)) (own_of self.kept threads) l) left
     (nested_sleeps rules (S.opening m) (λ d. S.ActsFor m d) cpu buffer edit (Some c.in-Some.answer) (S.seen m)
@@ -131,7 +132,8 @@ returns-in-Some-clause-follows g c = λ step.
     = transport (λ i. Follows (λ d. S.ActsFor m d) (table_of (queue_rules (nested_rules rules) (nested_moves rules))) (S.opening m) cpu
     (sched_plan (nested_moves rules) (homes_in (S.opening m)) cpu (c.next-call.ensures i) threads) (S.acts m) (S.acts n) (sched_left after (c.in-Some.is i)))
     (c.poll.ensures.follows step) in
-    let left = told_is self.kept after buffer edit c.in-Some.answer c.hand-in-Some.result c.told.new.kept c.told.result c.hand-in-Some.ensures c.told.ensures.kept c.told.ensures.answer in
+    let left = told_is self.kept after buffer edit c.in-Some.answer c.hand-in-Some.result c.told.new.kept c.told.result
+    c.hand-in-Some.ensures c.told.ensures.kept c.told.ensures.answer in
     subst (λ l. Follows (λ d. S.ActsFor m d) (table_of (queue_rules (sleep_rules rules) (sleep_moves rules))) (viewed state_of (S.opening m)) cpu
     (sleep_plan (sleep_moves rules) (homes_in (viewed state_of (S.opening m))) cpu buffer edit (own_of self.kept threads))
     (map (renamed (renamed_edit edit_in)) (S.acts m)) (map (renamed (renamed_edit edit_in)) (S.acts n)) l) left
