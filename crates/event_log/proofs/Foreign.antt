@@ -4,7 +4,7 @@ use Rattle.event_log.specs.declared.ids.CpuId.{CpuId}
 use Rattle.event_log.specs.declared.ids.TheConstants.{CPUS}
 use Rattle.event_log.specs.declared.events.Event.{Event}
 use Rattle.event_log.specs.declared.events.Event.TheVariants.{Draw, Look, Free}
-use Rattle.event_log.specs.History.{same_cpu, own, IsLawful, AreOthers, AreForeign}
+use Rattle.event_log.specs.History.{same_cpu, own_events, IsLawful, AreOthers, AreForeign}
 use Rattle.event_log.specs.WordsLog.{actor, standing, IsLegalWords}
 use Rattle.event_log.specs.Actions.{Action, Take, Try, Give, phase, doer, place, MayAct, AreLegal, act_of, acts_of}
 use Rattle.event_log.specs.Sections.{section_actor, sections_of, sections_in}
@@ -23,9 +23,10 @@ pub others_both : {E : Type 0} (by : E → CpuId) (c : CpuId) (more past : List 
 others_both by c [] past first second = second
 others_both by c (e ∷ more) past first second = (first.0, others_both by c more past first.1 second)
 
-pub own_append : {E : Type 0} (by : E → CpuId) (c : CpuId) (more past : List E) → own by c (more ++ past) ≡ own by c more ++ own by c past
+pub own_append : {E : Type 0} (by : E → CpuId) (c : CpuId) (more past : List E) → own_events by c (more ++ past) ≡ own_events by c more ++ own_events by c past
 own_append by c [] past = refl
-own_append by c (e ∷ more) past = own_more (same_cpu (by e) c) e (own by c more) (own by c past) (own by c (more ++ past)) (own_append by c more past)
+own_append by c (e ∷ more) past = own_more (same_cpu (by e) c) e (own_events by c more) (own_events by c past) (own_events by c (more ++ past))
+    (own_append by c more past)
   where
     own_more : {E : Type 0} (b : Bool) (e : E) (xs ys whole : List E) → whole ≡ xs ++ ys
         → (if b then e ∷ whole else whole) ≡ (if b then e ∷ xs else xs) ++ ys
@@ -33,12 +34,13 @@ own_append by c (e ∷ more) past = own_more (same_cpu (by e) c) e (own by c mor
     own_more false e xs ys whole is = is
 
 -- a CPU has none of its own among the events of others
-pub own_none : {E : Type 0} (by : E → CpuId) (c : CpuId) (others : List E) → AreOthers by c others → own by c others ≡ []
+pub own_none : {E : Type 0} (by : E → CpuId) (c : CpuId) (others : List E) → AreOthers by c others → own_events by c others ≡ []
 own_none by c [] foreign = refl
-own_none by c (e ∷ others) foreign = ap (λ b. if b then e ∷ own by c others else own by c others) foreign.0 ∙ own_none by c others foreign.1
+own_none by c (e ∷ others) foreign = ap (λ b. if b then e ∷ own_events by c others else own_events by c others) foreign.0 ∙ own_none by c others foreign.1
 
-pub own_others : {E : Type 0} (by : E → CpuId) (c : CpuId) (others past : List E) → AreOthers by c others → own by c (others ++ past) ≡ own by c past
-own_others by c others past foreign = own_append by c others past ∙ ap (λ xs. xs ++ own by c past) (own_none by c others foreign)
+pub own_others : {E : Type 0} (by : E → CpuId) (c : CpuId) (others past : List E) → AreOthers by c others
+    → own_events by c (others ++ past) ≡ own_events by c past
+own_others by c others past foreign = own_append by c others past ∙ ap (λ xs. xs ++ own_events by c past) (own_none by c others foreign)
 
 -- where the holder acts for each CPU that is known, and only such CPUs act, no event is foreign
 pub no_foreign : {E : Type 0} (ActsFor : CpuId → Type 0) (by : E → CpuId) (others past : List E)

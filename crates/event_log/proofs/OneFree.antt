@@ -4,7 +4,7 @@ use Rattle.event_log.specs.declared.ids.CpuId.{CpuId}
 use Rattle.event_log.specs.declared.ids.LockId.{LockId}
 use Rattle.event_log.specs.declared.events.Event.{Event}
 use Rattle.event_log.specs.declared.events.Event.TheVariants.{Draw, Look, Free}
-use Rattle.event_log.specs.History.{same_cpu, same_lock, own}
+use Rattle.event_log.specs.History.{same_cpu, same_lock, own_events}
 use Rattle.event_log.specs.WordsLog.{actor, frees, IsLegalWords}
 use Rattle.event_log.specs.Actions.{Action, Take, Try, Give, Waits, Holds, phase, left_in, doer, place, takes, gives, MayAct, AreLegal, act_of, acts_of}
 use Rattle.event_log.specs.Laws.{OnlyTries, OnlyLooks}
@@ -13,11 +13,12 @@ use Rattle.event_log.proofs.Exclusion.{is_at, is_holding, at_either, phase_own, 
 use Rattle.event_log.proofs.Tickets.{doer_is, gives_acts, legal_acts}
 use Rattle.event_log.proofs.Foreign.{acts_of-append}
 
-pub own_yes : {E : Type 0} (by : E → CpuId) (c : CpuId) (e : E) (past : List E) → same_cpu (by e) c ≡ true → own by c (e ∷ past) ≡ e ∷ own by c past
-own_yes by c e past is = ap (λ b. if b then e ∷ own by c past else own by c past) is
+pub own_yes : {E : Type 0} (by : E → CpuId) (c : CpuId) (e : E) (past : List E) → same_cpu (by e) c ≡ true
+    → own_events by c (e ∷ past) ≡ e ∷ own_events by c past
+own_yes by c e past is = ap (λ b. if b then e ∷ own_events by c past else own_events by c past) is
 
-pub own_not : {E : Type 0} (by : E → CpuId) (c : CpuId) (e : E) (past : List E) → same_cpu (by e) c ≡ false → own by c (e ∷ past) ≡ own by c past
-own_not by c e past other = ap (λ b. if b then e ∷ own by c past else own by c past) other
+pub own_not : {E : Type 0} (by : E → CpuId) (c : CpuId) (e : E) (past : List E) → same_cpu (by e) c ≡ false → own_events by c (e ∷ past) ≡ own_events by c past
+own_not by c e past other = ap (λ b. if b then e ∷ own_events by c past else own_events by c past) other
 
 -- an action leaves its own CPU as it says
 left_own : {N : Type 0} (a : Action N) (log : List (Action N)) (c : CpuId) → doer a ≡ c → phase c (a ∷ log) ≡ left_in a
@@ -32,14 +33,14 @@ module _ {N : Type 0} (lock : LockId) (cpu other : CpuId) (first : ℕ) (differ 
   record Meanwhile (between log : List (Action N)) : Type 0 where
     stands : is_at lock (phase cpu log) ≡ true
     spot : place cpu log ≡ first
-    once : gives lock (own doer other between) ≤ 1
-    behind : 1 ≤ gives lock (own doer other between) → is_at lock (phase other log) ≡ true → first < place other log
+    once : gives lock (own_events doer other between) ≤ 1
+    behind : 1 ≤ gives lock (own_events doer other between) → is_at lock (phase other log) ≡ true → first < place other log
 
   -- an action of a third CPU
   by_third : (a : Action N) (between log : List (Action N)) → Meanwhile between log → same_cpu (doer a) cpu ≡ false → same_cpu (doer a) other ≡ false
       → Meanwhile (a ∷ between) (a ∷ log)
   by_third a between log so_far not_cpu not_other =
-      let same : own doer other (a ∷ between) ≡ own doer other between = own_not doer other a between not_other in
+      let same : own_events doer other (a ∷ between) ≡ own_events doer other between = own_not doer other a between not_other in
       record {
         stands = ap (is_at lock) (phase_other a log cpu not_cpu) ∙ so_far.stands;
         spot = place_other a log cpu not_cpu ∙ so_far.spot;
@@ -49,13 +50,13 @@ module _ {N : Type 0} (lock : LockId) (cpu other : CpuId) (first : ℕ) (differ 
       }
 
   -- an action of the first CPU, which can only be a try
-  by_try : (a : Action N) (between log : List (Action N)) → MayAct log a → Meanwhile between log → OnlyTries (a ∷ own doer cpu between)
+  by_try : (a : Action N) (between log : List (Action N)) → MayAct log a → Meanwhile between log → OnlyTries (a ∷ own_events doer cpu between)
       → doer a ≡ cpu → same_cpu (doer a) other ≡ false → Meanwhile (a ∷ between) (a ∷ log)
   by_try (Take d m) between log may so_far tries by not_other = absurd tries
   by_try (Give d m name) between log may so_far tries by not_other = absurd tries
   by_try (Try d m hit) between log may so_far tries by not_other =
       let waits : phase cpu log ≡ Waits m = subst (λ c. phase c log ≡ Waits m) by may.0 in
-      let same : own doer other (Try d m hit ∷ between) ≡ own doer other between = own_not doer other (Try d m hit) between not_other in
+      let same : own_events doer other (Try d m hit ∷ between) ≡ own_events doer other between = own_not doer other (Try d m hit) between not_other in
       record {
         stands = ap (is_at lock) (left_own (Try d m hit) log cpu by) ∙ (at_either lock m hit ∙ (sym (ap (is_at lock) waits) ∙ so_far.stands));
         spot = so_far.spot;
@@ -69,7 +70,7 @@ module _ {N : Type 0} (lock : LockId) (cpu other : CpuId) (first : ℕ) (differ 
       → doer a ≡ other → same_cpu (doer a) cpu ≡ false → Meanwhile (a ∷ between) (a ∷ log)
   by_other (Take d m) between log may legal so_far by not_cpu =
       let is : same_cpu d other ≡ true = subst (λ c. same_cpu d c ≡ true) by (same_cpu_self d) in
-      let same : own doer other (Take d m ∷ between) ≡ Take d m ∷ own doer other between = own_yes doer other (Take d m) between is in
+      let same : own_events doer other (Take d m ∷ between) ≡ Take d m ∷ own_events doer other between = own_yes doer other (Take d m) between is in
       let taken : place other (Take d m ∷ log) ≡ takes m log = ap (λ b. if b then takes m log else place other log) is in
       let ahead : place cpu log < takes lock log = (line_at lock log legal).behind cpu so_far.stands in
       record {
@@ -82,7 +83,7 @@ module _ {N : Type 0} (lock : LockId) (cpu other : CpuId) (first : ℕ) (differ 
       }
   by_other (Try d m hit) between log may legal so_far by not_cpu =
       let is : same_cpu d other ≡ true = subst (λ c. same_cpu d c ≡ true) by (same_cpu_self d) in
-      let same : own doer other (Try d m hit ∷ between) ≡ Try d m hit ∷ own doer other between = own_yes doer other (Try d m hit) between is in
+      let same : own_events doer other (Try d m hit ∷ between) ≡ Try d m hit ∷ own_events doer other between = own_yes doer other (Try d m hit) between is in
       let waits : phase other log ≡ Waits m = subst (λ c. phase c log ≡ Waits m) by may.0 in
       record {
         stands = ap (is_at lock) (phase_other {N = N} (Try d m hit) log cpu not_cpu) ∙ so_far.stands;
@@ -93,13 +94,16 @@ module _ {N : Type 0} (lock : LockId) (cpu other : CpuId) (first : ℕ) (differ 
       }
   by_other (Give d m name) between log may legal so_far by not_cpu =
       let is : same_cpu d other ≡ true = subst (λ c. same_cpu d c ≡ true) by (same_cpu_self d) in
-      let same : own doer other (Give d m name ∷ between) ≡ Give d m name ∷ own doer other between = own_yes doer other (Give d m name) between is in
+      let same : own_events doer other (Give d m name ∷ between) ≡ Give d m name ∷ own_events doer other between =
+      own_yes doer other (Give d m name) between is in
       let holds : phase other log ≡ Holds m = subst (λ c. phase c log ≡ Holds m) by may in
       let line = line_at lock log legal in
       let rests : is_at lock (phase other (Give d m name ∷ log)) ≡ false = ap (is_at lock) (left_own (Give d m name) log other by) in
-      let once_more : (b : Bool) → same_lock lock m ≡ b → (if b then gives lock (own doer other between) + 1 else gives lock (own doer other between)) ≤ 1 =
-      λ b. elim b as (λ b. same_lock lock m ≡ b → (if b then gives lock (own doer other between) + 1 else gives lock (own doer other between)) ≤ 1) [
-        | true ↦ λ here. none_yet (gives lock (own doer other between)) first (gives lock log) (place other log)
+      let once_more : (b : Bool) → same_lock lock m ≡ b
+      → (if b then gives lock (own_events doer other between) + 1 else gives lock (own_events doer other between)) ≤ 1 =
+      λ b. elim b as (λ b. same_lock lock m ≡ b → (if b then gives lock (own_events doer other between) + 1 else gives lock (own_events doer other between))
+      ≤ 1) [
+        | true ↦ λ here. none_yet (gives lock (own_events doer other between)) first (gives lock log) (place other log)
             (λ some. so_far.behind some (ap (is_at lock) holds ∙ here)) so_far.once
             (line.first other (ap (is_holding lock) holds ∙ here))
             (subst (λ k. gives lock log ≤ k) so_far.spot (line.ahead cpu so_far.stands))
@@ -112,7 +116,7 @@ module _ {N : Type 0} (lock : LockId) (cpu other : CpuId) (first : ℕ) (differ 
         behind = λ some there. absurd (cc (rests, there));
       }
 
-  by_any : (a : Action N) (between log : List (Action N)) → MayAct log a → AreLegal log → Meanwhile between log → OnlyTries (own doer cpu (a ∷ between))
+  by_any : (a : Action N) (between log : List (Action N)) → MayAct log a → AreLegal log → Meanwhile between log → OnlyTries (own_events doer cpu (a ∷ between))
       → (b c : Bool) → same_cpu (doer a) cpu ≡ b → same_cpu (doer a) other ≡ c → Meanwhile (a ∷ between) (a ∷ log)
   by_any a between log may legal so_far tries true true is is_too =
       let one : cpu ≡ other = sym (same_cpu_true (doer a) cpu is) ∙ same_cpu_true (doer a) other is_too in
@@ -130,12 +134,12 @@ tries_before (Try d m hit) past tries = tries
 tries_before (Give d m name) past tries = absurd tries
 
 own_tries : {N : Type 0} (cpu : CpuId) (a : Action N) (between : List (Action N)) (b : Bool) → same_cpu (doer a) cpu ≡ b
-    → OnlyTries (own doer cpu (a ∷ between)) → OnlyTries (own doer cpu between)
-own_tries cpu a between true is tries = tries_before a (own doer cpu between) (subst OnlyTries (own_yes doer cpu a between is) tries)
+    → OnlyTries (own_events doer cpu (a ∷ between)) → OnlyTries (own_events doer cpu between)
+own_tries cpu a between true is tries = tries_before a (own_events doer cpu between) (subst OnlyTries (own_yes doer cpu a between is) tries)
 own_tries cpu a between false not tries = subst OnlyTries (own_not doer cpu a between not) tries
 
 meanwhile : {N : Type 0} (past between : List (Action N)) (cpu other : CpuId) (lock : LockId) (differ : same_cpu cpu other ≡ false)
-    → AreLegal (between ++ (Take cpu lock ∷ past)) → OnlyTries (own doer cpu between)
+    → AreLegal (between ++ (Take cpu lock ∷ past)) → OnlyTries (own_events doer cpu between)
     → Meanwhile lock cpu other (takes lock past) differ between (between ++ (Take cpu lock ∷ past))
 meanwhile {N = N} past [] cpu other lock differ legal tries = record {
   stands = ap (is_at lock) (phase_own {N = N} (Take cpu lock) past) ∙ same_lock_self lock;
@@ -144,13 +148,13 @@ meanwhile {N = N} past [] cpu other lock differ legal tries = record {
   behind = λ some there. absurd (omega arith);
 }
 meanwhile past (a ∷ between) cpu other lock differ legal tries =
-    let before : OnlyTries (own doer cpu between) = own_tries cpu a between (same_cpu (doer a) cpu) refl tries in
+    let before : OnlyTries (own_events doer cpu between) = own_tries cpu a between (same_cpu (doer a) cpu) refl tries in
     by_any lock cpu other (takes lock past) differ a between (between ++ (Take cpu lock ∷ past)) legal.0 legal.1
     (meanwhile past between cpu other lock differ legal.1 before) tries (same_cpu (doer a) cpu) (same_cpu (doer a) other) refl refl
 
 pub given_once : {N : Type 0} (past between : List (Action N)) (cpu other : CpuId) (lock : LockId)
-    → AreLegal (between ++ (Take cpu lock ∷ past)) → OnlyTries (own doer cpu between) → same_cpu cpu other ≡ false
-    → gives lock (own doer other between) ≤ 1
+    → AreLegal (between ++ (Take cpu lock ∷ past)) → OnlyTries (own_events doer cpu between) → same_cpu cpu other ≡ false
+    → gives lock (own_events doer other between) ≤ 1
 given_once past between cpu other lock legal tries differ = (meanwhile past between cpu other lock differ legal tries).once
 
 own_acts_step : {M N : Type 0} (name : M → N) (b : Bool) (e : Event M) (acts : List (Action N)) (log : List (Event M)) → acts ≡ acts_of name log
@@ -158,11 +162,11 @@ own_acts_step : {M N : Type 0} (name : M → N) (b : Bool) (e : Event M) (acts :
 own_acts_step name true e acts log is = ap (λ xs. act_of name e ∷ xs) is
 own_acts_step name false e acts log is = is
 
-own_acts : {M N : Type 0} (name : M → N) (cpu : CpuId) (log : List (Event M)) → own doer cpu (acts_of name log) ≡ acts_of name (own actor cpu log)
+own_acts : {M N : Type 0} (name : M → N) (cpu : CpuId) (log : List (Event M)) → own_events doer cpu (acts_of name log) ≡ acts_of name (own_events actor cpu log)
 own_acts name cpu [] = refl
 own_acts name cpu (e ∷ log) =
-    ap (λ d. if same_cpu d cpu then act_of name e ∷ own doer cpu (acts_of name log) else own doer cpu (acts_of name log)) (doer_is name e)
-    ∙ own_acts_step name (same_cpu (actor e) cpu) e (own doer cpu (acts_of name log)) (own actor cpu log) (own_acts name cpu log)
+    ap (λ d. if same_cpu d cpu then act_of name e ∷ own_events doer cpu (acts_of name log) else own_events doer cpu (acts_of name log)) (doer_is name e)
+    ∙ own_acts_step name (same_cpu (actor e) cpu) e (own_events doer cpu (acts_of name log)) (own_events actor cpu log) (own_acts name cpu log)
 
 looks_try : {M N : Type 0} (name : M → N) (log : List (Event M)) → OnlyLooks log → OnlyTries (acts_of name log)
 looks_try name [] looks = tt
@@ -172,13 +176,13 @@ looks_try name (Free cpu lock mark ∷ past) looks = absurd looks
 
 -- from the Draw of a CPU on, while it does nothing but look, no other CPU frees that lock twice
 pub freed_once : {M : Type 0} (past between : List (Event M)) (cpu other : CpuId) (lock : LockId) (ticket : ℕ)
-    → IsLegalWords (between ++ (Draw cpu lock ticket ∷ past)) → OnlyLooks (own actor cpu between) → same_cpu cpu other ≡ false
-    → frees lock (own actor other between) ≤ 1
+    → IsLegalWords (between ++ (Draw cpu lock ticket ∷ past)) → OnlyLooks (own_events actor cpu between) → same_cpu cpu other ≡ false
+    → frees lock (own_events actor other between) ≤ 1
 freed_once {M = M} past between cpu other lock ticket legal looks differ =
     let name : M → M = λ m. m in
     let whole : acts_of name (between ++ (Draw cpu lock ticket ∷ past)) ≡ acts_of name between ++ (Take cpu lock ∷ acts_of name past) =
     acts_of-append name between (Draw cpu lock ticket ∷ past) in
-    let tries : OnlyTries (own doer cpu (acts_of name between)) =
-    subst OnlyTries (sym (own_acts name cpu between)) (looks_try name (own actor cpu between) looks) in
+    let tries : OnlyTries (own_events doer cpu (acts_of name between)) =
+    subst OnlyTries (sym (own_acts name cpu between)) (looks_try name (own_events actor cpu between) looks) in
     let once = given_once (acts_of name past) (acts_of name between) cpu other lock (subst AreLegal whole (legal_acts name _ legal)) tries differ in
-    subst (λ k. k ≤ 1) (ap (gives lock) (own_acts name other between) ∙ gives_acts name lock (own actor other between)) once
+    subst (λ k. k ≤ 1) (ap (gives lock) (own_acts name other between) ∙ gives_acts name lock (own_events actor other between)) once

@@ -26,9 +26,9 @@ how_many picks [] = 0
 how_many picks (e ∷ past) = if picks e then how_many picks past + 1 else how_many picks past
 
 -- this CPU's own events, newest first
-abbrev pub own : {E : Type 0} → (E → CpuId) → CpuId → List E → List E
-own by cpu [] = []
-own by cpu (e ∷ past) = if same_cpu (by e) cpu then e ∷ own by cpu past else own by cpu past
+abbrev pub own_events : {E : Type 0} → (E → CpuId) → CpuId → List E → List E
+own_events by cpu [] = []
+own_events by cpu (e ∷ past) = if same_cpu (by e) cpu then e ∷ own_events by cpu past else own_events by cpu past
 
 -- none of these events is this CPU's
 abbrev pub AreOthers : {E : Type 0} → (E → CpuId) → CpuId → List E → Type 0

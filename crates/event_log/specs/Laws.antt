@@ -4,7 +4,7 @@ use Rattle.event_log.specs.declared.ids.CpuId.{CpuId}
 use Rattle.event_log.specs.declared.ids.LockId.{LockId}
 use Rattle.event_log.specs.declared.events.Event.{Event}
 use Rattle.event_log.specs.declared.events.Event.TheVariants.{Draw, Look, Free}
-use Rattle.event_log.specs.History.{same_cpu, own}
+use Rattle.event_log.specs.History.{same_cpu, own_events}
 use Rattle.event_log.specs.WordsLog.{actor, frees, IsLegalWords, Inside, standing}
 use Rattle.event_log.specs.declared.ids.TheConstants.{CPUS}
 use Rattle.event_log.specs.Actions.{Action, Take, Try, Give, Rests, Holds, doer, gives, phase, AreLegal, IsFree, AreFree, next_action, acts_of}
@@ -54,8 +54,8 @@ OnlyTries (Give cpu lock name ∷ past) = ⊥
 -- from the Take of a CPU on, while it does nothing but try, no other CPU gives that lock on twice
 abbrev pub GivenOnceMeanwhile : Type 0 → Type 0
 GivenOnceMeanwhile N = (past between : List (Action N)) (cpu other : CpuId) (lock : LockId)
-    → AreLegal (between ++ (Take cpu lock ∷ past)) → OnlyTries (own doer cpu between) → same_cpu cpu other ≡ false
-    → gives lock (own doer other between) ≤ 1
+    → AreLegal (between ++ (Take cpu lock ∷ past)) → OnlyTries (own_events doer cpu between) → same_cpu cpu other ≡ false
+    → gives lock (own_events doer other between) ≤ 1
 
 -- each of these events is a look
 abbrev pub OnlyLooks : {M : Type 0} → List (Event M) → Type 0
@@ -67,5 +67,5 @@ OnlyLooks (Free cpu lock mark ∷ past) = ⊥
 -- from the Draw of a CPU on, while it does nothing but look, no other CPU frees that lock twice
 abbrev pub FreedOnceMeanwhile : Type 0 → Type 0
 FreedOnceMeanwhile M = (past between : List (Event M)) (cpu other : CpuId) (lock : LockId) (ticket : ℕ)
-    → IsLegalWords (between ++ (Draw cpu lock ticket ∷ past)) → OnlyLooks (own actor cpu between) → same_cpu cpu other ≡ false
-    → frees lock (own actor other between) ≤ 1
+    → IsLegalWords (between ++ (Draw cpu lock ticket ∷ past)) → OnlyLooks (own_events actor cpu between) → same_cpu cpu other ≡ false
+    → frees lock (own_events actor other between) ≤ 1

@@ -9,7 +9,7 @@ use Rattle.event_log.proofs.Foreign.{own_others}
 use Rattle.event_log.specs.declared.ids.TheConstants.{CPUS}
 use Rattle.event_log.specs.declared.ids.CpuId.{CpuId}
 use Rattle.event_log.specs.declared.ids.LockId.{LockId}
-use Rattle.event_log.specs.History.{own, same_cpu, same_lock, AreOthers}
+use Rattle.event_log.specs.History.{own_events, same_cpu, same_lock, AreOthers}
 use Rattle.event_log.specs.declared.events.Event.{Event}
 use Rattle.event_log.specs.declared.events.Event.TheVariants.{Draw, Look, Free}
 use Rattle.event_log.specs.WordsLog.{actor, frees}
@@ -35,16 +35,16 @@ module _ {E B O : Type 0} (rules : Rules E B O) (opening : LockId → Option B) 
   pub poll_waits : is_some result ≡ false → made cpu lock new ≡ made cpu lock old
   poll_waits waits =
       let new_is : new ≡ polled.others ++ old = polled.is ∙ ap (λ b. if b then section cpu lock edit ∷ (polled.others ++ old) else polled.others ++ old) waits in
-      ap (λ l. sections_at lock (own section_actor cpu l)) new_is ∙ ap (sections_at lock) (own_others section_actor cpu polled.others old (polled.foreign cpu acts))
+      ap (λ l. sections_at lock (own_events section_actor cpu l)) new_is ∙ ap (sections_at lock) (own_others section_actor cpu polled.others old (polled.foreign cpu acts))
 
   -- a poll that answers adds its section
   pub poll_answers : is_some result ≡ true → made cpu lock new ≡ made cpu lock old + 1
   poll_answers answers =
       let new_is : new ≡ section cpu lock edit ∷ (polled.others ++ old) = polled.is ∙ ap (λ b. if b then section cpu lock edit ∷ (polled.others ++ old) else polled.others ++ old) answers in
-      let mine : own section_actor cpu (section cpu lock edit ∷ (polled.others ++ old)) ≡ section cpu lock edit ∷ own section_actor cpu (polled.others ++ old) =
-      ap (λ b. if b then section cpu lock edit ∷ own section_actor cpu (polled.others ++ old) else own section_actor cpu (polled.others ++ old)) (same_cpu_self cpu) in
-      ap (λ l. sections_at lock (own section_actor cpu l)) new_is ∙ (ap (sections_at lock) mine
-      ∙ (ap (λ b. if b then sections_at lock (own section_actor cpu (polled.others ++ old)) + 1 else sections_at lock (own section_actor cpu (polled.others ++ old))) (same_lock_self lock)
+      let mine : own_events section_actor cpu (section cpu lock edit ∷ (polled.others ++ old)) ≡ section cpu lock edit ∷ own_events section_actor cpu (polled.others ++ old) =
+      ap (λ b. if b then section cpu lock edit ∷ own_events section_actor cpu (polled.others ++ old) else own_events section_actor cpu (polled.others ++ old)) (same_cpu_self cpu) in
+      ap (λ l. sections_at lock (own_events section_actor cpu l)) new_is ∙ (ap (sections_at lock) mine
+      ∙ (ap (λ b. if b then sections_at lock (own_events section_actor cpu (polled.others ++ old)) + 1 else sections_at lock (own_events section_actor cpu (polled.others ++ old))) (same_lock_self lock)
       ∙ ap (λ l. sections_at lock l + 1) (own_others section_actor cpu polled.others old (polled.foreign cpu acts))))
 
 -- after a poll that does not answer, the section that was polled is under way
@@ -135,17 +135,17 @@ total_more f g (suc n) d b within here other = dite (ℕ_discrete n d.0)
 
 module _ {E : Type 0} (lock : LockId) (n : ℕ) where
   -- where all sections are of CPUs below n, their number is the sum of the CPUs' numbers
-  pub sections_add_up : (past : List (Section E)) → ((c : CpuId) → n ≤ c.0 → own section_actor c past ≡ []) → sections_at lock past ≡ total (λ c. made c lock past) n
+  pub sections_add_up : (past : List (Section E)) → ((c : CpuId) → n ≤ c.0 → own_events section_actor c past ≡ []) → sections_at lock past ≡ total (λ c. made c lock past) n
   sections_add_up [] known = sym (total_none n)
   sections_add_up (s ∷ past) known =
       let d : CpuId = s.cpu in
-      let self : own section_actor d (s ∷ past) ≡ s ∷ own section_actor d past = ap (λ b. if b then s ∷ own section_actor d past else own section_actor d past) (same_cpu_self d) in
+      let self : own_events section_actor d (s ∷ past) ≡ s ∷ own_events section_actor d past = ap (λ b. if b then s ∷ own_events section_actor d past else own_events section_actor d past) (same_cpu_self d) in
       let within : d.0 < n = elim (dec_le n d.0) [
-        | yes large ↦ absurd (let gone : s ∷ own section_actor d past ≡ [] = sym self ∙ known d large in cc)
+        | yes large ↦ absurd (let gone : s ∷ own_events section_actor d past ≡ [] = sym self ∙ known d large in cc)
         | no small ↦ lt_of_not-le small
       ] in
-      let others : (c : CpuId) → c.0 ≢ d.0 → own section_actor c (s ∷ past) ≡ own section_actor c past = λ c away.
-      ap (λ b. if b then s ∷ own section_actor c past else own section_actor c past) (ne_eqb d.0 c.0 (λ e. away (sym e))) in
+      let others : (c : CpuId) → c.0 ≢ d.0 → own_events section_actor c (s ∷ past) ≡ own_events section_actor c past = λ c away.
+      ap (λ b. if b then s ∷ own_events section_actor c past else own_events section_actor c past) (ne_eqb d.0 c.0 (λ e. away (sym e))) in
       let b : ℕ = if same_lock lock s.lock then 1 else 0 in
       let so_far : sections_at lock past ≡ total (λ c. made c lock past) n = sections_add_up past (λ c large. sym (others c (λ same. omega arith)) ∙ known c large) in
       let mine : made d lock (s ∷ past) ≡ made d lock past + b = ap (sections_at lock) self ∙ one_more (same_lock lock s.lock) (made d lock past) in
@@ -154,22 +154,22 @@ module _ {E : Type 0} (lock : LockId) (n : ℕ) where
       one_more (same_lock lock s.lock) (sections_at lock past) ∙ (ap (λ k. k + b) so_far ∙ sym sum)
 
 -- a CPU's sections are those of its own events
-own_sections : {E : Type 0} (c : CpuId) (log : List (Event (Mark E))) → own section_actor c (sections log) ≡ sections (own actor c log)
+own_sections : {E : Type 0} (c : CpuId) (log : List (Event (Mark E))) → own_events section_actor c (sections log) ≡ sections (own_events actor c log)
 own_sections c [] = refl
 own_sections c (Draw d lock ticket ∷ log) = own_sections c log ∙ go (same_cpu d c)
   where
-    go : (b : Bool) → sections (own actor c log) ≡ sections (if b then Draw d lock ticket ∷ own actor c log else own actor c log)
+    go : (b : Bool) → sections (own_events actor c log) ≡ sections (if b then Draw d lock ticket ∷ own_events actor c log else own_events actor c log)
     go true = refl
     go false = refl
 own_sections c (Look d lock ticket read ∷ log) = own_sections c log ∙ go (same_cpu d c)
   where
-    go : (b : Bool) → sections (own actor c log) ≡ sections (if b then Look d lock ticket read ∷ own actor c log else own actor c log)
+    go : (b : Bool) → sections (own_events actor c log) ≡ sections (if b then Look d lock ticket read ∷ own_events actor c log else own_events actor c log)
     go true = refl
     go false = refl
 own_sections c (Free d lock mark ∷ log) = go (same_cpu d c) (own_sections c log)
   where
-    go : (b : Bool) → own section_actor c (sections log) ≡ sections (own actor c log)
-        → (if b then section d lock mark.edit ∷ own section_actor c (sections log) else own section_actor c (sections log)) ≡ sections (if b then Free d lock mark ∷ own actor c log else own actor c log)
+    go : (b : Bool) → own_events section_actor c (sections log) ≡ sections (own_events actor c log)
+        → (if b then section d lock mark.edit ∷ own_events section_actor c (sections log) else own_events section_actor c (sections log)) ≡ sections (if b then Free d lock mark ∷ own_events actor c log else own_events actor c log)
     go true same = ap (λ l. section d lock mark.edit ∷ l) same
     go false same = same
 
@@ -228,9 +228,9 @@ module _ (times : ℕ) (board : Board ℕ) (came : List (Desk AddOne ℕ)) (bloc
       let own_made : (c : CpuId) → c.0 < board.cpus → made c NUMBER secs ≡ times = λ c below. (
       let here = came_at board (λ d e. HasMade NUMBER d e times) board.cpus came all c.0 below in
       let cpu_is : here.0.cpu ≡ c = here.2.cpu in
-      let whole : own actor c closes.log ≡ own actor c here.0.seen = subst (λ x. own actor x closes.log ≡ own actor x here.0.seen) cpu_is (closes.keys c.0 here.0 here.1).whole in
+      let whole : own_events actor c closes.log ≡ own_events actor c here.0.seen = subst (λ x. own_events actor x closes.log ≡ own_events actor x here.0.seen) cpu_is (closes.keys c.0 here.0 here.1).whole in
       ap (sections_at NUMBER) (own_sections c closes.log ∙ (ap sections whole ∙ sym (own_sections c here.0.seen))) ∙ (here.2.more ∙ zero-add times)) in
-      let known : (c : CpuId) → board.cpus ≤ c.0 → own section_actor c secs ≡ [] = λ c large. own_sections c closes.log ∙ ap sections (closes.rest c large) in
+      let known : (c : CpuId) → board.cpus ≤ c.0 → own_events section_actor c secs ≡ [] = λ c large. own_sections c closes.log ∙ ap sections (closes.rest c large) in
       sym (frees_are_sections edit_of NUMBER closes.log) ∙ (sections_add_up NUMBER board.cpus secs known ∙ total_each (λ c. made c NUMBER secs) board.cpus times own_made)
 
   -- a number that is so many is that of the Frees

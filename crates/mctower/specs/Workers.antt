@@ -5,7 +5,7 @@ use Rattle.event_log.specs.declared.ids.LockId.{LockId}
 use mathlib.Core.Option.{some}
 use lib.ListN.{get_elem?}
 use Rattle.event_log.specs.declared.events.Event.{Event}
-use Rattle.event_log.specs.History.{IsLawful, own}
+use Rattle.event_log.specs.History.{IsLawful, own_events}
 use Rattle.event_log.specs.WordsLog.{actor, frees, standing, Outside}
 use Rattle.event_log.specs.Sections.{Section, section_actor}
 use Rattle.layer_traits.specs.declared.edits.Mark.{Mark}
@@ -16,7 +16,7 @@ use Rattle.mctower.specs.Count.{sections_at}
 
 -- how many sections at this lock are this CPU's
 abbrev pub made : {E : Type 0} → CpuId → LockId → List (Section E) → ℕ
-made cpu lock past = sections_at lock (own section_actor cpu past)
+made cpu lock past = sections_at lock (own_events section_actor cpu past)
 
 -- no section is under way, or it is this one
 abbrev pub MayGoOn : {S : Type 0} → Option S → S → Type 0
@@ -55,5 +55,5 @@ pub record IsNumberOfFrees {E B O : Type 0} (rules : Rules E B O) (lock : LockId
   pub log : List (Event (Mark E))
   pub legal : IsLawful (MayCome (rules.allowed (opened board.start))) log
   pub keys : (i : ℕ) (desk : Desk E B) → get_elem? desks i ≡ some desk → IsIn log desk
-  pub rest : (c : CpuId) → board.cpus ≤ c.0 → own actor c log ≡ []
+  pub rest : (c : CpuId) → board.cpus ≤ c.0 → own_events actor c log ≡ []
   pub is : number ≡ frees lock log

@@ -10,7 +10,7 @@ use Rattle.atomic_table.proofs.Lists.{at_map}
 use Rattle.event_log.specs.declared.ids.CpuId.{CpuId}
 use Rattle.event_log.specs.declared.ids.LockId.{LockId}
 use Rattle.event_log.specs.declared.events.Event.{Event}
-use Rattle.event_log.specs.History.{AreOthers, IsLawful, own}
+use Rattle.event_log.specs.History.{AreOthers, IsLawful, own_events}
 use Rattle.event_log.specs.WordsLog.{actor, standing, left_by, Outside}
 use Rattle.event_log.specs.Sections.{block_after}
 use Rattle.layer_traits.specs.declared.edits.Mark.{Mark}
@@ -53,7 +53,7 @@ pub record Settled {E B O : Type 0} (R : Rules E B O) (board : Board B) (desks :
   pub log : List (Event (Mark E))
   pub legal : IsLawful (MayCome (R.allowed (opened board.start))) log
   pub keys : (i : ℕ) (desk : Desk E B) → get_elem? desks i ≡ some desk → IsIn log desk
-  pub rest : (c : CpuId) → board.cpus ≤ c.0 → own actor c log ≡ []
+  pub rest : (c : CpuId) → board.cpus ≤ c.0 → own_events actor c log ≡ []
   pub blocks : (i : ℕ) (o : LockId × B) → get_elem? board.start i ≡ some o
       → (y : Home E B) × (b : B) × (get_elem? homes i ≡ some y) × (y.block ≡ Some b) × (block_after R.edited (opened board.start) o.0 (sections log) ≡ Some b)
 

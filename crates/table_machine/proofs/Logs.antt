@@ -5,7 +5,7 @@ use Rattle.event_log.specs.declared.ids.CpuId.{CpuId}
 use Rattle.event_log.specs.declared.ids.LockId.{LockId}
 use Rattle.event_log.specs.declared.events.Event.{Event}
 use Rattle.event_log.specs.declared.events.Event.TheVariants.{Draw, Look, Free}
-use Rattle.event_log.specs.History.{same_cpu, same_lock, AreOthers, IsLawful, own}
+use Rattle.event_log.specs.History.{same_cpu, same_lock, AreOthers, IsLawful, own_events}
 use Rattle.event_log.specs.WordsLog.{actor, standing, left_by, IsLegalWords, Inside}
 use Rattle.event_log.specs.Sections.{block_after, Section, section_actor}
 use Rattle.event_log.proofs.Same.{same_lock_true}
@@ -34,8 +34,8 @@ module _ {M : Type 0} where
   pub standing_since : (c : CpuId) (log seen : List (Event M)) → IsSince log seen c → standing c log ≡ standing c seen
   standing_since c log seen s = ap (standing c) s.is ∙ standing_others c s.more seen s.others
 
-  pub own_since : (c : CpuId) (log seen : List (Event M)) → IsSince log seen c → own actor c log ≡ own actor c seen
-  own_since c log seen s = ap (own actor c) s.is ∙ own_others actor c s.more seen s.others
+  pub own_since : (c : CpuId) (log seen : List (Event M)) → IsSince log seen c → own_events actor c log ≡ own_events actor c seen
+  own_since c log seen s = ap (own_events actor c) s.is ∙ own_others actor c s.more seen s.others
 
   -- a log goes on from nothing
   pub ends_nil : (log : List (Event M)) → EndsWith log []
@@ -50,9 +50,9 @@ module _ {M : Type 0} where
   pub ends_trans : (a b c : List (Event M)) → EndsWith a b → EndsWith b c → EndsWith a c
   ends_trans a b c s t = record { more = s.more ++ t.more; is = s.is ∙ (ap (λ l. s.more ++ l) t.is ∙ sym (append_assoc s.more t.more c)) }
 
-  pub none_of_others : (c : CpuId) (log : List (Event M)) → AreOthers actor c log → own actor c log ≡ []
+  pub none_of_others : (c : CpuId) (log : List (Event M)) → AreOthers actor c log → own_events actor c log ≡ []
   none_of_others c [] h = refl
-  none_of_others c (e ∷ log) h = ap (λ b. if b then e ∷ own actor c log else own actor c log) h.0 ∙ none_of_others c log h.1
+  none_of_others c (e ∷ log) h = ap (λ b. if b then e ∷ own_events actor c log else own_events actor c log) h.0 ∙ none_of_others c log h.1
 
 module _ {E : Type 0} (Allowed : List (Section E) → Section E → Type 0) where
   -- a log that keeps the protocol is a legal words log

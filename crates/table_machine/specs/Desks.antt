@@ -7,7 +7,7 @@ use Rattle.atomic_table.specs.Table.{Me}
 use Rattle.event_log.specs.declared.ids.CpuId.{CpuId}
 use Rattle.event_log.specs.declared.ids.LockId.{LockId}
 use Rattle.event_log.specs.declared.events.Event.{Event}
-use Rattle.event_log.specs.History.{IsLawful, own}
+use Rattle.event_log.specs.History.{IsLawful, own_events}
 use Rattle.event_log.specs.WordsLog.{actor, Standing, Outside, Waiting, Inside, standing}
 use Rattle.layer_traits.specs.declared.edits.Mark.{Mark}
 use Rattle.event_log.specs.Sections.{block_after}
@@ -78,14 +78,14 @@ Covers cpus desks = (c : CpuId) → c.0 < cpus → (i : ℕ) × (desk : Desk _ _
 -- the log begins with all that this desk has seen, and holds of its CPU just that
 pub record IsIn {E B : Type 0} (log : List (Event (Mark E))) (desk : Desk E B) : Type 0 where
   pub ends : EndsWith log desk.seen
-  pub whole : own actor desk.cpu log ≡ own actor desk.cpu desk.seen
+  pub whole : own_events actor desk.cpu log ≡ own_events actor desk.cpu desk.seen
 
 -- there is one legal log in which all desks stand whole, with no other CPU's events; each block is the fold of its lock's sections
 pub record Closes {E B O : Type 0} (rules : Rules E B O) (board : Board B) (desks : List (Desk E B)) (blocks : List (LockId × B)) : Type 0 where
   pub log : List (Event (Mark E))
   pub legal : IsLawful (MayCome (rules.allowed (opened board.start))) log
   pub keys : (i : ℕ) (desk : Desk E B) → get_elem? desks i ≡ some desk → IsIn log desk
-  pub rest : (c : CpuId) → board.cpus ≤ c.0 → own actor c log ≡ []
+  pub rest : (c : CpuId) → board.cpus ≤ c.0 → own_events actor c log ≡ []
   pub count : length blocks ≡ length board.start
   pub blocks_are : (i : ℕ) (o : LockId × B) → get_elem? board.start i ≡ some o
       → (b : B) × (get_elem? blocks i ≡ some (o.0, b)) × (block_after rules.edited (opened board.start) o.0 (sections log) ≡ Some b)

@@ -2,7 +2,7 @@
 use Rattle.std.proofs.Common.{◌≡◌, ℕ, ◌<◌, ◌≤◌, ◌⊎◌, inl, inr, Bool, true, false, List, [], ◌∷◌, ◌++◌, if◌then◌else◌, refl, sym, ap, ◌∙◌, subst}
 use Rattle.std.proofs.lemmas.Bool.{cases_lt}
 use Rattle.event_log.specs.declared.ids.CpuId.{CpuId}
-use Rattle.event_log.specs.History.{same_cpu, own}
+use Rattle.event_log.specs.History.{same_cpu, own_events}
 use Rattle.event_log.specs.Sections.{sections_in}
 use Rattle.event_log.specs.Actions.{Action, doer, phase}
 use Rattle.event_log.proofs.Same.{same_cpu_self}
@@ -100,7 +100,7 @@ worked_before setup a past worked = record {
       let ran = worked.ran c within in
       let before = cut setup c ran.count ran.last (a ∷ past) ran.steps a past refl in
       record { count = before.count; last = before.last; steps = before.along };
-  rest = λ c beyond. by_test (same_cpu (doer a) c) (own doer c past) (worked.rest c beyond);
+  rest = λ c beyond. by_test (same_cpu (doer a) c) (own_events doer c past) (worked.rest c beyond);
 }
   where
     by_test : (mine : Bool) (more : List (Action Name)) → (if mine then a ∷ more else more) ≡ [] → more ≡ []
@@ -125,7 +125,7 @@ worked_fair setup (a ∷ past) worked = by_cpu (cases_lt (doer a).0 setup.cpus) 
         by_next fair before before.next
     by_cpu (inr beyond) fair =
         let none = worked.rest (doer a) beyond in
-        absurd (cc (ap (λ b. if b then a ∷ own doer (doer a) past else own doer (doer a) past) (sym (same_cpu_self (doer a))) ∙ none))
+        absurd (cc (ap (λ b. if b then a ∷ own_events doer (doer a) past else own_events doer (doer a) past) (sym (same_cpu_self (doer a))) ∙ none))
 
 pub workers_lose_no_wake_up : WorkersLoseNoWakeUp
 workers_lose_no_wake_up setup log worked b k is =
