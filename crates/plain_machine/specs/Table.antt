@@ -1,5 +1,5 @@
 -- The table of lock cells, by the locks' numbers, and what the actions make of a cell.
-use Rattle.std.specs.Prelude.{◌≡◌, ℕ, ◌+◌, ◌*◌, ◌%◌, ◌^◌, ◌==◌, List, [], ◌∷◌, Option, Some, None, if◌then◌else◌, slice_index_or, slice_set}
+use Rattle.std.specs.Prelude.{◌≡◌, ℕ, ◌+◌, ◌%◌, ◌^◌, ◌==◌, List, [], ◌∷◌, Option, Some, None, if◌then◌else◌, slice_index_or, slice_set}
 use Rattle.event_log.specs.declared.ids.LockId.{LockId}
 use Rattle.event_log.specs.Locks.{lock_number}
 use Rattle.plain_machine.specs.declared.cells.Cell.{Cell}
@@ -7,6 +7,15 @@ use Rattle.plain_machine.specs.declared.cells.Cell.{Cell}
 -- the cell of a lock, None where the table has none
 abbrev pub cell_at : {B : Type 0} → List (Option (Cell B)) → LockId → Option (Cell B)
 cell_at cells lock = slice_index_or cells (lock_number lock) None
+
+-- the block that a cell has at home
+abbrev pub home_in : {B : Type 0} → Option (Cell B) → Option B
+home_in None = None
+home_in (Some cell) = cell.home
+
+-- the block of a lock that the table has at home
+abbrev pub home_at : {B : Type 0} → List (Option (Cell B)) → LockId → Option B
+home_at cells lock = home_in (cell_at cells lock)
 
 -- the table with this cell put in the lock's place
 abbrev pub with_cell : {B : Type 0} → List (Option (Cell B)) → LockId → Cell B → List (Option (Cell B))

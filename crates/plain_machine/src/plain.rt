@@ -1,11 +1,11 @@
 //! The owned machine.
 
-ghost use Rattle.std.specs.Prelude.{◌≡◌, ◌%◌, ◌^◌, ◌<◌, [], IsSome, IsNone, IfSome, IfOk, ◌↔◌};
+ghost use Rattle.std.specs.Prelude.{◌≡◌, ◌%◌, ◌^◌, ◌<◌, [], IsSome, IsNone, IfSome, IfOk, option_map, ◌↔◌};
 
 use crate::cells::{self, Cell, LockWords};
 use crate::notes::Notes;
 use event_log::{CPUS, CpuId, LockId, NoMemory};
-use layer_traits::{Edit, Mark, Words};
+use layer_traits::{Edit, Mark, OwnedWords, Words};
 use std::alloc::Global;
 use std::snapshot::Snapshot;
 
@@ -24,6 +24,7 @@ impl<E: Edit> Plain<E> {
     ghost use Rattle.event_log.specs.Sections.{block_after};
     ghost use Rattle.layer_traits.specs.OneLock.{AreDistinct, SomeoneInside, opened};
     ghost use Rattle.layer_traits.specs.WordsProtocol.{sections};
+    ghost use Rattle.plain_machine.specs.Table.{home_at};
 
     /// A machine in which each lock has its block at home and both words are 0, with room for
     /// `room` events.
@@ -59,6 +60,7 @@ impl<E: Edit> Plain<E> {
         ensures away { IsNone result ↔ SomeoneInside lock (⟦<Plain<E> as Words>⟧.seen self.now) }
         ensures block { IfSome result (λ block.
             block_after E.rules.edited (⟦<Plain<E> as Words>⟧.opening self.now) lock (sections (⟦<Plain<E> as Words>⟧.seen self.now)) ≡ Some block.now) }
+        ensures table { option_map (λ block. block.now) result ≡ home_at self.now.cells.items lock }
     {
         cells::home(&self.cells, lock)
     }
@@ -114,4 +116,30 @@ impl<E: Edit> Words for Plain<E> {
     }
 
     ghost legal = { λ w c acts. acts.1.legal };
+}
+
+impl<E: Edit> OwnedWords for Plain<E> {
+    ghost use Rattle.event_log.specs.declared.ids.TheConstants.{CPUS};
+    ghost use Rattle.layer_traits.specs.OneLock.{AreDistinct, opened};
+    ghost use Rattle.plain_machine.specs.HomeLaws.{home_tells};
+    ghost use Rattle.plain_machine.specs.Machine.{history};
+    ghost use Rattle.plain_machine.specs.Table.{home_at};
+
+    ghost block_at = { λ w lock. home_at w.cells.items lock };
+
+    fn open(alloc: Global, blocks: Vec<(LockId, E::Block)>, room: usize) -> Result<Self, NoMemory>
+        requires distinct { AreDistinct blocks.items }
+        ensures seen { IfOk result (λ w. ⟦<Plain<E> as Words>⟧.seen w ≡ []) }
+        ensures opening { IfOk result (λ w. ⟦<Plain<E> as Words>⟧.opening w ≡ opened blocks.items) }
+        ensures room { IfOk result (λ w. ⟦<Plain<E> as Words>⟧.room w ≡ room) }
+        ensures acts { IfOk result (λ w. (c : _) → c.0 < CPUS → ⟦<Plain<E> as Words>⟧.ActsFor w c) }
+    {
+        Plain::open(alloc, blocks, room)
+    }
+
+    fn block(&self, lock: LockId) -> Option<&E::Block> {
+        self.home(lock)
+    }
+
+    ghost blocks = { λ w c lock acts there. home_tells E.rules.edited (opened w.opening.value.items) (history w.log) w.cells.items lock (acts.1.fits lock there) };
 }

@@ -10,7 +10,9 @@ ghost use Rattle.layer_traits.specs.Queues.{event};
 
 use crate::{SharedQueues, queue_blocks};
 use event_log::{CPUS, CpuId, NoMemory, Tid};
-use layer_traits::{Edit, Line, Moves, QueueAnswer, QueueCall, QueueEdit, QueueLayer, Words};
+use layer_traits::{
+    Edit, Line, Moves, OwnedQueues, QueueAnswer, QueueCall, QueueEdit, QueueLayer, Words,
+};
 use plain_machine::Plain;
 use spinlock::Ticket;
 use std::alloc::Global;
@@ -55,6 +57,8 @@ impl Moves for Tell {
 
     ghost wakes_sleepers = { λ opening past s out u lawful allowed answers woke. wakes_nobody u woke };
 }
+
+type Queues = SharedQueues<Ticket<Plain<QueueEdit<Tell>>>>;
 
 /// A machine of one CPU with one buffer, with room for four events.
 fn machine(alloc: Global) -> Result<Plain<QueueEdit<Tell>>, NoMemory>
@@ -106,7 +110,9 @@ fn take_all<E: Moves, Q: QueueLayer<E>>(
 #[test]
 fn a_cpu_takes_its_queue_in_three_polls(rt: HostRuntime) -> Result<(), Fail> {
     let mut m = machine(rt.alloc())?;
-    let mut queues: SharedQueues<Ticket<Plain<QueueEdit<Tell>>>> = part(&m);
+    let pends = Queues::pends_in(&m, CpuId(0), Tid(0));
+    assert_eq!(rt; pends, Some(false));
+    let mut queues: Queues = part(&m);
     let drawn = take_all(&mut queues, &mut m);
     assert!(rt; drawn.is_none());
     assert!(rt; queues.is_busy());
@@ -123,10 +129,12 @@ fn a_cpu_takes_its_queue_in_three_polls(rt: HostRuntime) -> Result<(), Fail> {
 #[test]
 fn a_look_takes_the_place_of_a_poll(rt: HostRuntime) -> Result<(), Fail> {
     let mut m = machine(rt.alloc())?;
-    let mut queues: SharedQueues<Ticket<Plain<QueueEdit<Tell>>>> = part(&m);
+    let mut queues: Queues = part(&m);
     let drawn = take_all(&mut queues, &mut m);
     assert!(rt; drawn.is_none());
+    assert_eq!(rt; queues.pends_here(CpuId(0), Tid(0)), None);
     assert!(rt; queues.look(&mut m));
+    assert_eq!(rt; queues.pends_here(CpuId(0), Tid(0)), Some(false));
     assert!(rt; matches!(take_all(&mut queues, &mut m), Some(QueueAnswer::Taken(_))));
     assert!(rt; !queues.look(&mut m));
     Ok(())

@@ -14,7 +14,7 @@ use Rattle.spinlock.specs.Stages.{StageFits, stage_section}
 use Rattle.spinlock.specs.declared.stages.TicketStage.{TicketStage}
 use Rattle.spinlock.specs.declared.stages.TicketStage.TheVariants.{Out, Drawn, Held}
 
-at_standing : {E : Type 0} (log : List (Event (Mark E))) (cpu : CpuId) (s : Standing) → standing cpu log ≡ s
+pub at_standing : {E : Type 0} (log : List (Event (Mark E))) (cpu : CpuId) (s : Standing) → standing cpu log ≡ s
     → is_in_section (phase_of s) ≡ is_in_section (phase cpu (acts_of edit_of log))
 at_standing log cpu s stands = sym (ap is_in_section (phase_acts edit_of cpu log ∙ ap phase_of stands))
 

@@ -1,8 +1,9 @@
 -- How far a section of a ticket lock has come, read against the words log.
-use Rattle.std.specs.Prelude.{◌≡◌, ℕ, List, Option, Some, None, IsSome}
+use Rattle.std.specs.Prelude.{◌≡◌, ℕ, List, Option, Some, None, IsSome, if◌then◌else◌}
 use Rattle.event_log.specs.declared.ids.CpuId.{CpuId}
 use Rattle.event_log.specs.declared.ids.LockId.{LockId}
 use Rattle.event_log.specs.declared.events.Event.{Event}
+use Rattle.event_log.specs.History.{same_lock}
 use Rattle.event_log.specs.WordsLog.{Outside, Waiting, Inside, standing}
 use Rattle.event_log.specs.Sections.{Section, block_after}
 use Rattle.layer_traits.specs.declared.edits.Mark.{Mark}
@@ -23,6 +24,12 @@ hit_by None stage = stage
 hit_by (Some block) Out = Out
 hit_by (Some block) (Drawn lock edit ticket) = Held lock edit block
 hit_by (Some block) (Held lock edit old) = Held lock edit old
+
+-- the block of a lock that a stage has in its hands
+abbrev pub held_block : {E B : Type 0} → LockId → TicketStage E B → Option B
+held_block lock Out = None
+held_block lock (Drawn at edit ticket) = None
+held_block lock (Held at edit block) = if same_lock lock at then Some block else None
 
 -- the stage is where the log leaves the CPU: outside, waiting with its ticket, or inside with the lock's block in its hands; the
 -- lock that waits is there, and the section under way stays allowed

@@ -1,6 +1,6 @@
 //! How far a section has come.
 
-ghost use Rattle.std.specs.Prelude.{◌≡◌, MatchOption};
+ghost use Rattle.std.specs.Prelude.{◌≡◌, MatchOption, option_map};
 
 use event_log::LockId;
 
@@ -57,6 +57,24 @@ impl<E: Copy + Drop, B: Drop> TicketStage<E, B> {
                     block,
                 };
             }
+        }
+    }
+}
+
+impl<E, B> TicketStage<E, B> {
+    ghost use Rattle.spinlock.specs.Stages.{held_block};
+
+    /// The block of `lock`, where it is in the CPU's hands.
+    pub fn held(&self, lock: LockId) -> Option<&B>
+        ensures { option_map (λ block. block.now) result ≡ held_block lock self.now }
+    {
+        match self {
+            TicketStage::Held {
+                lock: at,
+                block,
+                ..
+            } if lock == *at => Some(block),
+            _ => None,
         }
     }
 }

@@ -3,8 +3,9 @@
 ghost use Rattle.std.specs.Prelude.{◌≡◌};
 
 use crate::stages::TicketStage;
-use event_log::{CpuId, LockId};
-use layer_traits::{Edit, LockLayer, Words};
+use event_log::{CpuId, LockId, NoMemory};
+use layer_traits::{Edit, LockLayer, OwnedLocks, OwnedWords, Words};
+use std::alloc::Global;
 use std::mem;
 
 /// One CPU's part of a ticket lock (Gu et al., OSDI 2016): a section draws a ticket, looks until
@@ -114,4 +115,43 @@ impl<W: Words> LockLayer<W::Edit> for Ticket<W> {
     ghost seen_is = { λ step m. sections_acts (W.seen m) };
 
     ghost busy = { λ p m fits step. stage_busy W.Edit.rules (W.opening m) (W.seen m) p.cpu p.stage fits.1 };
+}
+
+impl<W: OwnedWords> OwnedLocks<W::Edit> for Ticket<W> {
+    ghost use Rattle.std.specs.Prelude.{◌<◌, [], IfOk};
+    ghost use Rattle.event_log.specs.declared.ids.TheConstants.{CPUS};
+    ghost use Rattle.layer_traits.specs.OneLock.{AreDistinct, opened};
+    ghost use Rattle.spinlock.specs.OwnedLaws.{ticket_shows};
+    ghost use Rattle.spinlock.specs.Stages.{held_block};
+
+    ghost block_at = { λ m lock. W.block_at m lock };
+
+    ghost block_with = { λ p lock. held_block lock p.stage };
+
+    fn open(
+        alloc: Global,
+        blocks: Vec<(LockId, <W::Edit as Edit>::Block)>,
+        room: usize,
+    ) -> Result<W, NoMemory>
+        requires distinct { AreDistinct blocks.items }
+        ensures seen { IfOk result (λ m. ⟦<Ticket<W> as LockLayer<W::Edit>>⟧.seen m ≡ []) }
+        ensures opening { IfOk result (λ m. ⟦<Ticket<W> as LockLayer<W::Edit>>⟧.opening m ≡ opened blocks.items) }
+        ensures room { IfOk result (λ m. ⟦<Ticket<W> as LockLayer<W::Edit>>⟧.room m ≡ room) }
+        ensures acts { IfOk result (λ m. (c : _) → c.0 < CPUS → ⟦<Ticket<W> as LockLayer<W::Edit>>⟧.ActsFor m c) }
+        ensures outside { IfOk result (λ m. (c : _) → ⟦<Ticket<W> as LockLayer<W::Edit>>⟧.IsOutside m c) }
+        ensures none { IfOk result (λ m. ⟦<Ticket<W> as LockLayer<W::Edit>>⟧.acts m ≡ []) }
+    {
+        W::open(alloc, blocks, room)
+    }
+
+    fn block_in(m: &W, lock: LockId) -> Option<&<W::Edit as Edit>::Block> {
+        m.block(lock)
+    }
+
+    fn block_here(&self, lock: LockId) -> Option<&<W::Edit as Edit>::Block> {
+        self.stage.held(lock)
+    }
+
+    ghost shown = { λ m c lock acts there. ticket_shows W.Edit.rules (W.opening m) (W.seen m) lock (λ d. W.ActsFor m d) (λ (p : Self). p.cpu) (λ p. p.stage)
+        (W.block_at m lock) (W.legal m c acts) (W.blocks m c lock acts there) };
 }
