@@ -29,6 +29,7 @@ pub struct Cell<B> {
 }
 
 /// Draws at `lock`, and gives the ticket.
+#[inline(always)]
 pub fn draw<B>(cells: &mut Vec<Option<Cell<B>>>, lock: LockId) -> u64
     requires { IsSome (cell_at cells.old.items lock) }
     ensures { IfSome (cell_at cells.old.items lock) (λ cell. (result ≡ cell.next) × (cells.new.items ≡ with_cell cells.old.items lock (drawn_cell cell))) }
@@ -44,6 +45,7 @@ pub fn draw<B>(cells: &mut Vec<Option<Cell<B>>>, lock: LockId) -> u64
 }
 
 /// Looks at `lock` with `ticket`, and gives the block, if the look hits and the block is home.
+#[inline(always)]
 pub fn look<B>(cells: &mut Vec<Option<Cell<B>>>, lock: LockId, ticket: u64) -> Option<B>
     requires { IsSome (cell_at cells.old.items lock) }
     ensures { IfSome (cell_at cells.old.items lock) (λ cell. (result ≡ (if cell.serving == ticket then cell.home else None))
@@ -62,6 +64,7 @@ pub fn look<B>(cells: &mut Vec<Option<Cell<B>>>, lock: LockId, ticket: u64) -> O
 }
 
 /// Frees `lock`, and `block` is home.
+#[inline(always)]
 pub fn free<B: Drop>(cells: &mut Vec<Option<Cell<B>>>, lock: LockId, block: B)
     requires { IsSome (cell_at cells.old.items lock) }
     ensures { IfSome (cell_at cells.old.items lock) (λ cell. cells.new.items ≡ with_cell cells.old.items lock (freed_cell cell block)) }

@@ -61,6 +61,7 @@ impl<M> Notes<M> {
     }
 
     /// Notes a draw.
+    #[inline(always)]
     pub fn draw(&mut self, cpu: CpuId, lock: LockId)
         requires { 0 < room_left self.old }
         ensures history { history self.new ≡ event.Draw cpu lock (draws lock (history self.old) % 2 ^ 64) ∷ history self.old }
@@ -74,6 +75,7 @@ impl<M> Notes<M> {
     }
 
     /// Notes a look of a CPU that waits, with its ticket.
+    #[inline(always)]
     pub fn look(&mut self, cpu: CpuId, lock: LockId)
         requires { 0 < room_left self.old }
         ensures history { history self.new
@@ -88,6 +90,7 @@ impl<M> Notes<M> {
     }
 
     /// Notes a free with its mark.
+    #[inline(always)]
     pub fn free(&mut self, cpu: CpuId, lock: LockId, mark: M)
     where
         M: Drop,
@@ -104,6 +107,7 @@ impl<M> Notes<M> {
     }
 
     /// Puts `note` at the end of the notes.
+    #[inline(always)]
     fn put(&mut self, note: Note)
         requires { 0 < room_left self.old }
         ensures notes { events_in self.new.notes ≡ events_in self.old.notes ++ note ∷ [] }

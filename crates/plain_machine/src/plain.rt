@@ -95,21 +95,25 @@ impl<E: Edit> Words for Plain<E> {
 
     ghost room = { λ w. room_left w.log };
 
+    #[inline(always)]
     fn mark(edit: E) -> Mark<E> {
         Mark { edit }
     }
 
+    #[inline(always)]
     fn draw(&mut self, cpu: CpuId, lock: LockId) -> u64 {
         let ticket = cells::draw(&mut self.cells, lock);
         self.log.draw(cpu, lock);
         ticket
     }
 
+    #[inline(always)]
     fn look(&mut self, cpu: CpuId, lock: LockId, ticket: u64) -> Option<E::Block> {
         self.log.look(cpu, lock);
         cells::look(&mut self.cells, lock, ticket)
     }
 
+    #[inline(always)]
     fn free(&mut self, cpu: CpuId, lock: LockId, block: E::Block, mark: Mark<E>) {
         cells::free(&mut self.cells, lock, block);
         self.log.free(cpu, lock, mark);

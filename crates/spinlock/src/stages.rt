@@ -32,6 +32,7 @@ pub enum TicketStage<E, B> {
 impl<E: Drop, B: Drop> TicketStage<E, B> {
     /// Goes on after a look of the CPU: a look that found this block hits, and with another the
     /// stage stays as it is.
+    #[inline(always)]
     pub fn after_look(&mut self, lock: LockId, edit: E, found: Option<B>)
         ensures { MatchOption found (self.new ≡ self.old) (λ block. self.new ≡ TicketStage.Held lock edit block) }
     {
@@ -46,6 +47,7 @@ impl<E: Copy + Drop, B: Drop> TicketStage<E, B> {
 
     /// Goes on after another look of a CPU that waits: as after a look, with the edit that the
     /// stage keeps.
+    #[inline(always)]
     pub fn hit(&mut self, found: Option<B>)
         ensures { self.new ≡ hit_by found self.old }
     {

@@ -60,10 +60,12 @@ impl<W: Words> LockLayer<W::Edit> for Ticket<W> {
         }
     }
 
+    #[inline(always)]
     fn is_busy(&self) -> bool {
         !matches!(self.stage, TicketStage::Out)
     }
 
+    #[inline(always)]
     fn look(&mut self, m: &mut W) -> bool {
         match self.stage {
             TicketStage::Drawn { lock, ticket, .. } => {
@@ -76,6 +78,7 @@ impl<W: Words> LockLayer<W::Edit> for Ticket<W> {
         }
     }
 
+    #[inline(always)]
     fn poll(&mut self, m: &mut W, lock: LockId, edit: W::Edit) -> Option<<W::Edit as Edit>::Out> {
         match self.stage {
             TicketStage::Out => {
