@@ -1,0 +1,5 @@
+pub mod OwnerLemmas
+pub mod SleptLemmas
+pub mod KeptLemmas
+pub mod PollLemmas
+pub mod PartLemmas

@@ -1,0 +1,220 @@
+-- One poll of a part: what it leaves of who slept, and that it is the poll which the law of the layer asks for.
+use Rattle.std.proofs.Common.{◌≡◌, ◌≢◌, inl, inr, ◌<◌, ◌≤◌, Bool, true, false, ◌&&◌, ◌||◌, not, nat_lt, if◌then◌else◌, List, [], ◌∷◌, ◌++◌, length, Option, Some, None, option_map, is_some, refl, ap, sym, ◌∙◌, subst, arith}
+use Rattle.std.proofs.lemmas.Bool.{lt-ltb}
+use Rattle.std.proofs.lemmas.Option.{slice_get_within}
+use Rattle.event_log.specs.declared.ids.BufId.{BufId}
+use Rattle.event_log.specs.declared.ids.CpuId.{CpuId}
+use Rattle.event_log.specs.declared.ids.LockId.{LockId}
+use Rattle.event_log.specs.declared.ids.LockId.TheVariants.{Buffer}
+use Rattle.event_log.specs.declared.ids.TheConstants.{THREADS}
+use Rattle.event_log.specs.declared.ids.Tid.{Tid}
+use Rattle.event_log.specs.History.{IsLawful, same_cpu}
+use Rattle.event_log.proofs.Foreign.{lawful_before}
+use Rattle.event_log.proofs.Same.{same_cpu_true, same_lock_self}
+use Rattle.layer_traits.specs.declared.locked.QEdit.{QEdit}
+use Rattle.layer_traits.specs.declared.locked.QEdit.TheVariants.{Acquire, Inside, Release}
+use Rattle.layer_traits.specs.declared.locked.QOut.{QOut}
+use Rattle.layer_traits.specs.declared.locked.QOut.TheVariants.{Acquired, Queued, Did, Released}
+use Rattle.layer_traits.specs.declared.moves.Line.TheVariants.{Sleepers}
+use Rattle.layer_traits.specs.declared.passes.Pass.{Pass as PassCall}
+use Rattle.layer_traits.specs.declared.passes.Pass.TheVariants as pass
+use Rattle.layer_traits.specs.declared.queue_edits.QueueBlock.{QueueBlock}
+use Rattle.layer_traits.specs.declared.queues.QueueCall.TheVariants.{Push, OnBuffer}
+use Rattle.layer_traits.specs.declared.queues.QueueEvent.{QueueEvent}
+use Rattle.layer_traits.specs.declared.scheds.SchedAnswer.{SchedAnswer}
+use Rattle.layer_traits.specs.declared.scheds.SchedCall.TheVariants as call
+use Rattle.layer_traits.specs.declared.sleeps.Outcome.{Outcome}
+use Rattle.layer_traits.specs.Locking.{LockRules, LockState, asked, line_in, lock_after, lock_answer, lock_caller, lock_edited, lock_moves, owner_in, told_asker}
+use Rattle.layer_traits.specs.LockLaw.{HasOrAwaits, left_locked, locking, lock_kernel, slept_for}
+use Rattle.layer_traits.specs.Passes.{queue_for}
+use Rattle.layer_traits.specs.Places.{Threads, home_of}
+use Rattle.layer_traits.specs.QueueBlocks.{homes_in, inner}
+use Rattle.layer_traits.specs.Queues.{QueueAllowed, buffer_sections, event}
+use Rattle.layer_traits.specs.Plans.{Left}
+use Rattle.layer_traits.specs.Scheds.{SchedPolled, events_of, own_answered, queue_call}
+use Rattle.layer_traits.specs.SleepLaw.{Deed, MayDo, SleepPolled, Sleeping, Waits, Does, Sends, left_done, left_with, must_send, seen_with}
+use Rattle.layer_traits.specs.Sleeping.{joined}
+use Rattle.thread_blocks.specs.Queues.{is_in}
+use Rattle.thread_blocks.proofs.Distinct.{pushed_in}
+use Rattle.thread_blocks.proofs.Members.{same_tid_self}
+use Rattle.queuing_lock.specs.Parts.{KeptFits, SleptFits, is_queued, kept_by, kept_with, told_with}
+use Rattle.queuing_lock.proofs.KeptLemmas.{kept_is}
+use Rattle.queuing_lock.proofs.SleptLemmas.{slept_deed, slept_more, slept_others}
+
+-- who owns a lock or sleeps for it, and does not sleep, owns it
+pub awaits_owner : {B : Type 0} (t : Tid) (o : Option (LockState B)) → HasOrAwaits t o → is_in t (line_in Sleepers o) ≡ false → owner_in o ≡ Some t
+awaits_owner t None awaits awake = absurd awaits
+awaits_owner t (Some state) (inl owns) awake = owns
+awaits_owner t (Some state) (inr waits) awake = absurd cc
+
+-- a thread of the machine that joined a queue stands in it
+joined_in : (t : Tid) (queue : List Tid) → t.0 < THREADS → is_in t (joined t queue) ≡ true
+joined_in t queue small = go (nat_lt t.0 THREADS) refl (is_in t queue) refl
+  where
+    here : is_in t (queue ++ t ∷ []) ≡ true
+    here = pushed_in t t queue ∙ (ap (λ b. is_in t queue || (b || false)) (same_tid_self t) ∙ or_true (is_in t queue))
+      where
+        or_true : (b : Bool) → (b || true) ≡ true
+        or_true true = refl
+        or_true false = refl
+
+    go : (b : Bool) → nat_lt t.0 THREADS ≡ b → (d : Bool) → is_in t queue ≡ d → is_in t (if b && not d then queue ++ t ∷ [] else queue) ≡ true
+    go true low true stands = stands
+    go true low false missing = here
+    go false high d stands = let low = lt-ltb t.0 THREADS small in absurd cc
+
+abbrev answer_of : (O : Type 0) → Left (Sleeping O) (Outcome O) → Option (Outcome O)
+answer_of O left = left.answer
+
+-- a section that was done and answers answers its outcome
+answered_with : {O : Type 0} (done : Outcome O) (threads : Threads) (outcome : Outcome O) → (left_done done threads).answer ≡ Some outcome → Some done ≡ Some outcome
+answered_with {O = O} done threads outcome answers = go (must_send done threads) answers
+  where
+    go : (send : Bool) → answer_of O (if send then record { own = record { threads = threads; kept = Some done }; answer = None }
+        else record { own = record { threads = threads; kept = None }; answer = Some done }) ≡ Some outcome → Some done ≡ Some outcome
+    go true answers = absurd cc
+    go false answers = answers
+
+-- what the lock's outcome leaves
+pub told_is : {O : Type 0} (t : Tid) (b : BufId) (slept : List (Option BufId)) (sleep : Sleeping (QOut O)) (out : QOut O) (outcome : Outcome (QOut O))
+    → left_locked t b slept sleep out outcome ≡ locking sleep (kept_with t b slept out) (told_with out outcome)
+told_is t b slept sleep Acquired outcome = refl
+told_is t b slept sleep Queued outcome = refl
+told_is t b slept sleep (Did out) outcome = refl
+told_is t b slept sleep (Released out) outcome = refl
+
+module _ {F R B O : Type 0} (rules : LockRules F R B O) where
+  asked_waits : (t : Tid) (owner : Option Tid) (state : LockState B) → t.0 < THREADS → told_asker {O = O} owner ≡ Queued → HasOrAwaits t (Some (asked t owner state))
+  asked_waits t None state small queued = absurd cc
+  asked_waits t (Some owner) state small queued = inr (joined_in t state.sleepers small)
+
+  queued_by : (e : QEdit F R) (state : LockState B) → (lock_caller rules e).0 < THREADS → (lock_answer rules e state).out ≡ Queued
+      → HasOrAwaits (lock_caller rules e) (Some (lock_edited rules e state))
+  queued_by (Acquire t) state small queued = asked_waits t state.owner state small queued
+  queued_by (Inside f) state small queued = absurd cc
+  queued_by (Release r) state small queued = absurd cc
+
+  -- who is queued sleeps for the lock now
+  pub queued_awaits : (e : QEdit F R) (o : Option (LockState B)) (outcome : Outcome (QOut O)) → (lock_caller rules e).0 < THREADS → option_map (lock_answer rules e) o ≡ Some outcome
+      → outcome.out ≡ Queued → HasOrAwaits (lock_caller rules e) (option_map (lock_edited rules e) o)
+  queued_awaits e None outcome small is queued = absurd cc
+  queued_awaits e (Some state) outcome small is queued =
+      let one : lock_answer rules e state ≡ outcome = cc in
+      queued_by e state small (ap (λ o. o.out) one ∙ queued)
+
+module _ {F R B O : Type 0} (rules : LockRules F R B O) (opening : LockId → Option (QueueBlock (LockState B))) (c : CpuId) where
+  -- A poll of a section, seen by the part that did it.
+
+  module _ (ActsFor : CpuId → Type 0) (acts : ActsFor c) (b : BufId) (e : QEdit F R) (old new : List (QueueEvent (QEdit F R))) (own : Sleeping (QOut O)) (got : Left (Sleeping (QOut O)) (Outcome (QOut O)))
+      (polled : SleepPolled (lock_kernel rules opening) ActsFor c b e old new own got) (lawful : IsLawful (QueueAllowed (lock_kernel rules opening)) new)
+      (slept : List (Option BufId)) (none : slept_for slept (lock_caller rules e) ≡ None) (fits : SleptFits rules opening c old slept) where
+    after : IsLawful (QueueAllowed (lock_kernel rules opening)) (seen_with (lock_kernel rules opening) c b e polled.deed (polled.others ++ old))
+    after = subst (λ l. IsLawful (QueueAllowed (lock_kernel rules opening)) l) polled.is lawful
+
+    before : (deed : Deed (QOut O)) (past : List (QueueEvent (QEdit F R))) → IsLawful (QueueAllowed (lock_kernel rules opening)) (seen_with (lock_kernel rules opening) c b e deed past)
+        → IsLawful (QueueAllowed (lock_kernel rules opening)) past
+    before Waits past lawful = lawful
+    before (Does outcome) past lawful = lawful.1
+    before (Sends t) past lawful = lawful.1
+
+    -- who slept owns or sleeps still
+    pub slept_polled : SleptFits rules opening c new slept
+    slept_polled =
+        subst (λ l. SleptFits rules opening c l slept) (sym polled.is)
+        (slept_deed rules opening c b e polled.deed (polled.others ++ old) slept after none
+        (slept_others rules opening c polled.others old (polled.foreign c acts) (before polled.deed (polled.others ++ old) after) slept fits))
+
+    queued_deed : (deed : Deed (QOut O)) (past : List (QueueEvent (QEdit F R))) (outcome : Outcome (QOut O)) → (lock_caller rules e).0 < THREADS
+        → MayDo (lock_kernel rules opening) c b e deed past own → (left_with (lock_kernel rules opening) c b e deed own).answer ≡ Some outcome → outcome.out ≡ Queued
+        → KeptFits (Some (call.OnBuffer b e)) own.kept own.threads.hand
+        → HasOrAwaits (lock_caller rules e) (lock_after rules (inner opening) (Buffer b) (buffer_sections (seen_with (lock_kernel rules opening) c b e deed past)))
+    queued_deed Waits past outcome small may answers queued kept = absurd cc
+    queued_deed (Does done) past outcome small may answers queued kept =
+        subst (λ same. HasOrAwaits (lock_caller rules e) (if same then option_map (lock_edited rules e) (lock_after rules (inner opening) (Buffer b) (buffer_sections past))
+        else lock_after rules (inner opening) (Buffer b) (buffer_sections past))) (sym (same_lock_self (Buffer b)))
+        (queued_awaits rules e (lock_after rules (inner opening) (Buffer b) (buffer_sections past)) outcome small
+        (may.1 ∙ answered_with done (own_answered (lock_moves rules) (lock_kernel rules opening).homes c (Some done) own.threads) outcome answers) queued)
+    queued_deed (Sends t) past outcome small may answers queued kept =
+        let told = kept_is own.kept own.threads.hand b e outcome kept answers in
+        let is = ap is_queued queued in
+        absurd cc
+
+    -- and who is queued sleeps for the lock
+    pub slept_queued : (outcome : Outcome (QOut O)) → home_of (homes_in opening) (lock_caller rules e) ≡ Some c → length (homes_in opening) ≤ THREADS → got.answer ≡ Some outcome
+        → KeptFits (Some (call.OnBuffer b e)) own.kept own.threads.hand → SleptFits rules opening c new (kept_by (lock_caller rules e) b slept outcome)
+    slept_queued outcome here room answers kept = go outcome.out refl
+      where
+        go : (out : QOut O) → outcome.out ≡ out → SleptFits rules opening c new (kept_with (lock_caller rules e) b slept out)
+        go Acquired is = slept_polled
+        go (Did out) is = slept_polled
+        go (Released out) is = slept_polled
+        go Queued is =
+            slept_more rules opening c (lock_caller rules e) b new slept
+            (record {
+              here = here;
+              awaits = subst (λ l. HasOrAwaits (lock_caller rules e) (lock_after rules (inner opening) (Buffer b) (buffer_sections l))) (sym polled.is)
+                  (queued_deed polled.deed (polled.others ++ old) outcome
+                  (let small = slice_get_within (homes_in opening) (lock_caller rules e).0 c here in omega (arith, small, room))
+                  polled.may (ap (λ (l : Left (Sleeping (QOut O)) (Outcome (QOut O))). l.answer) (sym polled.leaves) ∙ answers) is kept);
+            })
+            slept_polled
+
+  -- A poll of a section, seen by the part of another CPU.
+
+  module _ (ActsFor : CpuId → Type 0) (by : CpuId) (apart : c ≢ by) (acts : ActsFor c) (slept : List (Option BufId)) where
+    not_by : same_cpu by c ≡ false
+    not_by = go (same_cpu by c) refl
+      where
+        go : (same : Bool) → same_cpu by c ≡ same → same_cpu by c ≡ false
+        go true is = absurd (apart (sym (same_cpu_true by c is)))
+        go false is = is
+
+    pub slept_of_others : (b : BufId) (e : QEdit F R) (old new : List (QueueEvent (QEdit F R))) (own : Sleeping (QOut O)) (got : Left (Sleeping (QOut O)) (Outcome (QOut O)))
+        → SleepPolled (lock_kernel rules opening) ActsFor by b e old new own got → IsLawful (QueueAllowed (lock_kernel rules opening)) new
+        → SleptFits rules opening c old slept → SleptFits rules opening c new slept
+    slept_of_others b e old new own got polled lawful fits =
+        subst (λ l. SleptFits rules opening c l slept) (sym polled.is)
+        (go polled.deed (subst (λ l. IsLawful (QueueAllowed (lock_kernel rules opening)) l) polled.is lawful))
+      where
+        go : (deed : Deed (QOut O)) → IsLawful (QueueAllowed (lock_kernel rules opening)) (seen_with (lock_kernel rules opening) by b e deed (polled.others ++ old))
+            → SleptFits rules opening c (seen_with (lock_kernel rules opening) by b e deed (polled.others ++ old)) slept
+        go Waits lawful = slept_others rules opening c polled.others old (polled.foreign c acts) lawful slept fits
+        go (Does outcome) lawful =
+            slept_others rules opening c (event by (OnBuffer b e) ∷ polled.others) old (not_by, polled.foreign c acts) lawful slept fits
+        go (Sends t) lawful =
+            slept_others rules opening c (event by (Push (queue_for (homes_in opening) by t) t) ∷ polled.others) old (not_by, polled.foreign c acts) lawful slept fits
+
+-- A pass does no section, so nothing changes of who owns and who sleeps.
+
+module _ {F R B O : Type 0} (rules : LockRules F R B O) (opening : LockId → Option (QueueBlock (LockState B))) (by : CpuId) (p : PassCall) where
+  same_sections : (done : Bool) (past : List (QueueEvent (QEdit F R))) → buffer_sections (if done then events_of by (queue_call (homes_in opening) by (call.Pass p)) ++ past else past) ≡ buffer_sections past
+  same_sections false past = refl
+  same_sections true past = go p
+    where
+      go : (p : PassCall) → buffer_sections (events_of by (queue_call {E = QEdit F R} (homes_in opening) by (call.Pass p)) ++ past) ≡ buffer_sections past
+      go pass.Switch = refl
+      go pass.YieldNow = refl
+      go pass.Drain = refl
+      go (pass.MakeReady t) = refl
+      go pass.End = refl
+
+  before_pass : (done : Bool) (past : List (QueueEvent (QEdit F R)))
+      → IsLawful (QueueAllowed (lock_kernel rules opening)) (if done then events_of by (queue_call (homes_in opening) by (call.Pass p)) ++ past else past)
+      → IsLawful (QueueAllowed (lock_kernel rules opening)) past
+  before_pass false past lawful = lawful
+  before_pass true past lawful = lawful_before (QueueAllowed (lock_kernel rules opening)) (events_of by (queue_call (homes_in opening) by (call.Pass p))) past lawful
+
+-- who slept owns or sleeps still after a pass, seen by any part
+pub slept_passed : {F R B O : Type 0} (rules : LockRules F R B O) (opening : LockId → Option (QueueBlock (LockState B))) (ActsFor : CpuId → Type 0) (by : CpuId) (p : PassCall)
+    (answer : Option (SchedAnswer (Outcome (QOut O)))) (c : CpuId) → ActsFor c → (old new : List (QueueEvent (QEdit F R))) (own own' : Threads)
+    → SchedPolled (lock_kernel rules opening) ActsFor by (call.Pass p) answer old new own own' → IsLawful (QueueAllowed (lock_kernel rules opening)) new
+    → (slept : List (Option BufId)) → SleptFits rules opening c old slept → SleptFits rules opening c new slept
+slept_passed rules opening ActsFor by p answer c acts old new own own' polled lawful slept fits t b is =
+    let one = slept_others rules opening c polled.others old (polled.foreign c acts)
+    (before_pass rules opening by p (is_some answer) (polled.others ++ old)
+    (subst (λ l. IsLawful (QueueAllowed (lock_kernel rules opening)) l) polled.is lawful)) slept fits t b is in
+    record {
+      here = one.here;
+      awaits = subst (λ s. HasOrAwaits t (lock_after rules (inner opening) (Buffer b) s))
+          (sym (ap buffer_sections polled.is ∙ same_sections rules opening by p (is_some answer) (polled.others ++ old))) one.awaits;
+    }

@@ -1,0 +1,100 @@
+-- Whoever slept for a lock owns it or sleeps for it still, whatever is called.
+use Rattle.std.proofs.Common.{◌≡◌, ◌⊎◌, inl, inr, ℕ, zero, suc, List, [], ◌∷◌, ◌++◌, Option, Some, None, slice_index_or, slice_set, replicate, refl, ap, sym, ◌∙◌, subst}
+use Rattle.event_log.specs.declared.ids.BufId.{BufId}
+use Rattle.event_log.specs.declared.ids.CpuId.{CpuId}
+use Rattle.event_log.specs.declared.ids.LockId.{LockId}
+use Rattle.event_log.specs.declared.ids.LockId.TheVariants.{Buffer}
+use Rattle.event_log.specs.declared.ids.Tid.{Tid}
+use Rattle.event_log.specs.History.{AreOthers, IsLawful}
+use Rattle.layer_traits.specs.declared.locked.QEdit.{QEdit}
+use Rattle.layer_traits.specs.declared.locked.QOut.{QOut}
+use Rattle.layer_traits.specs.declared.queue_edits.QueueBlock.{QueueBlock}
+use Rattle.layer_traits.specs.declared.queues.QueueEvent.{QueueEvent}
+use Rattle.layer_traits.specs.Locking.{LockRules, LockState, lock_caller}
+use Rattle.layer_traits.specs.LockLaw.{HasOrAwaits, lock_kernel, slept_for}
+use Rattle.layer_traits.specs.Queues.{QueueAllowed, event_actor}
+use Rattle.layer_traits.specs.SleepLaw.{Deed, Waits, Does, Sends, seen_with}
+use Rattle.queuing_lock.specs.Parts.{SleptFits, SleptOne}
+use Rattle.queuing_lock.specs.Steady.{keeps_awaits, kept_by, kept_others}
+
+-- what stands in a list in which one was set stands there because it was set, or stood there before
+pub set_tells : {A : Type 0} (xs : List (Option A)) (i j : ℕ) (v : Option A) (a : A) → slice_index_or (slice_set xs i v) j None ≡ Some a
+    → ((i ≡ j) × (v ≡ Some a)) ⊎ (slice_index_or xs j None ≡ Some a)
+set_tells [] i j v a is = inr is
+set_tells (x ∷ xs) zero zero v a is = inl (refl, is)
+set_tells (x ∷ xs) zero (suc j) v a is = inr is
+set_tells (x ∷ xs) (suc i) zero v a is = inr is
+set_tells (x ∷ xs) (suc i) (suc j) v a is = further (set_tells xs i j v a is)
+  where
+    further : ((i ≡ j) × (v ≡ Some a)) ⊎ (slice_index_or xs j None ≡ Some a) → ((suc i ≡ suc j) × (v ≡ Some a)) ⊎ (slice_index_or xs j None ≡ Some a)
+    further (inl both) = inl (ap suc both.0, both.1)
+    further (inr was) = inr was
+
+-- a list of nothing tells nothing
+pub none_at : {A : Type 0} (n j : ℕ) (x : Option A) → x ≡ None → slice_index_or (replicate n x) j None ≡ None
+none_at zero j x is = refl
+none_at (suc n) zero x is = is
+none_at (suc n) (suc j) x is = none_at n j x is
+
+module _ {F R B O : Type 0} (rules : LockRules F R B O) (opening : LockId → Option (QueueBlock (LockState B))) (c : CpuId) where
+  -- others call
+  pub slept_others : (more past : List (QueueEvent (QEdit F R))) → AreOthers event_actor c more → IsLawful (QueueAllowed (lock_kernel rules opening)) (more ++ past)
+      → (slept : List (Option BufId)) → SleptFits rules opening c past slept → SleptFits rules opening c (more ++ past) slept
+  slept_others more past others lawful slept fits t b is = record {
+    here = (fits t b is).here;
+    awaits = kept_others rules opening t (HasOrAwaits t) (keeps_awaits rules t) c (fits t b is).here (Buffer b) more past others lawful (fits t b is).awaits;
+  }
+
+  -- the history went on by calls of others
+  pub slept_goes : (more past new : List (QueueEvent (QEdit F R))) → AreOthers event_actor c more → new ≡ more ++ past → IsLawful (QueueAllowed (lock_kernel rules opening)) new
+      → (slept : List (Option BufId)) → SleptFits rules opening c past slept → SleptFits rules opening c new slept
+  slept_goes more past new others is lawful slept fits =
+      subst (λ l. SleptFits rules opening c l slept) (sym is)
+      (slept_others more past others (subst (λ l. IsLawful (QueueAllowed (lock_kernel rules opening)) l) is lawful) slept fits)
+
+  apart : (slept : List (Option BufId)) (u t : Tid) (b : BufId) → slept_for slept u ≡ None → slept_for slept t ≡ Some b → u ≡ t → ⊥
+  apart slept u t b none some is = absurd (clash (subst (λ x. slept_for slept x ≡ None) is none) some)
+    where
+      clash : slept_for slept t ≡ None → slept_for slept t ≡ Some b → ⊥
+      clash none some = absurd cc
+
+  -- a thread that slept for no lock calls
+  pub slept_deed : (b : BufId) (e : QEdit F R) (deed : Deed (QOut O)) (past : List (QueueEvent (QEdit F R))) (slept : List (Option BufId))
+      → IsLawful (QueueAllowed (lock_kernel rules opening)) (seen_with (lock_kernel rules opening) c b e deed past) → slept_for slept (lock_caller rules e) ≡ None
+      → SleptFits rules opening c past slept → SleptFits rules opening c (seen_with (lock_kernel rules opening) c b e deed past) slept
+  slept_deed b e Waits past slept lawful none fits = fits
+  slept_deed b e (Does outcome) past slept lawful none fits = λ t at is. record {
+    here = (fits t at is).here;
+    awaits = kept_by rules opening t (HasOrAwaits t) (keeps_awaits rules t) c (fits t at is).here (Buffer at) past c b e lawful.0.upper.owners
+        (apart slept (lock_caller rules e) t at none is) (fits t at is).awaits;
+  }
+  slept_deed b e (Sends u) past slept lawful none fits = λ t at is. record { here = (fits t at is).here; awaits = (fits t at is).awaits }
+
+  -- whose call was handed its lock has slept
+  pub slept_less : (t : Tid) (past : List (QueueEvent (QEdit F R))) (slept : List (Option BufId)) → SleptFits rules opening c past slept
+      → SleptFits rules opening c past (slice_set slept t.0 None)
+  slept_less t past slept fits u b is = go (set_tells slept t.0 u.0 None b is)
+    where
+      go : ((t.0 ≡ u.0) × (None ≡ Some b)) ⊎ (slept_for slept u ≡ Some b) → SleptOne rules opening c past u b
+      go (inl both) = let none = both.1 in absurd cc
+      go (inr was) = fits u b was
+
+  -- who is queued now sleeps
+  pub slept_more : (t : Tid) (b : BufId) (past : List (QueueEvent (QEdit F R))) (slept : List (Option BufId)) → SleptOne rules opening c past t b
+      → SleptFits rules opening c past slept → SleptFits rules opening c past (slice_set slept t.0 (Some b))
+  slept_more t b past slept one fits u at is = go (set_tells slept t.0 u.0 (Some b) at is)
+    where
+      go : ((t.0 ≡ u.0) × (Some b ≡ Some at)) ⊎ (slept_for slept u ≡ Some at) → SleptOne rules opening c past u at
+      go (inl both) =
+          let same_thread = both.0 in
+          let same_buffer = both.1 in
+          let who : t ≡ u = λ i. record { 0 = same_thread i } in
+          let what : b ≡ at = cc in
+          subst (λ x. SleptOne rules opening c past u x) what (subst (λ x. SleptOne rules opening c past x b) who one)
+      go (inr was) = fits u at was
+
+  -- at boot nobody has slept
+  pub slept_none : (past : List (QueueEvent (QEdit F R))) (slept : List (Option BufId)) (n : ℕ) → slept ≡ replicate n None → SleptFits rules opening c past slept
+  slept_none past slept n is t b some =
+      let none : slept_for slept t ≡ None = ap (λ l. slept_for l t) is ∙ none_at n t.0 None refl in
+      absurd cc

@@ -1,0 +1,432 @@
+use Rattle.std.proofs.Common.{◌≡◌, true, false, Option, Some, None, ◌<◌, is_some, map, option_map, slice_set, ap, sym, ◌∙◌, subst}
+use Rattle.std.proofs.Math.Path.{transport}
+use Rattle.event_log.specs.declared.ids.LockId.{LockId}
+use Rattle.event_log.specs.declared.ids.TheConstants.{THREADS}
+use Rattle.event_log.specs.History.{IsLawful}
+use Rattle.event_log.specs.Actions.{renamed}
+use Rattle.layer_traits.specs.declared.locked.QOut.{QOut}
+use Rattle.layer_traits.specs.declared.locked.QOut.TheVariants.{Acquired}
+use Rattle.layer_traits.specs.declared.queue_edits.QueueBlock.{QueueBlock}
+use Rattle.layer_traits.specs.declared.sleeps.Outcome.{Outcome}
+use Rattle.layer_traits.specs.Locking.{lock_caller, lock_moves, lock_rules}
+use Rattle.layer_traits.specs.LockLaw.{LockPolled, left_after, lock_plan, locking, slept_for}
+use Rattle.layer_traits.specs.Plans.{Follows, Left, table_of}
+use Rattle.layer_traits.specs.QueueBlocks.{homes_in}
+use Rattle.layer_traits.specs.QueueRules.{queue_rules}
+use Rattle.layer_traits.specs.Queues.{QueueAllowed}
+use Rattle.layer_traits.specs.Renaming.{renamed_edit, renamed_events, renamed_sched, viewed}
+use Rattle.layer_traits.specs.SleepLaw.{Sleeping}
+use Rattle.layer_traits.specs.Sleeping.{SleepState}
+use Rattle.queuing_lock.specs.declared.edits.QBlock.{QBlock}
+use Rattle.queuing_lock.specs.Nested.{edit_in, lock_of}
+use Rattle.queuing_lock.specs.NestedLaws.{beneath, here}
+use Rattle.queuing_lock.specs.Parts.{KeptFits, SleptFits, kept_by}
+use Rattle.queuing_lock.proofs.PartLemmas.{Before, caller_small, handed, kept_after, locks, locks_follow, none, others_after, owed, slept_after, slept_told, under_is}
+use Rattle.queuing_lock.proofs.PollLemmas.{told_is}
+use Rattle.queuing_lock.proofs.SleptLemmas.{slept_less}
+use Rattle.queuing_lock.proofs.qlock.QLockQLockLayer.poll.Goals as goal
+
+-- the caller slept for the lock
+
+pub returns-then-has-clause-fits : goal.returns-then-has-clause-fits
+returns-then-has-clause-fits g c =
+    let S = g.S.SleepLayer in
+    let rules = g.F.Locked.rules in
+    let self = c.args.self.now in
+    let m = c.args.m.now in (
+      c.requires.fits.0,
+      subst (λ l. SleptFits rules (viewed lock_of (S.opening m)) (S.cpu_of self.lower) (renamed_events edit_in (S.seen m)) l) (sym c.over.ensures)
+          (slept_less rules (viewed lock_of (S.opening m)) (S.cpu_of self.lower) c.caller-t.result (renamed_events edit_in (S.seen m)) self.slept.buffers c.requires.fits.1),
+      c.requires.fits.2,
+    )
+
+pub returns-then-has-clause-seen : goal.returns-then-has-clause-seen
+returns-then-has-clause-seen g c =
+    let S = g.S.SleepLayer in
+    let met = g.met.S.SleepLayer in
+    let rules = g.F.Locked.rules in
+    let self = c.args.self.now in
+    let m = c.args.m.now in
+    let cpu = S.cpu_of self.lower in
+    let b = c.args.buffer in
+    let e = c.args.edit.now in
+    let slept = self.slept.buffers in
+    let own = S.own self.lower in
+    let under = S.under_way self.lower in
+    let acts = met.own_cpu self.lower m c.requires.fits.0 in
+    let before : Before rules (S.opening m) cpu b e (S.seen m) own under slept = record {
+      starts = met.opens m cpu acts;
+      moving = met.moving m cpu acts;
+      stands = met.stands self.lower m c.requires.fits.0;
+      lists = met.lists self.lower m c.requires.fits.0;
+      fits = c.requires.fits.1;
+      kept = c.requires.fits.2;
+      caller = c.requires.caller;
+      may = c.requires.call;
+    } in
+    let some : is_some (slept_for slept (lock_caller rules e)) ≡ true
+    = ap (λ t. is_some (slept_for slept t)) (sym c.caller-t.ensures) ∙ (sym c.has.ensures ∙ c.if-has.true) in
+    let over : c.over.new.self.buffers ≡ slice_set slept (lock_caller rules e).0 None = c.over.ensures ∙ ap (λ t. slice_set slept t.0 None) c.caller-t.ensures in
+    subst (λ l. LockPolled rules (here rules (S.opening m)) (λ d. S.ActsFor m d) cpu b e (slept_for slept (lock_caller rules e)) (renamed_events edit_in (S.seen m)) (renamed_events edit_in (S.seen m))
+    (record { sleep = own; slept = slept }) (option_map (renamed_sched edit_in) under) (locking own l (Some (record { out = Acquired; slept = false; woke = None })))) (sym over)
+    (handed rules (S.opening m) cpu b e (S.seen m) own under slept before (λ d. S.ActsFor m d) some)
+
+-- it calls beneath
+
+pub poll-requires-clause-call : goal.poll-requires-clause-call
+poll-requires-clause-call g c =
+    let S = g.S.SleepLayer in
+    let met = g.met.S.SleepLayer in
+    let rules = g.F.Locked.rules in
+    let self = c.args.self.now in
+    let m = c.args.m.now in
+    let cpu = S.cpu_of self.lower in
+    let b = c.args.buffer in
+    let e = c.args.edit.now in
+    let slept = self.slept.buffers in
+    let own = S.own self.lower in
+    let under = S.under_way self.lower in
+    let acts = met.own_cpu self.lower m c.requires.fits.0 in
+    let before : Before rules (S.opening m) cpu b e (S.seen m) own under slept = record {
+      starts = met.opens m cpu acts;
+      moving = met.moving m cpu acts;
+      stands = met.stands self.lower m c.requires.fits.0;
+      lists = met.lists self.lower m c.requires.fits.0;
+      fits = c.requires.fits.1;
+      kept = c.requires.fits.2;
+      caller = c.requires.caller;
+      may = c.requires.call;
+    } in
+    let awake : is_some (slept_for slept (lock_caller rules e)) ≡ false
+    = ap (λ t. is_some (slept_for slept t)) (sym c.caller-t.ensures) ∙ (sym c.has.ensures ∙ c.if-has.false) in
+    owed rules (S.opening m) cpu b e (S.seen m) own under slept before awake
+
+pub told-requires : goal.told-requires
+told-requires g c =
+    let S = g.S.SleepLayer in
+    let met = g.met.S.SleepLayer in
+    let rules = g.F.Locked.rules in
+    let self = c.args.self.now in
+    let m = c.args.m.now in
+    let cpu = S.cpu_of self.lower in
+    let b = c.args.buffer in
+    let e = c.args.edit.now in
+    let slept = self.slept.buffers in
+    let own = S.own self.lower in
+    let under = S.under_way self.lower in
+    let acts = met.own_cpu self.lower m c.requires.fits.0 in
+    let before : Before rules (S.opening m) cpu b e (S.seen m) own under slept = record {
+      starts = met.opens m cpu acts;
+      moving = met.moving m cpu acts;
+      stands = met.stands self.lower m c.requires.fits.0;
+      lists = met.lists self.lower m c.requires.fits.0;
+      fits = c.requires.fits.1;
+      kept = c.requires.fits.2;
+      caller = c.requires.caller;
+      may = c.requires.call;
+    } in
+    subst (λ t. t.0 < THREADS) (sym c.caller-t.ensures) (caller_small rules (S.opening m) cpu b e (S.seen m) own under slept before)
+
+-- the call goes on
+
+pub returns-in-None-clause-fits : goal.returns-in-None-clause-fits
+returns-in-None-clause-fits g c =
+    let S = g.S.SleepLayer in
+    let met = g.met.S.SleepLayer in
+    let rules = g.F.Locked.rules in
+    let self = c.args.self.now in
+    let m = c.args.m.now in
+    let cpu = S.cpu_of self.lower in
+    let b = c.args.buffer in
+    let e = c.args.edit.now in
+    let slept = self.slept.buffers in
+    let own = S.own self.lower in
+    let under = S.under_way self.lower in
+    let acts = met.own_cpu self.lower m c.requires.fits.0 in
+    let before : Before rules (S.opening m) cpu b e (S.seen m) own under slept = record {
+      starts = met.opens m cpu acts;
+      moving = met.moving m cpu acts;
+      stands = met.stands self.lower m c.requires.fits.0;
+      lists = met.lists self.lower m c.requires.fits.0;
+      fits = c.requires.fits.1;
+      kept = c.requires.fits.2;
+      caller = c.requires.caller;
+      may = c.requires.call;
+    } in
+    let awake : is_some (slept_for slept (lock_caller rules e)) ≡ false
+    = ap (λ t. is_some (slept_for slept t)) (sym c.caller-t.ensures) ∙ (sym c.has.ensures ∙ c.if-has.false) in
+    let said = c.poll.ensures in
+    let n = c.poll.new.m in
+    let part = c.poll.new.self in
+    let got : Left (Sleeping (QOut g.row.F-Out.Denot)) (Outcome (QOut g.row.F-Out.Denot)) = record { own = S.own part; answer = c.poll.result } in
+    let lawful : IsLawful (QueueAllowed (beneath rules (S.opening m))) (S.seen n)
+    = subst (λ (o : LockId → Option (QueueBlock (SleepState (QBlock g.row.F-Block.Denot)))). IsLawful (QueueAllowed (beneath rules o)) (S.seen n)) said.opening
+    (met.lawful n cpu (said.acts cpu acts)) in (
+      said.fits,
+      transport (λ i. SleptFits rules (viewed lock_of (sym said.opening i)) (sym said.cpu i) (renamed_events edit_in (S.seen n)) slept)
+          (slept_after rules (S.opening m) cpu b e (S.seen m) own under slept before awake (λ d. S.ActsFor m d) (S.seen n) got said.seen acts lawful),
+      subst (λ u. KeptFits u (S.own part).kept (S.own part).threads.hand) (sym (under_is (S.under_way part) c.poll.result b e said.call))
+          (kept_after rules (S.opening m) cpu b e (S.seen m) own under slept before awake (λ d. S.ActsFor m d) (S.seen n) got said.seen),
+    )
+
+pub returns-in-None-clause-seen : goal.returns-in-None-clause-seen
+returns-in-None-clause-seen g c =
+    let S = g.S.SleepLayer in
+    let met = g.met.S.SleepLayer in
+    let rules = g.F.Locked.rules in
+    let self = c.args.self.now in
+    let m = c.args.m.now in
+    let cpu = S.cpu_of self.lower in
+    let b = c.args.buffer in
+    let e = c.args.edit.now in
+    let slept = self.slept.buffers in
+    let own = S.own self.lower in
+    let under = S.under_way self.lower in
+    let acts = met.own_cpu self.lower m c.requires.fits.0 in
+    let before : Before rules (S.opening m) cpu b e (S.seen m) own under slept = record {
+      starts = met.opens m cpu acts;
+      moving = met.moving m cpu acts;
+      stands = met.stands self.lower m c.requires.fits.0;
+      lists = met.lists self.lower m c.requires.fits.0;
+      fits = c.requires.fits.1;
+      kept = c.requires.fits.2;
+      caller = c.requires.caller;
+      may = c.requires.call;
+    } in
+    let awake : is_some (slept_for slept (lock_caller rules e)) ≡ false
+    = ap (λ t. is_some (slept_for slept t)) (sym c.caller-t.ensures) ∙ (sym c.has.ensures ∙ c.if-has.false) in
+    let said = c.poll.ensures in
+    let n = c.poll.new.m in
+    let part = c.poll.new.self in
+    let got : Left (Sleeping (QOut g.row.F-Out.Denot)) (Outcome (QOut g.row.F-Out.Denot)) = record { own = S.own part; answer = c.poll.result } in
+    let lawful : IsLawful (QueueAllowed (beneath rules (S.opening m))) (S.seen n)
+    = subst (λ (o : LockId → Option (QueueBlock (SleepState (QBlock g.row.F-Block.Denot)))). IsLawful (QueueAllowed (beneath rules o)) (S.seen n)) said.opening
+    (met.lawful n cpu (said.acts cpu acts)) in
+    let leaves : locking (S.own part) slept None ≡ left_after (lock_caller rules e) b slept (S.own part) c.poll.result
+    = ap (left_after (lock_caller rules e) b slept (S.own part)) (sym c.in-None.is) in
+    locks rules (S.opening m) cpu b e (S.seen m) own under slept before awake (λ d. S.ActsFor m d) (S.seen n) got said.seen (option_map (renamed_sched edit_in) (S.under_way part))
+    (locking (S.own part) slept None) (under_is (S.under_way part) c.poll.result b e said.call) leaves
+
+pub returns-in-None-clause-others : goal.returns-in-None-clause-others
+returns-in-None-clause-others g c = λ p apart fits.
+    let S = g.S.SleepLayer in
+    let met = g.met.S.SleepLayer in
+    let rules = g.F.Locked.rules in
+    let self = c.args.self.now in
+    let m = c.args.m.now in
+    let cpu = S.cpu_of self.lower in
+    let b = c.args.buffer in
+    let e = c.args.edit.now in
+    let acts = met.own_cpu self.lower m c.requires.fits.0 in
+    let said = c.poll.ensures in
+    let n = c.poll.new.m in
+    let part = c.poll.new.self in
+    let got : Left (Sleeping (QOut g.row.F-Out.Denot)) (Outcome (QOut g.row.F-Out.Denot)) = record { own = S.own part; answer = c.poll.result } in
+    let lawful : IsLawful (QueueAllowed (beneath rules (S.opening m))) (S.seen n)
+    = subst (λ (o : LockId → Option (QueueBlock (SleepState (QBlock g.row.F-Block.Denot)))). IsLawful (QueueAllowed (beneath rules o)) (S.seen n)) said.opening
+    (met.lawful n cpu (said.acts cpu acts)) in (
+      said.others p.lower apart fits.0,
+      transport (λ i. SleptFits rules (viewed lock_of (sym said.opening i)) (S.cpu_of p.lower) (renamed_events edit_in (S.seen n)) p.slept.buffers)
+          (others_after rules (S.opening m) (S.cpu_of p.lower) cpu apart (λ d. S.ActsFor m d) (met.own_cpu p.lower m fits.0) b e (S.seen m) (S.seen n) (S.own self.lower) got said.seen lawful
+          p.slept.buffers fits.1),
+      fits.2,
+    )
+
+pub returns-in-None-clause-follows : goal.returns-in-None-clause-follows
+returns-in-None-clause-follows g c = λ step.
+    let S = g.S.SleepLayer in
+    let met = g.met.S.SleepLayer in
+    let rules = g.F.Locked.rules in
+    let self = c.args.self.now in
+    let m = c.args.m.now in
+    let cpu = S.cpu_of self.lower in
+    let b = c.args.buffer in
+    let e = c.args.edit.now in
+    let slept = self.slept.buffers in
+    let own = S.own self.lower in
+    let under = S.under_way self.lower in
+    let acts = met.own_cpu self.lower m c.requires.fits.0 in
+    let before : Before rules (S.opening m) cpu b e (S.seen m) own under slept = record {
+      starts = met.opens m cpu acts;
+      moving = met.moving m cpu acts;
+      stands = met.stands self.lower m c.requires.fits.0;
+      lists = met.lists self.lower m c.requires.fits.0;
+      fits = c.requires.fits.1;
+      kept = c.requires.fits.2;
+      caller = c.requires.caller;
+      may = c.requires.call;
+    } in
+    let awake : is_some (slept_for slept (lock_caller rules e)) ≡ false
+    = ap (λ t. is_some (slept_for slept t)) (sym c.caller-t.ensures) ∙ (sym c.has.ensures ∙ c.if-has.false) in
+    let said = c.poll.ensures in
+    let n = c.poll.new.m in
+    let part = c.poll.new.self in
+    let got : Left (Sleeping (QOut g.row.F-Out.Denot)) (Outcome (QOut g.row.F-Out.Denot)) = record { own = S.own part; answer = c.poll.result } in
+    let lawful : IsLawful (QueueAllowed (beneath rules (S.opening m))) (S.seen n)
+    = subst (λ (o : LockId → Option (QueueBlock (SleepState (QBlock g.row.F-Block.Denot)))). IsLawful (QueueAllowed (beneath rules o)) (S.seen n)) said.opening
+    (met.lawful n cpu (said.acts cpu acts)) in
+    let leaves : locking (S.own part) slept None ≡ left_after (lock_caller rules e) b slept (S.own part) c.poll.result
+    = ap (left_after (lock_caller rules e) b slept (S.own part)) (sym c.in-None.is) in
+    subst (λ l. Follows (λ d. S.ActsFor m d) (table_of (queue_rules (lock_rules rules) (lock_moves rules))) (viewed lock_of (S.opening m)) cpu
+    (lock_plan (lock_moves rules) (homes_in (viewed lock_of (S.opening m))) cpu b e (record { sleep = own; slept = slept }))
+    (map (renamed (renamed_edit edit_in)) (S.acts m)) (map (renamed (renamed_edit edit_in)) (S.acts n)) l) (sym leaves)
+    (locks_follow rules (S.opening m) (λ d. S.ActsFor m d) cpu (S.acts m) (S.acts n) b e own slept got
+    (none rules (S.opening m) cpu b e (S.seen m) own under slept before awake) (said.follows step))
+
+-- the section answers
+
+pub returns-in-Some-clause-fits : goal.returns-in-Some-clause-fits
+returns-in-Some-clause-fits g c =
+    let S = g.S.SleepLayer in
+    let met = g.met.S.SleepLayer in
+    let rules = g.F.Locked.rules in
+    let self = c.args.self.now in
+    let m = c.args.m.now in
+    let cpu = S.cpu_of self.lower in
+    let b = c.args.buffer in
+    let e = c.args.edit.now in
+    let slept = self.slept.buffers in
+    let own = S.own self.lower in
+    let under = S.under_way self.lower in
+    let acts = met.own_cpu self.lower m c.requires.fits.0 in
+    let before : Before rules (S.opening m) cpu b e (S.seen m) own under slept = record {
+      starts = met.opens m cpu acts;
+      moving = met.moving m cpu acts;
+      stands = met.stands self.lower m c.requires.fits.0;
+      lists = met.lists self.lower m c.requires.fits.0;
+      fits = c.requires.fits.1;
+      kept = c.requires.fits.2;
+      caller = c.requires.caller;
+      may = c.requires.call;
+    } in
+    let awake : is_some (slept_for slept (lock_caller rules e)) ≡ false
+    = ap (λ t. is_some (slept_for slept t)) (sym c.caller-t.ensures) ∙ (sym c.has.ensures ∙ c.if-has.false) in
+    let said = c.poll.ensures in
+    let n = c.poll.new.m in
+    let part = c.poll.new.self in
+    let got : Left (Sleeping (QOut g.row.F-Out.Denot)) (Outcome (QOut g.row.F-Out.Denot)) = record { own = S.own part; answer = c.poll.result } in
+    let lawful : IsLawful (QueueAllowed (beneath rules (S.opening m))) (S.seen n)
+    = subst (λ (o : LockId → Option (QueueBlock (SleepState (QBlock g.row.F-Block.Denot)))). IsLawful (QueueAllowed (beneath rules o)) (S.seen n)) said.opening
+    (met.lawful n cpu (said.acts cpu acts)) in
+    let outcome = c.in-Some.outcome in
+    let keeps : c.told.new.self.buffers ≡ kept_by (lock_caller rules e) b slept outcome
+    = c.told.ensures.slept ∙ ap (λ t. kept_by t b slept outcome) c.caller-t.ensures in (
+      said.fits,
+      transport (λ i. SleptFits rules (viewed lock_of (sym said.opening i)) (sym said.cpu i) (renamed_events edit_in (S.seen n)) c.told.new.self.buffers)
+          (subst (λ l. SleptFits rules (viewed lock_of (S.opening m)) cpu (renamed_events edit_in (S.seen n)) l) (sym keeps)
+          (slept_told rules (S.opening m) cpu b e (S.seen m) own under slept before awake (λ d. S.ActsFor m d) (S.seen n) got said.seen acts lawful outcome c.in-Some.is)),
+      subst (λ u. KeptFits u (S.own part).kept (S.own part).threads.hand) (sym (under_is (S.under_way part) c.poll.result b e said.call))
+          (kept_after rules (S.opening m) cpu b e (S.seen m) own under slept before awake (λ d. S.ActsFor m d) (S.seen n) got said.seen),
+    )
+
+pub returns-in-Some-clause-seen : goal.returns-in-Some-clause-seen
+returns-in-Some-clause-seen g c =
+    let S = g.S.SleepLayer in
+    let met = g.met.S.SleepLayer in
+    let rules = g.F.Locked.rules in
+    let self = c.args.self.now in
+    let m = c.args.m.now in
+    let cpu = S.cpu_of self.lower in
+    let b = c.args.buffer in
+    let e = c.args.edit.now in
+    let slept = self.slept.buffers in
+    let own = S.own self.lower in
+    let under = S.under_way self.lower in
+    let acts = met.own_cpu self.lower m c.requires.fits.0 in
+    let before : Before rules (S.opening m) cpu b e (S.seen m) own under slept = record {
+      starts = met.opens m cpu acts;
+      moving = met.moving m cpu acts;
+      stands = met.stands self.lower m c.requires.fits.0;
+      lists = met.lists self.lower m c.requires.fits.0;
+      fits = c.requires.fits.1;
+      kept = c.requires.fits.2;
+      caller = c.requires.caller;
+      may = c.requires.call;
+    } in
+    let awake : is_some (slept_for slept (lock_caller rules e)) ≡ false
+    = ap (λ t. is_some (slept_for slept t)) (sym c.caller-t.ensures) ∙ (sym c.has.ensures ∙ c.if-has.false) in
+    let said = c.poll.ensures in
+    let n = c.poll.new.m in
+    let part = c.poll.new.self in
+    let got : Left (Sleeping (QOut g.row.F-Out.Denot)) (Outcome (QOut g.row.F-Out.Denot)) = record { own = S.own part; answer = c.poll.result } in
+    let lawful : IsLawful (QueueAllowed (beneath rules (S.opening m))) (S.seen n)
+    = subst (λ (o : LockId → Option (QueueBlock (SleepState (QBlock g.row.F-Block.Denot)))). IsLawful (QueueAllowed (beneath rules o)) (S.seen n)) said.opening
+    (met.lawful n cpu (said.acts cpu acts)) in
+    let outcome = c.in-Some.outcome in
+    let keeps : c.told.new.self.buffers ≡ kept_by (lock_caller rules e) b slept outcome
+    = c.told.ensures.slept ∙ ap (λ t. kept_by t b slept outcome) c.caller-t.ensures in
+    let leaves : locking (S.own part) c.told.new.self.buffers c.told.result ≡ left_after (lock_caller rules e) b slept (S.own part) c.poll.result
+    = (λ i. locking (S.own part) (keeps i) (c.told.ensures.told i))
+    ∙ (sym (told_is (lock_caller rules e) b slept (S.own part) outcome.out outcome) ∙ ap (left_after (lock_caller rules e) b slept (S.own part)) (sym c.in-Some.is)) in
+    locks rules (S.opening m) cpu b e (S.seen m) own under slept before awake (λ d. S.ActsFor m d) (S.seen n) got said.seen (option_map (renamed_sched edit_in) (S.under_way part))
+    (locking (S.own part) c.told.new.self.buffers c.told.result) (under_is (S.under_way part) c.poll.result b e said.call) leaves
+
+pub returns-in-Some-clause-others : goal.returns-in-Some-clause-others
+returns-in-Some-clause-others g c = λ p apart fits.
+    let S = g.S.SleepLayer in
+    let met = g.met.S.SleepLayer in
+    let rules = g.F.Locked.rules in
+    let self = c.args.self.now in
+    let m = c.args.m.now in
+    let cpu = S.cpu_of self.lower in
+    let b = c.args.buffer in
+    let e = c.args.edit.now in
+    let acts = met.own_cpu self.lower m c.requires.fits.0 in
+    let said = c.poll.ensures in
+    let n = c.poll.new.m in
+    let part = c.poll.new.self in
+    let got : Left (Sleeping (QOut g.row.F-Out.Denot)) (Outcome (QOut g.row.F-Out.Denot)) = record { own = S.own part; answer = c.poll.result } in
+    let lawful : IsLawful (QueueAllowed (beneath rules (S.opening m))) (S.seen n)
+    = subst (λ (o : LockId → Option (QueueBlock (SleepState (QBlock g.row.F-Block.Denot)))). IsLawful (QueueAllowed (beneath rules o)) (S.seen n)) said.opening
+    (met.lawful n cpu (said.acts cpu acts)) in (
+      said.others p.lower apart fits.0,
+      transport (λ i. SleptFits rules (viewed lock_of (sym said.opening i)) (S.cpu_of p.lower) (renamed_events edit_in (S.seen n)) p.slept.buffers)
+          (others_after rules (S.opening m) (S.cpu_of p.lower) cpu apart (λ d. S.ActsFor m d) (met.own_cpu p.lower m fits.0) b e (S.seen m) (S.seen n) (S.own self.lower) got said.seen lawful
+          p.slept.buffers fits.1),
+      fits.2,
+    )
+
+pub returns-in-Some-clause-follows : goal.returns-in-Some-clause-follows
+returns-in-Some-clause-follows g c = λ step.
+    let S = g.S.SleepLayer in
+    let met = g.met.S.SleepLayer in
+    let rules = g.F.Locked.rules in
+    let self = c.args.self.now in
+    let m = c.args.m.now in
+    let cpu = S.cpu_of self.lower in
+    let b = c.args.buffer in
+    let e = c.args.edit.now in
+    let slept = self.slept.buffers in
+    let own = S.own self.lower in
+    let under = S.under_way self.lower in
+    let acts = met.own_cpu self.lower m c.requires.fits.0 in
+    let before : Before rules (S.opening m) cpu b e (S.seen m) own under slept = record {
+      starts = met.opens m cpu acts;
+      moving = met.moving m cpu acts;
+      stands = met.stands self.lower m c.requires.fits.0;
+      lists = met.lists self.lower m c.requires.fits.0;
+      fits = c.requires.fits.1;
+      kept = c.requires.fits.2;
+      caller = c.requires.caller;
+      may = c.requires.call;
+    } in
+    let awake : is_some (slept_for slept (lock_caller rules e)) ≡ false
+    = ap (λ t. is_some (slept_for slept t)) (sym c.caller-t.ensures) ∙ (sym c.has.ensures ∙ c.if-has.false) in
+    let said = c.poll.ensures in
+    let n = c.poll.new.m in
+    let part = c.poll.new.self in
+    let got : Left (Sleeping (QOut g.row.F-Out.Denot)) (Outcome (QOut g.row.F-Out.Denot)) = record { own = S.own part; answer = c.poll.result } in
+    let lawful : IsLawful (QueueAllowed (beneath rules (S.opening m))) (S.seen n)
+    = subst (λ (o : LockId → Option (QueueBlock (SleepState (QBlock g.row.F-Block.Denot)))). IsLawful (QueueAllowed (beneath rules o)) (S.seen n)) said.opening
+    (met.lawful n cpu (said.acts cpu acts)) in
+    let outcome = c.in-Some.outcome in
+    let keeps : c.told.new.self.buffers ≡ kept_by (lock_caller rules e) b slept outcome
+    = c.told.ensures.slept ∙ ap (λ t. kept_by t b slept outcome) c.caller-t.ensures in
+    let leaves : locking (S.own part) c.told.new.self.buffers c.told.result ≡ left_after (lock_caller rules e) b slept (S.own part) c.poll.result
+    = (λ i. locking (S.own part) (keeps i) (c.told.ensures.told i))
+    ∙ (sym (told_is (lock_caller rules e) b slept (S.own part) outcome.out outcome) ∙ ap (left_after (lock_caller rules e) b slept (S.own part)) (sym c.in-Some.is)) in
+    subst (λ l. Follows (λ d. S.ActsFor m d) (table_of (queue_rules (lock_rules rules) (lock_moves rules))) (viewed lock_of (S.opening m)) cpu
+    (lock_plan (lock_moves rules) (homes_in (viewed lock_of (S.opening m))) cpu b e (record { sleep = own; slept = slept }))
+    (map (renamed (renamed_edit edit_in)) (S.acts m)) (map (renamed (renamed_edit edit_in)) (S.acts n)) l) (sym leaves)
+    (locks_follow rules (S.opening m) (λ d. S.ActsFor m d) cpu (S.acts m) (S.acts n) b e own slept got
+    (none rules (S.opening m) cpu b e (S.seen m) own under slept before awake) (said.follows step))

@@ -1,0 +1,5 @@
+pub mod Nested
+pub mod Parts
+pub mod Edits
+pub mod NestedLaws
+pub mod Steady

@@ -1,0 +1,81 @@
+-- The calls on a queuing lock as sections of the layer that lets threads sleep: what they do to the busy word and to what lies above.
+use Rattle.std.specs.Prelude.{map, Option, Some, None, option_map}
+use Rattle.event_log.specs.declared.ids.LockId.{LockId}
+use Rattle.event_log.specs.declared.ids.Tid.{Tid}
+use Rattle.event_log.specs.Sections.{renamed_section}
+use Rattle.layer_traits.specs.declared.locked.QEdit.{QEdit}
+use Rattle.layer_traits.specs.declared.locked.QEdit.TheVariants.{Acquire, Inside, Release}
+use Rattle.layer_traits.specs.declared.locked.QOut.{QOut}
+use Rattle.layer_traits.specs.declared.locked.QOut.TheVariants.{Acquired, Queued, Did, Released}
+use Rattle.layer_traits.specs.declared.locked.Signal.{Signal}
+use Rattle.layer_traits.specs.declared.locked.Signal.TheVariants as signal
+use Rattle.layer_traits.specs.declared.sleeps.Leave.{Leave}
+use Rattle.layer_traits.specs.declared.sleeps.Leave.TheVariants.{Nobody, First, Receiver, Sender}
+use Rattle.layer_traits.specs.Locking.{LockAllowed, LockRules, LockState, line_slept, lock_caller, told_asker}
+use Rattle.layer_traits.specs.Sleeping.{SleepRules, SleepState}
+use Rattle.queuing_lock.specs.declared.edits.QBlock.{QBlock}
+use Rattle.queuing_lock.specs.declared.edits.QLockEdit.{QLockEdit}
+
+-- the call that a section is
+abbrev pub edit_in : {F R : Type 0} → QLockEdit F R → QEdit F R
+edit_in section = section.edit
+
+-- the section that a call is
+abbrev pub as_section : {F R : Type 0} → QEdit F R → QLockEdit F R
+as_section e = record { edit = e }
+
+-- the lock that a block with waiting lists is: its owner is the thread in the busy word
+abbrev pub lock_of : {B : Type 0} → SleepState (QBlock B) → LockState B
+lock_of state = record {
+  owner = state.above.busy;
+  sleepers = state.sleepers;
+  receivers = state.receivers;
+  senders = state.senders;
+  above = state.above.above;
+}
+
+-- the locks that these blocks are
+abbrev pub locks : {B : Type 0} → (LockId → Option (SleepState (QBlock B))) → LockId → Option (LockState B)
+locks opening lock = option_map lock_of (opening lock)
+
+-- who leaves a waiting list at a signal
+abbrev pub leaving : Signal → Leave
+leaving signal.Nobody = Nobody
+leaving (signal.Receiver t) = Receiver t
+leaving (signal.Sender t) = Sender t
+
+-- the block that this thread asked for, where this was in the busy word
+abbrev pub busy_asked : {B : Type 0} → Tid → Option Tid → QBlock B → QBlock B
+busy_asked t None block = record { busy = Some t; above = block.above }
+busy_asked t (Some owner) block = block
+
+module _ {F R B O : Type 0} (rules : LockRules F R B O) where
+  -- the block that a call leaves: a release hands the lock to the first of its sleepers
+  abbrev pub busy_edited : QEdit F R → Option Tid → QBlock B → QBlock B
+  busy_edited (Acquire t) front block = busy_asked t block.busy block
+  busy_edited (Inside f) front block = record { busy = block.busy; above = rules.edited f block.above }
+  busy_edited (Release r) front block = record { busy = front; above = rules.last_edited r block.above }
+
+  -- what a call is told
+  abbrev pub busy_answer : QEdit F R → Option Tid → QBlock B → QOut O
+  busy_answer (Acquire t) front block = told_asker block.busy
+  busy_answer (Inside f) front block = Did (rules.answer f block.above)
+  busy_answer (Release r) front block = Released (rules.last_answer r block.above)
+
+  -- who leaves a waiting list, by what the call was told
+  abbrev pub busy_leaves : QOut O → Leave
+  busy_leaves Acquired = Nobody
+  busy_leaves Queued = Nobody
+  busy_leaves (Did out) = leaving (rules.signals out)
+  busy_leaves (Released out) = First
+
+-- what the calls on a queuing lock mean as sections: each keeps the protocol of the lock
+abbrev pub busy_rules : {F R B O : Type 0} → LockRules F R B O → SleepRules (QLockEdit F R) (QBlock B) (QOut O)
+busy_rules rules = record {
+  caller = λ section. lock_caller rules section.edit;
+  edited = λ section. busy_edited rules section.edit;
+  answer = λ section. busy_answer rules section.edit;
+  joins = line_slept rules;
+  leaves = busy_leaves rules;
+  allowed = λ opening past s. LockAllowed rules (locks opening) (map (renamed_section edit_in) past) (renamed_section edit_in s);
+}

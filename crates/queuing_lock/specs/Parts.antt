@@ -1,0 +1,68 @@
+-- What a part of queuing locks keeps of its own: who slept for which lock, and why that agrees with the locks.
+use Rattle.std.specs.Prelude.{◌≡◌, Bool, true, false, List, Option, Some, None, slice_set}
+use Rattle.event_log.specs.declared.ids.BufId.{BufId}
+use Rattle.event_log.specs.declared.ids.CpuId.{CpuId}
+use Rattle.event_log.specs.declared.ids.LockId.{LockId}
+use Rattle.event_log.specs.declared.ids.LockId.TheVariants.{Buffer}
+use Rattle.event_log.specs.declared.ids.Tid.{Tid}
+use Rattle.layer_traits.specs.declared.locked.QEdit.{QEdit}
+use Rattle.layer_traits.specs.declared.locked.QOut.{QOut}
+use Rattle.layer_traits.specs.declared.locked.QOut.TheVariants.{Acquired, Queued, Did, Released}
+use Rattle.layer_traits.specs.declared.queue_edits.QueueBlock.{QueueBlock}
+use Rattle.layer_traits.specs.declared.queues.QueueEvent.{QueueEvent}
+use Rattle.layer_traits.specs.declared.scheds.SchedCall.{SchedCall}
+use Rattle.layer_traits.specs.declared.scheds.SchedCall.TheVariants.{Pass, OnBuffer}
+use Rattle.layer_traits.specs.declared.sleeps.Outcome.{Outcome}
+use Rattle.layer_traits.specs.Locking.{LockRules, LockState, lock_after}
+use Rattle.layer_traits.specs.LockLaw.{HasOrAwaits, IsAcquire, slept_for}
+use Rattle.layer_traits.specs.Places.{home_of}
+use Rattle.layer_traits.specs.QueueBlocks.{homes_in, inner}
+use Rattle.layer_traits.specs.Queues.{buffer_sections}
+
+-- who slept for which lock after a call of t was told this: who is queued sleeps
+abbrev pub kept_with : {O : Type 0} → Tid → BufId → List (Option BufId) → QOut O → List (Option BufId)
+kept_with t b slept Queued = slice_set slept t.0 (Some b)
+kept_with t b slept Acquired = slept
+kept_with t b slept (Did out) = slept
+kept_with t b slept (Released out) = slept
+
+-- the same, by the outcome of the call
+abbrev pub kept_by : {O : Type 0} → Tid → BufId → List (Option BufId) → Outcome (QOut O) → List (Option BufId)
+kept_by t b slept outcome = kept_with t b slept outcome.out
+
+-- what is handed on of an outcome, by what the call was told: nothing to who is queued
+abbrev pub told_with : {O : Type 0} → QOut O → Outcome (QOut O) → Option (Outcome (QOut O))
+told_with Queued outcome = None
+told_with Acquired outcome = Some outcome
+told_with (Did out) outcome = Some outcome
+told_with (Released out) outcome = Some outcome
+
+-- what is handed on of an outcome
+abbrev pub told_by : {O : Type 0} → Outcome (QOut O) → Option (Outcome (QOut O))
+told_by outcome = told_with outcome.out outcome
+
+-- whether a call was told that it is queued
+abbrev pub is_queued : {O : Type 0} → QOut O → Bool
+is_queued Queued = true
+is_queued Acquired = false
+is_queued (Did out) = false
+is_queued (Released out) = false
+
+-- a thread that slept for the lock of a buffer is at home here, and it owns that lock or sleeps for it still
+pub record SleptOne {F R B O : Type 0} (rules : LockRules F R B O) (opening : LockId → Option (QueueBlock (LockState B))) (c : CpuId) (seen : List (QueueEvent (QEdit F R))) (t : Tid) (b : BufId) : Type 0 where
+  pub here : home_of (homes_in opening) t ≡ Some c
+  pub awaits : HasOrAwaits t (lock_after rules (inner opening) (Buffer b) (buffer_sections seen))
+
+-- so it is with each thread that slept for a lock
+abbrev pub SleptFits : {F R B O : Type 0} → LockRules F R B O → (LockId → Option (QueueBlock (LockState B))) → CpuId → List (QueueEvent (QEdit F R)) → List (Option BufId) → Type 0
+SleptFits rules opening c seen slept = (t : Tid) (b : BufId) → slept_for slept t ≡ Some b → SleptOne rules opening c seen t b
+
+-- what is kept agrees with the call under way and the hand: an outcome is kept of a call inside or of a release alone, and not
+-- beside a pass
+abbrev pub KeptFits : {F R O : Type 0} → Option (SchedCall (QEdit F R)) → Option (Outcome (QOut O)) → Option Tid → Type 0
+KeptFits None None hand = Unit {0}
+KeptFits None (Some outcome) hand = ⊥
+KeptFits (Some (Pass p)) None hand = Unit {0}
+KeptFits (Some (Pass p)) (Some outcome) hand = ⊥
+KeptFits (Some (OnBuffer b e)) None hand = hand ≡ None
+KeptFits (Some (OnBuffer b e)) (Some outcome) hand = (IsAcquire e → ⊥) × (is_queued outcome.out ≡ false)

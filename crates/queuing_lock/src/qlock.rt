@@ -1,0 +1,157 @@
+//! Queuing locks.
+
+use crate::edits::QLockEdit;
+use crate::slept::Slept;
+use event_log::{BufId, CpuId, Tid};
+use layer_traits::{Locked, Outcome, Pass, QEdit, QLockLayer, QOut, SleepLayer, Sleeps};
+
+/// One CPU's part of queuing locks over a part `S` of a layer that lets threads sleep: it keeps of
+/// each thread for the lock of which buffer it slept.
+#[derive(Drop)]
+pub struct QLock<S> {
+    lower: S,
+    slept: Slept,
+}
+
+impl<F: Locked, S: SleepLayer<QLockEdit<F, F::Release>>> QLockLayer<F> for QLock<S> {
+    ghost use Rattle.std.proofs.Common.{map, option_map, ap, ◌∙◌};
+    ghost use Rattle.event_log.specs.Actions.{renamed};
+    ghost use Rattle.event_log.proofs.Renaming.{legal_renamed};
+    ghost use Rattle.layer_traits.specs.Renaming.{renamed_edit, renamed_events, renamed_sched, viewed};
+    ghost use Rattle.layer_traits.proofs.KernelRenaming.{known_renamed, seen_renamed, starts_viewed};
+    ghost use Rattle.queuing_lock.specs.Nested.{edit_in, lock_of};
+    ghost use Rattle.queuing_lock.specs.NestedLaws.{locks_busy, locks_lawful, locks_lists, locks_moving, locks_stand, none_beneath};
+    ghost use Rattle.queuing_lock.specs.Parts.{KeptFits, SleptFits};
+
+    type Machine = S::Machine;
+
+    ghost opening = { λ m. viewed lock_of (S.opening m) };
+
+    ghost seen = { λ m. renamed_events edit_in (S.seen m) };
+
+    ghost ActsFor = { λ m c. S.ActsFor m c };
+
+    ghost room = { λ m. S.room m };
+
+    ghost site = { λ m. S.site m };
+
+    ghost IsOutside = { λ m c. S.IsOutside m c };
+
+    ghost cpu_of = { λ p. S.cpu_of p.lower };
+
+    ghost own = { λ p. record { sleep = S.own p.lower; slept = p.slept.buffers } };
+
+    ghost under_way = { λ p. option_map (renamed_sched edit_in) (S.under_way p.lower) };
+
+    ghost is_inside = { λ p. S.is_inside p.lower };
+
+    ghost Fits = { λ p m. S.Fits p.lower m
+        × SleptFits F.rules (viewed lock_of (S.opening m)) (S.cpu_of p.lower) (renamed_events edit_in (S.seen m)) p.slept.buffers
+        × KeptFits (option_map (renamed_sched edit_in) (S.under_way p.lower)) (S.own p.lower).kept (S.own p.lower).threads.hand };
+
+    ghost IsStepwise = { S.IsStepwise };
+
+    ghost acts = { λ m. map (renamed (renamed_edit edit_in)) (S.acts m) };
+
+    fn part(cpu: CpuId, homes: &[CpuId], buffers: u8) -> Self {
+        QLock {
+            lower: S::part(cpu, homes, buffers),
+            slept: Slept::new(),
+        }
+    }
+
+    #[inline(always)]
+    fn is_busy(&self) -> bool {
+        self.lower.is_busy()
+    }
+
+    #[inline(always)]
+    fn current(&self) -> Option<Tid> {
+        self.lower.current()
+    }
+
+    #[inline(always)]
+    fn hand(&self) -> Option<Tid> {
+        self.lower.hand()
+    }
+
+    #[inline(always)]
+    fn has_ready(&self) -> bool {
+        self.lower.has_ready()
+    }
+
+    #[inline(always)]
+    fn is_ready(&self, t: Tid) -> bool {
+        self.lower.is_ready(t)
+    }
+
+    #[inline(always)]
+    fn has_ended(&self, t: Tid) -> bool {
+        self.lower.has_ended(t)
+    }
+
+    #[inline(always)]
+    fn at_once(&self) -> bool {
+        match self.lower.current() {
+            Some(t) => self.slept.has(t),
+            None => false,
+        }
+    }
+
+    #[inline(always)]
+    fn look(&mut self, m: &mut S::Machine) -> bool {
+        self.lower.look(m)
+    }
+
+    #[inline(always)]
+    fn poll(
+        &mut self,
+        m: &mut S::Machine,
+        buffer: BufId,
+        edit: &QEdit<F, F::Release>,
+    ) -> Option<Outcome<QOut<F::Out>>> {
+        let section = QLockEdit { edit: *edit };
+        let t = section.caller();
+        if self.slept.has(t) {
+            self.slept.over(t);
+            return Some(Outcome {
+                out: QOut::Acquired,
+                slept: false,
+                woke: None,
+            });
+        }
+        match self.lower.poll(m, buffer, section) {
+            None => None,
+            Some(outcome) => self.slept.told(t, buffer, outcome),
+        }
+    }
+
+    #[inline(always)]
+    fn pass(&mut self, m: &mut S::Machine, call: Pass) -> Option<()> {
+        self.lower.pass(m, call)
+    }
+
+    ghost own_cpu = { λ p m fits. S.own_cpu p.lower m fits.0 };
+
+    ghost stands = { λ p m fits. locks_stand F.rules (S.opening m) (S.cpu_of p.lower) (S.seen m) (S.own p.lower).threads (S.stands p.lower m fits.0) };
+
+    ghost lists = { λ p m fits. locks_lists F.rules (S.opening m) (S.seen m) (S.lists p.lower m fits.0) };
+
+    ghost awaits = { λ p m fits t b slept. (fits.1 t b slept).awaits };
+
+    ghost opens = { λ m c acts. starts_viewed lock_of (S.opening m) (S.opens m c acts) };
+
+    ghost lawful = { λ m c acts. locks_lawful F.rules (S.opening m) (S.seen m) (S.lawful m c acts) };
+
+    ghost moving = { λ m c acts. locks_moving F.rules (S.opening m) (S.seen m) (S.moving m c acts) };
+
+    ghost known = { λ m c acts. known_renamed edit_in (S.seen m) (S.known m c acts) };
+
+    ghost legal = { λ m c acts. legal_renamed (renamed_edit edit_in) (S.acts m) (S.legal m c acts) };
+
+    ghost seen_is = { λ step m. ap (renamed_events edit_in) (S.seen_is step m) ∙ seen_renamed edit_in (S.acts m) };
+
+    ghost busy = { λ p m fits step. locks_busy (S.cpu_of p.lower) (S.acts m) (S.is_inside p.lower) (S.busy p.lower m fits.0 step) };
+
+    ghost idle = { λ p m fits none. S.idle p.lower m fits.0 (none_beneath (S.under_way p.lower) none) };
+}

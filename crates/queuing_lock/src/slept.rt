@@ -1,0 +1,81 @@
+//! Who sleeps for which lock.
+
+ghost use Rattle.std.specs.Prelude.{◌≡◌, ◌<◌, Some, None, is_some, replicate, slice_set, if◌then◌else◌};
+ghost use Rattle.event_log.specs.declared.ids.TheConstants.{THREADS};
+ghost use Rattle.layer_traits.specs.LockLaw.{slept_for};
+ghost use Rattle.queuing_lock.specs.Parts.{kept_by, told_by};
+
+use event_log::{BufId, THREADS, Tid};
+use layer_traits::{Outcome, QOut};
+
+/// Of each thread the buffer for whose lock it slept, from the poll in which it fell asleep until
+/// its call answers.
+#[derive(Drop)]
+pub struct Slept {
+    /// By thread.
+    pub buffers: [Option<BufId>; THREADS],
+}
+
+impl Slept {
+    /// Nobody sleeps for a lock.
+    pub fn new() -> Slept
+        ensures { result.buffers ≡ replicate THREADS None }
+    {
+        Slept {
+            buffers: [None; THREADS],
+        }
+    }
+
+    /// Whether `t` slept for a lock.
+    pub fn has(&self, t: Tid) -> bool
+        ensures { result ≡ is_some (slept_for self.now.buffers t) }
+    {
+        let at = usize::from(t.0);
+        if at < THREADS {
+            self.buffers[at].is_some()
+        } else {
+            false
+        }
+    }
+
+    /// The sleep of `t` is over.
+    pub fn over(&mut self, t: Tid)
+        requires { t.0 < THREADS }
+        ensures { self.new.buffers ≡ slice_set self.old.buffers t.0 None }
+    {
+        self.buffers[usize::from(t.0)] = None;
+    }
+
+    /// `t` sleeps for the lock of `buffer` from now on.
+    pub fn put(&mut self, t: Tid, buffer: BufId)
+        requires { t.0 < THREADS }
+        ensures { self.new.buffers ≡ slice_set self.old.buffers t.0 (Some buffer) }
+    {
+        self.buffers[usize::from(t.0)] = Some(buffer);
+    }
+
+    /// Takes what the lock of `buffer` told `t`: who is queued sleeps there, and its call goes on;
+    /// each other outcome is handed on.
+    pub fn told<O: Drop>(
+        &mut self,
+        t: Tid,
+        buffer: BufId,
+        outcome: Outcome<QOut<O>>,
+    ) -> Option<Outcome<QOut<O>>>
+        requires { t.0 < THREADS }
+        ensures slept { self.new.buffers ≡ kept_by t buffer self.old.buffers outcome }
+        ensures told { result ≡ told_by outcome }
+    {
+        match outcome.out {
+            QOut::Queued => {
+                self.put(t, buffer);
+                None
+            }
+            out => Some(Outcome {
+                out,
+                slept: outcome.slept,
+                woke: outcome.woke,
+            }),
+        }
+    }
+}
