@@ -15,3 +15,5 @@ pub mod Placed
 pub mod Says
 pub mod Kept
 pub mod Stuck
+pub mod Alone
+pub mod Filled

@@ -1,0 +1,198 @@
+-- A CPU alone: three steps of it are one section, and a call of it goes on section by section.
+use Rattle.std.proofs.Common.{◌≡◌, ◌≢◌, ℕ, zero, suc, ◌+◌, ◌<◌, ◌≤◌, ◌==◌, Bool, true, false, not, ◌&&◌, List, [], ◌∷◌, ◌++◌, length, slice_get, slice_set, Option, Some, None, option_map, is_some, if◌then◌else◌, refl, sym, ap, ◌∙◌, subst, arith}
+use Rattle.std.proofs.lemmas.Bool.{ne_eqb}
+use Rattle.std.proofs.lemmas.List.{length-set}
+use Rattle.event_log.specs.declared.ids.CpuId.{CpuId}
+use Rattle.event_log.specs.declared.ids.Tid.{Tid}
+use Rattle.event_log.specs.declared.ids.BufId.{BufId}
+use Rattle.event_log.specs.declared.ids.LockId.{LockId}
+use Rattle.event_log.specs.declared.ids.LockId.TheVariants.{Pending, Buffer as AtBuffer}
+use Rattle.event_log.specs.declared.entries.Entry.{Entry}
+use Rattle.event_log.specs.History.{same_lock}
+use Rattle.event_log.specs.Sections.{Section, sections_in}
+use Rattle.event_log.specs.Actions.{Action, Take, Try, Give, Phase, Rests, Waits as WaitsAt, Holds, phase, next_action, AreFree}
+use Rattle.event_log.proofs.Alone.{first_action, second_action, third_action, free_again}
+use Rattle.event_log.proofs.Exclusion.{phase_own}
+use Rattle.event_log.proofs.Same.{same_lock_self}
+use Rattle.layer_traits.specs.declared.steps.Reason.TheVariants.{AllEnded}
+use Rattle.layer_traits.specs.declared.steps.Step.{Step}
+use Rattle.layer_traits.specs.declared.steps.Step.TheVariants.{Stepped, Halted}
+use Rattle.layer_traits.specs.Plans.{is_in_section, at_give}
+use Rattle.layer_traits.specs.Along.{Outcome}
+use Rattle.cpu.specs.Table.Blocks.{Buffer, Block, OfBuffer, OfPending, Name, Answer}
+use Rattle.cpu.specs.Table.Edits.{edited, edited_buffer, answer}
+use Rattle.cpu.specs.Table.Setups.{Setup, Call, Thread, Private, thread_at, with_thread, home_threads, have_ended}
+use Rattle.cpu.specs.Table.Choice.{Ask, at_buffer, section_at, asked_by, asked_at, asked_in, asked, Choice, Halts, Alone, Goes, at_call, at_current, at_hand, choice, with_call}
+use Rattle.cpu.specs.Table.Choice.{heard, slept_if, woken, returned_at, returned_by, returned_in, settled, after_call, after_by, after_at, after_in, after_section}
+use Rattle.cpu.specs.Table.Steps.{after_reply, acting, chosen, step_in, cpu_step, Whole, whole_after, stepping, answered_by, roomy, step_at, system_step, steps_by}
+use Rattle.cpu.specs.Wakeups.Order.{block_of}
+use Rattle.cpu.proofs.Wakeups.Agreement.{at_same, Same, same_with}
+
+-- Steps one after the other.
+
+pub steps_more : (setup : Setup) (c : CpuId) (n m : ℕ) (s : Whole) → steps_by setup c (n + m) s ≡ steps_by setup c m (steps_by setup c n s)
+steps_more setup c zero m s = let same : 0 + m ≡ m = omega arith in ap (λ k. steps_by setup c k s) same
+steps_more setup c (suc n) m s =
+    let same : suc n + m ≡ suc (n + m) = omega arith in
+    ap (λ k. steps_by setup c k s) same ∙ steps_more setup c n m (system_step setup c s).next
+
+set_here : (xs : List Private) (i : ℕ) (p x : Private) → slice_get xs i ≡ Some p → slice_get (slice_set xs i x) i ≡ Some x
+set_here [] i p x is = absurd (cc is)
+set_here (y ∷ xs) zero p x is = refl
+set_here (y ∷ xs) (suc i) p x is = set_here xs i p x is
+
+-- a section's name
+abbrev pub section_of : CpuId → Ask → Section Name
+section_of c ask = record { cpu = c; lock = ask.lock; edit = ask.name }
+
+-- CPU c rests with this private state, after these sections, while every lock is free; there is room for so many steps more
+pub record Stands (setup : Setup) (c : CpuId) (s : Whole) (p : Private) (past : List (Section Name)) (left : ℕ) : Type 0 where
+  pub here : slice_get s.cpus c.0 ≡ Some p
+  pub did : sections_in s.log ≡ past
+  pub free : AreFree s.log
+  pub rests : phase c s.log ≡ Rests
+  pub room : s.taken + left ≤ s.room
+
+module _ (setup : Setup) (c : CpuId) where
+  -- a step for which there is room
+  one_step : (s : Whole) (p : Private) (o : Outcome Private Name) → slice_get s.cpus c.0 ≡ Some p → cpu_step setup c p s.log ≡ o → o.answer ≡ Stepped → s.taken < s.room
+      → (system_step setup c s).next ≡ whole_after c s o
+  one_step s p o here is stepped room =
+      let left : (s.taken == s.room) ≡ false = ne_eqb s.taken s.room (λ same. absurd (omega (arith, same, room))) in
+      ap (λ x. (step_at setup c s x).next) here
+      ∙ ap (λ x. (stepping c s x).next) is
+      ∙ ap (λ a. (answered_by c s o a).next) stepped
+      ∙ ap (λ full. (roomy c s o full).next) left
+
+  -- what one action leaves
+  abbrev acted : Private → List (Action Name) → Phase → Action Name → Outcome Private Name
+  acted q log now a = record {
+    next = after_reply setup c q (at_give now (option_map (answer (asked setup c q).name) (block_of setup (asked setup c q).lock (sections_in log))));
+    acts = a ∷ [];
+    answer = Stepped;
+  }
+
+  act : (q : Private) (log : List (Action Name)) (now : Phase) (a : Action Name) → phase c log ≡ now → next_action c (asked setup c q).lock (asked setup c q).name log ≡ a
+      → acting setup c q log ≡ acted q log now a
+  act q log now a at is = λ i. acted q log (at i) (is i)
+
+  within : (p : Private) (log : List (Action Name)) (now : Phase) → phase c log ≡ now → is_in_section now ≡ true → cpu_step setup c p log ≡ acting setup c p log
+  within p log now at inside = ap (λ x. step_in setup c p log (is_in_section x)) at ∙ ap (step_in setup c p log) inside
+
+  begins_now : (p q : Private) (log : List (Action Name)) → phase c log ≡ Rests → choice setup c p ≡ Goes q → cpu_step setup c p log ≡ acting setup c q log
+  begins_now p q log at goes = ap (λ x. step_in setup c p log (is_in_section x)) at ∙ ap (λ w. chosen setup c p w log) goes
+
+  -- the system after the three actions of a section
+  abbrev pub after_three : Whole → Private → Answer → Whole
+  after_three s q a =
+      let lock = (asked setup c q).lock in
+      let name = (asked setup c q).name in
+      let one = whole_after c s (record { next = q; acts = Take c lock ∷ []; answer = Stepped }) in
+      let two = whole_after c one (record { next = q; acts = Try c lock true ∷ []; answer = Stepped }) in
+      whole_after c two (record { next = after_section setup c q a; acts = Give c lock name ∷ []; answer = Stepped })
+
+  -- three steps are one section
+  pub three_steps : (s : Whole) (p q : Private) (past : List (Section Name)) (left : ℕ) (a : Answer) → Stands setup c s p past (left + 3) → choice setup c p ≡ Goes q
+      → option_map (answer (asked setup c q).name) (block_of setup (asked setup c q).lock past) ≡ Some a → steps_by setup c 3 s ≡ after_three s q a
+  three_steps s p q past left a at goes told =
+      ap (λ x. (system_step setup c (system_step setup c x).next).next) first ∙ ap (λ x. (system_step setup c x).next) second ∙ third
+    where
+
+      first : (system_step setup c s).next ≡ whole_after c s (record { next = q; acts = Take c (asked setup c q).lock ∷ []; answer = Stepped })
+      first =
+          let room = at.room in
+          one_step s p _ at.here
+          (begins_now p q s.log at.rests goes
+          ∙ act q s.log Rests (Take c (asked setup c q).lock) at.rests (first_action c (asked setup c q).lock (asked setup c q).name s.log at.rests)) refl (omega (arith, room))
+
+      second : (system_step setup c (whole_after c s (record { next = q; acts = Take c (asked setup c q).lock ∷ []; answer = Stepped }))).next
+          ≡ whole_after c (whole_after c s (record { next = q; acts = Take c (asked setup c q).lock ∷ []; answer = Stepped }))
+              (record { next = q; acts = Try c (asked setup c q).lock true ∷ []; answer = Stepped })
+      second =
+          let room = at.room in
+          let log = Take c (asked setup c q).lock ∷ s.log in
+          let now = phase_own (Take c (asked setup c q).lock) s.log in
+          one_step _ q _ (set_here s.cpus c.0 p q at.here)
+          (within q log (WaitsAt (asked setup c q).lock) now refl
+          ∙ act q log (WaitsAt (asked setup c q).lock) (Try c (asked setup c q).lock true) now
+              (second_action c (asked setup c q).lock (asked setup c q).name s.log (at.free (asked setup c q).lock))) refl (omega (arith, room))
+
+      third : (system_step setup c (whole_after c (whole_after c s (record { next = q; acts = Take c (asked setup c q).lock ∷ []; answer = Stepped }))
+              (record { next = q; acts = Try c (asked setup c q).lock true ∷ []; answer = Stepped }))).next ≡ after_three s q a
+      third =
+          let room = at.room in
+          let log = Try c (asked setup c q).lock true ∷ Take c (asked setup c q).lock ∷ s.log in
+          let now = phase_own (Try c (asked setup c q).lock true) (Take c (asked setup c q).lock ∷ s.log) in
+          let gives : acted q log (Holds (asked setup c q).lock) (Give c (asked setup c q).lock (asked setup c q).name)
+              ≡ record { next = after_section setup c q a; acts = Give c (asked setup c q).lock (asked setup c q).name ∷ []; answer = Stepped } =
+          ap (λ r. record { next = after_reply setup c q r; acts = Give c (asked setup c q).lock (asked setup c q).name ∷ []; answer = Stepped })
+          (ap (λ x. option_map (answer (asked setup c q).name) (block_of setup (asked setup c q).lock x)) at.did ∙ told) in
+          one_step _ q _ (set_here (slice_set s.cpus c.0 q) c.0 q q (set_here s.cpus c.0 p q at.here))
+          (within q log (Holds (asked setup c q).lock) now refl
+          ∙ act q log (Holds (asked setup c q).lock) (Give c (asked setup c q).lock (asked setup c q).name) now
+              (third_action c (asked setup c q).lock (asked setup c q).name (Take c (asked setup c q).lock ∷ s.log))
+          ∙ gives) refl (omega (arith, room))
+
+  pub stands_after : (s : Whole) (p q : Private) (past : List (Section Name)) (left : ℕ) (a : Answer) → Stands setup c s p past (left + 3)
+      → Stands setup c (after_three s q a) (after_section setup c q a) (section_of c (asked setup c q) ∷ past) left
+  stands_after s p q past left a at = record {
+    here = set_here (slice_set (slice_set s.cpus c.0 q) c.0 q) c.0 q (after_section setup c q a)
+    (set_here (slice_set s.cpus c.0 q) c.0 q q (set_here s.cpus c.0 p q at.here));
+    did = ap (λ x. section_of c (asked setup c q) ∷ x) at.did;
+    free = free_again c (asked setup c q).lock (asked setup c q).name true s.log at.free;
+    rests = phase_own (Give c (asked setup c q).lock (asked setup c q).name) (Try c (asked setup c q).lock true ∷ Take c (asked setup c q).lock ∷ s.log);
+    room = let room = at.room in omega (arith, room);
+  }
+
+  -- Inside a call.
+
+  -- the CPU's hand is empty, and its thread t is inside this call; the trace
+  pub record InCall (p : Private) (t : Tid) (call : Call) (traced : List Entry) : Type 0 where
+    pub hand : p.hand ≡ None
+    pub current : p.current ≡ Some t
+    pub calls : (thread_at p t).call ≡ Some call
+    pub known : t.0 < length p.threads
+    pub live : have_ended p (home_threads setup c) ≡ false
+    pub trace : p.trace ≡ traced
+
+  have_same : (p q : Private) (t : Tid) → Same p q t → (ts : List Tid) → have_ended q ts ≡ have_ended p ts
+  have_same p q t same [] = refl
+  have_same p q t same (u ∷ ts) = λ i. same.ended u i && have_same p q t same ts i
+
+  -- the call goes on as another
+  pub with_new : (p : Private) (t : Tid) (call : Call) (traced : List Entry) → p.hand ≡ None → p.current ≡ Some t → t.0 < length p.threads
+      → have_ended p (home_threads setup c) ≡ false → p.trace ≡ traced → InCall (with_call p t (Some call)) t call traced
+  with_new p t call traced hand current known live trace =
+      let same = same_with p t (record (thread_at p t) { call = Some call }) known refl in
+      record {
+        hand = hand;
+        current = current;
+        calls = ap (λ y. y.call) (at_same p t (record (thread_at p t) { call = Some call }) known);
+        known = subst (λ n. t.0 < n) (sym same.size) known;
+        live = have_same p (with_call p t (Some call)) t same (home_threads setup c) ∙ live;
+        trace = trace;
+      }
+
+  pub goes_on : (p : Private) (t : Tid) (call : Call) (traced : List Entry) → InCall p t call traced → choice setup c p ≡ Goes p
+  goes_on p t call traced at =
+      ap (at_hand setup c p) at.hand
+      ∙ ap (λ b. if b then Halts AllEnded else at_current setup c p p.current) at.live
+      ∙ ap (at_current setup c p) at.current
+      ∙ ap (at_call setup c p t) at.calls
+
+  pub asks_for : (p : Private) (t : Tid) (call : Call) (traced : List Entry) → InCall p t call traced → asked setup c p ≡ at_buffer call.buffer (section_at t call call.stage)
+  asks_for p t call traced at = ap (asked_in setup c p) at.hand ∙ ap (asked_at c p) at.current ∙ ap (asked_by c t) at.calls
+
+  pub after_is : (p : Private) (t : Tid) (call : Call) (traced : List Entry) (a : Answer) → InCall p t call traced → after_section setup c p a ≡ after_call setup c p t call a
+  after_is p t call traced a at = ap (λ h. after_in setup c p h a) at.hand ∙ ap (λ h. after_at setup c p h a) at.current ∙ ap (λ h. after_by setup c p t h a) at.calls
+
+  pub settled_is : (q : Private) (t : Tid) (call : Call) (traced : List Entry) → InCall q t call traced → settled setup q ≡ returned_at setup q t call call.stage
+  settled_is q t call traced at =
+      ap (λ h. returned_in setup q h q.current) at.hand ∙ ap (λ h. returned_in setup q None h) at.current ∙ ap (λ x. returned_by setup q t x) at.calls
+
+-- the block of a buffer after a section on it
+pub block_next : (setup : Setup) (c : CpuId) (b : BufId) (name : Name) (past : List (Section Name)) (k : Buffer) → block_of setup (AtBuffer b) past ≡ Some (OfBuffer k)
+    → block_of setup (AtBuffer b) (record { cpu = c; lock = AtBuffer b; edit = name } ∷ past) ≡ Some (OfBuffer (edited_buffer name k))
+block_next setup c b name past k is =
+    ap (λ here. if here then option_map (edited name) (block_of setup (AtBuffer b) past) else block_of setup (AtBuffer b) past) (same_lock_self (AtBuffer b))
+    ∙ ap (option_map (edited name)) is
