@@ -17,3 +17,4 @@ pub mod Kept
 pub mod Stuck
 pub mod Alone
 pub mod Filled
+pub mod Returning

@@ -1,0 +1,360 @@
+-- A call alone goes through its six sections, with one more where its first signal wakes a thread of another CPU.
+use Rattle.std.proofs.Common.{◌≡◌, ◌≢◌, ℕ, zero, suc, ◌+◌, ◌<◌, ◌≤◌, ◌==◌, ◌⊎◌, inl, inr, Bool, true, false, not, ◌&&◌, List, [], ◌∷◌, ◌++◌, length, slice_get, Option, Some, None, option_map, is_some, nat_lt, if◌then◌else◌, refl, sym, ap, ◌∙◌, subst, arith}
+use Rattle.std.proofs.lemmas.Bool.{lt-ltb}
+use Rattle.event_log.specs.declared.ids.CpuId.{CpuId}
+use Rattle.event_log.specs.declared.ids.Tid.{Tid}
+use Rattle.event_log.specs.declared.ids.BufId.{BufId}
+use Rattle.event_log.specs.declared.ids.LockId.{LockId}
+use Rattle.event_log.specs.declared.ids.LockId.TheVariants.{Pending, Buffer as AtBuffer}
+use Rattle.event_log.specs.declared.ids.TheConstants.{THREADS}
+use Rattle.event_log.specs.declared.entries.Entry.{Entry}
+use Rattle.event_log.specs.History.{same_cpu}
+use Rattle.event_log.specs.Messages.{Message}
+use Rattle.event_log.specs.Sections.{Section}
+use Rattle.thread_blocks.specs.Queues.{same_tid, is_in, first, rest}
+use Rattle.thread_blocks.proofs.Members.{same_tid_self}
+use Rattle.layer_traits.specs.declared.locked.Side.{Side}
+use Rattle.layer_traits.specs.declared.locked.Side.TheVariants.{Receivers, Senders}
+use Rattle.layer_traits.specs.BufferBlocks.{may_join, is_first, counted, first_item}
+use Rattle.cpu.specs.Table.Blocks.{Buffer, Block, OfBuffer, OfPending, Name, AcqQ, Enter, TryPut, TryTake, SigRecv, SigSend, RelQ, Pend, Asks, Sends, Receives, side_of, Told, Nothing, Position, Done, NotYet, Answer, front_stands_in}
+use Rattle.cpu.specs.Table.Edits.{edited_buffer, acquired, entered, put, taken, released, may_put, may_take, can_put, can_take, due_sender, due_receiver, line_of, drawn_position, tells, wakes, answer, answer_of_acquire, answer_of_buffer, without_any}
+use Rattle.cpu.specs.Table.Setups.{Setup, Stage, Acquires, Enters, Tries, Waits, AcquiresAgain, Signals, SignalsOwn, Releases, Returns, Call, Thread, Private, thread_at, with_thread, home_of, home_threads, have_ended, stands_at}
+use Rattle.cpu.specs.Table.Choice.{Ask, at_pending, at_buffer, section_at, asked_in, asked, Choice, Goes, choice, new_call, with_call, entry_of, goes_to, effected, heard, slept_if, woken, guest_after, returned, returned_at, settled, after_call, after_in, after_section}
+use Rattle.cpu.specs.Table.Steps.{Whole, steps_by}
+use Rattle.cpu.specs.Wakeups.Order.{block_of}
+use Rattle.cpu.proofs.Wakeups.Agreement.{at_same}
+use Rattle.cpu.proofs.Wakeups.CpuStep.{pending_there}
+use Rattle.cpu.proofs.Wakeups.Alone.{steps_more, section_of, Stands, after_three, three_steps, stands_after, InCall, with_new, goes_on, asks_for, after_is, settled_is, block_next}
+
+module _ (setup : Setup) (c : CpuId) (t : Tid) where
+  -- after n steps of CPU c its thread t stands in this call, which goes on; the call's buffer holds this
+  pub record Gets (s : Whole) (n : ℕ) (k : Buffer) (call : Call) (traced : List Entry) (left : ℕ) : Type 0 where
+    pub now : Whole
+    pub by : steps_by setup c n s ≡ now
+    pub before : Private
+    pub state : Private
+    pub past : List (Section Name)
+    pub stands : Stands setup c now before past left
+    pub goes : choice setup c before ≡ Goes state
+    pub inside : InCall setup c state t call traced
+    pub block : block_of setup (AtBuffer call.buffer) past ≡ Some (OfBuffer k)
+
+  -- one section of the call
+  advance : (s : Whole) (n : ℕ) (k next : Buffer) (call more : Call) (traced longer : List Entry) (left : ℕ) (a : Answer) → Gets s n k call traced (left + 3)
+      → answer_of_buffer (section_at t call call.stage) k ≡ a → edited_buffer (section_at t call call.stage) k ≡ next → call.buffer ≡ more.buffer
+      → ((p : Private) → InCall setup c p t call traced → InCall setup c (after_section setup c p a) t more longer)
+      → Gets s (n + 3) next more longer left
+  advance s n k next call more traced longer left a gets told edits same_buffer goes_so =
+      let q = gets.state in
+      let asks = asks_for setup c q t call traced gets.inside in
+      let answers : option_map (answer (asked setup c q).name) (block_of setup (asked setup c q).lock gets.past) ≡ Some a =
+      ap (λ ask. option_map (answer ask.name) (block_of setup ask.lock gets.past)) asks
+      ∙ ap (option_map (answer (section_at t call call.stage))) gets.block ∙ ap Some told in
+      let after = goes_so q gets.inside in
+      record {
+        now = after_three setup c gets.now q a;
+        by = steps_more setup c n 3 s ∙ ap (steps_by setup c 3) gets.by ∙ three_steps setup c gets.now gets.before q gets.past left a gets.stands gets.goes answers;
+        before = after_section setup c q a;
+        state = after_section setup c q a;
+        past = section_of c (asked setup c q) ∷ gets.past;
+        stands = stands_after setup c gets.now gets.before q gets.past left a gets.stands;
+        goes = goes_on setup c (after_section setup c q a) t more longer after;
+        inside = after;
+        block = ap (λ b. block_of setup (AtBuffer b) (section_of c (asked setup c q) ∷ gets.past)) (sym same_buffer)
+        ∙ ap (λ ask. block_of setup (AtBuffer call.buffer) (section_of c ask ∷ gets.past)) asks
+        ∙ block_next setup c call.buffer (section_at t call call.stage) gets.past k gets.block
+        ∙ ap (λ x. Some (OfBuffer x)) edits;
+      }
+
+  -- a section that puts nobody to sleep and wakes nobody: the call hears what it tells
+  hears : (p h : Private) (call more : Call) (traced longer : List Entry) (told : Told) → InCall setup c p t call traced → heard c p t call call.stage told ≡ h
+      → InCall setup c h t more longer → returned_at setup h t more more.stage ≡ h → InCall setup c (after_section setup c p (tells told)) t more longer
+  hears p h call more traced longer told inside is after stays =
+      let same : after_section setup c p (tells told) ≡ h =
+      after_is setup c p t call traced (tells told) inside ∙ ap (settled setup) is ∙ settled_is setup c h t more longer after ∙ stays in
+      subst (λ x. InCall setup c x t more longer) (sym same) after
+
+  new_in : (p : Private) (call more : Call) (traced : List Entry) → InCall setup c p t call traced → InCall setup c (with_call p t (Some more)) t more traced
+  new_in p call more traced at = with_new setup c p t more traced at.hand at.current at.known at.live at.trace
+
+  -- The sections, one after the other.
+
+  acquires : (s : Whole) (n left : ℕ) (k : Buffer) (call : Call) (traced : List Entry) → k.busy ≡ None → Gets s n k (record call { stage = Acquires }) traced (left + 3)
+      → Gets s (n + 3) (record k { busy = Some t }) (record call { stage = Enters }) traced left
+  acquires s n left k call traced free gets =
+      advance s n k (record k { busy = Some t }) (record call { stage = Acquires }) (record call { stage = Enters }) traced traced left (tells Nothing) gets
+      (ap answer_of_acquire free) (ap (λ o. acquired t o k) free) refl
+      (λ p inside.
+        hears p (with_call p t (Some (record call { stage = Enters }))) (record call { stage = Acquires }) (record call { stage = Enters }) traced traced Nothing inside refl
+        (new_in p (record call { stage = Acquires }) (record call { stage = Enters }) traced inside) refl)
+
+  module _ (small : t.0 < THREADS) where
+    may_enter : (line : List Tid) → line ≡ [] → may_join t line ≡ true
+    may_enter line empty = ap (may_join t) empty ∙ ap (λ b. b && true) (lt-ltb t.0 THREADS small)
+
+    enters_send : (s : Whole) (n left : ℕ) (k : Buffer) (call : Call) (traced : List Entry) → k.send_line ≡ [] → Gets s n k (record call { asks = Sends; stage = Enters }) traced (left + 3)
+        → Gets s (n + 3) (entered t Senders k) (record call { asks = Sends; position = k.send_positions; stage = Tries }) traced left
+    enters_send s n left k call traced empty gets =
+        let more : Call = record call { asks = Sends; position = k.send_positions; stage = Tries } in
+        advance s n k (entered t Senders k) (record call { asks = Sends; stage = Enters }) more traced traced left (tells (Position k.send_positions)) gets refl
+        (ap (λ b. if b then entered t Senders k else k) (may_enter k.send_line empty)) refl
+        (λ p inside.
+          hears p (with_call p t (Some more)) (record call { asks = Sends; stage = Enters }) more traced traced (Position k.send_positions) inside refl
+          (new_in p (record call { asks = Sends; stage = Enters }) more traced inside) refl)
+
+    enters_receive : (s : Whole) (n left : ℕ) (k : Buffer) (call : Call) (traced : List Entry) → k.receive_line ≡ []
+        → Gets s n k (record call { asks = Receives; stage = Enters }) traced (left + 3)
+        → Gets s (n + 3) (entered t Receivers k) (record call { asks = Receives; position = k.receive_positions; stage = Tries }) traced left
+    enters_receive s n left k call traced empty gets =
+        let more : Call = record call { asks = Receives; position = k.receive_positions; stage = Tries } in
+        advance s n k (entered t Receivers k) (record call { asks = Receives; stage = Enters }) more traced traced left (tells (Position k.receive_positions)) gets refl
+        (ap (λ b. if b then entered t Receivers k else k) (may_enter k.receive_line empty)) refl
+        (λ p inside.
+          hears p (with_call p t (Some more)) (record call { asks = Receives; stage = Enters }) more traced traced (Position k.receive_positions) inside refl
+          (new_in p (record call { asks = Receives; stage = Enters }) more traced inside) refl)
+
+  -- the state after an effect: the entry is written
+  effect_in : (p : Private) (call : Call) (op : ℕ) (m : Message) (traced : List Entry) → InCall setup c p t call traced
+      → InCall setup c (effected c p t (record call { message = m }) op) t (record call { message = m; effect = Some op; stage = Signals })
+          (traced ++ entry_of c t (record call { message = m }) op m ∷ [])
+  effect_in p call op m traced inside =
+      let now = new_in p call (record call { message = m; effect = Some op; stage = Signals }) traced inside in
+      record {
+        hand = now.hand;
+        current = now.current;
+        calls = now.calls;
+        known = now.known;
+        live = have_traced p (home_threads setup c) now.live;
+        trace = ap (λ x. x ++ entry_of c t (record call { message = m }) op m ∷ []) inside.trace;
+      }
+    where
+      have_traced : (p : Private) (ts : List Tid) → have_ended (with_call p t (Some (record call { message = m; effect = Some op; stage = Signals }))) ts ≡ false
+          → have_ended (effected c p t (record call { message = m }) op) ts ≡ false
+      have_traced p ts live = have_same ts ∙ live
+        where
+          have_same : (ts : List Tid)
+              → have_ended (effected c p t (record call { message = m }) op) ts ≡ have_ended (with_call p t (Some (record call { message = m; effect = Some op; stage = Signals }))) ts
+          have_same [] = refl
+          have_same (u ∷ ts) = ap (λ b. (thread_at (with_call p t (Some (record call { message = m; effect = Some op; stage = Signals }))) u).ended && b) (have_same ts)
+
+  puts : (s : Whole) (n left : ℕ) (k : Buffer) (call : Call) (traced : List Entry) → may_put t k ≡ true → Gets s n k (record call { asks = Sends; stage = Tries }) traced (left + 3)
+      → Gets s (n + 3) (put call.message k) (record call { asks = Sends; effect = Some k.effects; stage = Signals })
+          (traced ++ entry_of c t (record call { asks = Sends }) k.effects call.message ∷ []) left
+  puts s n left k call traced may gets =
+      let first_call : Call = record call { asks = Sends; stage = Tries } in
+      advance s n k (put call.message k) first_call (record call { asks = Sends; effect = Some k.effects; stage = Signals }) traced
+      (traced ++ entry_of c t (record call { asks = Sends }) k.effects call.message ∷ []) left (tells (Done k.effects call.message)) gets
+      (ap (λ b. tells (if b then Done k.effects call.message else NotYet)) may) (ap (λ b. if b then put call.message k else k) may) refl
+      (λ p inside.
+        hears p (effected c p t (record first_call { message = call.message }) k.effects) first_call (record call { asks = Sends; effect = Some k.effects; stage = Signals }) traced
+        (traced ++ entry_of c t (record call { asks = Sends }) k.effects call.message ∷ []) (Done k.effects call.message) inside refl
+        (effect_in p first_call k.effects call.message traced inside) refl)
+
+  takes_one : (s : Whole) (n left : ℕ) (k : Buffer) (call : Call) (traced : List Entry) → may_take t k ≡ true → Gets s n k (record call { asks = Receives; stage = Tries }) traced (left + 3)
+      → Gets s (n + 3) (taken k) (record call { asks = Receives; message = first_item k.items; effect = Some k.effects; stage = Signals })
+          (traced ++ entry_of c t (record call { asks = Receives }) k.effects (first_item k.items) ∷ []) left
+  takes_one s n left k call traced may gets =
+      let first_call : Call = record call { asks = Receives; stage = Tries } in
+      let more : Call = record call { asks = Receives; message = first_item k.items; effect = Some k.effects; stage = Signals } in
+      advance s n k (taken k) first_call more traced
+      (traced ++ entry_of c t (record call { asks = Receives }) k.effects (first_item k.items) ∷ []) left (tells (Done k.effects (first_item k.items))) gets
+      (ap (λ b. tells (if b then Done k.effects (first_item k.items) else NotYet)) may) (ap (λ b. if b then taken k else k) may) refl
+      (λ p inside.
+        hears p (effected c p t (record first_call { message = first_item k.items }) k.effects) first_call more traced
+        (traced ++ entry_of c t (record call { asks = Receives }) k.effects (first_item k.items) ∷ []) (Done k.effects (first_item k.items)) inside refl
+        (effect_in p first_call k.effects (first_item k.items) traced inside) refl)
+
+  -- more room than is asked
+  with_left : (s : Whole) (n : ℕ) (k : Buffer) (call : Call) (traced : List Entry) (left less : ℕ) → left ≡ less → Gets s n k call traced left → Gets s n k call traced less
+  with_left s n k call traced left less same gets = subst (Gets s n k call traced) same gets
+
+  -- a signal that wakes nobody
+  signals_none : (s : Whole) (n left : ℕ) (k next : Buffer) (call more : Call) (traced : List Entry) → call.buffer ≡ more.buffer
+      → answer_of_buffer (section_at t call call.stage) k ≡ wakes None → edited_buffer (section_at t call call.stage) k ≡ next
+      → ((p : Private) (told : Told) → heard c p t call call.stage told ≡ with_call p t (Some more)) → ((p : Private) → returned_at setup p t more more.stage ≡ p)
+      → Gets s n k call traced (left + 3) → Gets s (n + 3) next more traced left
+  signals_none s n left k next call more traced same_buffer told edits heard_so stays gets =
+      advance s n k next call more traced traced left (tells Nothing) gets told edits same_buffer
+      (λ p inside. hears p (with_call p t (Some more)) call more traced traced Nothing inside (heard_so p Nothing) (new_in p call more traced inside) (stays (with_call p t (Some more))))
+
+  -- a signal that wakes a thread at home here
+  signals_home : (s : Whole) (n left : ℕ) (k next : Buffer) (call more : Call) (traced : List Entry) (u : Tid) → same_cpu (home_of setup u) c ≡ true → call.buffer ≡ more.buffer
+      → answer_of_buffer (section_at t call call.stage) k ≡ wakes (Some u) → edited_buffer (section_at t call call.stage) k ≡ next
+      → ((p : Private) (told : Told) → heard c p t call call.stage told ≡ with_call p t (Some more)) → ((p : Private) → returned_at setup p t more more.stage ≡ p)
+      → Gets s n k call traced (left + 3) → Gets s (n + 3) next more traced left
+  signals_home s n left k next call more traced u here same_buffer told edits heard_so stays gets =
+      advance s n k next call more traced traced left (wakes (Some u)) gets told edits same_buffer (λ p inside.
+        let h = with_call p t (Some more) in
+        let now = new_in p call more traced inside in
+        let ready : Private = record h { ready = h.ready ++ u ∷ [] } in
+        let at : InCall setup c ready t more traced =
+        record { hand = now.hand; current = now.current; calls = now.calls; known = now.known; live = ready_live p (home_threads setup c) more u now.live; trace = now.trace } in
+        let same : after_section setup c p (wakes (Some u)) ≡ ready =
+        after_is setup c p t call traced (wakes (Some u)) inside
+        ∙ ap (λ x. settled setup (woken setup c (Some u) x)) (heard_so p Nothing)
+        ∙ ap (λ b. settled setup (if b then record h { ready = h.ready ++ u ∷ [] } else record h { hand = Some u })) here
+        ∙ settled_is setup c ready t more traced at ∙ stays ready in
+        subst (λ x. InCall setup c x t more traced) (sym same) at)
+    where
+      ready_live : (p : Private) (ts : List Tid) (more : Call) (u : Tid) → have_ended (with_call p t (Some more)) ts ≡ false
+          → have_ended (record (with_call p t (Some more)) { ready = (with_call p t (Some more)).ready ++ u ∷ [] }) ts ≡ false
+      ready_live p ts more u live = have_same ts ∙ live
+        where
+          have_same : (ts : List Tid)
+              → have_ended (record (with_call p t (Some more)) { ready = (with_call p t (Some more)).ready ++ u ∷ [] }) ts ≡ have_ended (with_call p t (Some more)) ts
+          have_same [] = refl
+          have_same (v ∷ ts) = ap (λ b. (thread_at (with_call p t (Some more)) v).ended && b) (have_same ts)
+
+  -- a signal that wakes a thread of another CPU: the next section puts it among the pending there
+  signals_away : (s : Whole) (n left : ℕ) (k next : Buffer) (call more : Call) (traced : List Entry) (u : Tid) → same_cpu (home_of setup u) c ≡ false → call.buffer ≡ more.buffer
+      → answer_of_buffer (section_at t call call.stage) k ≡ wakes (Some u) → edited_buffer (section_at t call call.stage) k ≡ next
+      → ((p : Private) (told : Told) → heard c p t call call.stage told ≡ with_call p t (Some more)) → ((p : Private) → returned_at setup p t more more.stage ≡ p)
+      → Gets s n k call traced ((left + 3) + 3) → Gets s ((n + 3) + 3) next more traced left
+  signals_away s n left k next call more traced u away same_buffer told edits heard_so stays gets =
+      let q = gets.state in
+      let asks = asks_for setup c q t call traced gets.inside in
+      let answers : option_map (answer (asked setup c q).name) (block_of setup (asked setup c q).lock gets.past) ≡ Some (wakes (Some u)) =
+      ap (λ ask. option_map (answer ask.name) (block_of setup ask.lock gets.past)) asks
+      ∙ ap (option_map (answer (section_at t call call.stage))) gets.block ∙ ap Some told in
+      let h = with_call q t (Some more) in
+      let held : Private = record h { hand = Some u } in
+      let same : after_section setup c q (wakes (Some u)) ≡ held =
+      after_is setup c q t call traced (wakes (Some u)) gets.inside
+      ∙ ap (λ x. settled setup (woken setup c (Some u) x)) (heard_so q Nothing)
+      ∙ ap (λ b. settled setup (if b then record h { ready = h.ready ++ u ∷ [] } else record h { hand = Some u })) away in
+      let one = after_three setup c gets.now q (wakes (Some u)) in
+      let past : List (Section Name) = section_of c (asked setup c q) ∷ gets.past in
+      let by_one : steps_by setup c (n + 3) s ≡ one =
+      steps_more setup c n 3 s ∙ ap (steps_by setup c 3) gets.by
+      ∙ three_steps setup c gets.now gets.before q gets.past (left + 3) (wakes (Some u)) gets.stands gets.goes answers in
+      let stands_one : Stands setup c one held past (left + 3) =
+      subst (λ x. Stands setup c one x past (left + 3)) same (stands_after setup c gets.now gets.before q gets.past (left + 3) (wakes (Some u)) gets.stands) in
+      let there = pending_there setup (home_of setup u) past in
+      let pends : option_map (answer (Pend u)) (block_of setup (Pending (home_of setup u)) past) ≡ Some (tells Nothing) = ap (option_map (answer (Pend u))) there.1 in
+      let now = new_in q call more traced gets.inside in
+      let at : InCall setup c (record h { hand = None }) t more traced =
+      record { hand = refl; current = now.current; calls = now.calls; known = now.known; live = empty_live q (home_threads setup c) more now.live; trace = now.trace } in
+      let after : after_section setup c held (tells Nothing) ≡ record h { hand = None } = settled_is setup c (record h { hand = None }) t more traced at ∙ stays (record h { hand = None }) in
+      let inside_after : InCall setup c (after_section setup c held (tells Nothing)) t more traced = subst (λ x. InCall setup c x t more traced) (sym after) at in
+      record {
+        now = after_three setup c one held (tells Nothing);
+        by = steps_more setup c (n + 3) 3 s ∙ ap (steps_by setup c 3) by_one ∙ three_steps setup c one held held past left (tells Nothing) stands_one refl pends;
+        before = after_section setup c held (tells Nothing);
+        state = after_section setup c held (tells Nothing);
+        past = section_of c (asked setup c held) ∷ past;
+        stands = stands_after setup c one held held past left (tells Nothing) stands_one;
+        goes = goes_on setup c (after_section setup c held (tells Nothing)) t more traced inside_after;
+        inside = inside_after;
+        block = ap (λ b. block_of setup (AtBuffer b) past) (sym same_buffer)
+        ∙ ap (λ ask. block_of setup (AtBuffer call.buffer) (section_of c ask ∷ gets.past)) asks
+        ∙ block_next setup c call.buffer (section_at t call call.stage) gets.past k gets.block
+        ∙ ap (λ x. Some (OfBuffer x)) edits;
+      }
+    where
+      empty_live : (p : Private) (ts : List Tid) (more : Call) → have_ended (with_call p t (Some more)) ts ≡ false
+          → have_ended (record (with_call p t (Some more)) { hand = None }) ts ≡ false
+      empty_live p ts more live = have_same ts ∙ live
+        where
+          have_same : (ts : List Tid) → have_ended (record (with_call p t (Some more)) { hand = None }) ts ≡ have_ended (with_call p t (Some more)) ts
+          have_same [] = refl
+          have_same (v ∷ ts) = ap (λ b. (thread_at (with_call p t (Some more)) v).ended && b) (have_same ts)
+
+  -- a signal, whomever it wakes: 3 steps, or 6
+  signals : (s : Whole) (n left : ℕ) (k next : Buffer) (call more : Call) (traced : List Entry) (woke : Option Tid) → call.buffer ≡ more.buffer
+      → answer_of_buffer (section_at t call call.stage) k ≡ wakes woke → edited_buffer (section_at t call call.stage) k ≡ next
+      → ((p : Private) (told : Told) → heard c p t call call.stage told ≡ with_call p t (Some more)) → ((p : Private) → returned_at setup p t more more.stage ≡ p)
+      → Gets s n k call traced ((left + 3) + 3) → Gets s (n + 3) next more traced (left + 3) ⊎ Gets s ((n + 3) + 3) next more traced left
+  signals s n left k next call more traced None same_buffer told edits heard_so stays gets =
+      inl (signals_none s n (left + 3) k next call more traced same_buffer told edits heard_so stays gets)
+  signals s n left k next call more traced (Some u) same_buffer told edits heard_so stays gets = by_home (same_cpu (home_of setup u) c) refl
+    where
+      by_home : (here : Bool) → same_cpu (home_of setup u) c ≡ here → Gets s (n + 3) next more traced (left + 3) ⊎ Gets s ((n + 3) + 3) next more traced left
+      by_home true here = inl (signals_home s n (left + 3) k next call more traced u here same_buffer told edits heard_so stays gets)
+      by_home false away = inr (signals_away s n left k next call more traced u away same_buffer told edits heard_so stays gets)
+
+  -- the call has returned, with this trace
+  pub record Returned (s : Whole) (n : ℕ) (traced : List Entry) : Type 0 where
+    pub now : Private
+    pub here : slice_get (steps_by setup c n s).cpus c.0 ≡ Some now
+    pub outside : (thread_at now t).call ≡ None
+    pub trace : now.trace ≡ traced
+
+  -- the lock is given back, and nobody sleeps at it
+  releases : (s : Whole) (n left : ℕ) (k : Buffer) (call : Call) (traced : List Entry) → k.sleepers ≡ [] → Gets s n k (record call { stage = Releases }) traced (left + 3)
+      → Returned s (n + 3) traced
+  releases s n left k call traced none gets =
+      let last : Call = record call { stage = Releases } in
+      let gone : Call = record call { stage = Returns } in
+      let q = gets.state in
+      let asks = asks_for setup c q t last traced gets.inside in
+      let told : answer_of_buffer (RelQ t) k ≡ tells Nothing = ap (λ x. wakes (first x)) none in
+      let answers : option_map (answer (asked setup c q).name) (block_of setup (asked setup c q).lock gets.past) ≡ Some (tells Nothing) =
+      ap (λ ask. option_map (answer ask.name) (block_of setup ask.lock gets.past)) asks ∙ ap (option_map (answer (RelQ t))) gets.block ∙ ap Some told in
+      let h = with_call q t (Some gone) in
+      let now = new_in q last gone traced gets.inside in
+      let same : after_section setup c q (tells Nothing) ≡ returned setup h t gone =
+      after_is setup c q t last traced (tells Nothing) gets.inside ∙ settled_is setup c h t gone traced now in
+      let by : steps_by setup c (n + 3) s ≡ after_three setup c gets.now q (tells Nothing) =
+      steps_more setup c n 3 s ∙ ap (steps_by setup c 3) gets.by
+      ∙ three_steps setup c gets.now gets.before q gets.past left (tells Nothing) gets.stands gets.goes answers in
+      let stands = stands_after setup c gets.now gets.before q gets.past left (tells Nothing) gets.stands in
+      record {
+        now = returned setup h t gone;
+        here = ap (λ x. slice_get x.cpus c.0) by ∙ stands.here ∙ ap Some same;
+        outside = ap (λ y. y.call)
+            (at_same h t (record (thread_at h t) { guest = guest_after gone.asks (stands_at setup h t) gone.message (thread_at h t).guest; call = None }) now.known);
+        trace = now.trace;
+      }
+
+  -- From the effect to the return.
+
+  module _ (small : t.0 < THREADS) where
+    -- the two signals and the release, of a caller whose own line is empty now
+    ending_sends : (s : Whole) (n : ℕ) (k : Buffer) (call : Call) (traced : List Entry) → k.send_line ≡ [] → k.sleepers ≡ []
+        → Gets s n k (record call { asks = Sends; stage = Signals }) traced 12 → Returned s (n + 9) traced ⊎ Returned s (n + 12) traced
+    ending_sends s n k call traced line none gets = by_late (signals s n 6 k next (record call { asks = Sends; stage = Signals }) (record call { asks = Sends; stage = SignalsOwn })
+        traced (due_receiver k) refl refl refl (λ p told. refl) (λ p. refl) gets)
+      where
+        next : Buffer
+        next = edited_buffer (SigRecv t) k
+
+        due_none : (line waiting : List Tid) (can : Bool) → line ≡ [] → (if front_stands_in line waiting && can then first line else None) ≡ None
+        due_none line waiting can empty = ap (λ l. if front_stands_in l waiting && can then first l else None) empty
+
+        rest_of : (m left : ℕ) → Gets s m (edited_buffer (SigRecv t) k) (record call { asks = Sends; stage = SignalsOwn }) traced ((left + 3) + 3) → Returned s ((m + 3) + 3) traced
+        rest_of m left got =
+            releases s (m + 3) left (edited_buffer (SigSend t) (edited_buffer (SigRecv t) k)) (record call { asks = Sends }) traced none
+            (signals_none s m (left + 3) (edited_buffer (SigRecv t) k) (edited_buffer (SigSend t) (edited_buffer (SigRecv t) k))
+            (record call { asks = Sends; stage = SignalsOwn }) (record call { asks = Sends; stage = Releases }) traced refl
+            (ap wakes (due_none k.send_line k.waiting_senders (can_put k) line)) refl (λ p told. refl) (λ p. refl) got)
+
+        by_late : Gets s (n + 3) (edited_buffer (SigRecv t) k) (record call { asks = Sends; stage = SignalsOwn }) traced 9
+            ⊎ Gets s ((n + 3) + 3) (edited_buffer (SigRecv t) k) (record call { asks = Sends; stage = SignalsOwn }) traced 6
+            → Returned s (n + 9) traced ⊎ Returned s (n + 12) traced
+        by_late (inl early) = let same : ((n + 3) + 3) + 3 ≡ n + 9 = omega arith in inl (subst (λ m. Returned s m traced) same (rest_of (n + 3) 3 early))
+        by_late (inr late) = let same : (((n + 3) + 3) + 3) + 3 ≡ n + 12 = omega arith in inr (subst (λ m. Returned s m traced) same (rest_of ((n + 3) + 3) 0 late))
+
+    ending_receives : (s : Whole) (n : ℕ) (k : Buffer) (call : Call) (traced : List Entry) → k.receive_line ≡ [] → k.sleepers ≡ []
+        → Gets s n k (record call { asks = Receives; stage = Signals }) traced 12 → Returned s (n + 9) traced ⊎ Returned s (n + 12) traced
+    ending_receives s n k call traced line none gets =
+        by_late (signals s n 6 k next (record call { asks = Receives; stage = Signals }) (record call { asks = Receives; stage = SignalsOwn })
+        traced (due_sender k) refl refl refl (λ p told. refl) (λ p. refl) gets)
+      where
+        next : Buffer
+        next = edited_buffer (SigSend t) k
+
+        due_none : (line waiting : List Tid) (can : Bool) → line ≡ [] → (if front_stands_in line waiting && can then first line else None) ≡ None
+        due_none line waiting can empty = ap (λ l. if front_stands_in l waiting && can then first l else None) empty
+
+        rest_of : (m left : ℕ) → Gets s m (edited_buffer (SigSend t) k) (record call { asks = Receives; stage = SignalsOwn }) traced ((left + 3) + 3) → Returned s ((m + 3) + 3) traced
+        rest_of m left got =
+            releases s (m + 3) left (edited_buffer (SigRecv t) (edited_buffer (SigSend t) k)) (record call { asks = Receives }) traced none
+            (signals_none s m (left + 3) (edited_buffer (SigSend t) k) (edited_buffer (SigRecv t) (edited_buffer (SigSend t) k))
+            (record call { asks = Receives; stage = SignalsOwn }) (record call { asks = Receives; stage = Releases }) traced refl
+            (ap wakes (due_none k.receive_line k.waiting_receivers (can_take k) line)) refl (λ p told. refl) (λ p. refl) got)
+
+        by_late : Gets s (n + 3) (edited_buffer (SigSend t) k) (record call { asks = Receives; stage = SignalsOwn }) traced 9
+            ⊎ Gets s ((n + 3) + 3) (edited_buffer (SigSend t) k) (record call { asks = Receives; stage = SignalsOwn }) traced 6
+            → Returned s (n + 9) traced ⊎ Returned s (n + 12) traced
+        by_late (inl early) = let same : ((n + 3) + 3) + 3 ≡ n + 9 = omega arith in inl (subst (λ m. Returned s m traced) same (rest_of (n + 3) 3 early))
+        by_late (inr late) = let same : (((n + 3) + 3) + 3) + 3 ≡ n + 12 = omega arith in inr (subst (λ m. Returned s m traced) same (rest_of ((n + 3) + 3) 0 late))
