@@ -18,3 +18,4 @@ pub mod Stuck
 pub mod Alone
 pub mod Filled
 pub mod Returning
+pub mod Ready

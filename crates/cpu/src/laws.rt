@@ -5,6 +5,7 @@ ghost use Rattle.cpu.specs.Table.Worked.{AloneRuns, RunsOfTwo, RunsOfThree};
 ghost use Rattle.cpu.specs.Wakeups.Lost.{OrderLosesNoWakeUp, SystemsKeepOrder, SystemsLoseNoWakeUp, FreeLocksHaveNoSleepers, WorkersLoseNoWakeUp};
 ghost use Rattle.cpu.specs.Wakeups.OneSignal.{OneSignalLosesAWakeUp};
 ghost use Rattle.cpu.specs.Wakeups.Quiet.{QuietIsStuck};
+ghost use Rattle.cpu.specs.Wakeups.Alone.{CallsReturnAlone};
 
 /// Worked runs of one thread on one CPU, by computation: what each leaves after its schedule.
 pub fn runs_alone()
@@ -62,4 +63,10 @@ pub fn workers_lose_no_wake_up()
 /// thread is inside a call that its buffer refuses, so that no schedule moves it on.
 pub fn quiet_is_stuck()
     ensures { QuietIsStuck }
+{}
+
+/// A call on free locks that its buffer allows, with nobody in its line, takes effect and returns
+/// after 18 steps of its CPU alone, or after 21 where its first signal wakes a thread of another CPU.
+pub fn calls_return_alone()
+    ensures { CallsReturnAlone }
 {}

@@ -1,10 +1,15 @@
-//! One CPU and its step table.
+//! One CPU's step table: which section a CPU does next, what each section makes of the block that it
+//! finds, and what its answer makes of the CPU's private state. From it follow that no wake-up is
+//! lost, that a quiet system is stuck, and how many steps a call takes alone.
 #![tactic(auto)]
 
 mod laws;
 
 pub use laws::{
-    free_locks_have_no_sleepers, one_signal_loses_a_wake_up, order_loses_no_wake_up,
-    quiet_is_stuck, runs_alone, runs_of_three, runs_of_two, systems_keep_order,
-    systems_lose_no_wake_up, workers_lose_no_wake_up,
+    calls_return_alone, free_locks_have_no_sleepers, one_signal_loses_a_wake_up,
+    order_loses_no_wake_up, quiet_is_stuck, runs_alone, runs_of_three, runs_of_two,
+    systems_keep_order, systems_lose_no_wake_up, workers_lose_no_wake_up,
 };
+
+#[cfg(test)]
+mod tests;

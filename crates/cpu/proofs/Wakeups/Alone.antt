@@ -1,29 +1,25 @@
 -- A CPU alone: three steps of it are one section, and a call of it goes on section by section.
-use Rattle.std.proofs.Common.{◌≡◌, ◌≢◌, ℕ, zero, suc, ◌+◌, ◌<◌, ◌≤◌, ◌==◌, Bool, true, false, not, ◌&&◌, List, [], ◌∷◌, ◌++◌, length, slice_get, slice_set, Option, Some, None, option_map, is_some, if◌then◌else◌, refl, sym, ap, ◌∙◌, subst, arith}
+use Rattle.std.proofs.Common.{◌≡◌, ℕ, zero, suc, ◌+◌, ◌<◌, ◌≤◌, ◌==◌, true, false, ◌&&◌, List, [], ◌∷◌, length, slice_get, slice_set, Some, None, option_map, if◌then◌else◌, refl, sym, ap, ◌∙◌, subst, arith}
 use Rattle.std.proofs.lemmas.Bool.{ne_eqb}
-use Rattle.std.proofs.lemmas.List.{length-set}
 use Rattle.event_log.specs.declared.ids.CpuId.{CpuId}
 use Rattle.event_log.specs.declared.ids.Tid.{Tid}
 use Rattle.event_log.specs.declared.ids.BufId.{BufId}
-use Rattle.event_log.specs.declared.ids.LockId.{LockId}
-use Rattle.event_log.specs.declared.ids.LockId.TheVariants.{Pending, Buffer as AtBuffer}
+use Rattle.event_log.specs.declared.ids.LockId.TheVariants.{Buffer as AtBuffer}
 use Rattle.event_log.specs.declared.entries.Entry.{Entry}
-use Rattle.event_log.specs.History.{same_lock}
 use Rattle.event_log.specs.Sections.{Section, sections_in}
 use Rattle.event_log.specs.Actions.{Action, Take, Try, Give, Phase, Rests, Waits as WaitsAt, Holds, phase, next_action, AreFree}
 use Rattle.event_log.proofs.Alone.{first_action, second_action, third_action, free_again}
 use Rattle.event_log.proofs.Exclusion.{phase_own}
 use Rattle.event_log.proofs.Same.{same_lock_self}
 use Rattle.layer_traits.specs.declared.steps.Reason.TheVariants.{AllEnded}
-use Rattle.layer_traits.specs.declared.steps.Step.{Step}
-use Rattle.layer_traits.specs.declared.steps.Step.TheVariants.{Stepped, Halted}
+use Rattle.layer_traits.specs.declared.steps.Step.TheVariants.{Stepped}
 use Rattle.layer_traits.specs.Plans.{is_in_section, at_give}
 use Rattle.layer_traits.specs.Along.{Outcome}
-use Rattle.cpu.specs.Table.Blocks.{Buffer, Block, OfBuffer, OfPending, Name, Answer}
+use Rattle.cpu.specs.Table.Blocks.{Buffer, OfBuffer, Name, Answer}
 use Rattle.cpu.specs.Table.Edits.{edited, edited_buffer, answer}
-use Rattle.cpu.specs.Table.Setups.{Setup, Call, Thread, Private, thread_at, with_thread, home_threads, have_ended}
-use Rattle.cpu.specs.Table.Choice.{Ask, at_buffer, section_at, asked_by, asked_at, asked_in, asked, Choice, Halts, Alone, Goes, at_call, at_current, at_hand, choice, with_call}
-use Rattle.cpu.specs.Table.Choice.{heard, slept_if, woken, returned_at, returned_by, returned_in, settled, after_call, after_by, after_at, after_in, after_section}
+use Rattle.cpu.specs.Table.Setups.{Setup, Call, Private, thread_at, home_threads, have_ended}
+use Rattle.cpu.specs.Table.Choice.{Ask, at_buffer, section_at, asked_by, asked_at, asked_in, asked, Halts, Goes, at_call, at_current, at_hand, choice, with_call}
+use Rattle.cpu.specs.Table.Choice.{returned_at, returned_by, returned_in, settled, after_call, after_by, after_at, after_in, after_section}
 use Rattle.cpu.specs.Table.Steps.{after_reply, acting, chosen, step_in, cpu_step, Whole, whole_after, stepping, answered_by, roomy, step_at, system_step, steps_by}
 use Rattle.cpu.specs.Wakeups.Order.{block_of}
 use Rattle.cpu.proofs.Wakeups.Agreement.{at_same, Same, same_with}
@@ -97,7 +93,6 @@ module _ (setup : Setup) (c : CpuId) where
   three_steps s p q past left a at goes told =
       ap (λ x. (system_step setup c (system_step setup c x).next).next) first ∙ ap (λ x. (system_step setup c x).next) second ∙ third
     where
-
       first : (system_step setup c s).next ≡ whole_after c s (record { next = q; acts = Take c (asked setup c q).lock ∷ []; answer = Stepped })
       first =
           let room = at.room in
@@ -107,7 +102,7 @@ module _ (setup : Setup) (c : CpuId) where
 
       second : (system_step setup c (whole_after c s (record { next = q; acts = Take c (asked setup c q).lock ∷ []; answer = Stepped }))).next
           ≡ whole_after c (whole_after c s (record { next = q; acts = Take c (asked setup c q).lock ∷ []; answer = Stepped }))
-              (record { next = q; acts = Try c (asked setup c q).lock true ∷ []; answer = Stepped })
+          (record { next = q; acts = Try c (asked setup c q).lock true ∷ []; answer = Stepped })
       second =
           let room = at.room in
           let log = Take c (asked setup c q).lock ∷ s.log in
@@ -115,29 +110,29 @@ module _ (setup : Setup) (c : CpuId) where
           one_step _ q _ (set_here s.cpus c.0 p q at.here)
           (within q log (WaitsAt (asked setup c q).lock) now refl
           ∙ act q log (WaitsAt (asked setup c q).lock) (Try c (asked setup c q).lock true) now
-              (second_action c (asked setup c q).lock (asked setup c q).name s.log (at.free (asked setup c q).lock))) refl (omega (arith, room))
+          (second_action c (asked setup c q).lock (asked setup c q).name s.log (at.free (asked setup c q).lock))) refl (omega (arith, room))
 
       third : (system_step setup c (whole_after c (whole_after c s (record { next = q; acts = Take c (asked setup c q).lock ∷ []; answer = Stepped }))
-              (record { next = q; acts = Try c (asked setup c q).lock true ∷ []; answer = Stepped }))).next ≡ after_three s q a
+          (record { next = q; acts = Try c (asked setup c q).lock true ∷ []; answer = Stepped }))).next ≡ after_three s q a
       third =
           let room = at.room in
           let log = Try c (asked setup c q).lock true ∷ Take c (asked setup c q).lock ∷ s.log in
           let now = phase_own (Try c (asked setup c q).lock true) (Take c (asked setup c q).lock ∷ s.log) in
           let gives : acted q log (Holds (asked setup c q).lock) (Give c (asked setup c q).lock (asked setup c q).name)
-              ≡ record { next = after_section setup c q a; acts = Give c (asked setup c q).lock (asked setup c q).name ∷ []; answer = Stepped } =
+          ≡ record { next = after_section setup c q a; acts = Give c (asked setup c q).lock (asked setup c q).name ∷ []; answer = Stepped } =
           ap (λ r. record { next = after_reply setup c q r; acts = Give c (asked setup c q).lock (asked setup c q).name ∷ []; answer = Stepped })
           (ap (λ x. option_map (answer (asked setup c q).name) (block_of setup (asked setup c q).lock x)) at.did ∙ told) in
           one_step _ q _ (set_here (slice_set s.cpus c.0 q) c.0 q q (set_here s.cpus c.0 p q at.here))
           (within q log (Holds (asked setup c q).lock) now refl
           ∙ act q log (Holds (asked setup c q).lock) (Give c (asked setup c q).lock (asked setup c q).name) now
-              (third_action c (asked setup c q).lock (asked setup c q).name (Take c (asked setup c q).lock ∷ s.log))
+          (third_action c (asked setup c q).lock (asked setup c q).name (Take c (asked setup c q).lock ∷ s.log))
           ∙ gives) refl (omega (arith, room))
 
   pub stands_after : (s : Whole) (p q : Private) (past : List (Section Name)) (left : ℕ) (a : Answer) → Stands setup c s p past (left + 3)
       → Stands setup c (after_three s q a) (after_section setup c q a) (section_of c (asked setup c q) ∷ past) left
   stands_after s p q past left a at = record {
     here = set_here (slice_set (slice_set s.cpus c.0 q) c.0 q) c.0 q (after_section setup c q a)
-    (set_here (slice_set s.cpus c.0 q) c.0 q q (set_here s.cpus c.0 p q at.here));
+        (set_here (slice_set s.cpus c.0 q) c.0 q q (set_here s.cpus c.0 p q at.here));
     did = ap (λ x. section_of c (asked setup c q) ∷ x) at.did;
     free = free_again c (asked setup c q).lock (asked setup c q).name true s.log at.free;
     rests = phase_own (Give c (asked setup c q).lock (asked setup c q).name) (Try c (asked setup c q).lock true ∷ Take c (asked setup c q).lock ∷ s.log);

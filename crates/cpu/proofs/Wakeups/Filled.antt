@@ -1,5 +1,5 @@
 -- A CPU whose hand holds a thread either runs nobody or runs a thread inside its call.
-use Rattle.std.proofs.Common.{◌≡◌, ◌≢◌, ℕ, ◌+◌, ◌<◌, ◌==◌, Bool, true, false, List, [], ◌∷◌, ◌++◌, length, slice_get, slice_set, Option, Some, None, is_some, if◌then◌else◌, refl, sym, ap, ◌∙◌, subst, arith}
+use Rattle.std.proofs.Common.{◌≡◌, ℕ, ◌+◌, ◌<◌, ◌==◌, Bool, true, false, List, [], ◌∷◌, ◌++◌, length, slice_get, slice_set, Option, Some, None, is_some, if◌then◌else◌, refl, sym, ap, ◌∙◌, subst, arith}
 use Rattle.std.proofs.lemmas.Bool.{eqb-true, eqb-false}
 use Rattle.event_log.specs.declared.ids.CpuId.{CpuId}
 use Rattle.event_log.specs.declared.ids.Tid.{Tid}
@@ -12,15 +12,15 @@ use Rattle.layer_traits.specs.declared.steps.Reason.TheVariants.{AllEnded, Trace
 use Rattle.layer_traits.specs.Plans.{is_in_section, reply}
 use Rattle.cpu.specs.Table.Blocks.{Name, Asks, Sends, Receives, Told, Nothing, Position, Done, NotYet, Drained, Answer}
 use Rattle.cpu.specs.Table.Edits.{kernel}
-use Rattle.cpu.specs.Table.Setups.{Setup, Stage, Acquires, Enters, Tries, Waits, AcquiresAgain, Signals, SignalsOwn, Releases, Returns, Call, Thread, Private, thread_at, home_of, at_boot, opening, stands_at, home_threads, open_calls, have_ended}
-use Rattle.cpu.specs.Table.Choice.{asked, Choice, Halts, Alone, Goes, with_call, begins, at_instruction, at_call, at_ready, at_current, at_hand, choice}
-use Rattle.cpu.specs.Table.Choice.{heard, heard_entry, heard_position, heard_try, slept_if, woken, returned_at, returned_by, returned_in, settled, after_call, after_by, after_at, after_in, after_section}
-use Rattle.cpu.specs.Table.Steps.{after_reply, acting, chosen, step_in, cpu_step, Whole, cpu_numbered, whole_at_boot, whole_after, system_step, IsReached, boots, steps}
+use Rattle.cpu.specs.Table.Setups.{Setup, Stage, Acquires, Enters, Tries, Waits, AcquiresAgain, Signals, SignalsOwn, Releases, Returns, Call, Private, thread_at, home_of, at_boot, opening, stands_at, home_threads, open_calls, have_ended}
+use Rattle.cpu.specs.Table.Choice.{asked, Choice, Halts, Alone, Goes, with_call, at_instruction, at_call, at_ready, at_current, at_hand, choice}
+use Rattle.cpu.specs.Table.Choice.{heard, heard_entry, heard_position, slept_if, woken, returned_at, returned_by, returned_in, settled, after_by, after_at, after_in, after_section}
+use Rattle.cpu.specs.Table.Steps.{after_reply, acting, chosen, step_in, cpu_step, Whole, cpu_numbered, system_step, IsReached, boots, steps}
 use Rattle.cpu.proofs.Wakeups.Lists.{refuted}
 use Rattle.cpu.proofs.Wakeups.Agreement.{at_same, within, runs}
 use Rattle.cpu.proofs.Wakeups.Spots.{spot, turn}
 use Rattle.cpu.proofs.Wakeups.Chosen.{ChoiceOk, choice_ok}
-use Rattle.cpu.proofs.Wakeups.Reaching.{Ok, same_private, get_set, get_set_other, boots_at, reached_sound, Sound}
+use Rattle.cpu.proofs.Wakeups.Reaching.{Ok, get_set, get_set_other, boots_at, reached_sound, Sound}
 use Rattle.cpu.proofs.Wakeups.Kept.{NextIs, same, went, next_is}
 
 abbrev pub IsFilled : Private → Type 0
@@ -212,8 +212,8 @@ filled_next setup c s next sound filled (went p here) = λ e q is. by_test e q i
 
 pub reached_filled : (setup : Setup) (room : ℕ) (s : Whole) → IsReached setup room s → AllFilled s
 reached_filled setup room s boots = λ e p is.
-  let zero_plus : 0 + e.0 ≡ e.0 = omega arith in
-  let at : at_boot setup e ≡ p = ap (λ m. at_boot setup (cpu_numbered m)) (sym zero_plus) ∙ boots_at setup 0 setup.cpus e.0 p is in
-  subst IsFilled at (empty_filled (at_boot setup e) refl)
+    let zero_plus : 0 + e.0 ≡ e.0 = omega arith in
+    let at : at_boot setup e ≡ p = ap (λ m. at_boot setup (cpu_numbered m)) (sym zero_plus) ∙ boots_at setup 0 setup.cpus e.0 p is in
+    subst IsFilled at (empty_filled (at_boot setup e) refl)
 reached_filled setup room s (steps {s = before} c reached known) =
     filled_next setup c before (system_step setup c before).next (reached_sound setup room before reached) (reached_filled setup room before reached) (next_is setup c before)

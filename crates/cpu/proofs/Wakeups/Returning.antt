@@ -1,25 +1,21 @@
 -- A call alone goes through its six sections, with one more where its first signal wakes a thread of another CPU.
-use Rattle.std.proofs.Common.{◌≡◌, ◌≢◌, ℕ, zero, suc, ◌+◌, ◌<◌, ◌≤◌, ◌==◌, ◌⊎◌, inl, inr, Bool, true, false, not, ◌&&◌, List, [], ◌∷◌, ◌++◌, length, slice_get, Option, Some, None, option_map, is_some, nat_lt, if◌then◌else◌, refl, sym, ap, ◌∙◌, subst, arith}
+use Rattle.std.proofs.Common.{◌≡◌, ℕ, ◌+◌, ◌<◌, ◌⊎◌, inl, inr, Bool, true, false, ◌&&◌, List, [], ◌∷◌, ◌++◌, slice_get, Option, Some, None, option_map, if◌then◌else◌, refl, sym, ap, ◌∙◌, subst, arith}
 use Rattle.std.proofs.lemmas.Bool.{lt-ltb}
 use Rattle.event_log.specs.declared.ids.CpuId.{CpuId}
 use Rattle.event_log.specs.declared.ids.Tid.{Tid}
-use Rattle.event_log.specs.declared.ids.BufId.{BufId}
-use Rattle.event_log.specs.declared.ids.LockId.{LockId}
 use Rattle.event_log.specs.declared.ids.LockId.TheVariants.{Pending, Buffer as AtBuffer}
 use Rattle.event_log.specs.declared.ids.TheConstants.{THREADS}
 use Rattle.event_log.specs.declared.entries.Entry.{Entry}
 use Rattle.event_log.specs.History.{same_cpu}
 use Rattle.event_log.specs.Messages.{Message}
 use Rattle.event_log.specs.Sections.{Section}
-use Rattle.thread_blocks.specs.Queues.{same_tid, is_in, first, rest}
-use Rattle.thread_blocks.proofs.Members.{same_tid_self}
-use Rattle.layer_traits.specs.declared.locked.Side.{Side}
+use Rattle.thread_blocks.specs.Queues.{first}
 use Rattle.layer_traits.specs.declared.locked.Side.TheVariants.{Receivers, Senders}
-use Rattle.layer_traits.specs.BufferBlocks.{may_join, is_first, counted, first_item}
-use Rattle.cpu.specs.Table.Blocks.{Buffer, Block, OfBuffer, OfPending, Name, AcqQ, Enter, TryPut, TryTake, SigRecv, SigSend, RelQ, Pend, Asks, Sends, Receives, side_of, Told, Nothing, Position, Done, NotYet, Answer, front_stands_in}
-use Rattle.cpu.specs.Table.Edits.{edited_buffer, acquired, entered, put, taken, released, may_put, may_take, can_put, can_take, due_sender, due_receiver, line_of, drawn_position, tells, wakes, answer, answer_of_acquire, answer_of_buffer, without_any}
-use Rattle.cpu.specs.Table.Setups.{Setup, Stage, Acquires, Enters, Tries, Waits, AcquiresAgain, Signals, SignalsOwn, Releases, Returns, Call, Thread, Private, thread_at, with_thread, home_of, home_threads, have_ended, stands_at}
-use Rattle.cpu.specs.Table.Choice.{Ask, at_pending, at_buffer, section_at, asked_in, asked, Choice, Goes, choice, new_call, with_call, entry_of, goes_to, effected, heard, slept_if, woken, guest_after, returned, returned_at, settled, after_call, after_in, after_section}
+use Rattle.layer_traits.specs.BufferBlocks.{may_join, first_item}
+use Rattle.cpu.specs.Table.Blocks.{Buffer, OfBuffer, Name, SigRecv, SigSend, RelQ, Pend, Sends, Receives, Told, Nothing, Position, Done, NotYet, Answer, front_stands_in}
+use Rattle.cpu.specs.Table.Edits.{edited_buffer, acquired, entered, put, taken, may_put, may_take, can_put, can_take, due_sender, due_receiver, tells, wakes, answer, answer_of_acquire, answer_of_buffer}
+use Rattle.cpu.specs.Table.Setups.{Setup, Acquires, Enters, Tries, Signals, SignalsOwn, Releases, Returns, Call, Private, thread_at, home_of, home_threads, have_ended, stands_at}
+use Rattle.cpu.specs.Table.Choice.{section_at, asked, Goes, choice, with_call, entry_of, effected, heard, woken, guest_after, returned, returned_at, settled, after_section}
 use Rattle.cpu.specs.Table.Steps.{Whole, steps_by}
 use Rattle.cpu.specs.Wakeups.Order.{block_of}
 use Rattle.cpu.proofs.Wakeups.Agreement.{at_same}
@@ -61,9 +57,9 @@ module _ (setup : Setup) (c : CpuId) (t : Tid) where
         goes = goes_on setup c (after_section setup c q a) t more longer after;
         inside = after;
         block = ap (λ b. block_of setup (AtBuffer b) (section_of c (asked setup c q) ∷ gets.past)) (sym same_buffer)
-        ∙ ap (λ ask. block_of setup (AtBuffer call.buffer) (section_of c ask ∷ gets.past)) asks
-        ∙ block_next setup c call.buffer (section_at t call call.stage) gets.past k gets.block
-        ∙ ap (λ x. Some (OfBuffer x)) edits;
+            ∙ ap (λ ask. block_of setup (AtBuffer call.buffer) (section_of c ask ∷ gets.past)) asks
+            ∙ block_next setup c call.buffer (section_at t call call.stage) gets.past k gets.block
+            ∙ ap (λ x. Some (OfBuffer x)) edits;
       }
 
   -- a section that puts nobody to sleep and wakes nobody: the call hears what it tells
@@ -79,30 +75,30 @@ module _ (setup : Setup) (c : CpuId) (t : Tid) where
 
   -- The sections, one after the other.
 
-  acquires : (s : Whole) (n left : ℕ) (k : Buffer) (call : Call) (traced : List Entry) → k.busy ≡ None → Gets s n k (record call { stage = Acquires }) traced (left + 3)
+  pub acquires : (s : Whole) (n left : ℕ) (k : Buffer) (call : Call) (traced : List Entry) → k.busy ≡ None → Gets s n k (record call { stage = Acquires }) traced (left + 3)
       → Gets s (n + 3) (record k { busy = Some t }) (record call { stage = Enters }) traced left
   acquires s n left k call traced free gets =
       advance s n k (record k { busy = Some t }) (record call { stage = Acquires }) (record call { stage = Enters }) traced traced left (tells Nothing) gets
       (ap answer_of_acquire free) (ap (λ o. acquired t o k) free) refl
       (λ p inside.
-        hears p (with_call p t (Some (record call { stage = Enters }))) (record call { stage = Acquires }) (record call { stage = Enters }) traced traced Nothing inside refl
-        (new_in p (record call { stage = Acquires }) (record call { stage = Enters }) traced inside) refl)
+      hears p (with_call p t (Some (record call { stage = Enters }))) (record call { stage = Acquires }) (record call { stage = Enters }) traced traced Nothing inside refl
+      (new_in p (record call { stage = Acquires }) (record call { stage = Enters }) traced inside) refl)
 
   module _ (small : t.0 < THREADS) where
     may_enter : (line : List Tid) → line ≡ [] → may_join t line ≡ true
     may_enter line empty = ap (may_join t) empty ∙ ap (λ b. b && true) (lt-ltb t.0 THREADS small)
 
-    enters_send : (s : Whole) (n left : ℕ) (k : Buffer) (call : Call) (traced : List Entry) → k.send_line ≡ [] → Gets s n k (record call { asks = Sends; stage = Enters }) traced (left + 3)
+    pub enters_send : (s : Whole) (n left : ℕ) (k : Buffer) (call : Call) (traced : List Entry) → k.send_line ≡ [] → Gets s n k (record call { asks = Sends; stage = Enters }) traced (left + 3)
         → Gets s (n + 3) (entered t Senders k) (record call { asks = Sends; position = k.send_positions; stage = Tries }) traced left
     enters_send s n left k call traced empty gets =
         let more : Call = record call { asks = Sends; position = k.send_positions; stage = Tries } in
         advance s n k (entered t Senders k) (record call { asks = Sends; stage = Enters }) more traced traced left (tells (Position k.send_positions)) gets refl
         (ap (λ b. if b then entered t Senders k else k) (may_enter k.send_line empty)) refl
         (λ p inside.
-          hears p (with_call p t (Some more)) (record call { asks = Sends; stage = Enters }) more traced traced (Position k.send_positions) inside refl
-          (new_in p (record call { asks = Sends; stage = Enters }) more traced inside) refl)
+        hears p (with_call p t (Some more)) (record call { asks = Sends; stage = Enters }) more traced traced (Position k.send_positions) inside refl
+        (new_in p (record call { asks = Sends; stage = Enters }) more traced inside) refl)
 
-    enters_receive : (s : Whole) (n left : ℕ) (k : Buffer) (call : Call) (traced : List Entry) → k.receive_line ≡ []
+    pub enters_receive : (s : Whole) (n left : ℕ) (k : Buffer) (call : Call) (traced : List Entry) → k.receive_line ≡ []
         → Gets s n k (record call { asks = Receives; stage = Enters }) traced (left + 3)
         → Gets s (n + 3) (entered t Receivers k) (record call { asks = Receives; position = k.receive_positions; stage = Tries }) traced left
     enters_receive s n left k call traced empty gets =
@@ -110,13 +106,13 @@ module _ (setup : Setup) (c : CpuId) (t : Tid) where
         advance s n k (entered t Receivers k) (record call { asks = Receives; stage = Enters }) more traced traced left (tells (Position k.receive_positions)) gets refl
         (ap (λ b. if b then entered t Receivers k else k) (may_enter k.receive_line empty)) refl
         (λ p inside.
-          hears p (with_call p t (Some more)) (record call { asks = Receives; stage = Enters }) more traced traced (Position k.receive_positions) inside refl
-          (new_in p (record call { asks = Receives; stage = Enters }) more traced inside) refl)
+        hears p (with_call p t (Some more)) (record call { asks = Receives; stage = Enters }) more traced traced (Position k.receive_positions) inside refl
+        (new_in p (record call { asks = Receives; stage = Enters }) more traced inside) refl)
 
   -- the state after an effect: the entry is written
   effect_in : (p : Private) (call : Call) (op : ℕ) (m : Message) (traced : List Entry) → InCall setup c p t call traced
       → InCall setup c (effected c p t (record call { message = m }) op) t (record call { message = m; effect = Some op; stage = Signals })
-          (traced ++ entry_of c t (record call { message = m }) op m ∷ [])
+      (traced ++ entry_of c t (record call { message = m }) op m ∷ [])
   effect_in p call op m traced inside =
       let now = new_in p call (record call { message = m; effect = Some op; stage = Signals }) traced inside in
       record {
@@ -137,22 +133,22 @@ module _ (setup : Setup) (c : CpuId) (t : Tid) where
           have_same [] = refl
           have_same (u ∷ ts) = ap (λ b. (thread_at (with_call p t (Some (record call { message = m; effect = Some op; stage = Signals }))) u).ended && b) (have_same ts)
 
-  puts : (s : Whole) (n left : ℕ) (k : Buffer) (call : Call) (traced : List Entry) → may_put t k ≡ true → Gets s n k (record call { asks = Sends; stage = Tries }) traced (left + 3)
+  pub puts : (s : Whole) (n left : ℕ) (k : Buffer) (call : Call) (traced : List Entry) → may_put t k ≡ true → Gets s n k (record call { asks = Sends; stage = Tries }) traced (left + 3)
       → Gets s (n + 3) (put call.message k) (record call { asks = Sends; effect = Some k.effects; stage = Signals })
-          (traced ++ entry_of c t (record call { asks = Sends }) k.effects call.message ∷ []) left
+      (traced ++ entry_of c t (record call { asks = Sends }) k.effects call.message ∷ []) left
   puts s n left k call traced may gets =
       let first_call : Call = record call { asks = Sends; stage = Tries } in
       advance s n k (put call.message k) first_call (record call { asks = Sends; effect = Some k.effects; stage = Signals }) traced
       (traced ++ entry_of c t (record call { asks = Sends }) k.effects call.message ∷ []) left (tells (Done k.effects call.message)) gets
       (ap (λ b. tells (if b then Done k.effects call.message else NotYet)) may) (ap (λ b. if b then put call.message k else k) may) refl
       (λ p inside.
-        hears p (effected c p t (record first_call { message = call.message }) k.effects) first_call (record call { asks = Sends; effect = Some k.effects; stage = Signals }) traced
-        (traced ++ entry_of c t (record call { asks = Sends }) k.effects call.message ∷ []) (Done k.effects call.message) inside refl
-        (effect_in p first_call k.effects call.message traced inside) refl)
+      hears p (effected c p t (record first_call { message = call.message }) k.effects) first_call (record call { asks = Sends; effect = Some k.effects; stage = Signals }) traced
+      (traced ++ entry_of c t (record call { asks = Sends }) k.effects call.message ∷ []) (Done k.effects call.message) inside refl
+      (effect_in p first_call k.effects call.message traced inside) refl)
 
-  takes_one : (s : Whole) (n left : ℕ) (k : Buffer) (call : Call) (traced : List Entry) → may_take t k ≡ true → Gets s n k (record call { asks = Receives; stage = Tries }) traced (left + 3)
+  pub takes_one : (s : Whole) (n left : ℕ) (k : Buffer) (call : Call) (traced : List Entry) → may_take t k ≡ true → Gets s n k (record call { asks = Receives; stage = Tries }) traced (left + 3)
       → Gets s (n + 3) (taken k) (record call { asks = Receives; message = first_item k.items; effect = Some k.effects; stage = Signals })
-          (traced ++ entry_of c t (record call { asks = Receives }) k.effects (first_item k.items) ∷ []) left
+      (traced ++ entry_of c t (record call { asks = Receives }) k.effects (first_item k.items) ∷ []) left
   takes_one s n left k call traced may gets =
       let first_call : Call = record call { asks = Receives; stage = Tries } in
       let more : Call = record call { asks = Receives; message = first_item k.items; effect = Some k.effects; stage = Signals } in
@@ -160,9 +156,9 @@ module _ (setup : Setup) (c : CpuId) (t : Tid) where
       (traced ++ entry_of c t (record call { asks = Receives }) k.effects (first_item k.items) ∷ []) left (tells (Done k.effects (first_item k.items))) gets
       (ap (λ b. tells (if b then Done k.effects (first_item k.items) else NotYet)) may) (ap (λ b. if b then taken k else k) may) refl
       (λ p inside.
-        hears p (effected c p t (record first_call { message = first_item k.items }) k.effects) first_call more traced
-        (traced ++ entry_of c t (record call { asks = Receives }) k.effects (first_item k.items) ∷ []) (Done k.effects (first_item k.items)) inside refl
-        (effect_in p first_call k.effects (first_item k.items) traced inside) refl)
+      hears p (effected c p t (record first_call { message = first_item k.items }) k.effects) first_call more traced
+      (traced ++ entry_of c t (record call { asks = Receives }) k.effects (first_item k.items) ∷ []) (Done k.effects (first_item k.items)) inside refl
+      (effect_in p first_call k.effects (first_item k.items) traced inside) refl)
 
   -- more room than is asked
   with_left : (s : Whole) (n : ℕ) (k : Buffer) (call : Call) (traced : List Entry) (left less : ℕ) → left ≡ less → Gets s n k call traced left → Gets s n k call traced less
@@ -184,17 +180,17 @@ module _ (setup : Setup) (c : CpuId) (t : Tid) where
       → Gets s n k call traced (left + 3) → Gets s (n + 3) next more traced left
   signals_home s n left k next call more traced u here same_buffer told edits heard_so stays gets =
       advance s n k next call more traced traced left (wakes (Some u)) gets told edits same_buffer (λ p inside.
-        let h = with_call p t (Some more) in
-        let now = new_in p call more traced inside in
-        let ready : Private = record h { ready = h.ready ++ u ∷ [] } in
-        let at : InCall setup c ready t more traced =
-        record { hand = now.hand; current = now.current; calls = now.calls; known = now.known; live = ready_live p (home_threads setup c) more u now.live; trace = now.trace } in
-        let same : after_section setup c p (wakes (Some u)) ≡ ready =
-        after_is setup c p t call traced (wakes (Some u)) inside
-        ∙ ap (λ x. settled setup (woken setup c (Some u) x)) (heard_so p Nothing)
-        ∙ ap (λ b. settled setup (if b then record h { ready = h.ready ++ u ∷ [] } else record h { hand = Some u })) here
-        ∙ settled_is setup c ready t more traced at ∙ stays ready in
-        subst (λ x. InCall setup c x t more traced) (sym same) at)
+      let h = with_call p t (Some more) in
+      let now = new_in p call more traced inside in
+      let ready : Private = record h { ready = h.ready ++ u ∷ [] } in
+      let at : InCall setup c ready t more traced =
+      record { hand = now.hand; current = now.current; calls = now.calls; known = now.known; live = ready_live p (home_threads setup c) more u now.live; trace = now.trace } in
+      let same : after_section setup c p (wakes (Some u)) ≡ ready =
+      after_is setup c p t call traced (wakes (Some u)) inside
+      ∙ ap (λ x. settled setup (woken setup c (Some u) x)) (heard_so p Nothing)
+      ∙ ap (λ b. settled setup (if b then record h { ready = h.ready ++ u ∷ [] } else record h { hand = Some u })) here
+      ∙ settled_is setup c ready t more traced at ∙ stays ready in
+      subst (λ x. InCall setup c x t more traced) (sym same) at)
     where
       ready_live : (p : Private) (ts : List Tid) (more : Call) (u : Tid) → have_ended (with_call p t (Some more)) ts ≡ false
           → have_ended (record (with_call p t (Some more)) { ready = (with_call p t (Some more)).ready ++ u ∷ [] }) ts ≡ false
@@ -246,9 +242,9 @@ module _ (setup : Setup) (c : CpuId) (t : Tid) where
         goes = goes_on setup c (after_section setup c held (tells Nothing)) t more traced inside_after;
         inside = inside_after;
         block = ap (λ b. block_of setup (AtBuffer b) past) (sym same_buffer)
-        ∙ ap (λ ask. block_of setup (AtBuffer call.buffer) (section_of c ask ∷ gets.past)) asks
-        ∙ block_next setup c call.buffer (section_at t call call.stage) gets.past k gets.block
-        ∙ ap (λ x. Some (OfBuffer x)) edits;
+            ∙ ap (λ ask. block_of setup (AtBuffer call.buffer) (section_of c ask ∷ gets.past)) asks
+            ∙ block_next setup c call.buffer (section_at t call call.stage) gets.past k gets.block
+            ∙ ap (λ x. Some (OfBuffer x)) edits;
       }
     where
       empty_live : (p : Private) (ts : List Tid) (more : Call) → have_ended (with_call p t (Some more)) ts ≡ false
@@ -310,7 +306,7 @@ module _ (setup : Setup) (c : CpuId) (t : Tid) where
 
   module _ (small : t.0 < THREADS) where
     -- the two signals and the release, of a caller whose own line is empty now
-    ending_sends : (s : Whole) (n : ℕ) (k : Buffer) (call : Call) (traced : List Entry) → k.send_line ≡ [] → k.sleepers ≡ []
+    pub ending_sends : (s : Whole) (n : ℕ) (k : Buffer) (call : Call) (traced : List Entry) → k.send_line ≡ [] → k.sleepers ≡ []
         → Gets s n k (record call { asks = Sends; stage = Signals }) traced 12 → Returned s (n + 9) traced ⊎ Returned s (n + 12) traced
     ending_sends s n k call traced line none gets = by_late (signals s n 6 k next (record call { asks = Sends; stage = Signals }) (record call { asks = Sends; stage = SignalsOwn })
         traced (due_receiver k) refl refl refl (λ p told. refl) (λ p. refl) gets)
@@ -334,7 +330,7 @@ module _ (setup : Setup) (c : CpuId) (t : Tid) where
         by_late (inl early) = let same : ((n + 3) + 3) + 3 ≡ n + 9 = omega arith in inl (subst (λ m. Returned s m traced) same (rest_of (n + 3) 3 early))
         by_late (inr late) = let same : (((n + 3) + 3) + 3) + 3 ≡ n + 12 = omega arith in inr (subst (λ m. Returned s m traced) same (rest_of ((n + 3) + 3) 0 late))
 
-    ending_receives : (s : Whole) (n : ℕ) (k : Buffer) (call : Call) (traced : List Entry) → k.receive_line ≡ [] → k.sleepers ≡ []
+    pub ending_receives : (s : Whole) (n : ℕ) (k : Buffer) (call : Call) (traced : List Entry) → k.receive_line ≡ [] → k.sleepers ≡ []
         → Gets s n k (record call { asks = Receives; stage = Signals }) traced 12 → Returned s (n + 9) traced ⊎ Returned s (n + 12) traced
     ending_receives s n k call traced line none gets =
         by_late (signals s n 6 k next (record call { asks = Receives; stage = Signals }) (record call { asks = Receives; stage = SignalsOwn })
