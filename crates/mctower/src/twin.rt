@@ -5,7 +5,7 @@
 
 use crate::kernel::{Place, Reason, Step};
 use boot::Boot;
-use event_log::{BufId, CpuId, Entry, Kind, Tid};
+use event_log::{BufId, CPUS, CpuId, Entry, Kind, Tid};
 use guest::{Instruction, Register};
 use std::alloc::Global;
 use std::fmt::Write;
@@ -434,8 +434,8 @@ impl Twin {
 
     /// The entry that comes after those of `order`.
     fn first_due(&self, order: &Vec<Entry>) -> Result<Entry, Fail> {
-        for cpu in 0..8 {
-            let cpu = CpuId(cpu);
+        for cpu in 0..CPUS {
+            let cpu = CpuId(cpu as u8);
             let had = order.iter().filter(|e| e.cpu == cpu).count();
             if let Some(next) = self.trace(cpu)?.get(had) {
                 let op = order.iter().filter(|e| e.buffer == next.buffer).count();

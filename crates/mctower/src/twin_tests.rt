@@ -2,6 +2,7 @@
 //! have the same traces, contents and places; at the end the text of a run is the twin's.
 
 ghost use Rattle.std.specs.Prelude.{◌≡◌, ◌<◌, ◌≤◌, length};
+ghost use Rattle.event_log.specs.declared.ids.TheConstants.{THREADS, BUFFERS};
 ghost use Rattle.mctower.specs.Plans.{IsOfPlan};
 
 use crate::kernel::{Place, Step, System};
@@ -151,7 +152,7 @@ fn same_contents<R: AllocGlobal + Abort>(
     twin: &Twin,
     at: &str,
 ) -> Result<(), Fail>
-    requires few { buffers ≤ 16 }
+    requires few { buffers ≤ BUFFERS }
     requires all { length system.now.guarded.buffers ≡ buffers }
 {
     for buffer in 0..buffers {
@@ -170,7 +171,7 @@ fn same_places<R: AllocGlobal + Abort>(
     twin: &mut Twin,
     at: &str,
 ) -> Result<(), Fail>
-    requires few { threads ≤ 64 }
+    requires few { threads ≤ THREADS }
     requires all { length system.now.guests ≡ threads }
 {
     for thread in 0..threads {

@@ -3,7 +3,7 @@
 ghost use Rattle.std.specs.Prelude.{◌<◌};
 
 use crate::{Entry, Kind, Reason, Verdict, check};
-use event_log::{BufId, CpuId, Tid};
+use event_log::{BUFFERS, BufId, CpuId, Tid};
 use std::alloc::Global;
 use std::fmt::Write;
 use std::test::*;
@@ -86,7 +86,7 @@ fn slow_judge(
         }
     }
     for (b, items) in left.iter().enumerate() {
-        if b < 16 && held(alloc, entries, b as u8)?.as_slice() != items.as_slice() {
+        if b < BUFFERS && held(alloc, entries, b as u8)?.as_slice() != items.as_slice() {
             let line = first.wrapping_add(entries.len()).wrapping_add(b);
             return Ok(Verdict::No(line, Reason::Left));
         }

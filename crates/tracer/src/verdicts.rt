@@ -13,7 +13,7 @@ pub enum Reason {
     /// it is not ended by a line feed, the text ends where a line is wanted, or a byte stands behind
     /// the last line.
     Spelling,
-    /// A number is out of its range, or there are more than 524,288 entries.
+    /// A number is out of its range, or there are more than `ENTRIES` entries.
     Range,
     /// The op is not the number of entries of that buffer before it.
     Op,
