@@ -52,11 +52,11 @@ all_mid : {X : Type 0} (P : X → Type 0) (xs : List X) (o : X) (ys : List X) �
 all_mid P [] o ys all = All-head P o ys all
 all_mid P (x ∷ xs) o ys all = all_mid P xs o ys (All-tail P x (xs ++ o ∷ ys) all)
 
--- a turn of the loop that fills the table
-pub fresh_turn : {B : Type 0} (blocks xs : List (LockId × B)) (o : LockId × B) (ys : List (LockId × B)) (cells : List (Option (Cell B))) → xs ++ o ∷ ys ≡ blocks
+-- one pass of the loop that fills the table
+pub fresh_pass : {B : Type 0} (blocks xs : List (LockId × B)) (o : LockId × B) (ys : List (LockId × B)) (cells : List (Option (Cell B))) → xs ++ o ∷ ys ≡ blocks
     → AreDistinct blocks
     → All (λ entry. lock_number entry.0 < length cells) blocks → AreFresh xs cells → AreFresh (xs ++ o ∷ []) (with_cell cells o.0 (fresh_cell o.1))
-fresh_turn blocks xs o ys cells is distinct within fresh =
+fresh_pass blocks xs o ys cells is distinct within fresh =
     let reaches : All (λ entry. lock_number entry.0 < length cells) (xs ++ o ∷ ys) =
     subst (λ l. All (λ entry. lock_number entry.0 < length cells) l) (sym is) within in
     fresh_more xs o ys cells (subst (λ l. AreDistinct l) (sym is) distinct) (all_mid (λ entry. lock_number entry.0 < length cells) xs o ys reaches) fresh

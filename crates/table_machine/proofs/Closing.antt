@@ -112,7 +112,7 @@ module _ {E B O : Type 0} (R : Rules E B O) where
         rest = λ c large. none_of_others c log (kept.rest c large);
         blocks = λ i o at. (
             let rank = rank_at board.start i o distinct at in
-            let stands = kept.shows.stand o.0 rank.1 in
+            let stands = kept.shows.each o.0 rank.1 in
             let nobody : NobodyInside o.0 log = λ c t inside. absurd (let out = outside c in cc (out, inside)) in
             let found = home_of stands.home (all_home R.edited (opened board.start) o.0 log nobody _ _ (home_block stands.home) stands.is) in
             let block_there : home_block stands.home ≡ Some found.1 = ap home_block found.2 ∙ found.3 in

@@ -1,5 +1,6 @@
 -- What the looks and the frees of a key ask of the table, and what they tell.
-use Rattle.std.proofs.Common.{◌≡◌, ◌==◌, ℕ, ◌+◌, ◌<◌, ◌%◌, ◌^◌, inl, inr, true, false, if◌then◌else◌, List, [], ◌∷◌, Some, IsSome, option_map, refl, ap, sym, length}
+use Rattle.std.proofs.Common.{◌≡◌, ◌==◌, ℕ, ◌+◌, ◌<◌, ◌%◌, ◌^◌, inl, inr, true, false, if◌then◌else◌, List, [], ◌∷◌, Some, IsSome, option_map, refl, ap, sym}
+use Rattle.std.proofs.Common.{length}
 use Rattle.std.proofs.Common.{◌∙◌, subst, eq-eqb, ne_eqb}
 use mathlib.Core.Option.{none}
 use Rattle.atomic_table.specs.Seated.{TableId}

@@ -13,7 +13,7 @@ use Rattle.layer_traits.specs.OneLock.{LockFits, opened}
 use Rattle.layer_traits.proofs.OneLockLemmas.{event_lock, elsewhere, fresh}
 use Rattle.table_machine.specs.declared.views.Home.{Home}
 use Rattle.table_machine.specs.Layout.{rank_of, next_at, serving_at, word_count}
-use Rattle.table_machine.specs.Rule.{home_block, fresh_home, Stands, Shows}
+use Rattle.table_machine.specs.Rule.{home_block, fresh_home, ShowsLock, Shows}
 use Rattle.table_machine.proofs.Finding.{rank_same, rank_below, opened_there}
 
 -- a lock that a step does not touch
@@ -70,19 +70,19 @@ module _ {E B : Type 0} (edited : E → B → B) (start : List (LockId × B)) wh
   pub shows_step : (words : List ℕ) (homes : List (Maybe (Home E B))) (log : List (Event (Mark E))) → Shows edited start words homes log
       → (e : Event (Mark E)) → MayFollow log e → (i x : ℕ) → IsApart i (rank_of start (event_lock e))
       → (later : List (Maybe (Home E B))) → length later ≡ length start → ((j : ℕ) → j ≢ rank_of start (event_lock e) → get_elem? later j ≡ get_elem? homes j)
-      → Stands edited start (set words i x) later (e ∷ log) (event_lock e)
+      → ShowsLock edited start (set words i x) later (e ∷ log) (event_lock e)
       → Shows edited start (set words i x) later (e ∷ log)
   shows_step words homes log shows e may i x apart later count same here = record {
     word_length = length-set words i x ∙ shows.word_length;
     home_length = count;
-    stand = λ lock exists. go lock exists (same_lock lock (event_lock e)) refl;
+    each = λ lock exists. go lock exists (same_lock lock (event_lock e)) refl;
   }
     where
       go : (lock : LockId) → IsSome (opened start lock) → (b : Bool) → same_lock lock (event_lock e) ≡ b
-          → Stands edited start (set words i x) later (e ∷ log) lock
-      go lock exists true one = subst (λ l. Stands edited start (set words i x) later (e ∷ log) l) (sym (same_lock_true lock (event_lock e) one)) here
+          → ShowsLock edited start (set words i x) later (e ∷ log) lock
+      go lock exists true one = subst (λ l. ShowsLock edited start (set words i x) later (e ∷ log) l) (sym (same_lock_true lock (event_lock e) one)) here
       go lock exists false other =
-          let old = shows.stand lock exists in
+          let old = shows.each lock exists in
           let k : ℕ = rank_of start lock in
           let away : k ≢ rank_of start (event_lock e) = λ e'. (
           let one : lock ≡ event_lock e = rank_same start lock (event_lock e) exists e' in
@@ -104,7 +104,7 @@ module _ {E B : Type 0} (edited : E → B → B) (start : List (LockId × B)) wh
   shows_opening homes are = record {
     word_length = length-replicate (word_count (length start)) 0;
     home_length = length-map homes some ∙ (ap length are ∙ length-map start (λ (o : LockId × B). fresh_home {E = E} o.1));
-    stand = λ lock exists.
+    each = λ lock exists.
         let found = opened_there (λ (b : B). some (fresh_home {E = E} b)) start lock exists in
         let k : ℕ = rank_of start lock in
         record {

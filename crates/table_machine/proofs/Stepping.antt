@@ -22,7 +22,7 @@ use Rattle.table_machine.specs.declared.views.Home.{Home}
 use Rattle.table_machine.specs.declared.views.View.{View}
 use Rattle.table_machine.specs.Layout.{rank_of, next_at, serving_at}
 use Rattle.table_machine.specs.Views.{viewed, mine, Has, IsSince}
-use Rattle.table_machine.specs.Rule.{home_block, Stands, Shows, Kept}
+use Rattle.table_machine.specs.Rule.{home_block, ShowsLock, Shows, Kept}
 use Rattle.table_machine.specs.Plays.{Moves, Drew, Looked, Freed, Met, Entered}
 use Rattle.layer_traits.proofs.OneLockLemmas.{standing_own, drew, missed, hit, freed, hit_finds}
 use Rattle.table_machine.proofs.Logs.{standing_since, legal_words, lawful_sections, sections_more, sections_others, inside_keeps, ends_nil}
@@ -33,14 +33,14 @@ use Rattle.table_machine.proofs.Showing.{home_of}
 
 module _ {E B O : Type 0} (R : Rules E B O) (n : ℕ) (start : List (LockId × B)) where
   -- what the step of one CPU knows of the log when it comes
-  pub record Turn (s : State (Home E B) (View E B)) (kept : Kept R n start s) (id : ℕ) (cpu : CpuId) (seen : List (Event (Mark E))) : Type 0 where
+  pub record KnownSeat (s : State (Home E B) (View E B)) (kept : Kept R n start s) (id : ℕ) (cpu : CpuId) (seen : List (Event (Mark E))) : Type 0 where
     pub at : get_elem? s.views id ≡ some (mine start cpu seen)
     pub since : IsSince kept.log seen cpu
     pub below : cpu.0 < n
 
-  turn : (s : State (Home E B) (View E B)) (kept : Kept R n start s) (id : ℕ) (cpu : CpuId) (seen : List (Event (Mark E)))
-      → get_elem? s.views id ≡ some (mine start cpu seen) → Turn s kept id cpu seen
-  turn s kept id cpu seen at = record {
+  known_seat : (s : State (Home E B) (View E B)) (kept : Kept R n start s) (id : ℕ) (cpu : CpuId) (seen : List (Event (Mark E)))
+      → get_elem? s.views id ≡ some (mine start cpu seen) → KnownSeat s kept id cpu seen
+  known_seat s kept id cpu seen at = record {
     at = at;
     since = (kept.sees.fits id (mine start cpu seen) at).cpus cpu (inl refl);
     below = kept.sees.known id (mine start cpu seen) cpu at (inl (inl refl));
@@ -48,29 +48,29 @@ module _ {E B O : Type 0} (R : Rules E B O) (n : ℕ) (start : List (LockId × B
 
   -- an event of this CPU that may come, with words and slots that show it, keeps the rule
   after_event : (s : State (Home E B) (View E B)) (kept : Kept R n start s) (id : ℕ) (e : Event (Mark E)) (seen : List (Event (Mark E)))
-      → Turn s kept id (actor e) seen → MayCome (R.allowed (opened start)) kept.log e
+      → KnownSeat s kept id (actor e) seen → MayCome (R.allowed (opened start)) kept.log e
       → (words : List ℕ) (homes : List (Maybe (Home E B))) → Shows R.edited start words homes (e ∷ kept.log)
       → Kept R n start (record { words = words; homes = homes; views = set s.views id (mine start (actor e) (e ∷ kept.log)) })
-  after_event s kept id e seen turn may words homes shows = record {
+  after_event s kept id e seen knows may words homes shows = record {
     few = kept.few;
     log = e ∷ kept.log;
     legal = (may, kept.legal);
     shows = shows;
-    sees = sees_moved n s.views kept.log kept.sees id (mine start (actor e) seen) turn.at (e ∷ [])
-        (one_event n s.views kept.log kept.sees id (mine start (actor e) seen) turn.at e (inl (inl refl))) start (actor e ∷ []) (λ c has. inl has);
-    rest = λ c large. (ne_eqb (actor e).0 c.0 (λ same. let below : (actor e).0 < n = turn.below in omega arith), kept.rest c large);
+    sees = sees_moved n s.views kept.log kept.sees id (mine start (actor e) seen) knows.at (e ∷ [])
+        (one_event n s.views kept.log kept.sees id (mine start (actor e) seen) knows.at e (inl (inl refl))) start (actor e ∷ []) (λ c has. inl has);
+    rest = λ c large. (ne_eqb (actor e).0 c.0 (λ same. let below : (actor e).0 < n = knows.below in omega arith), kept.rest c large);
   }
 
   -- and the CPU's view moves to it
   after_move : (s : State (Home E B) (View E B)) (kept : Kept R n start s) (id : ℕ) (e : Event (Mark E)) (seen : List (Event (Mark E)))
-      → Turn s kept id (actor e) seen → MayCome (R.allowed (opened start)) kept.log e
+      → KnownSeat s kept id (actor e) seen → MayCome (R.allowed (opened start)) kept.log e
       → Moves R (mine start (actor e) seen) (mine start (actor e) (e ∷ kept.log)) e
-  after_move s kept id e seen turn may = record {
+  after_move s kept id e seen knows may = record {
     view = refl;
     adds = record {
-      others = turn.since.more;
-      foreign = λ c same. subst (λ d. AreOthers actor d turn.since.more) (sym same) turn.since.others;
-      is = ap (λ l. e ∷ l) turn.since.is;
+      others = knows.since.more;
+      foreign = λ c same. subst (λ d. AreOthers actor d knows.since.more) (sym same) knows.since.others;
+      is = ap (λ l. e ∷ l) knows.since.is;
     };
     legal = (may, kept.legal);
   }
@@ -85,13 +85,13 @@ module _ {E B O : Type 0} (R : Rules E B O) (n : ℕ) (start : List (LockId × B
       let t : ℕ = slice_index s.words i in
       let x : ℕ = (t + 1) % 2 ^ 64 in
       let e : Event (Mark E) = Draw cpu lock t in
-      let now = turn s kept id cpu seen at in
+      let now = known_seat s kept id cpu seen at in
       let outside : standing cpu kept.log ≡ Outside = standing_since cpu kept.log seen now.since ∙ out in
-      let old = kept.shows.stand lock exists in
+      let old = kept.shows.each lock exists in
       let few : cpu.0 < CPUS = lt_of_lt_of_le now.below kept.few in
       let may : MayCome (R.allowed (opened start)) kept.log e = ((few, outside, old.is.next_is), tt) in
       let within : i < length s.words = subst (λ m. i < m) (sym kept.shows.word_length) (next_within R.edited start lock exists) in
-      let here : Stands R.edited start (set s.words i x) s.homes (e ∷ kept.log) lock = record {
+      let here : ShowsLock R.edited start (set s.words i x) s.homes (e ∷ kept.log) lock = record {
         home = old.home;
         at = old.at;
         is = reword R.edited start (e ∷ kept.log) lock x (slice_index (set s.words i x) i) (slice_index s.words (serving_at k))
@@ -111,15 +111,15 @@ module _ {E B O : Type 0} (R : Rules E B O) (n : ℕ) (start : List (LockId × B
   -- what a look of a CPU that waits may do
   look_may : (s : State (Home E B) (View E B)) (kept : Kept R n start s) (id : ℕ) (cpu : CpuId) (seen : List (Event (Mark E))) (lock : LockId) (ticket : ℕ)
       (exists : IsSome (opened start lock))
-      → Turn s kept id cpu seen → standing cpu seen ≡ Waiting lock ticket
+      → KnownSeat s kept id cpu seen → standing cpu seen ≡ Waiting lock ticket
       → MayCome (R.allowed (opened start)) kept.log (Look cpu lock ticket (slice_index s.words (serving_at (rank_of start lock))))
   look_may s kept id cpu seen lock ticket exists now waits =
-      ((standing_since cpu kept.log seen now.since ∙ waits, (kept.shows.stand lock exists).is.serving_is), tt)
+      ((standing_since cpu kept.log seen now.since ∙ waits, (kept.shows.each lock exists).is.serving_is), tt)
 
   -- a load writes what it found
   loaded : (s : State (Home E B) (View E B)) (i : ℕ) (homes : List (Maybe (Home E B))) (log : List (Event (Mark E))) (lock : LockId)
-      → Stands R.edited start s.words homes log lock → Stands R.edited start (set s.words i (slice_index s.words i)) homes log lock
-  loaded s i homes log lock stands = subst (λ (w : List ℕ). Stands R.edited start w homes log lock) (sym (set-get_or s.words i 0)) stands
+      → ShowsLock R.edited start s.words homes log lock → ShowsLock R.edited start (set s.words i (slice_index s.words i)) homes log lock
+  loaded s i homes log lock stands = subst (λ (w : List ℕ). ShowsLock R.edited start w homes log lock) (sym (set-get_or s.words i 0)) stands
 
   -- what the step leaves, as the call of `load` asks it
   abbrev After : ℕ → Me (Home E B) (View E B) → ℕ → (ℕ → ℕ) → (ℕ → Me (Home E B) (View E B) → Type 0) → State (Home E B) (View E B) → Type 0
@@ -129,7 +129,7 @@ module _ {E B O : Type 0} (R : Rules E B O) (n : ℕ) (start : List (LockId × B
 
   look_misses : (s : State (Home E B) (View E B)) (kept : Kept R n start s) (id slots : ℕ) (cpu : CpuId) (seen : List (Event (Mark E))) (lock : LockId)
       (ticket : ℕ) (exists : IsSome (opened start lock))
-      → Turn s kept id cpu seen → standing cpu seen ≡ Waiting lock ticket → (slice_index s.words (serving_at (rank_of start lock)) == ticket) ≡ false
+      → KnownSeat s kept id cpu seen → standing cpu seen ≡ Waiting lock ticket → (slice_index s.words (serving_at (rank_of start lock)) == ticket) ≡ false
       → After id (mine start cpu seen, []) (serving_at (rank_of start lock)) (λ m. m)
       (Looked R (step slots (serving_at (rank_of start lock)) 0 0 none) (mine start cpu seen, [])) s
   look_misses s kept id slots cpu seen lock ticket exists now waits other =
@@ -138,8 +138,8 @@ module _ {E B O : Type 0} (R : Rules E B O) (n : ℕ) (start : List (LockId × B
       let read : ℕ = slice_index s.words i in
       let e : Event (Mark E) = Look cpu lock ticket read in
       let may : MayCome (R.allowed (opened start)) kept.log e = look_may s kept id cpu seen lock ticket exists now waits in
-      let old = kept.shows.stand lock exists in
-      let here : Stands R.edited start s.words s.homes (e ∷ kept.log) lock = record {
+      let old = kept.shows.each lock exists in
+      let here : ShowsLock R.edited start s.words s.homes (e ∷ kept.log) lock = record {
         home = old.home;
         at = old.at;
         is = missed R.edited (opened start) lock cpu ticket read kept.log may.0.0 other (slice_index s.words (next_at k)) (slice_index s.words i)
@@ -166,7 +166,7 @@ module _ {E B O : Type 0} (R : Rules E B O) (n : ℕ) (start : List (LockId × B
 
   look_hits : (s : State (Home E B) (View E B)) (kept : Kept R n start s) (id slots : ℕ) (cpu : CpuId) (seen : List (Event (Mark E))) (lock : LockId)
       (ticket : ℕ) (exists : IsSome (opened start lock))
-      → Turn s kept id cpu seen → standing cpu seen ≡ Waiting lock ticket → (slice_index s.words (serving_at (rank_of start lock)) == ticket) ≡ true
+      → KnownSeat s kept id cpu seen → standing cpu seen ≡ Waiting lock ticket → (slice_index s.words (serving_at (rank_of start lock)) == ticket) ≡ true
       → After id (mine start cpu seen, []) (serving_at (rank_of start lock)) (λ m. m)
       (Looked R (step slots (serving_at (rank_of start lock)) 0 0 none) (mine start cpu seen, [])) s
   look_hits s kept id slots cpu seen lock ticket exists now waits same =
@@ -176,7 +176,7 @@ module _ {E B O : Type 0} (R : Rules E B O) (n : ℕ) (start : List (LockId × B
       let e : Event (Mark E) = Look cpu lock ticket read in
       let may : MayCome (R.allowed (opened start)) kept.log e = look_may s kept id cpu seen lock ticket exists now waits in
       let legal : IsLawful (MayCome (R.allowed (opened start))) (e ∷ kept.log) = (may, kept.legal) in
-      let old = kept.shows.stand lock exists in
+      let old = kept.shows.each lock exists in
       let found = home_of old.home
       (hit_finds R.edited (opened start) lock cpu ticket read kept.log (legal_words (R.allowed (opened start)) (e ∷ kept.log) legal) same
       (slice_index s.words (next_at k)) (slice_index s.words i) (home_block old.home) old.is) in
@@ -187,7 +187,7 @@ module _ {E B O : Type 0} (R : Rules E B O) (n : ℕ) (start : List (LockId × B
       (subst (λ o. LockFits R.edited (opened start) kept.log lock (slice_index s.words (next_at k)) (slice_index s.words i) o) block_there old.is).home_is.1 in
       let within : k < length s.homes = subst (λ m. k < m) (sym kept.shows.home_length) (rank_below start lock exists) in
       let homes : List (Maybe (Home E B)) = set s.homes k none in
-      let here : Stands R.edited start s.words homes (e ∷ kept.log) lock = record {
+      let here : ShowsLock R.edited start s.words homes (e ∷ kept.log) lock = record {
         home = none;
         at = set_here s.homes k none within;
         is = hit R.edited (opened start) lock cpu ticket read kept.log same (slice_index s.words (next_at k)) (slice_index s.words i) (home_block old.home)
@@ -225,8 +225,8 @@ module _ {E B O : Type 0} (R : Rules E B O) (n : ℕ) (start : List (LockId × B
       go : (b : Bool) → (slice_index s.words (serving_at (rank_of start lock)) == ticket) ≡ b
           → After id (mine start cpu seen, []) (serving_at (rank_of start lock)) (λ m. m)
           (Looked R (step slots (serving_at (rank_of start lock)) 0 0 none) (mine start cpu seen, [])) s
-      go true same = look_hits s kept id slots cpu seen lock ticket exists (turn s kept id cpu seen at) waits same
-      go false other = look_misses s kept id slots cpu seen lock ticket exists (turn s kept id cpu seen at) waits other
+      go true same = look_hits s kept id slots cpu seen lock ticket exists (known_seat s kept id cpu seen at) waits same
+      go false other = look_misses s kept id slots cpu seen lock ticket exists (known_seat s kept id cpu seen at) waits other
 
   pub frees_allowed : (slots id : ℕ) (cpu : CpuId) (seen : List (Event (Mark E))) (lock : LockId) (ticket : ℕ) (edit : E) (block : B) (y : Home E B)
       → IsSome (opened start lock)
@@ -241,7 +241,7 @@ module _ {E B O : Type 0} (R : Rules E B O) (n : ℕ) (start : List (LockId × B
       let read : ℕ = slice_index s.words i in
       let x : ℕ = (read + 1) % 2 ^ 64 in
       let e : Event (Mark E) = Free cpu lock (mark_of edit) in
-      let now = turn s kept id cpu seen at in
+      let now = known_seat s kept id cpu seen at in
       let more : List (Event (Mark E)) = now.since.more in
       let Allowed = R.allowed (opened start) in
       let inside : standing cpu kept.log ≡ Inside lock ticket = standing_since cpu kept.log seen now.since ∙ in_lock in
@@ -257,11 +257,11 @@ module _ {E B O : Type 0} (R : Rules E B O) (n : ℕ) (start : List (LockId × B
       now.since.others in_lock in
       let block_is : option_map (R.edited edit) (block_after R.edited (opened start) lock (sections kept.log)) ≡ Some block =
       ap (option_map (R.edited edit)) unchanged ∙ is_edited in
-      let old = kept.shows.stand lock exists in
+      let old = kept.shows.each lock exists in
       let within : k < length s.homes = subst (λ m. k < m) (sym kept.shows.home_length) (rank_below start lock exists) in
       let word_within : i < length s.words = subst (λ m. i < m) (sym kept.shows.word_length) (serving_within R.edited start lock exists) in
       let homes : List (Maybe (Home E B)) = set s.homes k (some y) in
-      let here : Stands R.edited start (set s.words i x) homes (e ∷ kept.log) lock = record {
+      let here : ShowsLock R.edited start (set s.words i x) homes (e ∷ kept.log) lock = record {
         home = some y;
         at = set_here s.homes k (some y) within;
         is = reword R.edited start (e ∷ kept.log) lock (slice_index s.words (next_at k)) (slice_index (set s.words i x) (next_at k)) x

@@ -27,7 +27,7 @@ abbrev pub fresh_home : {E B : Type 0} → B → Home E B
 fresh_home block = record { block = Some block; edit = None }
 
 -- the words and the slot of one lock are what the log leaves of them
-pub record Stands {E B : Type 0} (edited : E → B → B) (start : List (LockId × B)) (words : List ℕ) (homes : List (Maybe (Home E B)))
+pub record ShowsLock {E B : Type 0} (edited : E → B → B) (start : List (LockId × B)) (words : List ℕ) (homes : List (Maybe (Home E B)))
     (log : List (Event (Mark E))) (lock : LockId) : Type 0 where
   pub home : Maybe (Home E B)
   pub at : get_elem? homes (rank_of start lock) ≡ some home
@@ -39,7 +39,7 @@ pub record Shows {E B : Type 0} (edited : E → B → B) (start : List (LockId �
     (log : List (Event (Mark E))) : Type 0 where
   pub word_length : length words ≡ word_count (length start)
   pub home_length : length homes ≡ length start
-  pub stand : (lock : LockId) → IsSome (opened start lock) → Stands edited start words homes log lock
+  pub each : (lock : LockId) → IsSome (opened start lock) → ShowsLock edited start words homes log lock
 
 -- there is one legal log of the CPUs of this table: the words and slots are its replay, the views are fronts of it
 pub record Kept {E B O : Type 0} (rules : Rules E B O) (cpu_count : ℕ) (start : List (LockId × B)) (s : State (Home E B) (View E B)) : Type 0 where

@@ -3,25 +3,25 @@ use Rattle.std.proofs.Math.ListN.{length-set}
 use Rattle.event_log.specs.declared.ids.LockId.{LockId}
 use Rattle.event_log.specs.Locks.{lock_number}
 use Rattle.plain_machine.specs.Table.{AreFresh}
-use Rattle.plain_machine.proofs.TableLemmas.{fresh_turn}
+use Rattle.plain_machine.proofs.TableLemmas.{fresh_pass}
 use Rattle.plain_machine.proofs.cells.fill.Goals as goal
 
 pub loop-lock-preserved : goal.loop-lock-preserved
 loop-lock-preserved g c =
-    let turn = c.loop-lock.invariant in
+    let so_far = c.loop-lock.invariant in
     let o : LockId × g.row.B.Denot = (c.in-Some.lock, c.in-Some.block) in
     let rest = c.next.new.self.rest.items in
     let cells = c.loop-lock.cells.items in
     let blocks = c.args.blocks.items in
-    let all : c.loop-lock.yielded ++ (o ∷ rest) ≡ blocks = ap (λ l. c.loop-lock.yielded ++ l) (sym c.in-Some.ensures.steps.0) ∙ turn.all
+    let all : c.loop-lock.yielded ++ (o ∷ rest) ≡ blocks = ap (λ l. c.loop-lock.yielded ++ l) (sym c.in-Some.ensures.steps.0) ∙ so_far.all
     ∙ c.into_iter-lock-iterator.ensures.into_iter_gives.0 in
     let within : All (λ entry. lock_number entry.0 < length cells) blocks =
-    subst (λ n. All (λ entry. lock_number entry.0 < n) blocks) (sym turn.length_is) c.requires.within in
+    subst (λ n. All (λ entry. lock_number entry.0 < n) blocks) (sym so_far.length_is) c.requires.within in
     record {
       can_next = tt;
       ends = tt;
-      all = append_assoc c.loop-lock.yielded (o ∷ []) rest ∙ ap (λ l. c.loop-lock.yielded ++ l) (sym c.in-Some.ensures.steps.0) ∙ turn.all;
-      length_is = ap length c.put.ensures ∙ length-set cells (lock_number o.0) _ ∙ turn.length_is;
+      all = append_assoc c.loop-lock.yielded (o ∷ []) rest ∙ ap (λ l. c.loop-lock.yielded ++ l) (sym c.in-Some.ensures.steps.0) ∙ so_far.all;
+      length_is = ap length c.put.ensures ∙ length-set cells (lock_number o.0) _ ∙ so_far.length_is;
       fresh = subst (λ l. AreFresh (c.loop-lock.yielded ++ o ∷ []) l) (sym c.put.ensures)
-          (fresh_turn blocks c.loop-lock.yielded o rest cells all c.requires.distinct within turn.fresh);
+          (fresh_pass blocks c.loop-lock.yielded o rest cells all c.requires.distinct within so_far.fresh);
     }

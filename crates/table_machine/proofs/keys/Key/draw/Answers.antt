@@ -2,7 +2,8 @@ use Rattle.table_machine.proofs.Asking.{draw_asks, draw_tells}
 use Rattle.table_machine.proofs.keys.Key.draw.Goals as goal
 
 pub fetch_add-requires : goal.fetch_add-requires
-fetch_add-requires g c = draw_asks g.E.Edit.rules _ _ _ _ _ _ c.shared.invariant.0.words_are _ _ c.self.invariant _ _ c.args.lock c.self.view_is c.shared.view_is
+fetch_add-requires g c = draw_asks g.E.Edit.rules _ _ _ _ _ _ c.shared.invariant.0.words_are _ _ c.self.invariant _ _ c.args.lock c.self.view_is
+    c.shared.view_is
     c.requires.of c.requires.lock c.requires.outside c.next_word-word.ensures
 
 pub returns-clause-adds : goal.returns-clause-adds
