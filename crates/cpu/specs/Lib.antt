@@ -1,2 +1,4 @@
 pub mod Table
 pub mod Wakeups
+pub mod Guests
+pub mod Cpus

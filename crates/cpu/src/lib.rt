@@ -3,8 +3,12 @@
 //! lost, that a quiet system is stuck, and how many steps a call takes alone.
 #![tactic(auto)]
 
+mod cpus;
+mod guests;
 mod laws;
 
+pub use cpus::{Choice, Cpu};
+pub use guests::{Guest, Stage, Todo};
 pub use laws::{
     calls_return_alone, free_locks_have_no_sleepers, one_signal_loses_a_wake_up,
     order_loses_no_wake_up, quiet_is_stuck, runs_alone, runs_of_three, runs_of_two,

@@ -1,0 +1,191 @@
+-- One CPU over a layer of message calls: what it does next, why it is halted, and what always holds of it. Lists of entries are
+-- newest first; a trace is oldest first.
+use Rattle.std.specs.Prelude.{◌≡◌, ℕ, ◌+◌, ◌≤◌, ◌==◌, Bool, true, false, not, ◌&&◌, List, [], ◌∷◌, ◌++◌, length, map, filter, count_by, reverse, Option, Some, None, is_some, option_map, slice_index_or, slice_set, if◌then◌else◌}
+use Rattle.std.specs.List.{AllByRecursion, list_all}
+use Rattle.event_log.specs.declared.entries.Entry.{Entry}
+use Rattle.event_log.specs.declared.ids.CpuId.{CpuId}
+use Rattle.event_log.specs.declared.ids.Tid.{Tid}
+use Rattle.event_log.specs.declared.ids.TheConstants.{THREADS}
+use Rattle.event_log.specs.History.{AreForeign}
+use Rattle.event_log.specs.Actions.{Action, doer}
+use Rattle.thread_blocks.specs.Queues.{is_in}
+use Rattle.guest.specs.declared.instructions.Instruction.{Instruction}
+use Rattle.guest.specs.Instructions.{instruction_at, names_below}
+use Rattle.layer_traits.specs.declared.calls.Effect.{Effect}
+use Rattle.layer_traits.specs.declared.passes.Pass.{Pass}
+use Rattle.layer_traits.specs.declared.passes.Pass.TheVariants.{Switch, YieldNow, Drain, MakeReady, End}
+use Rattle.layer_traits.specs.declared.steps.Reason.{Reason}
+use Rattle.layer_traits.specs.declared.steps.Reason.TheVariants.{AllEnded, TraceFull}
+use Rattle.layer_traits.specs.declared.steps.Step.{Step}
+use Rattle.layer_traits.specs.declared.steps.Step.TheVariants.{Stepped, Halted}
+use Rattle.layer_traits.specs.declared.talks.Talk.{Talk}
+use Rattle.layer_traits.specs.Places.{Threads, home_of}
+use Rattle.layer_traits.specs.BufferLaw.{Doing, Calling, Passing, entry_cpu, talk_of}
+use Rattle.cpu.specs.declared.guests.Guest.{Guest}
+use Rattle.cpu.specs.declared.guests.Todo.{Todo}
+use Rattle.cpu.specs.declared.guests.Todo.TheVariants.{Finish, PassOn, Compute, Calls}
+use Rattle.cpu.specs.declared.cpus.Choice.{Choice}
+use Rattle.cpu.specs.declared.cpus.Choice.TheVariants.{Polls, Passes, Computes}
+use Rattle.cpu.specs.Guests.{Follows, after_pass, fresh_effect, is_begun, is_calling, is_ended, todo_of}
+
+-- the guest of a thread, in a table by thread
+abbrev pub guest_at : List (Option Guest) → ℕ → Option Guest
+guest_at guests t = slice_index_or guests t None
+
+-- the table with a thread's guest changed
+abbrev pub with_guest : List (Option Guest) → ℕ → (Guest → Guest) → List (Option Guest)
+with_guest guests t f = slice_set guests t (option_map f (guest_at guests t))
+
+-- the effect that a poll of a thread's call had
+abbrev pub fresh_at : Option Guest → Option Effect → Option Effect
+fresh_at None effect = None
+fresh_at (Some g) effect = fresh_effect g.stage effect
+
+-- the table after a pass is done, which began while this thread ran
+abbrev pub passed_by : Option Tid → List (Option Guest) → Pass → List (Option Guest)
+passed_by None guests pass = guests
+passed_by (Some t) guests pass = with_guest guests t.0 (after_pass pass)
+
+-- Nobody runs: the hand is emptied first, then the first ready thread runs; where nobody is ready, who is pending is taken.
+abbrev pub chosen_idle : Option Tid → List Tid → Choice
+chosen_idle (Some s) ready = Passes (MakeReady s)
+chosen_idle None [] = Passes Drain
+chosen_idle None (t ∷ rest) = Passes Switch
+
+-- what a thread does next
+abbrev pub chosen_todo : Tid → Todo → Choice
+chosen_todo t (Calls c) = Polls t c
+chosen_todo t Finish = Passes End
+chosen_todo t PassOn = Passes YieldNow
+chosen_todo t Compute = Computes t
+
+-- a thread runs: its call goes on, or the hand is emptied first
+abbrev pub chosen_by : Tid → Bool → Option Tid → Todo → Choice
+chosen_by t true hand todo = chosen_todo t todo
+chosen_by t false None todo = chosen_todo t todo
+chosen_by t false (Some s) todo = Passes (MakeReady s)
+
+abbrev pub chosen_for : Tid → Option Tid → Option Guest → Choice
+chosen_for t hand None = Passes Drain
+chosen_for t hand (Some g) = chosen_by t (is_calling g.stage) hand (todo_of g)
+
+abbrev pub chosen_at : Option Tid → Option Tid → List Tid → List (Option Guest) → Choice
+chosen_at None hand ready guests = chosen_idle hand ready
+chosen_at (Some t) hand ready guests = chosen_for t hand (guest_at guests t.0)
+
+-- what a CPU does next that is not halted
+abbrev pub chosen : Threads → List (Option Guest) → Choice
+chosen own guests = chosen_at own.current own.hand own.ready guests
+
+-- what is under way while a choice is being done
+abbrev pub doing_of : Choice → Option Doing
+doing_of (Polls t c) = Some (Calling t)
+doing_of (Passes pass) = Some (Passing pass)
+doing_of (Computes t) = None
+
+-- whether this is a guest in a call without an effect
+abbrev pub is_begun_guest : Option Guest → Bool
+is_begun_guest None = false
+is_begun_guest (Some g) = is_begun g.stage
+
+-- how many calls have begun and had no effect
+abbrev pub begun_count : List (Option Guest) → ℕ
+begun_count guests = count_by is_begun_guest guests
+
+-- whether no guest is left to run
+abbrev pub is_over : Option Guest → Bool
+is_over None = true
+is_over (Some g) = is_ended g.stage
+
+-- whether a choice begins a call
+abbrev pub begins_at : Option Guest → Bool
+begins_at None = false
+begins_at (Some g) = not (is_calling g.stage)
+
+abbrev pub begins : Choice → List (Option Guest) → Bool
+begins (Polls t c) guests = begins_at (guest_at guests t.0)
+begins (Passes pass) guests = false
+begins (Computes t) guests = false
+
+-- why a CPU with no section under way is halted: all its threads have ended, or the trace has no room for the call that would begin
+abbrev pub halted_at : Threads → List (Option Guest) → List Entry → ℕ → Option Reason
+halted_at own guests trace limit =
+    if not (is_some own.hand) && list_all is_over guests
+    then Some AllEnded
+    else (if begins (chosen own guests) guests && (length trace + begun_count guests == limit) then Some TraceFull else None)
+
+-- a section that is under way goes on
+abbrev pub reason_in : Bool → Option Reason → Option Reason
+reason_in true halted = None
+reason_in false halted = halted
+
+-- the answer of a step
+abbrev pub step_answer : Option Reason → Step
+step_answer None = Stepped
+step_answer (Some reason) = Halted reason
+
+-- a CPU's entries
+abbrev pub of_cpu : CpuId → List Entry → List Entry
+of_cpu c es = filter (λ e. e.cpu.0 == c.0) es
+
+-- a thread's entries
+abbrev pub of_thread : ℕ → List Entry → List Entry
+of_thread t es = filter (λ e. e.thread.0 == t) es
+
+-- the programs of a table's guests
+abbrev pub programs_of : List (Option Guest) → List (Option (List Instruction))
+programs_of guests = map (λ g. option_map (λ x. x.program) g) guests
+
+-- each guest agrees with its entries and its talk
+abbrev pub AllFollow : List (Option Guest) → List Entry → List Talk → Type 0
+AllFollow guests es talks = (t : Tid) (g : Guest) → guest_at guests t.0 ≡ Some g → Follows g (of_thread t.0 es) (talk_of talks t)
+
+-- the guests of the threads that have ended are at their end
+abbrev pub AreOver : List (Option Guest) → List Tid → Type 0
+AreOver guests ended = (t : Tid) → is_in t ended ≡ true → (g : Guest) → guest_at guests t.0 ≡ Some g → is_ended g.stage ≡ true
+
+-- a program names none but the first so many buffers
+abbrev pub NamesBelow : ℕ → List Instruction → Type 0
+NamesBelow buffers program = (line : ℕ) → names_below buffers (instruction_at program line) ≡ true
+
+-- an entry is of this CPU, and of a thread at home with it
+pub record IsOfHome (homes : List CpuId) (number : CpuId) (e : Entry) : Type 0 where
+  pub cpu : e.cpu.0 ≡ number.0
+  pub home : home_of homes e.thread ≡ Some number
+
+-- what always holds of a CPU
+pub record IsCpu (homes : List CpuId) (buffers : ℕ) (seen : List Entry) (own : Threads) (talks : List Talk) (doing : Option Doing) (number : CpuId)
+    (guests : List (Option Guest)) (trace : List Entry) (limit capacity : ℕ) : Type 0 where
+  -- its trace has each of its effects once, in their order, and each is of a thread at home with it
+  pub kept : trace ≡ reverse (of_cpu number seen)
+  pub stays : AllByRecursion (IsOfHome homes number) (of_cpu number seen)
+  -- each guest agrees with its entries; each thread at home has a guest, whose program names the machine's buffers alone
+  pub follow : AllFollow guests (of_cpu number seen) talks
+  pub over : AreOver guests own.ended
+  pub homed : (t : Tid) → home_of homes t ≡ Some number → (g : Guest) × (guest_at guests t.0 ≡ Some g)
+  pub named : (t : Tid) (g : Guest) → guest_at guests t.0 ≡ Some g → NamesBelow buffers g.program
+  pub few : length guests ≤ THREADS
+  -- what is under way is what would be chosen; a call that is under way has begun; a thread in no call has no woken thread in hand
+  pub agrees : (d : Doing) → doing ≡ Some d → doing_of (chosen own guests) ≡ Some d
+  pub calls : (t : Tid) (g : Guest) → doing ≡ Some (Calling t) → guest_at guests t.0 ≡ Some g → is_calling g.stage ≡ true
+  pub handed : (t : Tid) → own.current ≡ Some t → doing ≡ None → own.hand ≡ None
+  -- the trace has room for the entries of all calls that have begun
+  pub room : length trace + begun_count guests ≤ limit
+  pub reserved : limit ≤ capacity
+
+-- the effects grow by foreign ones and then by at most one of this CPU
+pub record SeenGrows (ActsFor : CpuId → Type 0) (cpu : CpuId) (old new : List Entry) : Type 0 where
+  pub others : List Entry
+  pub mine : List Entry
+  pub foreign : AreForeign ActsFor entry_cpu others
+  pub own : AllByRecursion (λ e. e.cpu ≡ cpu) mine
+  pub few : length mine ≤ 1
+  pub is : new ≡ mine ++ (others ++ old)
+
+-- the actions grow by foreign ones and then by this CPU's own
+pub record ActsGrow {N : Type 0} (ActsFor : CpuId → Type 0) (cpu : CpuId) (old new : List (Action N)) : Type 0 where
+  pub others : List (Action N)
+  pub mine : List (Action N)
+  pub foreign : AreForeign ActsFor doer others
+  pub own : AllByRecursion (λ a. doer a ≡ cpu) mine
+  pub is : new ≡ mine ++ (others ++ old)

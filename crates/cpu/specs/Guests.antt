@@ -1,0 +1,152 @@
+-- A thread's guest: what it does next, what a poll of its call makes of it, and how its private state follows its entries. Lists of
+-- entries are newest first.
+use Rattle.std.specs.Prelude.{◌≡◌, Bool, true, false, List, Option, Some, None, option_map, option_to_list}
+use Rattle.event_log.specs.declared.entries.Entry.{Entry}
+use Rattle.event_log.specs.declared.ids.BufId.{BufId}
+use Rattle.event_log.specs.declared.ids.CpuId.{CpuId}
+use Rattle.event_log.specs.declared.ids.Tid.{Tid}
+use Rattle.event_log.specs.Messages.{first_word}
+use Rattle.guest.specs.declared.instructions.Instruction.{Instruction}
+use Rattle.guest.specs.declared.instructions.Instruction.TheVariants as ins
+use Rattle.guest.specs.State.{State, at_start, next_of, sent_from, moved_on, moved_with, after_local, after_send, after_recv, after_yield}
+use Rattle.guest.specs.Calls.{IsProgramsCalls, HasEnded}
+use Rattle.layer_traits.specs.declared.calls.Call.{Call}
+use Rattle.layer_traits.specs.declared.calls.Call.TheVariants.{Send, Recv}
+use Rattle.layer_traits.specs.declared.calls.Effect.{Effect}
+use Rattle.layer_traits.specs.declared.calls.Reply.{Reply}
+use Rattle.layer_traits.specs.declared.calls.Reply.TheVariants.{Sent, Got, NoBuffer}
+use Rattle.layer_traits.specs.declared.passes.Pass.{Pass}
+use Rattle.layer_traits.specs.declared.passes.Pass.TheVariants.{Switch, YieldNow, Drain, MakeReady, End}
+use Rattle.layer_traits.specs.declared.talks.Talk.{Talk}
+use Rattle.layer_traits.specs.declared.talks.Stage.TheVariants as talk_stage
+use Rattle.layer_traits.specs.BufferLaw.{IsEffectOf, begun_of, entry_of}
+use Rattle.cpu.specs.declared.guests.Guest.{Guest}
+use Rattle.cpu.specs.declared.guests.Stage.{Stage}
+use Rattle.cpu.specs.declared.guests.Stage.TheVariants.{Between, Begun, Done, Ended}
+use Rattle.cpu.specs.declared.guests.Todo.{Todo}
+use Rattle.cpu.specs.declared.guests.Todo.TheVariants.{Finish, PassOn, Compute, Calls}
+
+-- what an instruction asks for
+abbrev pub todo_at : State → Instruction → Todo
+todo_at s ins.Exit = Finish
+todo_at s ins.Yield = PassOn
+todo_at s (ins.Send b r) = Calls (Send b (sent_from s r))
+todo_at s (ins.Recv b r) = Calls (Recv b)
+todo_at s (ins.Set r n) = Compute
+todo_at s (ins.Add r q) = Compute
+todo_at s (ins.Sub r q) = Compute
+todo_at s (ins.Jnz r k) = Compute
+
+-- what a guest does next
+abbrev pub todo_of : Guest → Todo
+todo_of g = todo_at g.thread (next_of g.program g.thread)
+
+-- a guest before its first instruction
+abbrev pub new_guest : List Instruction → Guest
+new_guest program = record { program = program; thread = at_start; stage = Between }
+
+-- a guest after an instruction of its own
+abbrev pub computed : Guest → Guest
+computed g = record g { thread = after_local (next_of g.program g.thread) g.thread }
+
+-- a guest that passed its turn on
+abbrev pub passed : Guest → Guest
+passed g = record g { thread = after_yield (next_of g.program g.thread) g.thread }
+
+-- a guest that has ended
+abbrev pub ended : Guest → Guest
+ended g = record g { stage = Ended }
+
+-- the guest of the thread that runs, after a pass is done
+abbrev pub after_pass : Pass → Guest → Guest
+after_pass Switch g = g
+after_pass YieldNow g = passed g
+after_pass Drain g = g
+after_pass (MakeReady t) g = g
+after_pass End g = ended g
+
+-- the effect that came in a poll, after which the thread's talk has this one: a call whose effect has come has no other
+abbrev pub fresh_effect : Stage → Option Effect → Option Effect
+fresh_effect Between effect = effect
+fresh_effect Begun effect = effect
+fresh_effect Done effect = None
+fresh_effect Ended effect = effect
+
+-- the stage after a poll of the call
+abbrev pub stage_after : Option Effect → Option Reply → Stage
+stage_after effect (Some reply) = Between
+stage_after (Some f) None = Done
+stage_after None None = Begun
+
+-- the private state after a poll of the call: it moves on once the call replies
+abbrev pub after_answer : Option Reply → Instruction → State → State
+after_answer None i s = s
+after_answer (Some NoBuffer) i s = s
+after_answer (Some Sent) i s = after_send i s
+after_answer (Some (Got message)) i s = after_recv i message s
+
+-- a guest after a poll of its call, which left its talk with this effect
+abbrev pub polled : Guest → Option Effect → Option Reply → Guest
+polled g effect answer = record {
+  program = g.program;
+  thread = after_answer answer (next_of g.program g.thread) g.thread;
+  stage = stage_after effect answer;
+}
+
+-- the private state that an effect will leave once its call replies
+abbrev pub after_effect : Instruction → Effect → State → State
+after_effect (ins.Send b r) f s = moved_on s
+after_effect (ins.Recv b r) f s = moved_with s r (first_word f.value)
+after_effect ins.Exit f s = s
+after_effect ins.Yield f s = s
+after_effect (ins.Set r n) f s = s
+after_effect (ins.Add r q) f s = s
+after_effect (ins.Sub r q) f s = s
+after_effect (ins.Jnz r k) f s = s
+
+-- a guest follows its entries, by its stage: before its effect they lead to its state; after it, to the state after the effect
+abbrev pub FollowsIn : Stage → List Instruction → State → List Entry → Option Call → Option Effect → Type 0
+FollowsIn Between program s es begun effect = (begun ≡ None) × IsProgramsCalls program es s
+FollowsIn Begun program s es begun effect = (c : Call) × (todo_at s (next_of program s) ≡ Calls c) × (begun ≡ Some c)
+    × (effect ≡ None) × IsProgramsCalls program es s
+FollowsIn Done program s es begun effect = (c : Call) × (f : Effect) × (todo_at s (next_of program s) ≡ Calls c) × (begun ≡ Some c)
+    × (effect ≡ Some f) × IsEffectOf c f × IsProgramsCalls program es (after_effect (next_of program s) f s)
+FollowsIn Ended program s es begun effect = (begun ≡ None) × IsProgramsCalls program es s × HasEnded program s
+
+-- a talk in no call is between calls
+abbrev pub IsSettled : Talk → Type 0
+IsSettled talk = begun_of talk ≡ None → talk.stage ≡ talk_stage.Between
+
+-- a guest, its entries and its talk agree
+abbrev pub Follows : Guest → List Entry → Talk → Type 0
+Follows g es talk = IsSettled talk × FollowsIn g.stage g.program g.thread es (begun_of talk) talk.effect
+
+-- the effect that a call has had: one that begins now has had none
+abbrev pub had : Option Call → Option Effect → Option Effect
+had None effect = None
+had (Some c) effect = effect
+
+-- the entry of an effect, if there is one
+abbrev pub entries_of : CpuId → Tid → BufId → Option Effect → List Entry
+entries_of cpu t b effect = option_to_list (option_map (entry_of cpu t b) effect)
+
+-- whether a stage is that of a call without an effect
+abbrev pub is_begun : Stage → Bool
+is_begun Between = false
+is_begun Begun = true
+is_begun Done = false
+is_begun Ended = false
+
+-- whether a stage is the last one
+abbrev pub is_ended : Stage → Bool
+is_ended Between = false
+is_ended Begun = false
+is_ended Done = false
+is_ended Ended = true
+
+-- whether a stage is inside a call
+abbrev pub is_calling : Stage → Bool
+is_calling Between = false
+is_calling Begun = true
+is_calling Done = true
+is_calling Ended = false

@@ -1,0 +1,146 @@
+//! A thread's guest as its CPU keeps it.
+
+ghost use Rattle.std.specs.Prelude.{◌≡◌};
+
+use guest::{Instruction, Program, Thread};
+use layer_traits::{Call, Effect, Pass, Reply};
+
+/// How a guest stands to its program.
+#[derive(Clone, Copy, Debug, PartialEq, Eq)]
+pub enum Stage {
+    /// It stands before an instruction that it has not begun.
+    Between,
+    /// It has begun the message call at which it stands, and the call has had no effect yet.
+    Begun,
+    /// The message call at which it stands has had its effect, and has not returned yet.
+    Done,
+    /// It has ended.
+    Ended,
+}
+
+/// What a guest does next.
+#[derive(Clone, Copy, Debug)]
+pub enum Todo {
+    /// It ends.
+    Finish,
+    /// It passes its turn on to the other threads of its CPU.
+    PassOn,
+    /// It does an instruction that touches its own line and registers alone.
+    Compute,
+    /// It polls this message call.
+    Calls(Call),
+}
+
+/// A thread's guest: its program, its line and registers, and its stage.
+#[derive(Drop)]
+pub struct Guest {
+    /// Its program.
+    pub program: Program,
+    /// Its line and registers.
+    pub thread: Thread,
+    /// How it stands to its program.
+    pub stage: Stage,
+}
+
+impl Guest {
+    ghost use Rattle.cpu.specs.Guests.{todo_of, new_guest, computed, passed, ended, after_pass, fresh_effect, polled, is_calling};
+
+    /// A guest before its first instruction.
+    pub fn new(program: Program) -> Guest
+        ensures { result ≡ new_guest program }
+    {
+        Guest {
+            program,
+            thread: Thread::new(),
+            stage: Stage::Between,
+        }
+    }
+
+    /// What the guest does next.
+    pub fn todo(&self) -> Todo
+        ensures { result ≡ todo_of self.now }
+    {
+        match self.thread.next(&self.program) {
+            Instruction::Exit => Todo::Finish,
+            Instruction::Yield => Todo::PassOn,
+            Instruction::Send(buffer, from) => {
+                Todo::Calls(Call::Send(buffer, self.thread.value(from)))
+            }
+            Instruction::Recv(buffer, _) => Todo::Calls(Call::Recv(buffer)),
+            Instruction::Set(..)
+            | Instruction::Add(..)
+            | Instruction::Sub(..)
+            | Instruction::Jnz(..) => Todo::Compute,
+        }
+    }
+
+    /// Whether the guest is inside a message call.
+    pub fn is_calling(&self) -> bool
+        ensures { result ≡ is_calling self.now.stage }
+    {
+        match self.stage {
+            Stage::Between | Stage::Ended => false,
+            Stage::Begun | Stage::Done => true,
+        }
+    }
+
+    /// Does the guest's instruction, which shares nothing.
+    pub fn compute(&mut self)
+        ensures { self.new ≡ computed self.old }
+    {
+        self.thread.step_local(&self.program);
+    }
+
+    /// Moves the guest past its `yield`.
+    fn pass_on(&mut self)
+        ensures { self.new ≡ passed self.old }
+    {
+        self.thread.after_yield(&self.program);
+    }
+
+    /// Ends the guest.
+    fn end(&mut self)
+        ensures { self.new ≡ ended self.old }
+    {
+        self.stage = Stage::Ended;
+    }
+
+    /// Notes that a pass is done which began while this guest's thread ran.
+    pub fn pass(&mut self, pass: Pass)
+        ensures { self.new ≡ after_pass pass self.old }
+    {
+        match pass {
+            Pass::YieldNow => self.pass_on(),
+            Pass::End => self.end(),
+            Pass::Switch | Pass::Drain | Pass::MakeReady(_) => {}
+        }
+    }
+
+    /// The effect that a poll of the guest's call had, where `effect` is what the call has had
+    /// after it.
+    pub fn fresh(&self, effect: &Option<Effect>) -> Option<Effect>
+        ensures { result ≡ fresh_effect self.now.stage effect.now }
+    {
+        match self.stage {
+            Stage::Done => None,
+            Stage::Between | Stage::Begun | Stage::Ended => *effect,
+        }
+    }
+
+    /// Notes what a poll of the guest's call answered, where `effect` is what the call has had
+    /// after it.
+    pub fn note(&mut self, effect: &Option<Effect>, answer: &Option<Reply>)
+        ensures { self.new ≡ polled self.old effect.now answer.now }
+    {
+        self.stage = match (answer, effect) {
+            (Some(_), _) => Stage::Between,
+            (None, Some(_)) => Stage::Done,
+            (None, None) => Stage::Begun,
+        };
+        match answer {
+            None | Some(Reply::NoBuffer) => {}
+            Some(Reply::Sent) => self.thread.after_send(&self.program),
+            Some(Reply::Got(message)) => self.thread.after_recv(&self.program, *message),
+        }
+    }
+}
