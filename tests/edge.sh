@@ -83,6 +83,13 @@ for program; do
     rows
   fi
 done
+# after a refused start of a thread no section was done: a test tells it, where room for one stack makes the second start fail
+tests=crates/mctower/out/mctower_tests
+if [ -x "$tests" ]; then
+  program=$(realpath "$tests")
+  row 0 $'\ntest result: ok\n' '' "$one_stack; mctower workers::tests::after_a_refused_allocation_or_start_the_number_is_0"
+fi
+
 [ $((passed + failed)) -gt 0 ] || { echo "edge: build the program first: (cd crates/mctower && rt run -- count --cpus 1 --times 1)"; exit 1; }
 echo "edge: $passed passed, $failed failed"
 [ "$failed" = 0 ]

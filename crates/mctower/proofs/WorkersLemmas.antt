@@ -1,5 +1,6 @@
 -- Facts on what workers did.
-use Rattle.std.proofs.Common.{◌≡◌, ◌≢◌, ℕ, zero, suc, ◌+◌, ◌*◌, ◌<◌, ◌≤◌, Bool, true, false, if◌then◌else◌, List, [], ◌∷◌, ◌++◌, length, Option, None, Some, Result, Ok, Err, IfOk, is_some, refl, ap, sym, ◌∙◌, subst, get_or, All, ◌%◌, ◌^◌, length-append, ne_eqb, zero-add, mul-le-mul, mod-eq_of_lt, lt_of_not-le, arith}
+use Rattle.std.proofs.Common.{◌≡◌, ◌≢◌, ℕ, zero, suc, ◌+◌, ◌*◌, ◌<◌, ◌≤◌, Bool, true, false, if◌then◌else◌, List, [], ◌∷◌, ◌++◌, length, Option, None, Some, Result, Ok, Err, IfOk, is_some, refl, ap, sym, ◌∙◌, subst, get_or, take, All, ◌%◌, ◌^◌, length-append, ne_eqb, zero-add, mul-le-mul, mod-eq_of_lt, lt_of_not-le, arith}
+use Rattle.std.proofs.lemmas.List.{length-take, take_all, take_more}
 use mathlib.Core.Logic.{dite}
 use native.Mathlib.Decide.{ℕ_discrete, dec_le}
 use mathlib.Core.Option.{some, some-injective, some-ne-none}
@@ -23,7 +24,7 @@ use Rattle.table_machine.specs.Desks.{Board, Desk, new_desk, new_desks, Covers, 
 use Rattle.mctower.specs.declared.count.AddOne.{AddOne}
 use Rattle.mctower.specs.declared.count.TheConstants.{NUMBER}
 use Rattle.mctower.specs.Count.{counting, sections_at}
-use Rattle.mctower.specs.Workers.{made, MayGoOn, Both, HasMade, IsAtRest, IsNumberOfFrees}
+use Rattle.mctower.specs.Workers.{made, MayGoOn, Both, HasMade, MayHaveMade, AllHaveMade, IsFresh, IsNumberOfFrees}
 use Rattle.mctower.proofs.CountLemmas.{frees_are_sections, number_is}
 
 one_more : (b : Bool) (k : ℕ) → (if b then k + 1 else k) ≡ k + (if b then 1 else 0)
@@ -195,18 +196,6 @@ came_at {E = E} board Fits (suc n) came all k below =
     let old = came_at board Fits n split.0 split.3 k (omega arith) in
     (old.0, ap (λ l. get_elem? l k) split.2 ∙ at_longer split.0 (split.1 ∷ []) k old.0 old.1, old.2)))
 
--- the keys of a new table are at rest
-pub new_at_rest : {E B : Type 0} (board : Board B) (n : ℕ) → All (IsAtRest {E = E} board) (new_desks board n)
-new_at_rest board zero k d below = absurd (omega arith)
-new_at_rest {E = E} board (suc n) k d below = dite (ℕ_discrete k n)
-    (λ (e : k ≡ n). subst (λ (x : Desk _ _). IsAtRest board x) (sym (read_at (new_desks board n ++ new_desk board n ∷ []) k d (new_desk board n) (ap (λ m. get_elem? (new_desks {E = E} board n ++ new_desk board n ∷ []) m) e ∙ at_last (new_desks board n) (new_desk board n) n (length_new E board n))))
-    (record { of = (refl, refl); outside = refl }))
-    (λ (ne : k ≢ n).
-    let long : length (new_desks {E = E} board n ++ new_desk board n ∷ []) ≡ n + 1 = length-append (new_desks {E = E} board n) (new_desk board n ∷ []) ∙ ap (λ m. m + 1) (length_new E board n) in
-    let under : k < n = omega arith in
-    let there : k < length (new_desks {E = E} board n) = subst (λ m. k < m) (sym (length_new E board n)) under in
-    subst (λ (x : Desk _ _). IsAtRest board x) (sym (get_or-append (new_desks board n) (new_desk board n ∷ []) d k there)) (new_at_rest board n k d there))
-
 module _ {B : Type 0} {E : Type 0} (lock : LockId) (times : ℕ) (board : Board B) (came : List (Desk E B)) (all : Both (λ d e. HasMade lock d e times) (new_desks board board.cpus) came) where
   -- each CPU has its key among those that came back
   pub came_cover : Covers board.cpus came
@@ -257,3 +246,59 @@ module _ (times : ℕ) (board : Board ℕ) (came : List (Desk AddOne ℕ)) (bloc
 
 pub number_read : (blocks : List (LockId × ℕ)) (n : ℕ) (o : LockId × ℕ) → get_elem? blocks 0 ≡ some (NUMBER, n) → o ≡ get_or blocks 0 o → o.1 ≡ n
 number_read blocks n o at is = ap (λ (p : LockId × ℕ). p.1) (is ∙ read_at blocks 0 o (NUMBER, n) at)
+
+-- the turn of one more is below the number of keys
+pub turn_below : {A B : Type 0} (ys xs rest all : List A) (x : A) (keys : List B) (at : ℕ) → at ≡ length ys → ys ++ xs ≡ all
+    → xs ≡ x ∷ rest → length all ≡ length keys → at < length keys
+turn_below ys xs rest all x keys at turn whole is many =
+    let long : length ys + length xs ≡ length all = sym (length-append ys xs) ∙ ap length whole in
+    let more : length xs ≡ suc (length rest) = ap length is in
+    omega arith
+
+-- one key more has its own in the other list
+pub both_taken : {A H : Type 0} (Fits : A → H → Type 0) (keys : List A) (at : ℕ) (d x : A) (hs all : List H) (h : H) → at < length keys
+    → Both Fits (take at keys) hs → x ≡ get_or keys at d → Fits x h → all ≡ hs ++ h ∷ [] → Both Fits (take (at + 1) keys) all
+both_taken Fits keys at d x hs all h below so_far is fits grown =
+    let fits_here : Fits (get_or keys at d) h = subst (λ (y : _). Fits y h) is fits in
+    let more : Both Fits (take at keys ++ get_or keys at d ∷ []) (hs ++ h ∷ []) = both_more Fits (take at keys) hs (get_or keys at d) h so_far fits_here in
+    subst (λ (zs : List _). Both Fits (take (at + 1) keys) zs) (sym grown)
+    (subst (λ (ys : List _). Both Fits ys (hs ++ h ∷ [])) (sym (take_more keys at d below)) more)
+
+-- the worker of a fresh key has made what is promised of that key
+pub kept_fresh : {E B : Type 0} (lock : LockId) (board : Board B) (e d : Desk E B) (cpu : CpuId) (came : Option (Desk E B)) (times : ℕ)
+    → e ≡ d → cpu ≡ d.cpu → IsFresh board d → MayHaveMade lock (new_desk board cpu.0) came times → MayHaveMade lock e came times
+kept_fresh lock board e d cpu came times same is fresh made =
+    let there : new_desk board cpu.0 ≡ e = ap (λ (c : CpuId). new_desk board c.0) is ∙ (sym fresh ∙ sym same) in
+    subst (λ (x : Desk _ _). MayHaveMade lock x came times) there made
+
+-- the keys of a new table are fresh
+pub new_fresh : {E B : Type 0} (board : Board B) (n : ℕ) → All (IsFresh {E = E} board) (new_desks board n)
+new_fresh board zero k d below = absurd (omega arith)
+new_fresh {E = E} board (suc n) k d below = dite (ℕ_discrete k n)
+    (λ (e : k ≡ n). subst (λ (x : Desk _ _). IsFresh board x) (sym (read_at (new_desks board n ++ new_desk board n ∷ []) k d (new_desk board n)
+    (ap (λ m. get_elem? (new_desks {E = E} board n ++ new_desk board n ∷ []) m) e ∙ at_last (new_desks board n) (new_desk board n) n (length_new E board n)))) refl)
+    (λ (ne : k ≢ n).
+    let long : length (new_desks {E = E} board n ++ new_desk board n ∷ []) ≡ n + 1 = length-append (new_desks {E = E} board n) (new_desk board n ∷ []) ∙ ap (λ m. m + 1) (length_new E board n) in
+    let under : k < n = omega arith in
+    let there : k < length (new_desks {E = E} board n) = subst (λ m. k < m) (sym (length_new E board n)) under in
+    subst (λ (x : Desk _ _). IsFresh board x) (sym (get_or-append (new_desks board n) (new_desk board n ∷ []) d k there)) (new_fresh board n k d there))
+
+-- so many children, one for each key that was taken, leave room for one more
+pub room_at : {A B : Type 0} (keys : List A) (children : List B) (at n cap : ℕ) → at < length keys → length children ≡ length (take at keys)
+    → length keys ≤ cap → n ≡ length children → n < cap
+room_at keys children at n cap below same room count = let short = length-take at keys in omega arith
+
+pub taken_within : {A B : Type 0} (keys : List A) (children : List B) (at cap : ℕ) → length children ≡ length (take at keys) → length keys ≤ cap
+    → length children ≤ cap
+taken_within keys children at cap same room = let short = length-take at keys in omega arith
+
+-- all keys were taken
+pub taken_all : {A C : Type 0} (keys : List A) (at : ℕ) (ys all : List C) → at ≡ length ys → ys ≡ all → length all ≡ length keys → take at keys ≡ keys
+taken_all keys at ys all turn is many = let long = ap length is in take_all at keys (omega arith)
+
+-- the keys of a new table have made no section
+pub new_have_made_none : (E : Type 0) {B : Type 0} (lock : LockId) (board : Board B) (n : ℕ) → AllHaveMade {E = E} lock (new_desks board n) (new_desks board n) 0
+new_have_made_none E lock board zero = tt
+new_have_made_none E lock board (suc n) =
+    both_more (λ d e. HasMade {E = E} lock d e 0) (new_desks board n) (new_desks board n) (new_desk board n) (new_desk board n)
+    (new_have_made_none E lock board n) (record { cpu = refl; table = refl; outside = refl; more = omega arith })

@@ -11,7 +11,7 @@ use Rattle.event_log.specs.Sections.{Section, section_actor}
 use Rattle.layer_traits.specs.declared.edits.Mark.{Mark}
 use Rattle.layer_traits.specs.OneLock.{opened}
 use Rattle.layer_traits.specs.Protocol.{Rules, MayCome, sections}
-use Rattle.table_machine.specs.Desks.{Board, Desk, IsIn, IsOf}
+use Rattle.table_machine.specs.Desks.{Board, Desk, IsIn, new_desk}
 use Rattle.mctower.specs.Count.{sections_at}
 
 -- how many sections at this lock are this CPU's
@@ -23,10 +23,17 @@ abbrev pub MayGoOn : {S : Type 0} → Option S → S → Type 0
 MayGoOn None s = Unit {0}
 MayGoOn (Some under_way) s = under_way ≡ s
 
--- a key of this table that can open a section
-pub record IsAtRest {E B : Type 0} (board : Board B) (desk : Desk E B) : Type 0 where
-  pub of : IsOf board desk
-  pub outside : standing desk.cpu desk.seen ≡ Outside
+-- no table at all
+abbrev pub nowhere : Board ℕ
+nowhere = record {
+  table = record { words = 0; slots = 0; views_name = 0; atom = 0; block = 0; offset = 0; slot_names = [] };
+  start = [];
+  cpus = 0;
+}
+
+-- a key of this table that has seen nothing
+abbrev pub IsFresh : {E B : Type 0} → Board B → Desk E B → Type 0
+IsFresh board desk = desk ≡ new_desk board desk.cpu.0
 
 -- the key has come back after so many sections of its CPU
 pub record HasMade {E B : Type 0} (lock : LockId) (old new : Desk E B) (times : ℕ) : Type 0 where

@@ -1,12 +1,13 @@
 //! Counting in threads.
 
-ghost use Rattle.std.specs.Prelude.{◌≡◌, ℕ, ◌+◌, ◌*◌, ◌<◌, ◌≤◌, [], ◌∷◌, None, IsSome, IfOk, All, length, vec_capacity};
+ghost use Rattle.std.specs.Prelude.{◌≡◌, ℕ, ◌+◌, ◌*◌, ◌<◌, ◌≤◌, [], ◌∷◌, None, IsErr, IsSome, IfOk, IfErr, OnOk, OnErr, All, length, vec_capacity};
 ghost use Rattle.event_log.specs.declared.ids.CpuId.{CpuId};
 ghost use Rattle.event_log.specs.WordsLog.{standing, Outside};
 ghost use Rattle.layer_traits.specs.OneLock.{opened};
-ghost use Rattle.table_machine.specs.Desks.{IsOf, new_desks};
+ghost use Rattle.table_machine.specs.Desks.{Board, Desk, IsOf, new_desk, new_desks};
 ghost use Rattle.mctower.specs.Count.{counting};
-ghost use Rattle.mctower.specs.Workers.{made, Both, HasMade, MayHaveMade, AllHaveMade, IsAtRest, IsNumberOfFrees};
+ghost use Rattle.mctower.specs.declared.workers.CountFault.TheVariants.{NoMemory as LacksMemory, NoThread as LacksThread};
+ghost use Rattle.mctower.specs.Workers.{made, Both, HasMade, MayHaveMade, AllHaveMade, IsFresh, IsNumberOfFrees, nowhere};
 
 use crate::count::{AddOne, NUMBER};
 use crate::line::MOST_TIMES;
@@ -15,9 +16,9 @@ use event_log::{CPUS, CpuId, LockId, NoMemory};
 use layer_traits::LockLayer;
 use spinlock::Ticket;
 use std::alloc::{AllocError, Global};
+use std::marker::{Brand, Model, PhantomData};
 use std::snapshot::Snapshot;
-use std::sync::Wait;
-use std::sync::atomic::{AtomicBool, Ordering};
+use std::sync::{Mutex, Wait};
 use std::thread;
 use std::thread::{Promise, PromisedHandle, Threads};
 use table_machine::{Key, Seat, Shared};
@@ -34,11 +35,57 @@ pub enum CountFault {
     NoThread,
 }
 
-impl From<AllocError> for CountFault {
-    fn from(_refused: AllocError) -> CountFault {
-        CountFault::NoMemory
+/// The table that the workers of one count sit at. A proof picks it.
+pub trait Crew {
+    ghost board: { Board ℕ };
+}
+
+impl Crew for Brand {
+    ghost board = { nowhere };
+}
+
+// A key that has seen nothing of the workers' table.
+#[derive(Drop)]
+struct Fresh<T: Crew> {
+    key: Key<AddOne>,
+    crew: PhantomData<T>,
+}
+
+impl<T: Crew> Model for Fresh<T> {
+    ghost use Rattle.std.specs.Prelude.{ℕ};
+    ghost use Rattle.table_machine.specs.Desks.{Desk};
+    ghost use Rattle.mctower.specs.declared.count.AddOne.{AddOne as AnAddOne};
+    ghost use Rattle.mctower.specs.Workers.{IsFresh};
+
+    ghost Value = { Desk AnAddOne ℕ };
+
+    ghost view = { λ f. f.key };
+
+    ghost invariant = { λ f. IsFresh T.board f.key };
+}
+
+impl<T: Crew> Fresh<T> {
+    fn new(key: Key<AddOne>) -> Fresh<T>
+        requires { IsFresh T.board key }
+        ensures { result ≡ key }
+    {
+        Fresh {
+            key,
+            crew: PhantomData,
+        }
+    }
+
+    fn key(self) -> Key<AddOne>
+        ensures key { result ≡ self }
+        ensures fresh { IsFresh T.board result }
+    {
+        let Fresh { key, crew: _ } = self;
+        key
     }
 }
+
+// Where a key waits for its worker, which takes it out.
+type Hand<T> = Mutex<Option<Fresh<T>>>;
 
 // What a worker's result keeps: if it worked, its CPU has done so many sections.
 #[derive(Drop)]
@@ -116,93 +163,243 @@ fn work<R: Wait>(rt: &R, shared: &Shared<AddOne>, key: Key<AddOne>, times: u64) 
     seat.back()
 }
 
-// A worker: it waits until all are started, and works if they were.
-fn worker<R: Wait>(
+// A worker: it waits until all are started, and works if its key was then put into its hand.
+fn worker<T: Crew, R: Wait>(
     rt: &R,
     shared: &Shared<AddOne>,
-    key: Key<AddOne>,
+    cpu: CpuId,
     times: u64,
     start: WaitGroup,
-    go: &AtomicBool,
+    hand: &Hand<T>,
 ) -> Option<Key<AddOne>>
-    requires rest { IsAtRest shared.now key }
+    requires table { shared.now ≡ T.board }
     requires lock { IsSome (opened shared.now.start NUMBER) }
-    ensures { MayHaveMade NUMBER key result times }
+    ensures { MayHaveMade NUMBER (new_desk shared.now cpu.0) result times }
 {
     start.wait(rt);
-    if !go.load(Ordering::SeqCst) {
+    let taken = hand.lock(rt).take();
+    let key = taken?.key();
+    if key.cpu() != cpu {
         return None;
     }
     Some(work(rt, shared, key, times))
 }
 
-// Joins the workers, and puts their keys into the list, which has room for them.
-fn join_all<R: Threads>(
+// All memory that the workers of so many keys take.
+#[derive(Drop)]
+struct Room<T: Crew> {
+    hands: Vec<Hand<T>>,
+    group: WaitGroup,
+    starts: Vec<WaitGroup>,
+    children: Vec<PromisedHandle<Option<Key<AddOne>>, MadeBy>>,
+    done: Vec<Key<AddOne>>,
+}
+
+// So many empty hands.
+fn empty_hands<T: Crew>(alloc: Global, count: usize) -> Result<Vec<Hand<T>>, AllocError>
+    ensures { IfOk result (λ hands. length hands.items ≡ count) }
+{
+    let mut hands = Vec::with_capacity(alloc, count)?;
+    for _ in 0..count {
+        hands.push(Mutex::new(None))?;
+    }
+    Ok(hands)
+}
+
+// So many members of the group.
+fn members(alloc: Global, group: &WaitGroup, count: usize) -> Result<Vec<WaitGroup>, AllocError>
+    ensures { IfOk result (λ starts. length starts.items ≡ count) }
+{
+    let mut starts = Vec::with_capacity(alloc, count)?;
+    for _ in 0..count {
+        starts.push(group.clone()?)?;
+    }
+    Ok(starts)
+}
+
+fn room_for<T: Crew>(alloc: Global, count: usize) -> Result<Room<T>, AllocError>
+    ensures hands { IfOk result (λ room. length room.hands.items ≡ count) }
+    ensures starts { IfOk result (λ room. length room.starts.items ≡ count) }
+    ensures children { IfOk result (λ room. (room.children.items ≡ []) × (count ≤ vec_capacity room.children)) }
+    ensures done { IfOk result (λ room. (room.done.items ≡ []) × (count ≤ vec_capacity room.done)) }
+{
+    let group = WaitGroup::new(alloc)?;
+    let starts = members(alloc, &group, count)?;
+    Ok(Room {
+        hands: empty_hands(alloc, count)?,
+        group,
+        starts,
+        children: Vec::with_capacity(alloc, count)?,
+        done: Vec::with_capacity(alloc, count)?,
+    })
+}
+
+// Puts the keys into the hands, in order.
+fn hand_out<T: Crew, R: Wait>(rt: &R, hands: &[Hand<T>], keys: Vec<Key<AddOne>>)
+    requires { All (IsFresh T.board) keys.items }
+{
+    let mut hands = hands.iter();
+    for key in keys {
+        if let Some(hand) = hands.next() {
+            *hand.lock(rt) = Some(Fresh::new(key));
+        }
+    }
+}
+
+// Joins the workers, and puts their keys into the list, which has room for them. Each has its key;
+// for one that had not it would wait, since there is no error to tell once sections are done.
+fn join_all<R: Threads + Wait>(
     rt: &R,
     children: Vec<PromisedHandle<Option<Key<AddOne>>, MadeBy>>,
     mut done: Vec<Key<AddOne>>,
-) -> Result<Vec<Key<AddOne>>, CountFault>
+) -> Vec<Key<AddOne>>
     requires empty { done.items ≡ [] }
     requires room { length children.items ≤ vec_capacity done }
-    ensures { IfOk result (λ came. Both (λ child key. HasMade NUMBER child.promise.key.value key child.promise.times)
-        children.items came.items) }
+    ensures { Both (λ child key. HasMade NUMBER child.promise.key.value key child.promise.times) children.items result.items }
 {
     for child in children {
-        let Some(key) = child.join(rt) else {
-            return Err(CountFault::NoThread);
-        };
+        let key = join_one(rt, child);
         done.push_reserved(key);
     }
-    Ok(done)
+    done
 }
 
-// A worker for each key, all started before the first section and all joined.
-fn work_all<R: Threads + Wait + Sync>(
+// The key that a worker gives back.
+fn join_one<R: Threads + Wait>(
     rt: &R,
-    alloc: Global,
+    child: PromisedHandle<Option<Key<AddOne>>, MadeBy>,
+) -> Key<AddOne>
+    ensures { HasMade NUMBER child.promise.key.value result child.promise.times }
+{
+    if let Some(key) = child.join(rt) {
+        return key;
+    }
+    for _ in rt.forever() {}
+    unreachable!()
+}
+
+// A worker for each key, all started before any is handed its key, and all joined. Where a thread
+// could not be started, the keys are as they were.
+fn work_in<T: Crew + Send, R: Threads + Wait + Sync>(
+    rt: &R,
     shared: &Shared<AddOne>,
     keys: Vec<Key<AddOne>>,
+    room: Room<T>,
     times: u64,
-) -> Result<Vec<Key<AddOne>>, CountFault>
-    requires rest { All (IsAtRest shared.now) keys.items }
+) -> Result<Vec<Key<AddOne>>, Vec<Key<AddOne>>>
+    requires table { shared.now ≡ T.board }
+    requires fresh { All (IsFresh shared.now) keys.items }
     requires lock { IsSome (opened shared.now.start NUMBER) }
-    ensures { IfOk result (λ came. AllHaveMade NUMBER keys.items came.items times) }
+    requires hands { length room.hands.items ≡ length keys.items }
+    requires starts { length room.starts.items ≡ length keys.items }
+    requires children { (room.children.items ≡ []) × (length keys.items ≤ vec_capacity room.children) }
+    requires done { (room.done.items ≡ []) × (length keys.items ≤ vec_capacity room.done) }
+    ensures came { IfOk result (λ came. AllHaveMade NUMBER keys.items came.items times) }
+    ensures refused { IfErr result (λ back. back.items ≡ keys.items) }
 {
-    let flag = AtomicBool::new(false);
-    let go = &flag;
+    let Room {
+        hands,
+        group,
+        starts,
+        mut children,
+        done,
+    } = room;
+    let hands = hands.as_slice();
     thread::scope(
         thread::scope_env(),
         rt,
-        |scope| -> Result<Vec<Key<AddOne>>, CountFault>
-            requires { All (IsAtRest shared.now) keys.items × IsSome (opened shared.now.start NUMBER) }
-            ensures { IfOk result (λ came. AllHaveMade NUMBER keys.items came.items times) }
+        |scope| -> Result<Vec<Key<AddOne>>, Vec<Key<AddOne>>>
+            requires { All (IsFresh shared.now) keys.items × IsSome (opened shared.now.start NUMBER) × (shared.now ≡ T.board)
+                × (length hands.now ≡ length keys.items) × (length starts.items ≡ length keys.items)
+                × (children.items ≡ []) × (length keys.items ≤ vec_capacity children)
+                × (done.items ≡ []) × (length keys.items ≤ vec_capacity done) }
+            ensures { IfOk result (λ came. AllHaveMade NUMBER keys.items came.items times) × IfErr result (λ back. back.items ≡ keys.items) }
         {
-            let group = WaitGroup::new(alloc)?;
-            let mut children = Vec::with_capacity(alloc, keys.len())?;
-            let done = Vec::with_capacity(alloc, keys.len())?;
-            for key in keys {
-                let start = group.clone()?;
+            let mut at = 0;
+            for start in starts {
+                let cpu = keys[at].cpu();
+                let hand = &hands[at];
                 let promise = MadeBy {
-                    key: Snapshot::of(&key),
+                    key: Snapshot::of(&keys[at]),
                     times,
                 };
                 let started = scope.spawn_with(
                     promise,
                     move ||
-                        requires { IsAtRest shared.now key × IsSome (opened shared.now.start NUMBER) }
-                        ensures { MayHaveMade NUMBER key result times }
-                    { worker(rt, shared, key, times, start, go) },
+                        requires { (shared.now ≡ T.board) × IsSome (opened shared.now.start NUMBER) }
+                        ensures { MayHaveMade NUMBER (new_desk shared.entry.now cpu.0) result times }
+                    { worker(rt, shared, cpu, times, start, hand) },
                 );
                 let Ok(child) = started else {
-                    return Err(CountFault::NoThread);
+                    return Err(keys);
                 };
                 children.push_reserved(child);
+                at += 1;
             }
-            go.store(true, Ordering::SeqCst);
+            hand_out(rt, hands, keys);
             group.wait(rt);
-            join_all(rt, children, done)
+            Ok(join_all(rt, children, done))
         },
     )
+}
+
+// Why no worker was handed its key, and the keys.
+#[derive(Drop)]
+struct Refused {
+    fault: CountFault,
+    keys: Vec<Key<AddOne>>,
+}
+
+// As `work_in`, where there is room: memory is wanting exactly where there is none.
+fn work_if_room<T: Crew + Send, R: Threads + Wait + Sync>(
+    rt: &R,
+    shared: &Shared<AddOne>,
+    keys: Vec<Key<AddOne>>,
+    room: Result<Room<T>, AllocError>,
+    times: u64,
+) -> Result<Vec<Key<AddOne>>, Refused>
+    requires table { shared.now ≡ T.board }
+    requires fresh { All (IsFresh shared.now) keys.items }
+    requires lock { IsSome (opened shared.now.start NUMBER) }
+    requires hands { IfOk room (λ room. length room.hands.items ≡ length keys.items) }
+    requires starts { IfOk room (λ room. length room.starts.items ≡ length keys.items) }
+    requires children { IfOk room (λ room. (room.children.items ≡ []) × (length keys.items ≤ vec_capacity room.children)) }
+    requires done { IfOk room (λ room. (room.done.items ≡ []) × (length keys.items ≤ vec_capacity room.done)) }
+    ensures came { IfOk result (λ came. AllHaveMade NUMBER keys.items came.items times) }
+    ensures refused { IfErr result (λ r. r.keys.items ≡ keys.items) }
+    ensures memory { OnErr room (IfErr result (λ r. r.fault ≡ LacksMemory)) }
+    ensures thread { OnOk room (IfErr result (λ r. r.fault ≡ LacksThread)) }
+{
+    let Ok(room) = room else {
+        let fault = CountFault::NoMemory;
+        return Err(Refused { fault, keys });
+    };
+    match work_in(rt, shared, keys, room, times) {
+        Ok(keys) => Ok(keys),
+        Err(keys) => Err(Refused {
+            fault: CountFault::NoThread,
+            keys,
+        }),
+    }
+}
+
+// A worker for each key, all started before any is handed its key, and all joined. All memory is
+// taken before the first is started. Where memory or a thread was refused, the keys are as they were.
+fn work_all<T: Crew + Send, R: Threads + Wait + Sync>(
+    rt: &R,
+    alloc: Global,
+    shared: &Shared<AddOne>,
+    keys: Vec<Key<AddOne>>,
+    times: u64,
+) -> Result<Vec<Key<AddOne>>, Refused>
+    requires table { shared.now ≡ T.board }
+    requires fresh { All (IsFresh shared.now) keys.items }
+    requires lock { IsSome (opened shared.now.start NUMBER) }
+    ensures came { IfOk result (λ came. AllHaveMade NUMBER keys.items came.items times) }
+    ensures refused { IfErr result (λ r. r.keys.items ≡ keys.items) }
+{
+    let room = room_for::<T>(alloc, keys.len());
+    work_if_room(rt, shared, keys, room, times)
 }
 
 // The table of the number, which is 0, with a key for each CPU.
@@ -234,9 +431,49 @@ pub fn number_left(shared: Shared<AddOne>, keys: Vec<Key<AddOne>>, times: u64) -
     blocks[0].1
 }
 
+// Why nothing was counted, and the number that the table has when it is closed.
+#[derive(Debug, Drop)]
+struct NotCounted {
+    fault: CountFault,
+    left: u64,
+}
+
+// Counts at the table, if it was opened: memory is wanting where it was not. Where nothing was
+// counted the table is closed with the keys that came back, and its number is 0.
+fn count_if_open<R: Threads + Wait + Sync>(
+    rt: &R,
+    alloc: Global,
+    opened: Result<(Shared<AddOne>, Vec<Key<AddOne>>), NoMemory>,
+    times: u64,
+) -> Result<u64, NotCounted>
+    requires start { IfOk opened (λ r. r.0.start ≡ (NUMBER, 0) ∷ []) }
+    requires cpus { IfOk opened (λ r. r.0.cpus ≤ CPUS) }
+    requires keys { IfOk opened (λ r. r.1.items ≡ new_desks r.0 r.0.cpus) }
+    requires times { times ≤ MOST_TIMES }
+    ensures number { IfOk opened (λ r. IfOk result (λ number. number ≡ times * r.0.cpus)) }
+    ensures none { IfErr result (λ not. not.left ≡ 0) }
+    ensures memory { OnErr opened (IsErr result × IfErr result (λ not. not.fault ≡ LacksMemory)) }
+{
+    let Ok((shared, keys)) = opened else {
+        return Err(NotCounted {
+            fault: CountFault::NoMemory,
+            left: 0,
+        });
+    };
+    match work_all::<Brand, R>(rt, alloc, &shared, keys, times) {
+        Ok(keys) => Ok(number_left(shared, keys, times)),
+        Err(refused) => {
+            let Refused { fault, keys } = refused;
+            let left = number_left(shared, keys, 0);
+            Err(NotCounted { fault, left })
+        }
+    }
+}
+
 /// Counts over shared words: each of `cpus` CPUs does `times` sections that add 1 to one number, in
-/// a thread of its own, with its own seat at one table. All threads are started before the first
-/// section, and all are joined. The number is read from the block that the closed table gives.
+/// a thread of its own, with its own seat at one table. All threads are started before any is handed
+/// its CPU's key, without which there is no section, and all are joined. The number is read from the
+/// block that the closed table gives.
 ///
 /// Errors: `NoMemory` where memory ran out and `NoThread` where a thread could not be started; then
 /// no section was done, and the threads that were started are joined.
@@ -250,11 +487,10 @@ pub fn count_table<R: Threads + Wait + Sync>(
     requires times { times ≤ MOST_TIMES }
     ensures { IfOk result (λ number. number ≡ times * cpus) }
 {
-    let Ok((shared, keys)) = open_number(alloc, cpus) else {
-        return Err(CountFault::NoMemory);
-    };
-    let keys = work_all(rt, alloc, &shared, keys, times)?;
-    Ok(number_left(shared, keys, times))
+    match count_if_open(rt, alloc, open_number(alloc, cpus), times) {
+        Ok(number) => Ok(number),
+        Err(not) => Err(not.fault),
+    }
 }
 
 #[cfg(test)]
@@ -271,16 +507,25 @@ mod tests {
         Ok(())
     }
 
-    // Run with each allocation refused in turn. A thread whose own memory is refused is one that
-    // could not be started. After a refusal the count is whole.
+    // Run with each allocation refused in turn. With no thread to start, each is the table's or that
+    // of the room for workers: it is told as want of memory.
     #[test]
-    fn a_refused_allocation_is_no_memory_or_no_thread(rt: HostRuntime) -> Result<(), Fail> {
-        match count_table(&rt, rt.alloc(), 3, 5) {
-            Ok(number) => assert_eq!(rt; number, 15),
-            Err(CountFault::NoMemory | CountFault::NoThread) => {
-                assert_eq!(rt; count_table(&rt, rt.alloc(), 3, 5)?, 15);
-            }
+    fn a_refused_allocation_of_the_table_is_no_memory(rt: HostRuntime) {
+        match count_table(&rt, rt.alloc(), 0, 5) {
+            Ok(number) => assert_eq!(rt; number, 0),
+            Err(fault) => assert_eq!(rt; fault, CountFault::NoMemory),
         }
-        Ok(())
+    }
+
+    // Run with each allocation refused in turn, and by tests/edge.sh with room for the stack of one
+    // thread alone, so that the second start is refused. A thread whose own memory is refused is one
+    // that could not be started. After a refusal no section was done.
+    #[test]
+    fn after_a_refused_allocation_or_start_the_number_is_0(rt: HostRuntime) {
+        let opened = open_number(rt.alloc(), 2);
+        match count_if_open(&rt, rt.alloc(), opened, 5) {
+            Ok(number) => assert_eq!(rt; number, 10),
+            Err(not) => assert_eq!(rt; not.left, 0),
+        }
     }
 }

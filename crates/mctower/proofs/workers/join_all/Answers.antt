@@ -21,7 +21,7 @@ loop-child-preserved g c = record {
   all = yield_more c.loop-child.yielded c.loop-child.child-iterator.rest.items c.next.new.self.rest.items c.args.children.items c.in-Some.child c.loop-child.invariant.all c.in-Some.ensures.steps.0;
   came = subst (λ rs. Both (λ h r. HasMade NUMBER h.promise.key.value r h.promise.times) (c.loop-child.yielded ++ c.in-Some.child ∷ []) rs)
       (sym c.push_reserved.ensures.items)
-      (both_more (λ h r. HasMade NUMBER h.promise.key.value r h.promise.times) c.loop-child.yielded c.loop-child.done.items c.in-Some.child c.in-Some-join.key c.loop-child.invariant.came c.in-Some-join.ensures);
+      (both_more (λ h r. HasMade NUMBER h.promise.key.value r h.promise.times) c.loop-child.yielded c.loop-child.done.items c.in-Some.child c.join_one-key.result c.loop-child.invariant.came c.join_one-key.ensures);
   room = subst (λ n. length c.args.children.items ≤ n) (sym c.push_reserved.ensures.capacity) c.loop-child.invariant.room;
 }
 
