@@ -8,3 +8,6 @@ mod sched;
 pub use calls::{call_beneath, kept};
 pub use owns::OwnThreads;
 pub use sched::Sched;
+
+#[cfg(test)]
+mod tests;

@@ -1,0 +1,255 @@
+//! Schedulers over shared queues and ticket locks, run.
+
+ghost use Rattle.std.specs.Prelude.{◌≡◌, ◌≢◌, ◌+◌, ◌<◌, ◌≤◌, [], IsSome, IfOk, None, Some, true, length};
+ghost use Rattle.event_log.specs.declared.ids.LockId.TheVariants.{Pending};
+ghost use Rattle.event_log.specs.declared.ids.TheConstants.{CPUS, THREADS};
+ghost use Rattle.layer_traits.specs.Passes.{MayPass};
+ghost use Rattle.layer_traits.specs.QueueBlocks.{StartsWell, homes_in, inner};
+ghost use Rattle.scheduler.specs.Naps.{bed};
+ghost use Rattle.shared_queue.specs.Opening.{AreQueues};
+
+use crate::Sched;
+use event_log::{BufId, CPUS, CpuId, NoMemory, Tid};
+use layer_traits::{Edit, Line, Moves, Pass, QueueEdit, SchedCall, SchedLayer, Words};
+use plain_machine::Plain;
+use shared_queue::{SharedQueues, queue_blocks};
+use spinlock::Ticket;
+use std::alloc::Global;
+use std::process::Abort;
+use std::test::Fail;
+
+/// A nap at buffer 0: its caller sleeps in the one place there, or wakes who sleeps in it.
+#[derive(Clone, Copy)]
+struct Nap {
+    by: Tid,
+    wakes: bool,
+}
+
+impl Edit for Nap {
+    ghost use Rattle.scheduler.specs.Naps.{nap_rules};
+
+    type Block = Option<Tid>;
+
+    type Out = (bool, Option<Tid>);
+
+    ghost rules = { nap_rules (λ e. e.wakes) (λ e. e.by) };
+
+    fn apply(self, block: &mut Option<Tid>) -> (bool, Option<Tid>) {
+        if self.wakes {
+            let woke = *block;
+            *block = None;
+            return (false, woke);
+        }
+        match *block {
+            None => {
+                *block = Some(self.by);
+                (true, None)
+            }
+            Some(_) => (false, None),
+        }
+    }
+}
+
+impl Moves for Nap {
+    ghost use Rattle.scheduler.specs.Naps.{nap_moves, naps_wake_sleepers};
+
+    ghost moves = { nap_moves (λ e. e.by) };
+
+    fn slept(out: &(bool, Option<Tid>)) -> Option<Line> {
+        if out.0 { Some(Line::Sleepers) } else { None }
+    }
+
+    fn woke(out: &(bool, Option<Tid>)) -> Option<Tid> {
+        out.1
+    }
+
+    ghost wakes_sleepers = { naps_wake_sleepers (λ e. e.wakes) (λ e. e.by) };
+}
+
+type Tower = Sched<SharedQueues<Ticket<Plain<QueueEdit<Nap>>>>>;
+
+/// A machine with one buffer, in which nobody sleeps, and with room for 40 events.
+fn machine(alloc: Global, cpus: u8, homes: &[CpuId]) -> Result<Plain<QueueEdit<Nap>>, NoMemory>
+    requires { AreQueues cpus homes.now 1 }
+    ensures acts { IfOk result (λ w. (c : _) → c.0 < CPUS → ⟦<Plain<QueueEdit<Nap>> as Words>⟧.ActsFor w c) }
+    ensures seen { IfOk result (λ w. ⟦<Plain<QueueEdit<Nap>> as Words>⟧.seen w ≡ []) }
+    ensures room { IfOk result (λ w. ⟦<Plain<QueueEdit<Nap>> as Words>⟧.room w ≡ 40) }
+    ensures starts { IfOk result (λ w. StartsWell (⟦<Plain<QueueEdit<Nap>> as Words>⟧.opening w)) }
+    ensures homes { IfOk result (λ w. homes_in (⟦<Plain<QueueEdit<Nap>> as Words>⟧.opening w) ≡ homes.now) }
+    ensures queues { IfOk result (λ w. (c : _) → c.0 < cpus → IsSome (⟦<Plain<QueueEdit<Nap>> as Words>⟧.opening w (Pending c))) }
+    ensures free { IfOk result (λ w. inner (⟦<Plain<QueueEdit<Nap>> as Words>⟧.opening w) bed ≡ Some None) }
+{
+    let mut blocks = Vec::new(alloc);
+    if blocks.push(None).is_err() {
+        return Err(NoMemory);
+    }
+    let locks = queue_blocks(alloc, blocks, cpus, homes)?;
+    Plain::open(alloc, locks, 40)
+}
+
+/// Whether what the part's CPU has of its own lets a pass come.
+fn may_pass<S: SchedLayer<Nap>>(part: &S, pass: Pass) -> bool
+    ensures { result ≡ true → MayPass pass (S.threads part.now) }
+{
+    match pass {
+        Pass::Switch => part.current().is_none() && part.hand().is_none() && part.has_ready(),
+        Pass::YieldNow => part.current().is_some() && part.hand().is_none(),
+        Pass::Drain => part.current().is_none() && part.hand().is_none() && !part.has_ready(),
+        Pass::MakeReady(t) => part.hand() == Some(t),
+        Pass::End => part.current().is_some() && part.hand().is_none(),
+    }
+}
+
+/// Polls a pass, if it may come, until it answers, and tells at which poll it did; 0 where none of
+/// three polls answered.
+fn passed_at<S: SchedLayer<Nap>>(part: &mut S, m: &mut S::Machine, pass: Pass) -> u8
+    requires fits { S.Fits part.old m.old }
+    requires room { 3 ≤ S.room m.old }
+    requires free { inner (S.opening m.old) bed ≡ Some None }
+    ensures fits { S.Fits part.new m.new }
+    ensures room { S.room m.old ≤ S.room m.new + 3 }
+    ensures free { inner (S.opening m.new) bed ≡ Some None }
+    ensures cpu { S.cpu_of part.new ≡ S.cpu_of part.old }
+    ensures others { (p : S) → S.cpu_of p ≢ S.cpu_of part.old → S.Fits p m.old → S.Fits p m.new }
+{
+    if part.is_busy() || !may_pass(part, pass) {
+        return 0;
+    }
+    let call = SchedCall::Pass(pass);
+    if part.poll(m, &call).is_some() {
+        return 1;
+    }
+    if part.poll(m, &call).is_some() {
+        return 2;
+    }
+    if part.poll(m, &call).is_some() { 3 } else { 0 }
+}
+
+/// The same of a nap.
+fn napped_at<S: SchedLayer<Nap>>(part: &mut S, m: &mut S::Machine, nap: Nap) -> u8
+    requires fits { S.Fits part.old m.old }
+    requires room { 3 ≤ S.room m.old }
+    requires free { inner (S.opening m.old) bed ≡ Some None }
+    ensures fits { S.Fits part.new m.new }
+    ensures room { S.room m.old ≤ S.room m.new + 3 }
+    ensures free { inner (S.opening m.new) bed ≡ Some None }
+    ensures cpu { S.cpu_of part.new ≡ S.cpu_of part.old }
+    ensures others { (p : S) → S.cpu_of p ≢ S.cpu_of part.old → S.Fits p m.old → S.Fits p m.new }
+{
+    if part.is_busy() || part.current() != Some(nap.by) || part.hand().is_some() {
+        return 0;
+    }
+    let call = SchedCall::OnBuffer(BufId(0), nap);
+    if part.poll(m, &call).is_some() {
+        return 1;
+    }
+    if part.poll(m, &call).is_some() {
+        return 2;
+    }
+    if part.poll(m, &call).is_some() { 3 } else { 0 }
+}
+
+/// Two threads at home on one CPU take turns.
+fn take_turns<S: SchedLayer<Nap>>(rt: &impl Abort, part: &mut S, m: &mut S::Machine)
+    requires fits { S.Fits part.old m.old }
+    requires room { 12 ≤ S.room m.old }
+    requires free { inner (S.opening m.old) bed ≡ Some None }
+{
+    assert_eq!(rt; passed_at(part, m, Pass::Switch), 1);
+    assert!(rt; part.current() == Some(Tid(0)));
+    assert_eq!(rt; passed_at(part, m, Pass::YieldNow), 3);
+    assert!(rt; part.current().is_none());
+    assert!(rt; part.is_ready(Tid(1)) && part.is_ready(Tid(0)));
+    assert_eq!(rt; passed_at(part, m, Pass::Switch), 1);
+    assert!(rt; part.current() == Some(Tid(1)));
+    assert_eq!(rt; passed_at(part, m, Pass::End), 1);
+    assert!(rt; part.has_ended(Tid(1)) && !part.is_busy());
+}
+
+/// Thread 0 runs and goes to sleep.
+fn falls_asleep<S: SchedLayer<Nap>>(rt: &impl Abort, part: &mut S, m: &mut S::Machine)
+    requires fits { S.Fits part.old m.old }
+    requires room { 6 ≤ S.room m.old }
+    requires free { inner (S.opening m.old) bed ≡ Some None }
+    ensures fits { S.Fits part.new m.new }
+    ensures room { S.room m.old ≤ S.room m.new + 6 }
+    ensures free { inner (S.opening m.new) bed ≡ Some None }
+    ensures cpu { S.cpu_of part.new ≡ S.cpu_of part.old }
+    ensures others { (p : S) → S.cpu_of p ≢ S.cpu_of part.old → S.Fits p m.old → S.Fits p m.new }
+{
+    assert_eq!(rt; passed_at(part, m, Pass::Switch), 1);
+    let nap = Nap {
+        by: Tid(0),
+        wakes: false,
+    };
+    assert_eq!(rt; napped_at(part, m, nap), 3);
+    assert!(rt; part.current().is_none());
+}
+
+/// Thread 1 runs and wakes thread 0, which stands in hand and is then pushed to its home.
+fn wakes<S: SchedLayer<Nap>>(rt: &impl Abort, part: &mut S, m: &mut S::Machine)
+    requires fits { S.Fits part.old m.old }
+    requires room { 9 ≤ S.room m.old }
+    requires free { inner (S.opening m.old) bed ≡ Some None }
+    ensures room { S.room m.old ≤ S.room m.new + 9 }
+    ensures free { inner (S.opening m.new) bed ≡ Some None }
+    ensures others { (p : S) → S.cpu_of p ≢ S.cpu_of part.old → S.Fits p m.old → S.Fits p m.new }
+{
+    assert_eq!(rt; passed_at(part, m, Pass::Switch), 1);
+    let nap = Nap {
+        by: Tid(1),
+        wakes: true,
+    };
+    assert_eq!(rt; napped_at(part, m, nap), 3);
+    assert!(rt; part.hand() == Some(Tid(0)));
+    assert_eq!(rt; passed_at(part, m, Pass::MakeReady(Tid(0))), 3);
+    assert!(rt; part.hand().is_none());
+}
+
+/// Thread 0 comes out of the pending queue and runs again.
+fn runs_again<S: SchedLayer<Nap>>(rt: &impl Abort, part: &mut S, m: &mut S::Machine)
+    requires fits { S.Fits part.old m.old }
+    requires room { 6 ≤ S.room m.old }
+    requires free { inner (S.opening m.old) bed ≡ Some None }
+{
+    assert_eq!(rt; passed_at(part, m, Pass::Drain), 3);
+    assert!(rt; part.is_ready(Tid(0)));
+    assert_eq!(rt; passed_at(part, m, Pass::Switch), 1);
+    assert!(rt; part.current() == Some(Tid(0)));
+}
+
+/// The part of `cpu` at boot.
+fn part<S: SchedLayer<Nap>>(m: &S::Machine, cpu: CpuId, homes: &[CpuId]) -> S
+    requires few { length homes.now ≤ THREADS }
+    requires acts { S.ActsFor m.now cpu }
+    requires outside { S.IsOutside m.now cpu }
+    requires seen { S.seen m.now ≡ [] }
+    requires homes { homes_in (S.opening m.now) ≡ homes.now }
+    requires queue { IsSome (S.opening m.now (Pending cpu)) }
+    ensures cpu { S.cpu_of result ≡ cpu }
+    ensures fits { S.Fits result m.now }
+{
+    let _ = m;
+    S::part(cpu, homes, 1)
+}
+
+#[test]
+fn threads_take_turns(rt: HostRuntime) -> Result<(), Fail> {
+    let homes = [CpuId(0), CpuId(0)];
+    let mut m = machine(rt.alloc(), 1, &homes)?;
+    let mut first: Tower = part(&m, CpuId(0), &homes);
+    take_turns(&rt, &mut first, &mut m);
+    Ok(())
+}
+
+#[test]
+fn a_woken_thread_goes_home(rt: HostRuntime) -> Result<(), Fail> {
+    let homes = [CpuId(0), CpuId(1)];
+    let mut m = machine(rt.alloc(), 2, &homes)?;
+    let mut first: Tower = part(&m, CpuId(0), &homes);
+    let mut second: Tower = part(&m, CpuId(1), &homes);
+    falls_asleep(&rt, &mut first, &mut m);
+    wakes(&rt, &mut second, &mut m);
+    runs_again(&rt, &mut first, &mut m);
+    Ok(())
+}
