@@ -12,7 +12,7 @@ ghost use Rattle.sleep_wakeup.specs.Nested.{state_of};
 
 use crate::{SleepEdit, Sleeper, sleep_blocks};
 use event_log::{BufId, CPUS, CpuId, NoMemory, Tid};
-use layer_traits::{Leave, Line, Outcome, Pass, QueueEdit, SleepLayer, Sleeps, Words};
+use layer_traits::{Leave, Line, Outcome, OwnedSleeps, Pass, QueueEdit, SleepLayer, Sleeps, Words};
 use plain_machine::Plain;
 use scheduler::Sched;
 use shared_queue::{SharedQueues, queue_blocks};
@@ -79,6 +79,7 @@ fn switch<S: SleepLayer<Nap>>(part: &mut S, m: &mut S::Machine) -> bool
     ensures cpu { S.cpu_of part.new ≡ S.cpu_of part.old }
     ensures opening { S.opening m.new ≡ S.opening m.old }
     ensures room { S.room m.old ≤ S.room m.new + 1 }
+    ensures acts { (c : _) → S.ActsFor m.old c → S.ActsFor m.new c }
     ensures others { (p : S) → S.cpu_of p ≢ S.cpu_of part.old → S.Fits p m.old → S.Fits p m.new }
 {
     if part.current().is_some() || part.hand().is_some() || !part.has_ready() {
@@ -98,6 +99,7 @@ fn begin<S: SleepLayer<Nap>>(part: &mut S, m: &mut S::Machine, nap: Nap) -> bool
     ensures cpu { S.cpu_of part.new ≡ S.cpu_of part.old }
     ensures opening { S.opening m.new ≡ S.opening m.old }
     ensures room { S.room m.old ≤ S.room m.new + 1 }
+    ensures acts { (c : _) → S.ActsFor m.old c → S.ActsFor m.new c }
     ensures others { (p : S) → S.cpu_of p ≢ S.cpu_of part.old → S.Fits p m.old → S.Fits p m.new }
 {
     if part.current() != Some(nap.caller) || part.hand().is_some() {
@@ -117,6 +119,7 @@ fn more<S: SleepLayer<Nap>>(part: &mut S, m: &mut S::Machine, nap: Nap) -> Optio
     ensures cpu { S.cpu_of part.new ≡ S.cpu_of part.old }
     ensures opening { S.opening m.new ≡ S.opening m.old }
     ensures room { S.room m.old ≤ S.room m.new + 1 }
+    ensures acts { (c : _) → S.ActsFor m.old c → S.ActsFor m.new c }
     ensures others { (p : S) → S.cpu_of p ≢ S.cpu_of part.old → S.Fits p m.old → S.Fits p m.new }
 {
     part.poll(m, BufId(0), nap)
@@ -133,6 +136,7 @@ fn three<S: SleepLayer<Nap>>(part: &mut S, m: &mut S::Machine, nap: Nap) -> Opti
     ensures cpu { S.cpu_of part.new ≡ S.cpu_of part.old }
     ensures opening { S.opening m.new ≡ S.opening m.old }
     ensures room { S.room m.old ≤ S.room m.new + 3 }
+    ensures acts { (c : _) → S.ActsFor m.old c → S.ActsFor m.new c }
     ensures others { (p : S) → S.cpu_of p ≢ S.cpu_of part.old → S.Fits p m.old → S.Fits p m.new }
 {
     if !begin(part, m, nap) {
@@ -142,6 +146,42 @@ fn three<S: SleepLayer<Nap>>(part: &mut S, m: &mut S::Machine, nap: Nap) -> Opti
         return None;
     }
     more(part, m, nap)
+}
+
+/// The same, where a look takes the place of the second poll.
+fn two_and_a_look<S: SleepLayer<Nap>>(
+    part: &mut S,
+    m: &mut S::Machine,
+    nap: Nap,
+) -> Option<Outcome<Nap>>
+    requires fits { S.Fits part.old m.old }
+    requires idle { S.under_way part.old ≡ None }
+    requires buffer { IsSome (S.opening m.old (Buffer (record { 0 = 0 }))) }
+    requires room { 2 < S.room m.old }
+    ensures fits { S.Fits part.new m.new }
+    ensures idle { is_some result ≡ true → S.under_way part.new ≡ None }
+    ensures opening { S.opening m.new ≡ S.opening m.old }
+    ensures room { S.room m.old ≤ S.room m.new + 3 }
+{
+    if !begin(part, m, nap) {
+        return None;
+    }
+    if !part.is_busy() || !part.look(m) {
+        return None;
+    }
+    more(part, m, nap)
+}
+
+/// The current thread ends, if there is one and nobody stands in the hand.
+fn end<S: SleepLayer<Nap>>(part: &mut S, m: &mut S::Machine) -> bool
+    requires fits { S.Fits part.old m.old }
+    requires idle { S.under_way part.old ≡ None }
+    requires room { 0 < S.room m.old }
+{
+    if part.current().is_none() || part.hand().is_some() {
+        return false;
+    }
+    part.pass(m, Pass::End).is_some()
 }
 
 /// A thread on another CPU wakes thread 0: after the third poll thread 0 stands in that CPU's hand
@@ -237,10 +277,44 @@ fn at_home<S: SleepLayer<Nap>>(home: &mut S, m: &mut S::Machine) -> bool
         sleeps: false,
         other: Tid(0),
     };
-    match three(home, m, wake) {
-        None => false,
-        Some(woke) => woke.woke == Some(Tid(0)) && home.is_ready(Tid(0)) && home.hand().is_none(),
+    let Some(woke) = two_and_a_look(home, m, wake) else {
+        return false;
+    };
+    if woke.woke != Some(Tid(0)) || !home.is_ready(Tid(0)) || home.hand().is_some() {
+        return false;
     }
+    end(home, m) && home.has_ended(Tid(2)) && home.current().is_none()
+}
+
+/// Thread 0 sleeps: the machine tells in which line, and the part has no block in its hands.
+fn is_told<S: OwnedSleeps<Nap>>(home: &mut S, m: &mut S::Machine) -> bool
+    requires acts { S.ActsFor m.old (record { 0 = 0 }) }
+    requires fits { S.Fits home.old m.old }
+    requires idle { S.under_way home.old ≡ None }
+    requires buffer { IsSome (S.opening m.old (Buffer (record { 0 = 0 }))) }
+    requires queue { IsSome (S.opening m.old (Pending (record { 0 = 1 }))) }
+    requires room { 15 < S.room m.old }
+{
+    if !switch(home, m) {
+        return false;
+    }
+    let sleep = Nap {
+        caller: Tid(0),
+        sleeps: true,
+        other: Tid(0),
+    };
+    if three(home, m, sleep).is_none() {
+        return false;
+    }
+    if S::line_in(m, BufId(0), Tid(0)) != Some(Line::Receivers)
+        || S::block_in(m, BufId(0)) != Some(&7)
+    {
+        return false;
+    }
+    if home.line_here(BufId(0), Tid(0)).is_some() || home.block_here(BufId(0)).is_some() {
+        return false;
+    }
+    S::pends_in(m, CpuId(1), Tid(0)) == Some(false) && home.pends_here(CpuId(1), Tid(0)).is_none()
 }
 
 /// One block.
@@ -304,5 +378,14 @@ fn a_thread_that_is_woken_at_home_is_ready(rt: HostRuntime) -> Result<(), Fail> 
     let mut home: Sleeper<Nap, Sched<SharedQueues<Ticket<Plain<QueueEdit<SleepEdit<Nap>>>>>>> =
         part(&m, CpuId(0));
     assert!(rt; at_home(&mut home, &mut m));
+    Ok(())
+}
+
+#[test]
+fn a_sleeping_thread_is_told_by_the_machine(rt: HostRuntime) -> Result<(), Fail> {
+    let mut m = machine(rt.alloc())?;
+    let mut home: Sleeper<Nap, Sched<SharedQueues<Ticket<Plain<QueueEdit<SleepEdit<Nap>>>>>>> =
+        part(&m, CpuId(0));
+    assert!(rt; is_told(&mut home, &mut m));
     Ok(())
 }
