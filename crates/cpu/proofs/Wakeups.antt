@@ -19,3 +19,5 @@ pub mod Alone
 pub mod Filled
 pub mod Returning
 pub mod Ready
+pub mod Everyone
+pub mod Meeting

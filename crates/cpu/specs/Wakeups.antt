@@ -3,3 +3,5 @@ pub mod Lost
 pub mod OneSignal
 pub mod Quiet
 pub mod Alone
+pub mod OnePlace
+pub mod Met

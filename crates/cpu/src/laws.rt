@@ -6,6 +6,8 @@ ghost use Rattle.cpu.specs.Wakeups.Lost.{OrderLosesNoWakeUp, SystemsKeepOrder, S
 ghost use Rattle.cpu.specs.Wakeups.OneSignal.{OneSignalLosesAWakeUp};
 ghost use Rattle.cpu.specs.Wakeups.Quiet.{QuietIsStuck};
 ghost use Rattle.cpu.specs.Wakeups.Alone.{CallsReturnAlone};
+ghost use Rattle.cpu.specs.Wakeups.OnePlace.{StandInOnePlace};
+ghost use Rattle.cpu.specs.Wakeups.Met.{PremisesAreMet};
 
 /// Worked runs of one thread on one CPU, by computation: what each leaves after its schedule.
 pub fn runs_alone()
@@ -69,4 +71,16 @@ pub fn quiet_is_stuck()
 /// after 18 steps of its CPU alone, or after 21 where its first signal wakes a thread of another CPU.
 pub fn calls_return_alone()
     ensures { CallsReturnAlone }
+{}
+
+/// In every state that a system reaches each live thread has one place: it runs, is ready, in a hand,
+/// pending, asleep at a lock or waiting at a buffer, and only one of these.
+pub fn stand_in_one_place()
+    ensures { StandInOnePlace }
+{}
+
+/// The premises of the laws on quiet systems and on calls alone are met by states that systems reach,
+/// and both numbers of steps are exact.
+pub fn premises_are_met()
+    ensures { PremisesAreMet }
 {}

@@ -9,10 +9,12 @@ fn each_law_can_be_called(_rt: HostRuntime) {
     free_locks_have_no_sleepers();
     one_signal_loses_a_wake_up();
     order_loses_no_wake_up();
+    premises_are_met();
     quiet_is_stuck();
     runs_alone();
     runs_of_three();
     runs_of_two();
+    stand_in_one_place();
     systems_keep_order();
     systems_lose_no_wake_up();
     workers_lose_no_wake_up();

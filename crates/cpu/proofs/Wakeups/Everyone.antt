@@ -1,0 +1,319 @@
+-- In every state that a system reaches each live thread has one place.
+use Rattle.std.proofs.Common.{◌≡◌, ℕ, zero, suc, ◌+◌, ◌<◌, ◌==◌, inl, inr, Bool, true, false, not, ◌&&◌, List, ◌++◌, length, slice_get, Some, nat_lt, refl, sym, ap, ◌∙◌, subst, arith}
+use Rattle.std.proofs.lemmas.Bool.{and_from, and_left, and_right, false_from_ne_true, lt-ltb, ltb-true, ne_eqb, eqb-true, eq-eqb, cases_lt}
+use Rattle.event_log.specs.declared.ids.CpuId.{CpuId}
+use Rattle.event_log.specs.declared.ids.Tid.{Tid}
+use Rattle.event_log.specs.declared.ids.BufId.{BufId}
+use Rattle.event_log.specs.declared.ids.LockId.TheVariants.{Buffer as AtBuffer}
+use Rattle.event_log.specs.declared.ids.TheConstants.{THREADS}
+use Rattle.event_log.specs.History.{same_cpu}
+use Rattle.event_log.specs.Sections.{Section, sections_in}
+use Rattle.event_log.proofs.Same.{same_cpu_self}
+use Rattle.layer_traits.specs.declared.locked.Side.{Side}
+use Rattle.layer_traits.specs.declared.locked.Side.TheVariants.{Receivers, Senders}
+use Rattle.layer_traits.specs.Passes.{as_list}
+use Rattle.layer_traits.specs.Places.{is_thread, one_if, count_in}
+use Rattle.layer_traits.proofs.CountLemmas.{count_append, count_as_list}
+use Rattle.cpu.specs.Table.Blocks.{Buffer, OfBuffer, Name}
+use Rattle.cpu.specs.Table.Setups.{Setup, Private, thread_at, home_of}
+use Rattle.cpu.specs.Table.Steps.{Whole, cpu_numbered}
+use Rattle.cpu.specs.Table.Worked.{buffer_numbered}
+use Rattle.cpu.specs.Wakeups.Order.{block_of}
+use Rattle.cpu.specs.Wakeups.Quiet.{HomesExist}
+use Rattle.cpu.specs.Wakeups.OnePlace.{own_queues, queues_in, all_of, of_cpu, of_pending, of_buffer, everyone, thread_in, thread_of, is_live, StandInOnePlace}
+use Rattle.cpu.proofs.Wakeups.Lists.{refuted}
+use Rattle.cpu.proofs.Wakeups.Spots.{Spot, Home, InHand, IsPending, AtLock, AtWait}
+use Rattle.cpu.proofs.Wakeups.Spots.{is_buffer, is_side, is_home, is_hand, is_pending, is_lock, is_wait, is_local, spot, turn, marked}
+use Rattle.cpu.proofs.Wakeups.Pairs.{buffer_self, marked_none}
+use Rattle.cpu.proofs.Wakeups.Called.{Good}
+use Rattle.cpu.proofs.Wakeups.Placed.{IsPlaced, buffer_there}
+use Rattle.cpu.proofs.Wakeups.Agreement.{seat}
+use Rattle.cpu.proofs.Wakeups.CpuStep.{pending_there}
+use Rattle.cpu.proofs.Wakeups.Reaching.{fair_good}
+use Rattle.cpu.proofs.Wakeups.Kept.{Kept, reached_kept, cpu_there}
+
+-- Sums of the numbers below n.
+
+abbrev total : (ℕ → ℕ) → ℕ → ℕ
+total g zero = 0
+total g (suc n) = total g n + g n
+
+count_all : (t : Tid) (f : ℕ → List Tid) (n : ℕ) → count_in t (all_of f n) ≡ total (λ i. count_in t (f i)) n
+count_all t f zero = refl
+count_all t f (suc n) = count_append t (all_of f n) (f n) ∙ ap (λ m. m + count_in t (f n)) (count_all t f n)
+
+total_none : (g : ℕ → ℕ) (n : ℕ) → ((i : ℕ) → i < n → g i ≡ 0) → total g n ≡ 0
+total_none g zero none = refl
+total_none g (suc n) none =
+    let before = total_none g n (λ i below. none i (omega (arith, below))) in
+    let last = none n (omega arith) in
+    omega (arith, before, last)
+
+eq_self : (m : ℕ) → (m == m) ≡ true
+eq_self m = eq-eqb m m refl
+
+under : (n k : ℕ) → k < suc n → (n ≡ k → ⊥) → k < n
+under n k below other = elim (cases_lt k n) [ inl less ↦ less | inr more ↦ absurd (other (omega (arith, more, below))) ]
+
+total_one : (g : ℕ → ℕ) (n k : ℕ) → k < n → ((i : ℕ) → i < n → (i ≡ k → ⊥) → g i ≡ 0) → total g n ≡ g k
+total_one g zero k below none = absurd (omega (arith, below))
+total_one g (suc n) k below none = by_test (n == k) refl (λ less. total_one g n k less (λ i under_n. none i (omega (arith, under_n))))
+  where
+    by_test : (last : Bool) → (n == k) ≡ last → (k < n → total g n ≡ g k) → total g (suc n) ≡ g k
+    by_test true same earlier =
+        let is : n ≡ k = eqb-true n k same in
+        let before = total_none g n (λ i less. none i (omega (arith, less)) (λ e. absurd (omega (arith, e, is, less)))) in
+        let at : g n ≡ g k = ap g is in
+        omega (arith, before, at)
+    by_test false off earlier =
+        let other : n ≡ k → ⊥ = λ is. refuted off (subst (λ m. (n == m) ≡ true) is (eq_self n)) in
+        let before = earlier (under n k below other) in
+        let last = none n (omega arith) other in
+        omega (arith, before, last)
+
+module _ (setup : Setup) (s : Whole) (homes : HomesExist setup) (kept : Kept setup s) (u : Tid) where
+  abbrev past : List (Section Name)
+  past = sections_in s.log
+
+  good : Good setup (sections_in s.log)
+  good = fair_good setup s.log kept.sound.fair
+
+  abbrev ended_at : ℕ → Bool
+  ended_at i = (thread_in (slice_get s.cpus i) u).ended
+
+  -- What each queue has of the thread, by its spot.
+
+  at_cpu : (x : Spot) → spot setup u (sections_in s.log) ≡ x → (i : ℕ) → i < setup.cpus
+      → count_in u (of_cpu s i) ≡ one_if (seat setup (cpu_numbered i) u x (ended_at i)) + one_if (is_hand (cpu_numbered i) x)
+  at_cpu x is i below = by_cpu (cpu_there setup s kept (cpu_numbered i) below)
+    where
+      by_cpu : ((p : Private) × (slice_get s.cpus i ≡ Some p)) → count_in u (of_cpu s i) ≡ one_if (seat setup (cpu_numbered i) u x (ended_at i)) + one_if (is_hand (cpu_numbered i) x)
+      by_cpu cpu =
+          let p = cpu.0 in
+          let agrees = (kept.sound.cpus (cpu_numbered i) p cpu.1).agrees in
+          let list : count_in u (of_cpu s i) ≡ count_in u ((as_list p.current ++ p.ready) ++ as_list p.hand) = ap (λ o. count_in u (own_queues o)) cpu.1 in
+          let parts : count_in u ((as_list p.current ++ p.ready) ++ as_list p.hand) ≡ count_in u (as_list p.current ++ p.ready) + count_in u (as_list p.hand) =
+          count_append u (as_list p.current ++ p.ready) (as_list p.hand) in
+          let front : count_in u (as_list p.current ++ p.ready) ≡ count_in u (as_list p.current) + count_in u p.ready = count_append u (as_list p.current) p.ready in
+          let current = count_as_list u p.current in
+          let hand : count_in u (as_list p.hand) ≡ one_if (is_hand (cpu_numbered i) x) =
+          count_as_list u p.hand ∙ ap one_if (agrees.hands u) ∙ ap (λ y. one_if (is_hand (cpu_numbered i) y)) is in
+          let seats : one_if (is_thread u p.current) + count_in u p.ready ≡ one_if (seat setup (cpu_numbered i) u x (ended_at i)) =
+          agrees.seats u ∙ ap (λ y. one_if (seat setup (cpu_numbered i) u y (thread_at p u).ended)) is
+          ∙ ap (λ o. one_if (seat setup (cpu_numbered i) u x (thread_in o u).ended)) (sym cpu.1) in
+          omega (arith, list, parts, front, current, hand, seats)
+
+  at_pending : (x : Spot) → spot setup u (sections_in s.log) ≡ x → (i : ℕ) → count_in u (of_pending setup s i) ≡ one_if (same_cpu (home_of setup u) (cpu_numbered i) && is_pending x)
+  at_pending x is i =
+      let there = pending_there setup (cpu_numbered i) (sections_in s.log) in
+      ap (λ o. count_in u (queues_in o)) there.1 ∙ good.pending (cpu_numbered i) u there.0 there.1
+      ∙ ap (λ y. one_if (same_cpu (home_of setup u) (cpu_numbered i) && is_pending y)) is
+
+  at_buffer : (x : Spot) → spot setup u (sections_in s.log) ≡ x → (i : ℕ) → i < length setup.caps
+      → count_in u (of_buffer setup s i)
+      ≡ marked u (is_lock (buffer_numbered i) x) + (marked u (is_wait (buffer_numbered i) Receivers x) + marked u (is_wait (buffer_numbered i) Senders x))
+  at_buffer x is i below = by_block (buffer_there setup (buffer_numbered i) (sections_in s.log) below)
+    where
+      by_block : ((k : Buffer) × (block_of setup (AtBuffer (buffer_numbered i)) (sections_in s.log) ≡ Some (OfBuffer k)))
+          → count_in u (of_buffer setup s i)
+          ≡ marked u (is_lock (buffer_numbered i) x) + (marked u (is_wait (buffer_numbered i) Receivers x) + marked u (is_wait (buffer_numbered i) Senders x))
+      by_block there =
+          let k = there.0 in
+          let pair = good.pairs (buffer_numbered i) u k there.1 in
+          let list : count_in u (of_buffer setup s i) ≡ count_in u (k.sleepers ++ (k.waiting_receivers ++ k.waiting_senders)) = ap (λ o. count_in u (queues_in o)) there.1 in
+          let parts = count_append u k.sleepers (k.waiting_receivers ++ k.waiting_senders) in
+          let waits = count_append u k.waiting_receivers k.waiting_senders in
+          let sleepers : count_in u k.sleepers ≡ marked u (is_lock (buffer_numbered i) x) = pair.sleepers ∙ ap (λ y. marked u (is_lock (buffer_numbered i) y)) is in
+          let receivers : count_in u k.waiting_receivers ≡ marked u (is_wait (buffer_numbered i) Receivers x) =
+          pair.receivers ∙ ap (λ y. marked u (is_wait (buffer_numbered i) Receivers y)) is in
+          let senders : count_in u k.waiting_senders ≡ marked u (is_wait (buffer_numbered i) Senders x) =
+          pair.senders ∙ ap (λ y. marked u (is_wait (buffer_numbered i) Senders y)) is in
+          omega (arith, list, parts, waits, sleepers, receivers, senders)
+
+  -- the three sums
+  abbrev cpus_sum : ℕ
+  cpus_sum = total (λ i. count_in u (of_cpu s i)) setup.cpus
+
+  abbrev pending_sum : ℕ
+  pending_sum = total (λ i. count_in u (of_pending setup s i)) setup.cpus
+
+  abbrev buffers_sum : ℕ
+  buffers_sum = total (λ i. count_in u (of_buffer setup s i)) (length setup.caps)
+
+  sums : count_in u (everyone setup s) ≡ cpus_sum + (pending_sum + buffers_sum)
+  sums =
+      let parts = count_append u (all_of (of_cpu s) setup.cpus) (all_of (of_pending setup s) setup.cpus ++ all_of (of_buffer setup s) (length setup.caps)) in
+      let rest = count_append u (all_of (of_pending setup s) setup.cpus) (all_of (of_buffer setup s) (length setup.caps)) in
+      let cpus = count_all u (of_cpu s) setup.cpus in
+      let pending = count_all u (of_pending setup s) setup.cpus in
+      let buffers = count_all u (of_buffer setup s) (length setup.caps) in
+      omega (arith, parts, rest, cpus, pending, buffers)
+
+  no_pending : (x : Spot) → spot setup u (sections_in s.log) ≡ x → is_pending x ≡ false → pending_sum ≡ 0
+  no_pending x is off =
+      total_none _ setup.cpus (λ i below. at_pending x is i ∙ ap one_if (and_right (same_cpu (home_of setup u) (cpu_numbered i)) (is_pending x) off))
+
+  no_buffers : (x : Spot) → spot setup u (sections_in s.log) ≡ x → ((b : BufId) → is_lock b x ≡ false) → ((b : BufId) (side : Side) → is_wait b side x ≡ false) → buffers_sum ≡ 0
+  no_buffers x is no_lock no_wait =
+      total_none _ (length setup.caps) (λ i below.
+      let here = at_buffer x is i below in
+      let lock = marked_none u (is_lock (buffer_numbered i) x) (no_lock (buffer_numbered i)) in
+      let receivers = marked_none u (is_wait (buffer_numbered i) Receivers x) (no_wait (buffer_numbered i) Receivers) in
+      let senders = marked_none u (is_wait (buffer_numbered i) Senders x) (no_wait (buffer_numbered i) Senders) in
+      omega (arith, here, lock, receivers, senders))
+
+  -- no seat where the thread is not at home
+  no_seat : (x : Spot) (i : ℕ) → is_home x ≡ false → one_if (seat setup (cpu_numbered i) u x (ended_at i)) ≡ 0
+  no_seat x i off = ap one_if (and_right (is_local setup (cpu_numbered i) u) (is_home x && not (ended_at i)) (and_left (is_home x) (not (ended_at i)) off))
+
+  no_cpus : (x : Spot) → spot setup u (sections_in s.log) ≡ x → is_home x ≡ false → ((c : CpuId) → is_hand c x ≡ false) → cpus_sum ≡ 0
+  no_cpus x is away no_hand =
+      total_none _ setup.cpus (λ i below.
+      let here = at_cpu x is i below in
+      let seats = no_seat x i away in
+      let hand : one_if (is_hand (cpu_numbered i) x) ≡ 0 = ap one_if (no_hand (cpu_numbered i)) in
+      omega (arith, here, seats, hand))
+
+  -- A number that is no thread's.
+
+  unknown : nat_lt u.0 (length setup.homes) ≡ false → count_in u (everyone setup s) ≡ one_if (is_live setup s u)
+  unknown off = by_spot (spot setup u (sections_in s.log)) refl
+    where
+      away : (x : Spot) → spot setup u (sections_in s.log) ≡ x → is_home x ≡ false → count_in u (everyone setup s) ≡ one_if (is_live setup s u)
+      away x is out = refuted off (good.known u (ap is_home is ∙ out))
+
+      by_spot : (x : Spot) → spot setup u (sections_in s.log) ≡ x → count_in u (everyone setup s) ≡ one_if (is_live setup s u)
+      by_spot Home is =
+          let cpus : cpus_sum ≡ 0 =
+          total_none _ setup.cpus (λ i below.
+          let here = at_cpu Home is i below in
+          let seats : one_if (seat setup (cpu_numbered i) u Home (ended_at i)) ≡ 0 =
+          ap one_if (and_left (is_local setup (cpu_numbered i) u) (true && not (ended_at i)) (and_right (same_cpu (home_of setup u) (cpu_numbered i)) (nat_lt u.0 (length setup.homes)) off)) in
+          omega (arith, here, seats)) in
+          let pending = no_pending Home is refl in
+          let buffers = no_buffers Home is (λ b. refl) (λ b side. refl) in
+          let live : one_if (is_live setup s u) ≡ 0 = ap one_if (and_left (nat_lt u.0 (length setup.homes)) (not (thread_of setup s u).ended) off) in
+          omega (arith, sums, cpus, pending, buffers, live)
+      by_spot (InHand c) is = away (InHand c) is refl
+      by_spot IsPending is = away IsPending is refl
+      by_spot (AtLock b) is = away (AtLock b) is refl
+      by_spot (AtWait b side) is = away (AtWait b side) is refl
+
+  -- A thread.
+
+  module _ (known : nat_lt u.0 (length setup.homes) ≡ true) where
+    home_within : (home_of setup u).0 < setup.cpus
+    home_within = homes.1 u (ltb-true u.0 (length setup.homes) known)
+
+    small : nat_lt u.0 THREADS ≡ true
+    small =
+        let below = ltb-true u.0 (length setup.homes) known in
+        let few = homes.0 in
+        lt-ltb u.0 THREADS (omega (arith, below, few))
+
+    other_cpu : (i : ℕ) → (i ≡ (home_of setup u).0 → ⊥) → same_cpu (home_of setup u) (cpu_numbered i) ≡ false
+    other_cpu i off = ne_eqb (home_of setup u).0 i (λ same. off (sym same))
+
+    -- away from home a thread has not ended
+    alive : (x : Spot) → spot setup u (sections_in s.log) ≡ x → is_home x ≡ false → one_if (is_live setup s u) ≡ 1
+    alive x is out = by_cpu (cpu_there setup s kept (home_of setup u) home_within)
+      where
+        by_cpu : ((p : Private) × (slice_get s.cpus (home_of setup u).0 ≡ Some p)) → one_if (is_live setup s u) ≡ 1
+        by_cpu cpu =
+            let agrees = (kept.sound.cpus (home_of setup u) cpu.0 cpu.1).agrees in
+            let local : is_local setup (home_of setup u) u ≡ true =
+            and_from (same_cpu (home_of setup u) (home_of setup u)) (nat_lt u.0 (length setup.homes)) (same_cpu_self (home_of setup u)) known in
+            let goes : (thread_at cpu.0 u).ended ≡ false =
+            false_from_ne_true (thread_at cpu.0 u).ended (λ ended. refuted (ap is_home is ∙ out) (agrees.ends u local ended)) in
+            let goes_here : (thread_of setup s u).ended ≡ false = ap (λ o. (thread_in o u).ended) cpu.1 ∙ goes in
+            (λ i. one_if (known i && not (goes_here i)))
+
+    by_spot : (x : Spot) → spot setup u (sections_in s.log) ≡ x → count_in u (everyone setup s) ≡ one_if (is_live setup s u)
+    by_spot Home is =
+        let cpus : cpus_sum ≡ count_in u (of_cpu s (home_of setup u).0) =
+        total_one (λ i. count_in u (of_cpu s i)) setup.cpus (home_of setup u).0 home_within (λ i below off.
+        let here = at_cpu Home is i below in
+        let seats : one_if (seat setup (cpu_numbered i) u Home (ended_at i)) ≡ 0 =
+        ap one_if (and_left (is_local setup (cpu_numbered i) u) (true && not (ended_at i)) (and_left (same_cpu (home_of setup u) (cpu_numbered i)) (nat_lt u.0 (length setup.homes)) (other_cpu i off))) in
+        omega (arith, here, seats)) in
+        let here = at_cpu Home is (home_of setup u).0 home_within in
+        let seats : one_if (seat setup (home_of setup u) u Home (ended_at (home_of setup u).0)) ≡ one_if (is_live setup s u) =
+        (λ i. one_if ((same_cpu_self (home_of setup u) i && known i) && (true && not (ended_at (home_of setup u).0))))
+        ∙ (λ i. one_if (sym known i && not (ended_at (home_of setup u).0))) in
+        let pending = no_pending Home is refl in
+        let buffers = no_buffers Home is (λ b. refl) (λ b side. refl) in
+        omega (arith, sums, cpus, here, seats, pending, buffers)
+    by_spot (InHand e) is =
+        let within : e.0 < setup.cpus = subst (IsPlaced setup (turn setup u (sections_in s.log))) is (kept.placed.spots u) in
+        let cpus : cpus_sum ≡ count_in u (of_cpu s e.0) =
+        total_one (λ i. count_in u (of_cpu s i)) setup.cpus e.0 within (λ i below off.
+        let here = at_cpu (InHand e) is i below in
+        let seats = no_seat (InHand e) i refl in
+        let hand : one_if (same_cpu e (cpu_numbered i)) ≡ 0 = ap one_if (ne_eqb e.0 i (λ same. off (sym same))) in
+        omega (arith, here, seats, hand)) in
+        let here = at_cpu (InHand e) is e.0 within in
+        let seats = no_seat (InHand e) e.0 refl in
+        let hand : one_if (same_cpu e (cpu_numbered e.0)) ≡ 1 = ap one_if (same_cpu_self e) in
+        let pending = no_pending (InHand e) is refl in
+        let buffers = no_buffers (InHand e) is (λ b. refl) (λ b side. refl) in
+        let live = alive (InHand e) is refl in
+        omega (arith, sums, cpus, here, seats, hand, pending, buffers, live)
+    by_spot IsPending is =
+        let cpus = no_cpus IsPending is refl (λ c. refl) in
+        let pending : pending_sum ≡ count_in u (of_pending setup s (home_of setup u).0) =
+        total_one (λ i. count_in u (of_pending setup s i)) setup.cpus (home_of setup u).0 home_within (λ i below off.
+        at_pending IsPending is i ∙ ap one_if (and_left (same_cpu (home_of setup u) (cpu_numbered i)) true (other_cpu i off))) in
+        let here : count_in u (of_pending setup s (home_of setup u).0) ≡ 1 =
+        at_pending IsPending is (home_of setup u).0 ∙ ap one_if (and_from (same_cpu (home_of setup u) (home_of setup u)) true (same_cpu_self (home_of setup u)) refl) in
+        let buffers = no_buffers IsPending is (λ b. refl) (λ b side. refl) in
+        let live = alive IsPending is refl in
+        omega (arith, sums, cpus, pending, here, buffers, live)
+    by_spot (AtLock b) is =
+        let within : b.0 < length setup.caps = subst (IsPlaced setup (turn setup u (sections_in s.log))) is (kept.placed.spots u) in
+        let cpus = no_cpus (AtLock b) is refl (λ c. refl) in
+        let pending = no_pending (AtLock b) is refl in
+        let no_receivers = marked_none u false refl in
+        let buffers : buffers_sum ≡ count_in u (of_buffer setup s b.0) =
+        total_one (λ i. count_in u (of_buffer setup s i)) (length setup.caps) b.0 within (λ i below off.
+        let here = at_buffer (AtLock b) is i below in
+        let lock = marked_none u (is_buffer (buffer_numbered i) b) (ne_eqb i b.0 off) in
+        omega (arith, here, lock, no_receivers)) in
+        let here = at_buffer (AtLock b) is b.0 within in
+        let lock : marked u (is_buffer b b) ≡ 1 = (λ i. one_if (small i && buffer_self b i)) in
+        let live = alive (AtLock b) is refl in
+        omega (arith, sums, cpus, pending, buffers, here, lock, no_receivers, live)
+    by_spot (AtWait b side) is =
+        let within : (b.0 < length setup.caps) × (turn setup u (sections_in s.log) ≡ _) = subst (IsPlaced setup (turn setup u (sections_in s.log))) is (kept.placed.spots u) in
+        let cpus = no_cpus (AtWait b side) is refl (λ c. refl) in
+        let pending = no_pending (AtWait b side) is refl in
+        let no_lock = marked_none u false refl in
+        let buffers : buffers_sum ≡ count_in u (of_buffer setup s b.0) =
+        total_one (λ i. count_in u (of_buffer setup s i)) (length setup.caps) b.0 within.0 (λ i below off.
+        let here = at_buffer (AtWait b side) is i below in
+        let receivers = marked_none u (is_buffer (buffer_numbered i) b && is_side Receivers side) (and_left (is_buffer (buffer_numbered i) b) (is_side Receivers side) (ne_eqb i b.0 off)) in
+        let senders = marked_none u (is_buffer (buffer_numbered i) b && is_side Senders side) (and_left (is_buffer (buffer_numbered i) b) (is_side Senders side) (ne_eqb i b.0 off)) in
+        omega (arith, here, no_lock, receivers, senders)) in
+        let here = at_buffer (AtWait b side) is b.0 within.0 in
+        let both : marked u (is_buffer b b && is_side Receivers side) + marked u (is_buffer b b && is_side Senders side) ≡ 1 = one_side b side in
+        let live = alive (AtWait b side) is refl in
+        omega (arith, sums, cpus, pending, buffers, here, no_lock, both, live)
+      where
+        one_side : (b : BufId) (side : Side) → marked u (is_buffer b b && is_side Receivers side) + marked u (is_buffer b b && is_side Senders side) ≡ 1
+        one_side b Receivers =
+            let one : marked u (is_buffer b b && true) ≡ 1 = (λ i. one_if (small i && (buffer_self b i && true))) in
+            let none = marked_none u (is_buffer b b && false) (and_right (is_buffer b b) false refl) in
+            omega (arith, one, none)
+        one_side b Senders =
+            let one : marked u (is_buffer b b && true) ≡ 1 = (λ i. one_if (small i && (buffer_self b i && true))) in
+            let none = marked_none u (is_buffer b b && false) (and_right (is_buffer b b) false refl) in
+            omega (arith, one, none)
+
+  one_place : count_in u (everyone setup s) ≡ one_if (is_live setup s u)
+  one_place = by_known (nat_lt u.0 (length setup.homes)) refl
+    where
+      by_known : (known : Bool) → nat_lt u.0 (length setup.homes) ≡ known → count_in u (everyone setup s) ≡ one_if (is_live setup s u)
+      by_known true known = by_spot known (spot setup u (sections_in s.log)) refl
+      by_known false off = unknown off
+
+pub stand_in_one_place : StandInOnePlace
+stand_in_one_place setup room s homes reached t = one_place setup s homes (reached_kept setup room s reached) t

@@ -1,0 +1,5 @@
+use Rattle.cpu.proofs.Wakeups.Meeting.{premises_are_met}
+use Rattle.cpu.proofs.laws.premises_are_met.Goals as goal
+
+pub returns : goal.returns
+returns c = premises_are_met

@@ -1,0 +1,27 @@
+-- The premises of the laws on quiet systems and on calls alone are met: by states of the worked runs.
+use Rattle.std.specs.Prelude.{◌≡◌, ◌+◌, ◌≤◌, [], ◌∷◌, Some, None, option_map}
+use Rattle.cpu.specs.Table.Setups.{Private, Releases}
+use Rattle.cpu.specs.Table.Steps.{Whole, IsReached, cpu_numbered}
+use Rattle.cpu.specs.Table.Worked.{thread, of, run, one_sender, two_sends, two_cpus, call_of}
+use Rattle.cpu.specs.Wakeups.Quiet.{AreFew, HomesExist, IsQuiet}
+use Rattle.cpu.specs.Wakeups.Alone.{IsReady}
+
+-- one thread that waits to send into a full buffer; its quiet state
+abbrev pub waiting_sender : Whole
+waiting_sender = run two_sends (of 0 32 ∷ [])
+
+-- one thread that stands at its send
+abbrev pub at_send : Whole
+at_send = run one_sender (of 0 2 ∷ [])
+
+pub record PremisesAreMet : Type 0 where
+  -- a quiet state is reached
+  pub quiet : HomesExist two_sends × IsReached two_sends 1000 waiting_sender × IsQuiet two_sends waiting_sender
+  -- a state is reached at which a call is ready, with room for it
+  pub ready : AreFew one_sender × IsReached one_sender 1000 at_send
+      × ((p : Private) × IsReady one_sender (cpu_numbered 0) at_send p (thread 0)) × (at_send.taken + 21 ≤ at_send.room)
+  -- that call is under way after 17 steps and has returned after 18
+  pub after_18 : (option_map (λ call. call.stage) (call_of 0 0 (run one_sender (of 0 19 ∷ []))) ≡ Some Releases) × (call_of 0 0 (run one_sender (of 0 20 ∷ [])) ≡ None)
+  -- one that wakes a thread of another CPU is under way after 20 steps and has returned after 21
+  pub after_21 : (option_map (λ call. call.stage) (call_of 1 1 (run two_cpus (of 0 13 ∷ of 1 22 ∷ []))) ≡ Some Releases)
+      × (call_of 1 1 (run two_cpus (of 0 13 ∷ of 1 23 ∷ [])) ≡ None)

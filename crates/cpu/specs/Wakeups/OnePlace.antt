@@ -1,0 +1,56 @@
+-- Every thread has one place: it runs, is ready, is in a hand, is pending, sleeps at a lock or waits at a buffer, and only one of these.
+use Rattle.std.specs.Prelude.{◌≡◌, ℕ, zero, suc, Bool, not, ◌&&◌, nat_lt, List, [], ◌++◌, length, Option, Some, None, slice_get}
+use Rattle.event_log.specs.declared.ids.Tid.{Tid}
+use Rattle.event_log.specs.declared.ids.LockId.TheVariants.{Pending, Buffer as AtBuffer}
+use Rattle.layer_traits.specs.Passes.{as_list}
+use Rattle.layer_traits.specs.Places.{one_if, count_in}
+use Rattle.cpu.specs.Table.Blocks.{Block, OfBuffer, OfPending}
+use Rattle.cpu.specs.Table.Setups.{Setup, Thread, Private, new_thread, thread_at, home_of}
+use Rattle.cpu.specs.Table.Steps.{Whole, IsReached, cpu_numbered, block_at}
+use Rattle.cpu.specs.Table.Worked.{buffer_numbered}
+use Rattle.cpu.specs.Wakeups.Quiet.{HomesExist}
+
+-- the threads that a CPU has: the current one, those that are ready, the one in its hand
+abbrev pub own_queues : Option Private → List Tid
+own_queues None = []
+own_queues (Some p) = (as_list p.current ++ p.ready) ++ as_list p.hand
+
+-- the threads that a block has; the lines are no places, for whoever stands in line is somewhere else too
+abbrev pub queues_in : Option Block → List Tid
+queues_in None = []
+queues_in (Some (OfBuffer k)) = k.sleepers ++ (k.waiting_receivers ++ k.waiting_senders)
+queues_in (Some (OfPending threads)) = threads
+
+-- the lists of the numbers below n, joined
+abbrev pub all_of : (ℕ → List Tid) → ℕ → List Tid
+all_of f zero = []
+all_of f (suc n) = all_of f n ++ f n
+
+abbrev pub of_cpu : Whole → ℕ → List Tid
+of_cpu s n = own_queues (slice_get s.cpus n)
+
+abbrev pub of_pending : Setup → Whole → ℕ → List Tid
+of_pending setup s n = queues_in (block_at setup (Pending (cpu_numbered n)) s.log)
+
+abbrev pub of_buffer : Setup → Whole → ℕ → List Tid
+of_buffer setup s n = queues_in (block_at setup (AtBuffer (buffer_numbered n)) s.log)
+
+-- all queues of a system
+abbrev pub everyone : Setup → Whole → List Tid
+everyone setup s = all_of (of_cpu s) setup.cpus ++ (all_of (of_pending setup s) setup.cpus ++ all_of (of_buffer setup s) (length setup.caps))
+
+abbrev pub thread_in : Option Private → Tid → Thread
+thread_in None t = new_thread
+thread_in (Some p) t = thread_at p t
+
+-- a thread of a system, and whether it has not ended
+abbrev pub thread_of : Setup → Whole → Tid → Thread
+thread_of setup s t = thread_in (slice_get s.cpus (home_of setup t).0) t
+
+abbrev pub is_live : Setup → Whole → Tid → Bool
+is_live setup s t = nat_lt t.0 (length setup.homes) && not (thread_of setup s t).ended
+
+-- in every state that a system reaches each live thread stands in its queues exactly once, and no other number stands there
+abbrev pub StandInOnePlace : Type 0
+StandInOnePlace = (setup : Setup) (room : ℕ) (s : Whole) → HomesExist setup → IsReached setup room s
+    → (t : Tid) → count_in t (everyone setup s) ≡ one_if (is_live setup s t)
