@@ -1,0 +1,146 @@
+-- What holds of a thread's talk over events, where none of them is of its CPU; and what its stance lets it do.
+use Rattle.std.proofs.Common.{◌≡◌, ◌≢◌, ℕ, Bool, true, false, ◌&&◌, List, [], ◌∷◌, ◌++◌, Option, Some, None, refl, ap, sym, ◌∙◌, subst, arith}
+use Rattle.event_log.specs.declared.ids.BufId.{BufId}
+use Rattle.event_log.specs.declared.ids.CpuId.{CpuId}
+use Rattle.event_log.specs.declared.ids.LockId.{LockId}
+use Rattle.event_log.specs.declared.ids.LockId.TheVariants.{Buffer}
+use Rattle.event_log.specs.declared.ids.Tid.{Tid}
+use Rattle.event_log.specs.History.{AreOthers, IsLawful, same_cpu}
+use Rattle.event_log.proofs.Same.{same_cpu_self, same_lock_self}
+use Rattle.layer_traits.specs.declared.buffer_edits.BufferEdit.{BufferEdit}
+use Rattle.layer_traits.specs.declared.calls.Call.{Call}
+use Rattle.layer_traits.specs.declared.calls.Call.TheVariants.{Send, Recv}
+use Rattle.layer_traits.specs.declared.calls.Effect.{Effect}
+use Rattle.layer_traits.specs.declared.locked.Side.{Side}
+use Rattle.layer_traits.specs.declared.locked.Side.TheVariants.{Receivers, Senders}
+use Rattle.layer_traits.specs.declared.queue_edits.QueueBlock.{QueueBlock}
+use Rattle.layer_traits.specs.declared.queues.QueueCall.{QueueCall}
+use Rattle.layer_traits.specs.declared.queues.QueueCall.TheVariants.{Push, TakeAll, OnBuffer}
+use Rattle.layer_traits.specs.declared.talks.Stage.{Stage}
+use Rattle.layer_traits.specs.declared.talks.Stage.TheVariants.{Between, Acquires, Enters, Tries, Waits, AcquiresAgain, Signals, SignalsOwn, Releases}
+use Rattle.layer_traits.specs.declared.talks.Talk.{Talk}
+use Rattle.layer_traits.specs.BufferBlocks.{line_of}
+use Rattle.layer_traits.specs.BufferLaw.{buffer_of, section_at, side_of}
+use Rattle.layer_traits.specs.BufferProtocol.{BufferLock, BufferSection, IsDue, buffer_at, buffer_deeds, buffer_rules, is_in_line}
+use Rattle.layer_traits.specs.Conditions.{CvCall, cv_rules}
+use Rattle.layer_traits.specs.LockLaw.{lock_kernel}
+use Rattle.layer_traits.specs.Locking.{IsOwners, lock_caller, owner_in}
+use Rattle.layer_traits.specs.Places.{count_in, home_of, one_if}
+use Rattle.layer_traits.specs.Protocol.{section}
+use Rattle.layer_traits.specs.QueueBlocks.{homes_in, inner}
+use Rattle.layer_traits.specs.Queues.{QueueAllowed, buffer_sections, event_actor, with_section}
+use Rattle.layer_traits.proofs.CountLemmas.{not_counted}
+use Rattle.layer_traits.proofs.ListsLemmas.{counted_in}
+use Rattle.thread_blocks.specs.Queues.{same_tid}
+use Rattle.thread_blocks.proofs.Members.{same_tid_true}
+use Rattle.fifo_buffer.specs.Stances.{Grip, InCall, Stance, TalkFits, line_at, same_side}
+use Rattle.fifo_buffer.specs.Turns.{BufferEvent}
+use Rattle.fifo_buffer.proofs.Apart.{fits_apart}
+
+module _ (opening : LockId → Option (QueueBlock BufferLock)) where
+  -- one event, none of whose callers is this thread
+  pub one_event : (past : List BufferEvent) (e : BufferEvent) (u : Tid) → QueueAllowed (lock_kernel (cv_rules buffer_deeds) opening) past e
+      → ((t : Tid) → home_of (homes_in opening) t ≡ Some e.cpu → same_tid t u ≡ false)
+      → (of : Option Call) (slept waits : Option BufId) (talk : Talk) → TalkFits (inner opening) (buffer_sections past) u of slept waits talk
+      → TalkFits (inner opening) (buffer_sections (e ∷ past)) u of slept waits talk
+  one_event past e u allowed other of slept waits talk fits = go e.call allowed
+    where
+      go : (call : QueueCall (CvCall BufferEdit)) → QueueAllowed (lock_kernel (cv_rules buffer_deeds) opening) past (record { cpu = e.cpu; call = call })
+          → TalkFits (inner opening) (with_section e.cpu call (buffer_sections past)) u of slept waits talk
+      go (Push d t) may = fits
+      go (TakeAll d) may = fits
+      go (OnBuffer b call) may =
+          fits_apart (inner opening) (buffer_sections past) (section e.cpu (Buffer b) call) u (other (lock_caller buffer_rules call) may.caller.home)
+          may.upper.owners of slept waits talk fits
+
+  home_apart : (c : CpuId) (e : BufferEvent) (u t : Tid) → home_of (homes_in opening) u ≡ Some c → same_cpu e.cpu c ≡ false
+      → home_of (homes_in opening) t ≡ Some e.cpu → same_tid t u ≡ false
+  home_apart c e u t home other there = go (same_tid t u) refl
+    where
+      go : (b : Bool) → same_tid t u ≡ b → b ≡ false
+      go false is = refl
+      go true is =
+          let one : t ≡ u = same_tid_true t u is in
+          let cpus : Some e.cpu ≡ Some c = sym there ∙ ap (home_of (homes_in opening)) one ∙ home in
+          let same : e.cpu ≡ c = cc in
+          absurd (cc (other, subst (λ d. same_cpu e.cpu d ≡ true) same (same_cpu_self e.cpu)))
+
+  -- events of other CPUs
+  pub keeps_fits : (c : CpuId) (u : Tid) → home_of (homes_in opening) u ≡ Some c → (more past : List BufferEvent) → AreOthers event_actor c more
+      → IsLawful (QueueAllowed (lock_kernel (cv_rules buffer_deeds) opening)) (more ++ past)
+      → (of : Option Call) (slept waits : Option BufId) (talk : Talk) → TalkFits (inner opening) (buffer_sections past) u of slept waits talk
+      → TalkFits (inner opening) (buffer_sections (more ++ past)) u of slept waits talk
+  keeps_fits c u home [] past others lawful of slept waits talk fits = fits
+  keeps_fits c u home (e ∷ more) past others lawful of slept waits talk fits =
+      one_event (more ++ past) e u lawful.0 (λ t there. home_apart c e u t home others.0 there) of slept waits talk
+      (keeps_fits c u home more past others.1 lawful.1 of slept waits talk fits)
+
+-- what a stance lets its thread do
+module _ (O : LockId → Option BufferLock) (past : List BufferSection) (t : Tid) where
+  grip_here : (b : BufId) (side : Side) (holds asks lined : Bool) (position : ℕ) → Stance O past t b side holds asks lined position
+      → Grip t holds asks (buffer_at O past (Buffer b))
+  grip_here b side holds asks lined position stance =
+      subst (λ v. Grip t v asks (buffer_at O past (Buffer b))) (and_true holds)
+      (subst (λ v. Grip t (holds && true) v (buffer_at O past (Buffer b))) (and_true asks)
+      (subst (λ v. Grip t (holds && v) (asks && v) (buffer_at O past (Buffer b))) (same_lock_self (Buffer b)) (stance.grip (Buffer b))))
+    where
+      and_true : (x : Bool) → (x && true) ≡ x
+      and_true true = refl
+      and_true false = refl
+
+  owned : (x : Option BufferLock) → Grip t true false x → owner_in x ≡ Some t
+  owned None grip = absurd grip
+  owned (Some lock) grip = grip.0
+
+  not_owned : (x : Option BufferLock) → Grip t false false x → owner_in x ≢ Some t
+  not_owned None grip is = absurd (cc is)
+  not_owned (Some lock) grip is = grip.0 is
+
+  -- the owner of its buffer's lock is as its section asks
+  pub owner_due : (call : Call) (stage : Stage) (position : ℕ) (effect : Option Effect) → InCall O past t call None None stage position effect
+      → IsOwners buffer_rules (section_at t call stage) (owner_in (buffer_at O past (Buffer (buffer_of call))))
+  owner_due call Between position effect now = absurd (none now.called)
+    where
+      none : false ≡ true → ⊥
+      none is = absurd cc
+  owner_due call Acquires position effect now = not_owned _ (grip_here (buffer_of call) (side_of call) false false false position now.stance)
+  owner_due (Send b m) Enters position effect now = owned _ (grip_here b Senders true false false position now.stance)
+  owner_due (Recv b) Enters position effect now = owned _ (grip_here b Receivers true false false position now.stance)
+  owner_due (Send b m) Tries position effect now = owned _ (grip_here b Senders true false true position now.stance)
+  owner_due (Recv b) Tries position effect now = owned _ (grip_here b Receivers true false true position now.stance)
+  owner_due call Waits position effect now = owned _ (grip_here (buffer_of call) (side_of call) true false true position now.stance)
+  owner_due call AcquiresAgain position effect now = not_owned _ (grip_here (buffer_of call) (side_of call) false false true position now.stance)
+  owner_due call Signals position effect now = owned _ (grip_here (buffer_of call) (side_of call) true false false position now.stance)
+  owner_due call SignalsOwn position effect now = owned _ (grip_here (buffer_of call) (side_of call) true false false position now.stance)
+  owner_due call Releases position effect now = owned _ (grip_here (buffer_of call) (side_of call) true false false position now.stance)
+
+  out_of_line : (side : Side) (x : Option BufferLock) → count_in t (line_at side x) ≡ 0 → is_in_line side t x ≡ false
+  out_of_line side None none = refl
+  out_of_line side (Some lock) none = not_counted t (line_of side lock.above) none
+
+  in_line : (side : Side) (x : Option BufferLock) → count_in t (line_at side x) ≡ 1 → is_in_line side t x ≡ true
+  in_line side None once = absurd (omega (arith, once))
+  in_line side (Some lock) once = counted_in t (line_of side lock.above) (omega (arith, once))
+
+  side_same : (side : Side) → same_side side side ≡ true
+  side_same Receivers = refl
+  side_same Senders = refl
+
+  once_there : (b : BufId) (side : Side) (position : ℕ) → Stance O past t b side true false true position → count_in t (line_at side (buffer_at O past (Buffer b))) ≡ 1
+  once_there b side position stance =
+      stance.line (Buffer b) side ∙ ap (λ v. one_if (true && (v && same_side side side))) (same_lock_self (Buffer b)) ∙ ap one_if (side_same side)
+
+  -- its section is due
+  pub due_now : (call : Call) (stage : Stage) (position : ℕ) (effect : Option Effect) → InCall O past t call None None stage position effect
+      → IsDue O past (Buffer (buffer_of call)) (section_at t call stage)
+  due_now call Between position effect now = tt
+  due_now call Acquires position effect now = tt
+  due_now (Send b m) Enters position effect now = (out_of_line Senders _ (now.stance.line (Buffer b) Senders), out_of_line Receivers _ (now.stance.line (Buffer b) Receivers))
+  due_now (Recv b) Enters position effect now = (out_of_line Senders _ (now.stance.line (Buffer b) Senders), out_of_line Receivers _ (now.stance.line (Buffer b) Receivers))
+  due_now (Send b m) Tries position effect now = in_line Senders _ (once_there b Senders position now.stance)
+  due_now (Recv b) Tries position effect now = in_line Receivers _ (once_there b Receivers position now.stance)
+  due_now call Waits position effect now = now.vain refl
+  due_now call AcquiresAgain position effect now = tt
+  due_now call Signals position effect now = tt
+  due_now call SignalsOwn position effect now = tt
+  due_now call Releases position effect now = tt

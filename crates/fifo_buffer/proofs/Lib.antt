@@ -1,0 +1,13 @@
+pub mod Apart
+pub mod OwnSteps
+pub mod Events
+pub mod Polls
+pub mod Turning
+pub mod Heard
+pub mod Parts
+pub mod Passes
+pub mod Finish
+pub mod First
+pub mod Twice
+pub mod Starting
+pub mod Chains

@@ -1,0 +1,558 @@
+-- A thread's own sections: what each leaves of its stance, and its effect.
+use Rattle.std.proofs.Common.{◌≡◌, ◌<◌, ℕ, Bool, true, false, ◌&&◌, List, [], ◌∷◌, ◌++◌, Option, Some, None, option_map, is_some, nat_lt, if◌then◌else◌, refl, ap, sym, ◌∙◌, subst, arith, lt-ltb}
+use Rattle.std.proofs.lemmas.Bool.{and_right}
+use Rattle.event_log.specs.declared.ids.BufId.{BufId}
+use Rattle.event_log.specs.declared.ids.CpuId.{CpuId}
+use Rattle.event_log.specs.declared.ids.LockId.{LockId}
+use Rattle.event_log.specs.declared.ids.LockId.TheVariants.{Buffer}
+use Rattle.event_log.specs.declared.ids.Tid.{Tid}
+use Rattle.event_log.specs.declared.ids.TheConstants.{THREADS}
+use Rattle.event_log.specs.History.{same_lock}
+use Rattle.event_log.specs.Messages.{Message}
+use Rattle.event_log.proofs.Same.{same_lock_self, same_lock_true}
+use Rattle.layer_traits.specs.declared.buffer_edits.BufferEdit.{BufferEdit}
+use Rattle.layer_traits.specs.declared.buffer_edits.BufferEdit.TheVariants.{Enter, TryPut, TryTake}
+use Rattle.layer_traits.specs.declared.buffer_edits.BufferOut.{BufferOut}
+use Rattle.layer_traits.specs.declared.buffer_edits.BufferOut.TheVariants as told
+use Rattle.layer_traits.specs.declared.calls.Call.{Call}
+use Rattle.layer_traits.specs.declared.calls.Call.TheVariants.{Send, Recv}
+use Rattle.layer_traits.specs.declared.calls.Effect.{Effect}
+use Rattle.layer_traits.specs.declared.conditions.CvEdit.TheVariants.{Edit, SignalFront}
+use Rattle.layer_traits.specs.declared.conditions.CvLeave.TheVariants.{Leave, Wait}
+use Rattle.layer_traits.specs.declared.conditions.CvOut.{CvOut}
+use Rattle.layer_traits.specs.declared.conditions.CvOut.TheVariants as answer
+use Rattle.layer_traits.specs.declared.locked.QEdit.TheVariants.{Acquire, Inside, Release}
+use Rattle.layer_traits.specs.declared.locked.QOut.{QOut}
+use Rattle.layer_traits.specs.declared.locked.QOut.TheVariants.{Did, Released}
+use Rattle.layer_traits.specs.declared.locked.Side.{Side}
+use Rattle.layer_traits.specs.declared.locked.Side.TheVariants.{Receivers, Senders}
+use Rattle.layer_traits.specs.declared.talks.Stage.{Stage}
+use Rattle.layer_traits.specs.declared.talks.Stage.TheVariants.{Between, Acquires, Enters, Tries, Waits, AcquiresAgain, Signals, SignalsOwn, Releases}
+use Rattle.layer_traits.specs.BufferBlocks.{BufferState, effect_kind, entered, first_item, is_first, is_turn, line_of, may_go, may_join, places_of, put_in, taken_out}
+use Rattle.layer_traits.specs.BufferEffects.{drawn, effect_of, effect_on, is_enter, places_in}
+use Rattle.layer_traits.specs.BufferLaw.{IsEffectOf, buffer_of, entry_of, section_at, side_of}
+use Rattle.layer_traits.specs.BufferProtocol.{BufferLock, BufferSection, buffer_at, buffer_rules, has_tried_in_vain, is_turn_at}
+use Rattle.layer_traits.specs.Conditions.{CvCall}
+use Rattle.layer_traits.specs.Locking.{asked, lock_edited, lock_out, told_asker}
+use Rattle.layer_traits.specs.Places.{count_in, one_if}
+use Rattle.layer_traits.specs.Protocol.{section}
+use Rattle.layer_traits.proofs.CountLemmas.{count_append, not_counted}
+use Rattle.thread_blocks.specs.Queues.{same_tid, is_in, rest}
+use Rattle.thread_blocks.proofs.Members.{same_tid_self}
+use Rattle.fifo_buffer.specs.Stances.{Grip, Holds, InCall, IsFreeOf, Stance, TalkFits, heard_by, line_at, same_side, slept_by, talk_in, waits_by}
+use Rattle.fifo_buffer.proofs.Apart.{above_asked, out_of_rest}
+
+and_true : (x : Bool) → (x && true) ≡ x
+and_true true = refl
+and_true false = refl
+
+and_second : (x y : Bool) → (x && y) ≡ true → y ≡ true
+and_second true y e = e
+and_second false y e = absurd cc
+
+and_one : (x y : Bool) → (x && y) ≡ true → x ≡ true
+and_one true y e = refl
+and_one false y e = absurd cc
+
+side_self : (side : Side) → same_side side side ≡ true
+side_self Receivers = refl
+side_self Senders = refl
+
+-- what a section did, where it was told this: the stance and the talk after it, and its effect
+pub record Stepped (opening : LockId → Option BufferLock) (past : List BufferSection) (c : CpuId) (t : Tid) (call : Call) (stage : Stage) (position : ℕ) (effect : Option Effect) (out : QOut (CvOut BufferOut)) : Type 0 where
+  pub fits : TalkFits opening (section c (Buffer (buffer_of call)) (section_at t call stage) ∷ past) t (heard_by (talk_in stage call position effect) stage out).call
+      (slept_by (buffer_of call) out) (waits_by (buffer_of call) out) (heard_by (talk_in stage call position effect) stage out)
+  pub mine : Option Effect
+  pub is : effect_of opening past (section c (Buffer (buffer_of call)) (section_at t call stage)) ≡ option_map (entry_of c t (buffer_of call)) mine
+  pub fresh : (f : Effect) → mine ≡ Some f → (effect ≡ None) × ((heard_by (talk_in stage call position effect) stage out).effect ≡ Some f) × IsEffectOf call f
+  pub stays : mine ≡ None → (heard_by (talk_in stage call position effect) stage out).effect ≡ effect
+
+module _ (opening : LockId → Option BufferLock) (past : List BufferSection) (c : CpuId) (t : Tid) (b : BufId) (side : Side) (e : CvCall BufferEdit)
+    (lock : BufferLock) (is : buffer_at opening past (Buffer b) ≡ Some lock) where
+  here : (l : LockId) → same_lock l (Buffer b) ≡ true → buffer_at opening past l ≡ Some lock
+  here l same = subst (λ k. buffer_at opening past k ≡ Some lock) (sym (same_lock_true l (Buffer b) same)) is
+
+  -- a section at the thread's own buffer changes its stance there alone
+  own_stance : (holds asks lined holds' asks' lined' : Bool) (position position' : ℕ) → Stance opening past t b side holds asks lined position
+      → (Grip t holds asks (Some lock) → Grip t holds' asks' (Some (lock_edited buffer_rules e lock)))
+      → ((at : Side) → count_in t (line_of at lock.above) ≡ one_if (lined && same_side at side)
+      → count_in t (line_of at (lock_edited buffer_rules e lock).above) ≡ one_if (lined' && same_side at side))
+      → (lined' ≡ true → position' ≡ drawn opening (Buffer b) side t (section c (Buffer b) e ∷ past))
+      → Stance opening (section c (Buffer b) e ∷ past) t b side holds' asks' lined' position'
+  own_stance holds asks lined holds' asks' lined' position position' stance grips lines place = record {
+    grip = λ l. grip_at l (same_lock l (Buffer b)) refl;
+    line = λ l at. line_there l at (same_lock l (Buffer b)) refl;
+    place = place;
+  }
+    where
+      grip_at : (l : LockId) (v : Bool) → same_lock l (Buffer b) ≡ v
+          → Grip t (holds' && v) (asks' && v) (if v then option_map (lock_edited buffer_rules e) (buffer_at opening past l) else buffer_at opening past l)
+      grip_at l true same =
+          let now : Grip t (holds && true) (asks && true) (Some lock)
+          = subst (λ x. Grip t (holds && true) (asks && true) x) (here l same) (subst (λ v. Grip t (holds && v) (asks && v) (buffer_at opening past l)) same (stance.grip l)) in
+          let then' : Grip t holds' asks' (Some (lock_edited buffer_rules e lock)) = grips (rw (← and_true holds, ← and_true asks) now) in
+          subst (λ x. Grip t (holds' && true) (asks' && true) (option_map (lock_edited buffer_rules e) x)) (sym (here l same))
+          (rw (and_true holds', and_true asks') then')
+      grip_at l false same =
+          let now : Grip t (holds && false) (asks && false) (buffer_at opening past l)
+          = subst (λ v. Grip t (holds && v) (asks && v) (buffer_at opening past l)) same (stance.grip l) in
+          let free : Grip t false false (buffer_at opening past l)
+          = subst (λ v. Grip t v false (buffer_at opening past l)) (and_right holds false refl)
+          (subst (λ v. Grip t (holds && false) v (buffer_at opening past l)) (and_right asks false refl) now) in
+          subst (λ v. Grip t v (asks' && false) (buffer_at opening past l)) (sym (and_right holds' false refl))
+          (subst (λ v. Grip t false v (buffer_at opening past l)) (sym (and_right asks' false refl)) free)
+
+      line_there : (l : LockId) (at : Side) (v : Bool) → same_lock l (Buffer b) ≡ v
+          → count_in t (line_at at (if v then option_map (lock_edited buffer_rules e) (buffer_at opening past l) else buffer_at opening past l))
+          ≡ one_if (lined' && (v && same_side at side))
+      line_there l at true same =
+          let now : count_in t (line_of at lock.above) ≡ one_if (lined && same_side at side)
+          = sym (ap (λ x. count_in t (line_at at x)) (here l same)) ∙ stance.line l at ∙ ap (λ v. one_if (lined && (v && same_side at side))) same in
+          ap (λ x. count_in t (line_at at (option_map (lock_edited buffer_rules e) x))) (here l same) ∙ lines at now
+      line_there l at false same =
+          stance.line l at ∙ ap (λ v. one_if (lined && (v && same_side at side))) same
+          ∙ ap one_if (and_right lined false refl) ∙ ap one_if (sym (and_right lined' false refl))
+
+  -- its drawn position stays, where it does not enter
+  drawn_own : is_enter side t e ≡ false → drawn opening (Buffer b) side t (section c (Buffer b) e ∷ past) ≡ drawn opening (Buffer b) side t past
+  drawn_own none =
+      ap (λ v. if v then places_in side (buffer_at opening past (Buffer b)) else drawn opening (Buffer b) side t past)
+      (and_right (same_lock (Buffer b) (Buffer b)) (is_enter side t e) none)
+
+-- whoever takes a free lock holds it
+take_free : (t : Tid) (owner : Option Tid) (lock : BufferLock) → owner ≡ None → IsFreeOf t (Some lock) → Holds t (Some (asked t owner lock))
+take_free t None lock is free = (refl, free.1)
+take_free t (Some o) lock is free = absurd cc
+
+-- whoever is first in a line, where it stands once, is not among those behind
+gone_from : (t : Tid) (q : List Tid) → is_first t q ≡ true → count_in t q ≡ 1 → count_in t (rest q) ≡ 0
+gone_from t [] is once = absurd cc
+gone_from t (x ∷ q) is once = let one : one_if (same_tid t x) ≡ 1 = ap one_if is in omega (arith, one, once)
+
+joins_line : (t : Tid) (q : List Tid) → count_in t q ≡ 0 → count_in t (q ++ t ∷ []) ≡ 1
+joins_line t q none =
+    let self : one_if (same_tid t t) ≡ 1 = ap one_if (same_tid_self t) in
+    let sum = count_append t q (t ∷ []) in
+    omega (arith, self, none, sum)
+
+lines_entered : (t : Tid) (side at : Side) (x : BufferState) → count_in t (line_of at x) ≡ 0 → count_in t (line_of at (entered side t x)) ≡ one_if (same_side at side)
+lines_entered t Receivers Receivers x none = joins_line t x.receive_line none
+lines_entered t Receivers Senders x none = none
+lines_entered t Senders Receivers x none = none
+lines_entered t Senders Senders x none = joins_line t x.send_line none
+
+may_enter : (t : Tid) (q : List Tid) → t.0 < THREADS → count_in t q ≡ 0 → may_join t q ≡ true
+may_enter t q small none =
+    let lt : nat_lt t.0 THREADS ≡ true = lt-ltb t.0 THREADS small in
+    let out : is_in t q ≡ false = not_counted t q none in
+    rw (lt, out) refl
+
+enter_own : (side : Side) (t : Tid) → is_enter side t (Inside (Edit (Enter t side))) ≡ true
+enter_own Receivers t = same_tid_self t
+enter_own Senders t = same_tid_self t
+
+-- the stances after each kind of section of the thread's own
+module _ (opening : LockId → Option BufferLock) (past : List BufferSection) (c : CpuId) (t : Tid) (b : BufId) (side : Side)
+    (lock : BufferLock) (is : buffer_at opening past (Buffer b) ≡ Some lock) where
+  -- an Acquire, where the lock was free, and where it had an owner
+  took_lock : (lined : Bool) (position : ℕ) → lock.owner ≡ None → Stance opening past t b side false false lined position
+      → Stance opening (section c (Buffer b) (Acquire t) ∷ past) t b side true false lined position
+  took_lock lined position free stance =
+      own_stance opening past c t b side (Acquire t) lock is false false lined true false lined position position stance
+      (λ grip. take_free t lock.owner lock free grip)
+      (λ at now. ap (λ x. count_in t (line_of at x)) (above_asked t lock.owner lock) ∙ now)
+      (λ lines. stance.place lines ∙ sym (drawn_own opening past c t b side (Acquire t) lock is refl))
+
+  asked_lock : (lined : Bool) (position : ℕ) → Stance opening past t b side false false lined position
+      → Stance opening (section c (Buffer b) (Acquire t) ∷ past) t b side false true lined position
+  asked_lock lined position stance =
+      own_stance opening past c t b side (Acquire t) lock is false false lined false true lined position position stance
+      (λ grip. tt)
+      (λ at now. ap (λ x. count_in t (line_of at x)) (above_asked t lock.owner lock) ∙ now)
+      (λ lines. stance.place lines ∙ sym (drawn_own opening past c t b side (Acquire t) lock is refl))
+
+  -- how often the thread stands in its own line
+  in_own_line : (holds asks lined : Bool) (position : ℕ) → Stance opening past t b side holds asks lined position → count_in t (line_of side lock.above) ≡ one_if lined
+  in_own_line holds asks lined position stance =
+      sym (ap (λ x. count_in t (line_at side x)) is) ∙ stance.line (Buffer b) side
+      ∙ ap (λ v. one_if (lined && (v && same_side side side))) (same_lock_self (Buffer b))
+      ∙ ap (λ v. one_if (lined && v)) (side_self side) ∙ ap one_if (and_true lined)
+
+  entered_line : (position : ℕ) → t.0 < THREADS → Stance opening past t b side true false false position
+      → Stance opening (section c (Buffer b) (Inside (Edit (Enter t side))) ∷ past) t b side true false true (places_of side lock.above)
+  entered_line position small stance =
+      own_stance opening past c t b side (Inside (Edit (Enter t side))) lock is true false false true false true position (places_of side lock.above) stance
+      (λ grip. grip)
+      (λ at now. ap (λ (v : Bool). count_in t (line_of at (if v then entered side t lock.above else lock.above)))
+      (may_enter t (line_of side lock.above) small (in_own_line true false false position stance)) ∙ lines_entered t side at lock.above now)
+      (λ lines. sym (ap (λ (v : Bool). if v then places_in side (buffer_at opening past (Buffer b)) else drawn opening (Buffer b) side t past) test
+      ∙ ap (places_in side) is))
+    where
+      test : (same_lock (Buffer b) (Buffer b) && is_enter side t (Inside (Edit (Enter t side)))) ≡ true
+      test = rw (same_lock_self (Buffer b), enter_own side t) refl
+
+  -- a section that edits no line and keeps the owner
+  same_there : (holds lined : Bool) (position : ℕ) (signalled : Side) → Stance opening past t b side holds false lined position
+      → Stance opening (section c (Buffer b) (Inside (SignalFront t signalled)) ∷ past) t b side holds false lined position
+  same_there holds lined position signalled stance =
+      own_stance opening past c t b side (Inside (SignalFront t signalled)) lock is holds false lined holds false lined position position stance
+      (λ grip. go holds grip) (λ at now. now) (λ lines. stance.place lines ∙ sym (drawn_own opening past c t b side (Inside (SignalFront t signalled)) lock is refl))
+    where
+      go : (holds : Bool) → Grip t holds false (Some lock) → Grip t holds false (Some (lock_edited buffer_rules (Inside (SignalFront t signalled)) lock))
+      go true grip = grip
+      go false grip = grip
+
+  -- a release, by a wait or a leave
+  waited_there : (lined : Bool) (position : ℕ) (at : Side) → Stance opening past t b side true false lined position
+      → Stance opening (section c (Buffer b) (Release (Wait t at)) ∷ past) t b side false false lined position
+  waited_there lined position at stance =
+      own_stance opening past c t b side (Release (Wait t at)) lock is true false lined false false lined position position stance
+      (λ grip. out_of_rest t lock.sleepers grip.1) (λ at now. now)
+      (λ lines. stance.place lines ∙ sym (drawn_own opening past c t b side (Release (Wait t at)) lock is refl))
+
+  left_there : (lined : Bool) (position : ℕ) → Stance opening past t b side true false lined position
+      → Stance opening (section c (Buffer b) (Release (Leave t)) ∷ past) t b side false false lined position
+  left_there lined position stance =
+      own_stance opening past c t b side (Release (Leave t)) lock is true false lined false false lined position position stance
+      (λ grip. out_of_rest t lock.sleepers grip.1) (λ at now. now)
+      (λ lines. stance.place lines ∙ sym (drawn_own opening past c t b side (Release (Leave t)) lock is refl))
+
+-- the stances after a try
+module _ (opening : LockId → Option BufferLock) (past : List BufferSection) (c : CpuId) (t : Tid) (b : BufId)
+    (lock : BufferLock) (is : buffer_at opening past (Buffer b) ≡ Some lock) (position : ℕ) where
+  has_put : (m : Message) → is_turn Senders t lock.above ≡ true → Stance opening past t b Senders true false true position
+      → Stance opening (section c (Buffer b) (Inside (Edit (TryPut t m))) ∷ past) t b Senders true false false position
+  has_put m turn stance =
+      own_stance opening past c t b Senders (Inside (Edit (TryPut t m))) lock is true false true true false false position position stance
+      (λ grip. grip)
+      (λ at now. ap (λ (v : Bool). count_in t (line_of at (if v then put_in m lock.above else lock.above))) turn ∙ lines at now) (λ lines. absurd cc)
+    where
+      lines : (at : Side) → count_in t (line_of at lock.above) ≡ one_if (same_side at Senders) → count_in t (line_of at (put_in m lock.above)) ≡ 0
+      lines Receivers now = now
+      lines Senders now = gone_from t lock.above.send_line (and_one (is_first t lock.above.send_line) (may_go Senders lock.above) turn) now
+
+  has_taken : is_turn Receivers t lock.above ≡ true → Stance opening past t b Receivers true false true position
+      → Stance opening (section c (Buffer b) (Inside (Edit (TryTake t))) ∷ past) t b Receivers true false false position
+  has_taken turn stance =
+      own_stance opening past c t b Receivers (Inside (Edit (TryTake t))) lock is true false true true false false position position stance
+      (λ grip. grip)
+      (λ at now. ap (λ (v : Bool). count_in t (line_of at (if v then taken_out lock.above else lock.above))) turn ∙ lines at now) (λ lines. absurd cc)
+    where
+      lines : (at : Side) → count_in t (line_of at lock.above) ≡ one_if (same_side at Receivers) → count_in t (line_of at (taken_out lock.above)) ≡ 0
+      lines Receivers now = gone_from t lock.above.receive_line (and_one (is_first t lock.above.receive_line) (may_go Receivers lock.above) turn) now
+      lines Senders now = now
+
+  put_in_vain : (m : Message) → is_turn Senders t lock.above ≡ false → Stance opening past t b Senders true false true position
+      → Stance opening (section c (Buffer b) (Inside (Edit (TryPut t m))) ∷ past) t b Senders true false true position
+  put_in_vain m turn stance =
+      own_stance opening past c t b Senders (Inside (Edit (TryPut t m))) lock is true false true true false true position position stance
+      (λ grip. grip)
+      (λ at now. ap (λ (v : Bool). count_in t (line_of at (if v then put_in m lock.above else lock.above))) turn ∙ now)
+      (λ lines. stance.place lines ∙ sym (drawn_own opening past c t b Senders (Inside (Edit (TryPut t m))) lock is refl))
+
+  took_in_vain : is_turn Receivers t lock.above ≡ false → Stance opening past t b Receivers true false true position
+      → Stance opening (section c (Buffer b) (Inside (Edit (TryTake t))) ∷ past) t b Receivers true false true position
+  took_in_vain turn stance =
+      own_stance opening past c t b Receivers (Inside (Edit (TryTake t))) lock is true false true true false true position position stance
+      (λ grip. grip)
+      (λ at now. ap (λ (v : Bool). count_in t (line_of at (if v then taken_out lock.above else lock.above))) turn ∙ now)
+      (λ lines. stance.place lines ∙ sym (drawn_own opening past c t b Receivers (Inside (Edit (TryTake t))) lock is refl))
+
+  vain_put : (m : Message) → is_turn Senders t lock.above ≡ false
+      → has_tried_in_vain opening (Buffer b) Senders t (section c (Buffer b) (Inside (Edit (TryPut t m))) ∷ past) ≡ true
+  vain_put m turn =
+      let at : is_turn_at Senders t (buffer_at opening past (Buffer b)) ≡ false = ap (is_turn_at Senders t) is ∙ turn in
+      rw (same_tid_self t, same_lock_self (Buffer b), at) refl
+
+  vain_take : is_turn Receivers t lock.above ≡ false
+      → has_tried_in_vain opening (Buffer b) Receivers t (section c (Buffer b) (Inside (Edit (TryTake t))) ∷ past) ≡ true
+  vain_take turn =
+      let at : is_turn_at Receivers t (buffer_at opening past (Buffer b)) ≡ false = ap (is_turn_at Receivers t) is ∙ turn in
+      rw (same_tid_self t, same_lock_self (Buffer b), at) refl
+
+-- each section of a call, by its stage
+module _ (opening : LockId → Option BufferLock) (past : List BufferSection) (c : CpuId) (t : Tid) (lock : BufferLock) (position : ℕ) (effect : Option Effect) where
+  quiet_here : (b : BufId) (e : CvCall BufferEdit) → buffer_at opening past (Buffer b) ≡ Some lock
+      → effect_on c b e (λ side u. drawn opening (Buffer b) side u past) (Some lock) ≡ None → effect_of opening past (section c (Buffer b) e) ≡ None
+  quiet_here b e is none = ap (λ x. effect_on c b e (λ side u. drawn opening (Buffer b) side u past) x) is ∙ none
+
+  asks_step : (call : Call) → buffer_at opening past (Buffer (buffer_of call)) ≡ Some lock → InCall opening past t call None None Acquires position effect
+      → Stepped opening past c t call Acquires position effect (told_asker lock.owner)
+  asks_step call is now = go lock.owner refl
+    where
+      none : effect_of opening past (section c (Buffer (buffer_of call)) (Acquire t)) ≡ None
+      none = quiet_here (buffer_of call) (Acquire t) is refl
+
+      go : (owner : Option Tid) → lock.owner ≡ owner → Stepped opening past c t call Acquires position effect (told_asker owner)
+      go None free = record {
+        fits = record {
+          called = refl;
+          stance = took_lock opening past c t (buffer_of call) (side_of call) lock is false position free now.stance;
+          vain = λ w. absurd cc;
+          effect_is = now.effect_is;
+          slept_here = tt;
+          waits_here = tt;
+        };
+        mine = None;
+        is = none;
+        fresh = λ f w. absurd cc;
+        stays = λ w. refl;
+      }
+      go (Some o) owned = record {
+        fits = record {
+          called = refl;
+          stance = asked_lock opening past c t (buffer_of call) (side_of call) lock is false position now.stance;
+          vain = λ w. absurd cc;
+          effect_is = now.effect_is;
+          slept_here = (refl, refl);
+          waits_here = tt;
+        };
+        mine = None;
+        is = none;
+        fresh = λ f w. absurd cc;
+        stays = λ w. refl;
+      }
+
+  asks_again_step : (call : Call) → buffer_at opening past (Buffer (buffer_of call)) ≡ Some lock → InCall opening past t call None None AcquiresAgain position effect
+      → Stepped opening past c t call AcquiresAgain position effect (told_asker lock.owner)
+  asks_again_step call is now = go lock.owner refl
+    where
+      none : effect_of opening past (section c (Buffer (buffer_of call)) (Acquire t)) ≡ None
+      none = quiet_here (buffer_of call) (Acquire t) is refl
+
+      go : (owner : Option Tid) → lock.owner ≡ owner → Stepped opening past c t call AcquiresAgain position effect (told_asker owner)
+      go None free = record {
+        fits = record {
+          called = refl;
+          stance = took_lock opening past c t (buffer_of call) (side_of call) lock is true position free now.stance;
+          vain = λ w. absurd cc;
+          effect_is = now.effect_is;
+          slept_here = tt;
+          waits_here = tt;
+        };
+        mine = None;
+        is = none;
+        fresh = λ f w. absurd cc;
+        stays = λ w. refl;
+      }
+      go (Some o) owned = record {
+        fits = record {
+          called = refl;
+          stance = asked_lock opening past c t (buffer_of call) (side_of call) lock is true position now.stance;
+          vain = λ w. absurd cc;
+          effect_is = now.effect_is;
+          slept_here = (refl, refl);
+          waits_here = tt;
+        };
+        mine = None;
+        is = none;
+        fresh = λ f w. absurd cc;
+        stays = λ w. refl;
+      }
+
+  enters_step : (call : Call) → t.0 < THREADS → buffer_at opening past (Buffer (buffer_of call)) ≡ Some lock → InCall opening past t call None None Enters position effect
+      → Stepped opening past c t call Enters position effect (Did (answer.Did (told.Entered (places_of (side_of call) lock.above))))
+  enters_step (Send b m) small is now = record {
+    fits = record {
+      called = refl;
+      stance = entered_line opening past c t b Senders lock is position small now.stance;
+      vain = λ w. absurd cc;
+      effect_is = now.effect_is;
+      slept_here = tt;
+      waits_here = tt;
+    };
+    mine = None;
+    is = quiet_here b (Inside (Edit (Enter t Senders))) is refl;
+    fresh = λ f w. absurd cc;
+    stays = λ w. refl;
+  }
+  enters_step (Recv b) small is now = record {
+    fits = record {
+      called = refl;
+      stance = entered_line opening past c t b Receivers lock is position small now.stance;
+      vain = λ w. absurd cc;
+      effect_is = now.effect_is;
+      slept_here = tt;
+      waits_here = tt;
+    };
+    mine = None;
+    is = quiet_here b (Inside (Edit (Enter t Receivers))) is refl;
+    fresh = λ f w. absurd cc;
+    stays = λ w. refl;
+  }
+
+  none_before : (call : Call) → InCall opening past t call None None Tries position effect → effect ≡ None
+  none_before call now = go effect now.effect_is
+    where
+      go : (f : Option Effect) → is_some f ≡ false → f ≡ None
+      go None is = refl
+      go (Some x) is = absurd cc
+
+  put_step : (b : BufId) (m : Message) (v : Bool) → is_turn Senders t lock.above ≡ v → buffer_at opening past (Buffer b) ≡ Some lock
+      → InCall opening past t (Send b m) None None Tries position effect
+      → Stepped opening past c t (Send b m) Tries position effect (Did (answer.Did (if v then told.Done (effect_kind Senders lock.above) lock.above.effects m else told.NotYet)))
+  put_step b m true turn is now = record {
+    fits = record {
+      called = refl;
+      stance = has_put opening past c t b lock is position m turn now.stance;
+      vain = λ w. absurd cc;
+      effect_is = refl;
+      slept_here = tt;
+      waits_here = tt;
+    };
+    mine = Some (record { kind = effect_kind Senders lock.above; value = m; op = lock.above.effects; pos = position });
+    is = ap (λ x. effect_on c b (Inside (Edit (TryPut t m))) (λ side u. drawn opening (Buffer b) side u past) x) is
+        ∙ ap (λ (v : Bool). if v then Some (entry_of c t b (record { kind = effect_kind Senders lock.above; value = m; op = lock.above.effects; pos = drawn opening (Buffer b) Senders t past })) else None) turn
+        ∙ ap (λ p. Some (entry_of c t b (record { kind = effect_kind Senders lock.above; value = m; op = lock.above.effects; pos = p }))) (sym (now.stance.place refl));
+    fresh = λ f same. (none_before (Send b m) now, same, (ap (λ (g : Effect). g.kind) (sym (done f same)), ap (λ (g : Effect). g.value) (sym (done f same))));
+    stays = λ w. absurd cc;
+  }
+    where
+      done : (f : Effect) → Some (record { kind = effect_kind Senders lock.above; value = m; op = lock.above.effects; pos = position }) ≡ Some f
+          → record { kind = effect_kind Senders lock.above; value = m; op = lock.above.effects; pos = position } ≡ f
+      done f same = cc
+  put_step b m false turn is now = record {
+    fits = record {
+      called = refl;
+      stance = put_in_vain opening past c t b lock is position m turn now.stance;
+      vain = λ w. vain_put opening past c t b lock is position m turn;
+      effect_is = now.effect_is;
+      slept_here = tt;
+      waits_here = tt;
+    };
+    mine = None;
+    is = ap (λ x. effect_on c b (Inside (Edit (TryPut t m))) (λ side u. drawn opening (Buffer b) side u past) x) is
+        ∙ ap (λ (v : Bool). if v then Some (entry_of c t b (record { kind = effect_kind Senders lock.above; value = m; op = lock.above.effects; pos = drawn opening (Buffer b) Senders t past })) else None) turn;
+    fresh = λ f w. absurd cc;
+    stays = λ w. refl;
+  }
+
+  take_step : (b : BufId) (v : Bool) → is_turn Receivers t lock.above ≡ v → buffer_at opening past (Buffer b) ≡ Some lock
+      → InCall opening past t (Recv b) None None Tries position effect
+      → Stepped opening past c t (Recv b) Tries position effect
+      (Did (answer.Did (if v then told.Done (effect_kind Receivers lock.above) lock.above.effects (first_item lock.above.items) else told.NotYet)))
+  take_step b true turn is now = record {
+    fits = record {
+      called = refl;
+      stance = has_taken opening past c t b lock is position turn now.stance;
+      vain = λ w. absurd cc;
+      effect_is = refl;
+      slept_here = tt;
+      waits_here = tt;
+    };
+    mine = Some (record { kind = effect_kind Receivers lock.above; value = first_item lock.above.items; op = lock.above.effects; pos = position });
+    is = ap (λ x. effect_on c b (Inside (Edit (TryTake t))) (λ side u. drawn opening (Buffer b) side u past) x) is
+        ∙ ap (λ (v : Bool). if v then Some (entry_of c t b (record { kind = effect_kind Receivers lock.above; value = first_item lock.above.items; op = lock.above.effects; pos = drawn opening (Buffer b) Receivers t past })) else None) turn
+        ∙ ap (λ p. Some (entry_of c t b (record { kind = effect_kind Receivers lock.above; value = first_item lock.above.items; op = lock.above.effects; pos = p }))) (sym (now.stance.place refl));
+    fresh = λ f same. (none_before (Recv b) now, same, cc);
+    stays = λ w. absurd cc;
+  }
+  take_step b false turn is now = record {
+    fits = record {
+      called = refl;
+      stance = took_in_vain opening past c t b lock is position turn now.stance;
+      vain = λ w. vain_take opening past c t b lock is position turn;
+      effect_is = now.effect_is;
+      slept_here = tt;
+      waits_here = tt;
+    };
+    mine = None;
+    is = ap (λ x. effect_on c b (Inside (Edit (TryTake t))) (λ side u. drawn opening (Buffer b) side u past) x) is
+        ∙ ap (λ (v : Bool). if v then Some (entry_of c t b (record { kind = effect_kind Receivers lock.above; value = first_item lock.above.items; op = lock.above.effects; pos = drawn opening (Buffer b) Receivers t past })) else None) turn;
+    fresh = λ f w. absurd cc;
+    stays = λ w. refl;
+  }
+
+  tries_step : (call : Call) → buffer_at opening past (Buffer (buffer_of call)) ≡ Some lock → InCall opening past t call None None Tries position effect
+      → Stepped opening past c t call Tries position effect (lock_out buffer_rules (section_at t call Tries) lock)
+  tries_step (Send b m) is now = put_step b m (is_turn Senders t lock.above) refl is now
+  tries_step (Recv b) is now = take_step b (is_turn Receivers t lock.above) refl is now
+
+  waits_step : (call : Call) → buffer_at opening past (Buffer (buffer_of call)) ≡ Some lock → InCall opening past t call None None Waits position effect
+      → Stepped opening past c t call Waits position effect (Released (answer.Waited (side_of call)))
+  waits_step call is now = record {
+    fits = record {
+      called = refl;
+      stance = waited_there opening past c t (buffer_of call) (side_of call) lock is true position (side_of call) now.stance;
+      vain = λ w. absurd cc;
+      effect_is = now.effect_is;
+      slept_here = tt;
+      waits_here = (refl, refl);
+    };
+    mine = None;
+    is = quiet_here (buffer_of call) (Release (Wait t (side_of call))) is refl;
+    fresh = λ f w. absurd cc;
+    stays = λ w. refl;
+  }
+
+  signals_step : (call : Call) (far : Side) (front : Option Tid) → buffer_at opening past (Buffer (buffer_of call)) ≡ Some lock
+      → section_at t call Signals ≡ Inside (SignalFront t far) → InCall opening past t call None None Signals position effect
+      → Stepped opening past c t call Signals position effect (Did (answer.Signalled far front))
+  signals_step call far front is same now = record {
+    fits = record {
+      called = refl;
+      stance = subst (λ e. Stance opening (section c (Buffer (buffer_of call)) e ∷ past) t (buffer_of call) (side_of call) true false false position) (sym same)
+          (same_there opening past c t (buffer_of call) (side_of call) lock is true false position far now.stance);
+      vain = λ w. absurd cc;
+      effect_is = now.effect_is;
+      slept_here = tt;
+      waits_here = tt;
+    };
+    mine = None;
+    is = ap (λ e. effect_of opening past (section c (Buffer (buffer_of call)) e)) same ∙ quiet_here (buffer_of call) (Inside (SignalFront t far)) is refl;
+    fresh = λ f w. absurd cc;
+    stays = λ w. refl;
+  }
+
+  signals_own_step : (call : Call) (front : Option Tid) → buffer_at opening past (Buffer (buffer_of call)) ≡ Some lock
+      → InCall opening past t call None None SignalsOwn position effect
+      → Stepped opening past c t call SignalsOwn position effect (Did (answer.Signalled (side_of call) front))
+  signals_own_step call front is now = record {
+    fits = record {
+      called = refl;
+      stance = same_there opening past c t (buffer_of call) (side_of call) lock is true false position (side_of call) now.stance;
+      vain = λ w. absurd cc;
+      effect_is = now.effect_is;
+      slept_here = tt;
+      waits_here = tt;
+    };
+    mine = None;
+    is = quiet_here (buffer_of call) (Inside (SignalFront t (side_of call))) is refl;
+    fresh = λ f w. absurd cc;
+    stays = λ w. refl;
+  }
+
+  releases_step : (call : Call) → buffer_at opening past (Buffer (buffer_of call)) ≡ Some lock → InCall opening past t call None None Releases position effect
+      → Stepped opening past c t call Releases position effect (Released answer.Left)
+  releases_step call is now =
+      let left = left_there opening past c t (buffer_of call) (side_of call) lock is false position now.stance in
+      record {
+        fits = record {
+          stage_is = refl;
+          stance = record { grip = left.grip; line = left.line; place = λ w. absurd cc };
+          slept_none = refl;
+          waits_none = refl;
+        };
+        mine = None;
+        is = quiet_here (buffer_of call) (Release (Leave t)) is refl;
+        fresh = λ f w. absurd cc;
+        stays = λ w. refl;
+      }
+
+  -- the section of any stage of a call
+  pub own_step : (call : Call) (stage : Stage) → t.0 < THREADS → buffer_at opening past (Buffer (buffer_of call)) ≡ Some lock
+      → InCall opening past t call None None stage position effect → Stepped opening past c t call stage position effect (lock_out buffer_rules (section_at t call stage) lock)
+  own_step call Between small is now = absurd (false_true now.called)
+    where
+      false_true : false ≡ true → ⊥
+      false_true is = absurd cc
+  own_step call Acquires small is now = asks_step call is now
+  own_step (Send b m) Enters small is now = enters_step (Send b m) small is now
+  own_step (Recv b) Enters small is now = enters_step (Recv b) small is now
+  own_step call Tries small is now = tries_step call is now
+  own_step call Waits small is now = waits_step call is now
+  own_step call AcquiresAgain small is now = asks_again_step call is now
+  own_step (Send b m) Signals small is now = signals_step (Send b m) Receivers _ is refl now
+  own_step (Recv b) Signals small is now = signals_step (Recv b) Senders _ is refl now
+  own_step call SignalsOwn small is now = signals_own_step call _ is now
+  own_step call Releases small is now = releases_step call is now

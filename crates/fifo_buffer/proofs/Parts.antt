@@ -1,0 +1,228 @@
+-- How the effects and the moves of the buffers grow with events, and that a part keeps fitting over events of other CPUs.
+use Rattle.std.proofs.Common.{◌≡◌, ◌≢◌, ℕ, Bool, true, false, List, [], ◌∷◌, ◌++◌, Option, Some, None, option_map, option_to_list, if◌then◌else◌, refl, ap, sym, ◌∙◌, subst, append_assoc, ◌<◌, length, get_or, IsSome}
+use Rattle.std.specs.List.{AllByRecursion}
+use Rattle.event_log.specs.declared.entries.Entry.{Entry}
+use Rattle.event_log.specs.declared.ids.BufId.{BufId}
+use Rattle.event_log.specs.declared.ids.CpuId.{CpuId}
+use Rattle.event_log.specs.declared.ids.LockId.{LockId}
+use Rattle.event_log.specs.declared.ids.LockId.TheVariants.{Buffer}
+use Rattle.event_log.specs.declared.ids.Tid.{Tid}
+use Rattle.event_log.specs.History.{AreForeign, AreOthers, IsLawful, same_cpu}
+use Rattle.layer_traits.specs.declared.buffer_edits.BufferEdit.{BufferEdit}
+use Rattle.layer_traits.specs.declared.buffer_edits.BufferEdit.TheVariants.{Enter, TryPut, TryTake}
+use Rattle.layer_traits.specs.declared.buffer_edits.BufferOut.{BufferOut}
+use Rattle.layer_traits.specs.declared.calls.Call.{Call}
+use Rattle.layer_traits.specs.declared.conditions.CvEdit.TheVariants.{Edit, SignalFront}
+use Rattle.layer_traits.specs.declared.locked.QEdit.TheVariants.{Acquire, Inside, Release}
+use Rattle.layer_traits.specs.declared.locked.Side.{Side}
+use Rattle.layer_traits.specs.declared.locked.Side.TheVariants.{Receivers, Senders}
+use Rattle.layer_traits.specs.declared.queue_edits.QueueBlock.{QueueBlock}
+use Rattle.layer_traits.specs.declared.queues.QueueCall.{QueueCall}
+use Rattle.layer_traits.specs.declared.queues.QueueCall.TheVariants.{Push, TakeAll, OnBuffer}
+use Rattle.layer_traits.specs.declared.scheds.SchedCall.{SchedCall}
+use Rattle.layer_traits.specs.declared.talks.Talk.{Talk}
+use Rattle.layer_traits.specs.BufferBlocks.{effect_kind, first_item, is_turn}
+use Rattle.layer_traits.specs.BufferEffects.{effect_of, effect_on, effects_in, entry}
+use Rattle.layer_traits.specs.BufferLaw.{MovesGrow, OthersSeen, entry_cpu, heard, talk_of}
+use Rattle.layer_traits.specs.BufferProtocol.{BufferLock, BufferSection, buffer_deeds}
+use Rattle.layer_traits.specs.Conditions.{CvCall, cv_rules}
+use Rattle.layer_traits.specs.CvLaw.{Waiting}
+use Rattle.layer_traits.specs.LockLaw.{lock_kernel, slept_for}
+use Rattle.layer_traits.specs.Places.{home_of}
+use Rattle.layer_traits.specs.Protocol.{section}
+use Rattle.layer_traits.specs.QueueBlocks.{homes_in, inner}
+use Rattle.layer_traits.specs.Queues.{QueueAllowed, buffer_sections, event_actor, moves_in, with_section}
+use Rattle.layer_traits.proofs.CallLemmas.{moves_append, moves_others, moves_over}
+use Rattle.event_log.proofs.Same.{same_cpu_true}
+use Rattle.layer_traits.specs.BufferEffects.{fresh_lock}
+use Rattle.layer_traits.specs.QueueBlocks.{above_of}
+use Rattle.std.proofs.lemmas.Option.{slice_get-get_or}
+use Rattle.fifo_buffer.specs.FifoFits.{BootsSo, PartFits, caps_in}
+use Rattle.fifo_buffer.specs.Stances.{TalkFits}
+use Rattle.fifo_buffer.specs.Turns.{BufferEvent, BufferOutcome, CallsFit, Goes, Kept, Midway}
+use Rattle.fifo_buffer.proofs.Events.{keeps_fits}
+
+-- an effect has its section's CPU
+one_entry : (d cpu : CpuId) (b : BufId) (call : CvCall BufferEdit) (position : Side → Tid → ℕ) (x : Option BufferLock) → same_cpu cpu d ≡ false
+    → AreOthers entry_cpu d (option_to_list (effect_on cpu b call position x))
+one_entry d cpu b call position None other = tt
+one_entry d cpu b (Acquire t) position (Some lock) other = tt
+one_entry d cpu b (Inside (Edit (Enter t side))) position (Some lock) other = tt
+one_entry d cpu b (Inside (Edit (TryPut t m))) position (Some lock) other = go (is_turn Senders t lock.above)
+  where
+    go : (v : Bool) → AreOthers entry_cpu d (option_to_list (if v then Some (entry cpu t (effect_kind Senders lock.above) b m lock.above.effects (position Senders t)) else None))
+    go true = (other, tt)
+    go false = tt
+one_entry d cpu b (Inside (Edit (TryTake t))) position (Some lock) other = go (is_turn Receivers t lock.above)
+  where
+    go : (v : Bool) → AreOthers entry_cpu d (option_to_list (if v then Some (entry cpu t (effect_kind Receivers lock.above) b (first_item lock.above.items) lock.above.effects (position Receivers t)) else None))
+    go true = (other, tt)
+    go false = tt
+one_entry d cpu b (Inside (SignalFront t side)) position (Some lock) other = tt
+one_entry d cpu b (Release leave) position (Some lock) other = tt
+
+others_join : {E : Type 0} (by : E → CpuId) (d : CpuId) (xs ys : List E) → AreOthers by d xs → AreOthers by d ys → AreOthers by d (xs ++ ys)
+others_join by d [] ys one two = two
+others_join by d (x ∷ xs) ys one two = (one.0, others_join by d xs ys one.1 two)
+
+module _ (O : LockId → Option BufferLock) where
+  -- the effects of one event, and of some
+  abbrev effect_by : CpuId → QueueCall (CvCall BufferEdit) → List BufferSection → List Entry
+  effect_by cpu (Push d t) past = []
+  effect_by cpu (TakeAll d) past = []
+  effect_by cpu (OnBuffer b call) past = option_to_list (effect_of O past (section cpu (Buffer b) call))
+
+  abbrev pub effects_over : List BufferEvent → List BufferEvent → List Entry
+  effects_over [] past = []
+  effects_over (e ∷ more) past = effect_by e.cpu e.call (buffer_sections (more ++ past)) ++ effects_over more past
+
+  effects_with : (cpu : CpuId) (call : QueueCall (CvCall BufferEdit)) (past : List BufferSection)
+      → effects_in O (with_section cpu call past) ≡ effect_by cpu call past ++ effects_in O past
+  effects_with cpu (Push d t) past = refl
+  effects_with cpu (TakeAll d) past = refl
+  effects_with cpu (OnBuffer b call) past = refl
+
+  pub effects_append : (more past : List BufferEvent) → effects_in O (buffer_sections (more ++ past)) ≡ effects_over more past ++ effects_in O (buffer_sections past)
+  effects_append [] past = refl
+  effects_append (e ∷ more) past =
+      effects_with e.cpu e.call (buffer_sections (more ++ past))
+      ∙ ap (λ es. effect_by e.cpu e.call (buffer_sections (more ++ past)) ++ es) (effects_append more past)
+      ∙ sym (append_assoc (effect_by e.cpu e.call (buffer_sections (more ++ past))) (effects_over more past) (effects_in O (buffer_sections past)))
+
+  pub effects_others : (d : CpuId) (more past : List BufferEvent) → AreOthers event_actor d more → AreOthers entry_cpu d (effects_over more past)
+  effects_others d [] past others = tt
+  effects_others d (e ∷ more) past others =
+      others_join entry_cpu d (effect_by e.cpu e.call (buffer_sections (more ++ past))) (effects_over more past) (go e.call) (effects_others d more past others.1)
+    where
+      go : (call : QueueCall (CvCall BufferEdit)) → AreOthers entry_cpu d (effect_by e.cpu call (buffer_sections (more ++ past)))
+      go (Push q t) = tt
+      go (TakeAll q) = tt
+      go (OnBuffer b call) = one_entry d e.cpu b call _ _ others.0
+
+module _ (opening : LockId → Option (QueueBlock BufferLock)) (d : CpuId) (more past : List BufferEvent) (others : AreOthers event_actor d more)
+    (lawful : IsLawful (QueueAllowed (lock_kernel (cv_rules buffer_deeds) opening)) (more ++ past)) where
+  talk_on : (u : Tid) → home_of (homes_in opening) u ≡ Some d → (of : Option Call) (slept waits : Option BufId) (talk : Talk)
+      → TalkFits (inner opening) (buffer_sections past) u of slept waits talk → TalkFits (inner opening) (buffer_sections (more ++ past)) u of slept waits talk
+  talk_on u home = keeps_fits opening d u home more past others lawful
+
+  kept_on : (t : Tid) (home : home_of (homes_in opening) t ≡ Some d) (talk : Talk) (outcome : BufferOutcome) → Kept (inner opening) (buffer_sections past) t talk.stage talk outcome
+      → Kept (inner opening) (buffer_sections (more ++ past)) t talk.stage talk outcome
+  kept_on t home talk outcome kept = record {
+    plain = kept.plain;
+    fits = talk_on t home (heard talk talk.stage outcome.out).call None None (heard talk talk.stage outcome.out) kept.fits;
+    effect = kept.effect;
+    done = kept.done;
+    no_wait = kept.no_wait;
+    called = kept.called;
+  }
+
+  midway_on : (t : Tid) → home_of (homes_in opening) t ≡ Some d → (call : Call) (talk : Talk) (kept : Option BufferOutcome) (hand : Option Tid)
+      → Midway (inner opening) (buffer_sections past) t call talk kept hand → Midway (inner opening) (buffer_sections (more ++ past)) t call talk kept hand
+  midway_on t home call talk None hand midway = (midway.0, talk_on t home (Some call) None None talk midway.1)
+  midway_on t home call talk (Some outcome) hand midway = kept_on t home talk outcome midway
+
+  goes_on : (t : Tid) → home_of (homes_in opening) t ≡ Some d → (call : Call) (talk : Talk) (own : Waiting BufferOut) (under_way : Option (SchedCall (CvCall BufferEdit)))
+      → Goes (inner opening) (buffer_sections past) t call talk own under_way → Goes (inner opening) (buffer_sections (more ++ past)) t call talk own under_way
+  goes_on t home call talk own None goes = record {
+    hand = goes.hand;
+    kept = goes.kept;
+    fits = talk_on t home (Some call) (slept_for own.lock.slept t) (slept_for own.waits t) talk goes.fits;
+  }
+  goes_on t home call talk own (Some s) goes = record {
+    is = goes.is;
+    slept = goes.slept;
+    waits = goes.waits;
+    midway = midway_on t home call talk own.lock.sleep.kept own.lock.sleep.threads.hand goes.midway;
+  }
+
+  -- a part keeps fitting over events of other CPUs
+  pub calls_on : (own : Waiting BufferOut) (talks : List Talk) (under_way : Option (SchedCall (CvCall BufferEdit))) (calling : Option Tid)
+      → CallsFit (homes_in opening) d (inner opening) (buffer_sections past) own talks under_way calling
+      → CallsFit (homes_in opening) d (inner opening) (buffer_sections (more ++ past)) own talks under_way calling
+  calls_on own talks under_way None fits = record {
+    none = fits.none;
+    kept = fits.kept;
+    fit = λ u home. talk_on u home (talk_of talks u).call (slept_for own.lock.slept u) (slept_for own.waits u) (talk_of talks u) (fits.fit u home);
+  }
+  calls_on own talks under_way (Some t) fits = record {
+    call = fits.call;
+    home = fits.home;
+    may = record {
+      current = fits.may.current;
+      called = fits.may.called;
+      goes = goes_on t fits.home fits.call (talk_of talks t) own under_way fits.may.goes;
+    };
+    others = λ u home other. talk_on u home (talk_of talks u).call (slept_for own.lock.slept u) (slept_for own.waits u) (talk_of talks u) (fits.others u home other);
+  }
+
+  pub part_on : (own : Waiting BufferOut) (talks : List Talk) (under_way : Option (SchedCall (CvCall BufferEdit))) (calling : Option Tid)
+      → PartFits opening d past own talks under_way calling → PartFits opening d (more ++ past) own talks under_way calling
+  part_on own talks under_way calling fits = record {
+    boots = fits.boots;
+    sizes = fits.sizes;
+    calls = calls_on own talks under_way calling fits.calls;
+  }
+
+-- the same at a log that grew so
+pub part_grown : (opening : LockId → Option (QueueBlock BufferLock)) (d : CpuId) (more past new : List BufferEvent) → AreOthers event_actor d more
+    → IsLawful (QueueAllowed (lock_kernel (cv_rules buffer_deeds) opening)) new → new ≡ more ++ past
+    → (own : Waiting BufferOut) (talks : List Talk) (under_way : Option (SchedCall (CvCall BufferEdit))) (calling : Option Tid)
+    → PartFits opening d past own talks under_way calling → PartFits opening d new own talks under_way calling
+part_grown opening d more past new others lawful is own talks under_way calling fits =
+    subst (λ log. PartFits opening d log own talks under_way calling) (sym is)
+    (part_on opening d more past others (subst (IsLawful (QueueAllowed (lock_kernel (cv_rules buffer_deeds) opening))) is lawful) own talks under_way calling fits)
+
+-- effects of other CPUs alone, and moves of other CPUs alone
+pub seen_grown : (ActsFor Acts : CpuId → Type 0) (O : LockId → Option BufferLock) (others old new : List BufferEvent) → ((d : CpuId) → Acts d → ActsFor d)
+    → AreForeign ActsFor event_actor others → new ≡ others ++ old → OthersSeen Acts (effects_in O (buffer_sections old)) (effects_in O (buffer_sections new))
+seen_grown ActsFor Acts O others old new weaker foreign is = record {
+  others = effects_over O others old;
+  foreign = λ d acts. effects_others O d others old (foreign d (weaker d acts));
+  is = ap (λ log. effects_in O (buffer_sections log)) is ∙ effects_append O others old;
+}
+
+all_own : (opening : LockId → Option (QueueBlock BufferLock)) (c : CpuId) (mine past : List BufferEvent) → AllByRecursion (λ (e : BufferEvent). e.cpu ≡ c) mine
+    → AllByRecursion (λ s. s.cpu ≡ c) (moves_over (lock_kernel (cv_rules buffer_deeds) opening) mine past)
+all_own opening c [] past own = tt
+all_own opening c (e ∷ mine) past own = (own.0, all_own opening c mine past own.1)
+
+pub moves_grown : (opening : LockId → Option (QueueBlock BufferLock)) (ActsFor Acts : CpuId → Type 0) (c : CpuId) (mine others old new : List BufferEvent)
+    → ((d : CpuId) → Acts d → ActsFor d) → AreForeign ActsFor event_actor others → AllByRecursion (λ (e : BufferEvent). e.cpu ≡ c) mine → new ≡ mine ++ (others ++ old)
+    → MovesGrow Acts c (moves_in (lock_kernel (cv_rules buffer_deeds) opening) old) (moves_in (lock_kernel (cv_rules buffer_deeds) opening) new)
+moves_grown opening ActsFor Acts c mine others old new weaker foreign own is = record {
+  others = moves_over (lock_kernel (cv_rules buffer_deeds) opening) others old;
+  mine = moves_over (lock_kernel (cv_rules buffer_deeds) opening) mine (others ++ old);
+  foreign = λ d acts. moves_others (lock_kernel (cv_rules buffer_deeds) opening) d others old (foreign d (weaker d acts));
+  own = all_own opening c mine (others ++ old) own;
+  is = ap (moves_in (lock_kernel (cv_rules buffer_deeds) opening)) is ∙ moves_append (lock_kernel (cv_rules buffer_deeds) opening) mine (others ++ old)
+      ∙ ap (λ steps. moves_over (lock_kernel (cv_rules buffer_deeds) opening) mine (others ++ old) ++ steps) (moves_append (lock_kernel (cv_rules buffer_deeds) opening) others old);
+}
+
+-- the buffers of the capacities are there
+pub buffer_there : (opening : LockId → Option (QueueBlock BufferLock)) → BootsSo opening → (b : BufId) → b.0 < length (caps_in opening) → IsSome (opening (Buffer b))
+buffer_there opening boots b within = there (opening (Buffer b)) shown
+  where
+    shown : above_of (opening (Buffer b)) ≡ Some (fresh_lock (get_or (caps_in opening) b.0 0))
+    shown = ap (λ locks. locks (Buffer b)) boots ∙ ap (option_map fresh_lock) (slice_get-get_or (caps_in opening) b.0 0 within)
+
+    there : {lock : BufferLock} (x : Option (QueueBlock BufferLock)) → above_of x ≡ Some lock → IsSome x
+    there None is = absurd cc
+    there (Some block) is = refl
+
+-- the part of another CPU keeps fitting over a turn
+own_others : (c d : CpuId) → d ≢ c → (mine : List BufferEvent) → AllByRecursion (λ (e : BufferEvent). e.cpu ≡ c) mine → AreOthers event_actor d mine
+own_others c d other [] own = tt
+own_others c d other (e ∷ mine) own = (go (same_cpu e.cpu d) refl, own_others c d other mine own.1)
+  where
+    go : (b : Bool) → same_cpu e.cpu d ≡ b → b ≡ false
+    go false is = refl
+    go true is = absurd (other (sym (same_cpu_true e.cpu d is) ∙ own.0))
+
+pub other_part : (opening : LockId → Option (QueueBlock BufferLock)) (c d : CpuId) → d ≢ c → (mine others past new : List BufferEvent)
+    → AllByRecursion (λ (e : BufferEvent). e.cpu ≡ c) mine → AreOthers event_actor d others → new ≡ mine ++ (others ++ past)
+    → IsLawful (QueueAllowed (lock_kernel (cv_rules buffer_deeds) opening)) new
+    → (own : Waiting BufferOut) (talks : List Talk) (under_way : Option (SchedCall (CvCall BufferEdit))) (calling : Option Tid)
+    → PartFits opening d past own talks under_way calling → PartFits opening d new own talks under_way calling
+other_part opening c d apart mine others past new own_events foreign is lawful own talks under_way calling fits =
+    part_grown opening d (mine ++ others) past new (others_join event_actor d mine others (own_others c d apart mine own_events) foreign) lawful
+    (is ∙ sym (append_assoc mine others past)) own talks under_way calling fits

@@ -1,0 +1,125 @@
+-- A call that is passed on to the scheduler has no effect, and leaves the talks as they fit.
+use Rattle.std.proofs.Common.{◌≡◌, Bool, true, false, List, [], ◌∷◌, ◌++◌, Option, Some, None, is_some, if◌then◌else◌, refl, ap, sym, ◌∙◌, subst}
+use Rattle.std.specs.List.{AllByRecursion}
+use Rattle.event_log.specs.declared.ids.CpuId.{CpuId}
+use Rattle.event_log.specs.declared.ids.LockId.{LockId}
+use Rattle.event_log.specs.declared.ids.Tid.{Tid}
+use Rattle.event_log.specs.History.{AreOthers, IsLawful}
+use Rattle.layer_traits.specs.declared.buffer_edits.BufferEdit.{BufferEdit}
+use Rattle.layer_traits.specs.declared.buffer_edits.BufferOut.{BufferOut}
+use Rattle.layer_traits.specs.declared.passes.Pass.{Pass}
+use Rattle.layer_traits.specs.declared.passes.Pass.TheVariants.{Switch, YieldNow, Drain, MakeReady, End}
+use Rattle.layer_traits.specs.declared.queue_edits.QueueBlock.{QueueBlock}
+use Rattle.layer_traits.specs.declared.scheds.SchedCall.{SchedCall}
+use Rattle.layer_traits.specs.declared.scheds.SchedCall.TheVariants as sched
+use Rattle.layer_traits.specs.declared.talks.Talk.{Talk}
+use Rattle.layer_traits.specs.BufferEffects.{effects_in}
+use Rattle.layer_traits.specs.BufferLaw.{Calling, MayGoOn, OthersSeen, Passing}
+use Rattle.layer_traits.specs.BufferProtocol.{BufferLock, buffer_deeds}
+use Rattle.layer_traits.specs.Conditions.{CvCall, cv_rules}
+use Rattle.layer_traits.specs.CvLaw.{Waiting}
+use Rattle.layer_traits.specs.LockLaw.{lock_kernel}
+use Rattle.layer_traits.specs.Passes.{PassPolled}
+use Rattle.layer_traits.specs.Places.{Threads}
+use Rattle.layer_traits.specs.QueueBlocks.{homes_in, inner}
+use Rattle.layer_traits.specs.Queues.{QueueAllowed, buffer_sections, event_actor, moves_in}
+use Rattle.layer_traits.specs.Scheds.{SchedPolled, events_of, pass_call}
+use Rattle.layer_traits.specs.SleepLaw.{done_if}
+use Rattle.layer_traits.proofs.CallLemmas.{pass_polled}
+use Rattle.fifo_buffer.specs.FifoFits.{PartFits}
+use Rattle.fifo_buffer.specs.Turns.{BufferEvent, BufferOutcome, NoSection, doing_at}
+use Rattle.fifo_buffer.proofs.Parts.{effects_append, effects_others, effects_over, part_on}
+
+-- its event, where it has one, is no section of a buffer
+abbrev pub pass_events : List CpuId → CpuId → Pass → Bool → List BufferEvent
+pass_events homes c p done = if done then events_of c (pass_call homes c p) else []
+
+no_sections : (homes : List CpuId) (c : CpuId) (p : Pass) (done : Bool) (past : List BufferEvent) → buffer_sections (pass_events homes c p done ++ past) ≡ buffer_sections past
+no_sections homes c p false past = refl
+no_sections homes c Switch true past = refl
+no_sections homes c YieldNow true past = refl
+no_sections homes c Drain true past = refl
+no_sections homes c (MakeReady t) true past = refl
+no_sections homes c End true past = refl
+
+pub own_pass : (homes : List CpuId) (c : CpuId) (p : Pass) (done : Bool) → AllByRecursion (λ (e : BufferEvent). e.cpu ≡ c) (pass_events homes c p done)
+own_pass homes c p false = tt
+own_pass homes c Switch true = tt
+own_pass homes c YieldNow true = (refl, tt)
+own_pass homes c Drain true = (refl, tt)
+own_pass homes c (MakeReady t) true = (refl, tt)
+own_pass homes c End true = tt
+
+split : (homes : List CpuId) (c : CpuId) (p : Pass) (done : Bool) (past : List BufferEvent)
+    → (if done then events_of c (pass_call homes c p) ++ past else past) ≡ pass_events homes c p done ++ past
+split homes c p true past = refl
+split homes c p false past = refl
+
+done_same : (O : Type 0) (result : Option (Unit {0})) → is_some (done_if {O = O} result) ≡ is_some result
+done_same O None = refl
+done_same O (Some u) = refl
+
+module _ (opening : LockId → Option (QueueBlock BufferLock)) (ActsFor Acts : CpuId → Type 0) (weaker : (d : CpuId) → Acts d → ActsFor d) (c : CpuId) (p : Pass)
+    (result : Option (Unit {0})) (old new : List BufferEvent) (own own' : Threads)
+    (polled : SchedPolled (lock_kernel (cv_rules buffer_deeds) opening) ActsFor c (sched.Pass p) (done_if result) old new own own') where
+  pub pass_grown : new ≡ pass_events (homes_in opening) c p (is_some (done_if {O = BufferOutcome} result)) ++ (polled.others ++ old)
+  pass_grown = polled.is ∙ split (homes_in opening) c p (is_some (done_if {O = BufferOutcome} result)) (polled.others ++ old)
+
+  same_sections : buffer_sections new ≡ buffer_sections (polled.others ++ old)
+  same_sections = ap buffer_sections pass_grown ∙ no_sections (homes_in opening) c p (is_some (done_if {O = BufferOutcome} result)) (polled.others ++ old)
+
+  pub pass_seen : OthersSeen Acts (effects_in (inner opening) (buffer_sections old)) (effects_in (inner opening) (buffer_sections new))
+  pass_seen = record {
+    others = effects_over (inner opening) polled.others old;
+    foreign = λ d acts. effects_others (inner opening) d polled.others old (polled.foreign d (weaker d acts));
+    is = ap (effects_in (inner opening)) same_sections ∙ effects_append (inner opening) polled.others old;
+  }
+
+  pub pass_moved : PassPolled (homes_in opening) Acts c p result (moves_in (lock_kernel (cv_rules buffer_deeds) opening) old)
+      (moves_in (lock_kernel (cv_rules buffer_deeds) opening) new) own own'
+  pass_moved =
+      let moved = pass_polled (lock_kernel (cv_rules buffer_deeds) opening) ActsFor c p (done_if result) old new own own' polled in
+      let same : is_some (done_if {O = BufferOutcome} result) ≡ is_some result = done_same BufferOutcome result in
+      record {
+        others = moved.others;
+        foreign = λ d acts. moved.foreign d (weaker d acts);
+        is = rw (← same) moved.is;
+        after = rw (← same) moved.after;
+        at_once = λ local. sym same ∙ moved.at_once local;
+      }
+
+  -- the part of this CPU, and those of other CPUs
+  pub part_passed : (d : CpuId) → AreOthers event_actor d polled.others → IsLawful (QueueAllowed (lock_kernel (cv_rules buffer_deeds) opening)) (polled.others ++ old)
+      → (cv : Waiting BufferOut) (talks : List Talk) (under_way : Option (SchedCall (CvCall BufferEdit))) (calling : Option Tid)
+      → PartFits opening d old cv talks under_way calling → PartFits opening d new cv talks under_way calling
+  part_passed d others lawful cv talks under_way calling fits =
+      let on = part_on opening d polled.others old others lawful cv talks under_way calling fits in
+      record { boots = on.boots; sizes = on.sizes; calls = rw same_sections on.calls }
+
+lawful_rest : (opening : LockId → Option (QueueBlock BufferLock)) (mine past : List BufferEvent)
+    → IsLawful (QueueAllowed (lock_kernel (cv_rules buffer_deeds) opening)) (mine ++ past) → IsLawful (QueueAllowed (lock_kernel (cv_rules buffer_deeds) opening)) past
+lawful_rest opening [] past lawful = lawful
+lawful_rest opening (e ∷ mine) past lawful = lawful_rest opening mine past lawful.1
+
+pub lawful_before : (opening : LockId → Option (QueueBlock BufferLock)) (mine past new : List BufferEvent) → new ≡ mine ++ past
+    → IsLawful (QueueAllowed (lock_kernel (cv_rules buffer_deeds) opening)) new → IsLawful (QueueAllowed (lock_kernel (cv_rules buffer_deeds) opening)) past
+lawful_before opening mine past new is lawful = lawful_rest opening mine past (subst (IsLawful (QueueAllowed (lock_kernel (cv_rules buffer_deeds) opening))) is lawful)
+
+-- what a pass changes of the part: its threads, and which pass is under way
+pub passed_own : (opening : LockId → Option (QueueBlock BufferLock)) (c : CpuId) (past : List BufferEvent) (cv cv' : Waiting BufferOut) (talks : List Talk)
+    (under_way : Option (SchedCall (CvCall BufferEdit))) (calling : Option Tid) (p : Pass) (done : Bool) → MayGoOn (doing_at calling under_way) (Passing p)
+    → cv'.lock.sleep.kept ≡ cv.lock.sleep.kept → cv'.lock.slept ≡ cv.lock.slept → cv'.waits ≡ cv.waits
+    → PartFits opening c past cv talks under_way calling → PartFits opening c past cv' talks (if done then None else Some (sched.Pass p)) calling
+passed_own opening c past cv cv' talks under_way (Some t) p done may kept slept waits fits = absurd (wrong may)
+  where
+    wrong : Calling t ≡ Passing p → ⊥
+    wrong is = absurd cc
+passed_own opening c past cv cv' talks under_way None p done may kept slept waits fits = record {
+  boots = fits.boots;
+  sizes = record { slept = rw slept fits.sizes.slept; waits = rw waits fits.sizes.waits; talks_are = fits.sizes.talks_are };
+  calls = record { none = none done; kept = kept ∙ fits.calls.kept; fit = λ u home. rw (slept, waits) (fits.calls.fit u home) };
+}
+  where
+    none : (b : Bool) → NoSection (if b then None else Some (sched.Pass p))
+    none true = tt
+    none false = tt

@@ -1,0 +1,103 @@
+-- A part fits at the start.
+use Rattle.std.proofs.Common.{◌≡◌, ℕ, zero, suc, slice_index_or, List, [], ◌∷◌, length, replicate, Option, Some, None, option_map, slice_get, refl, ap, sym, ◌∙◌, subst}
+use Rattle.std.proofs.lemmas.List.{length-replicate}
+use Rattle.event_log.specs.declared.ids.BufId.{BufId}
+use Rattle.event_log.specs.declared.ids.CpuId.{CpuId}
+use Rattle.event_log.specs.declared.ids.LockId.{LockId}
+use Rattle.event_log.specs.declared.ids.LockId.TheVariants.{Pending, Buffer}
+use Rattle.event_log.specs.declared.ids.Tid.{Tid}
+use Rattle.event_log.specs.declared.ids.TheConstants.{THREADS}
+use Rattle.layer_traits.specs.declared.buffer_edits.BufferOut.{BufferOut}
+use Rattle.layer_traits.specs.declared.locked.Side.{Side}
+use Rattle.layer_traits.specs.declared.locked.Side.TheVariants.{Receivers, Senders}
+use Rattle.layer_traits.specs.declared.queue_edits.QueueBlock.{QueueBlock}
+use Rattle.layer_traits.specs.declared.talks.Talk.{Talk}
+use Rattle.layer_traits.specs.BufferEffects.{fresh_lock, opening_locks}
+use Rattle.layer_traits.specs.BufferLaw.{quiet, talk_of}
+use Rattle.layer_traits.specs.BufferProtocol.{BufferLock, buffer_deeds}
+use Rattle.layer_traits.specs.Conditions.{cv_rules}
+use Rattle.layer_traits.specs.CvLaw.{Waiting, waiting_at_start}
+use Rattle.layer_traits.specs.LockLaw.{lock_kernel, slept_for}
+use Rattle.layer_traits.specs.Locking.{AreAtRest, IsAtRest}
+use Rattle.layer_traits.specs.Places.{count_in}
+use Rattle.layer_traits.specs.QueueBlocks.{inner}
+use Rattle.layer_traits.specs.Queues.{buffer_sections, moves_in}
+use Rattle.fifo_buffer.specs.FifoFits.{BootsSo, PartFits, caps_in}
+use Rattle.fifo_buffer.specs.Stances.{IsFreeOf, TalkFits, line_at}
+use Rattle.fifo_buffer.specs.Turns.{BufferEvent, FitsAt}
+
+-- what a list of equal items holds anywhere
+same_default : {A : Type 0} (n i : ℕ) (a : A) → slice_index_or (replicate n a) i a ≡ a
+same_default zero i a = refl
+same_default (suc n) zero a = refl
+same_default (suc n) (suc i) a = same_default n i a
+
+-- no moves, no events
+pub no_events : (opening : LockId → Option (QueueBlock BufferLock)) (past : List BufferEvent) → moves_in (lock_kernel (cv_rules buffer_deeds) opening) past ≡ [] → past ≡ []
+no_events opening [] none = refl
+no_events opening (e ∷ past) none = absurd cc
+
+fresh_rests : (o : Option ℕ) → IsAtRest (option_map fresh_lock o)
+fresh_rests None = tt
+fresh_rests (Some n) = (refl, refl, refl, refl)
+
+rests_at : (caps : List ℕ) (lock : LockId) → IsAtRest (opening_locks caps lock)
+rests_at caps (Pending d) = tt
+rests_at caps (Buffer b) = fresh_rests (slice_get caps b.0)
+
+pub all_rest : (opening : LockId → Option (QueueBlock BufferLock)) → BootsSo opening → AreAtRest (inner opening)
+all_rest opening boots = subst AreAtRest (sym boots) (rests_at (caps_in opening))
+
+fresh_free : (t : Tid) (o : Option ℕ) → IsFreeOf t (option_map fresh_lock o)
+fresh_free t None = tt
+fresh_free t (Some n) = (λ is. absurd (cc is), refl)
+
+free_at : (t : Tid) (caps : List ℕ) (lock : LockId) → IsFreeOf t (opening_locks caps lock)
+free_at t caps (Pending d) = tt
+free_at t caps (Buffer b) = fresh_free t (slice_get caps b.0)
+
+fresh_line : (t : Tid) (side : Side) (o : Option ℕ) → count_in t (line_at side (option_map fresh_lock o)) ≡ 0
+fresh_line t side None = refl
+fresh_line t side (Some n) = empty side
+  where
+    empty : (at : Side) → count_in t (line_at at (Some (fresh_lock n))) ≡ 0
+    empty Receivers = refl
+    empty Senders = refl
+
+line_none : (t : Tid) (side : Side) (caps : List ℕ) (lock : LockId) → count_in t (line_at side (opening_locks caps lock)) ≡ 0
+line_none t side caps (Pending d) = refl
+line_none t side caps (Buffer b) = fresh_line t side (slice_get caps b.0)
+
+quiet_fits : (opening : LockId → Option (QueueBlock BufferLock)) → BootsSo opening → (t : Tid) (slept waits : Option BufId) (talk : Talk) → slept ≡ None → waits ≡ None → talk ≡ quiet
+    → TalkFits (inner opening) [] t talk.call slept waits talk
+quiet_fits opening boots t slept waits talk slept_none waits_none is =
+    subst (λ (x : Talk). TalkFits (inner opening) [] t x.call slept waits x) (sym is) (record {
+      stage_is = refl;
+      stance = record {
+        grip = λ lock. subst (λ locks. IsFreeOf t (locks lock)) (sym boots) (free_at t (caps_in opening) lock);
+        line = λ lock at. ap (λ locks. count_in t (line_at at (locks lock))) boots ∙ line_none t at (caps_in opening) lock;
+        place = λ w. absurd cc;
+      };
+      slept_none = slept_none;
+      waits_none = waits_none;
+    })
+
+pub start_fits : (opening : LockId → Option (QueueBlock BufferLock)) (homes : List CpuId) (c d : CpuId) (past : List BufferEvent) (own : Waiting BufferOut) (talks : List Talk) → BootsSo opening → past ≡ []
+    → own ≡ waiting_at_start homes c → talks ≡ replicate THREADS quiet → PartFits opening d past own talks None None
+start_fits opening homes c d past own talks boots none own_is talks_are = record {
+  boots = boots;
+  sizes = record {
+    slept = ap (λ (x : Waiting BufferOut). length x.lock.slept) own_is ∙ length-replicate {A = Option BufId} THREADS None;
+    waits = ap (λ (x : Waiting BufferOut). length x.waits) own_is ∙ length-replicate {A = Option BufId} THREADS None;
+    talks_are = ap (λ (l : List Talk). length l) talks_are ∙ length-replicate {A = Talk} THREADS quiet;
+  };
+  calls = record {
+    none = tt;
+    kept = ap (λ (x : Waiting BufferOut). x.lock.sleep.kept) own_is;
+    fit = λ u home. subst (λ log. FitsAt (inner opening) (buffer_sections log) own talks u) (sym none)
+        (quiet_fits opening boots u (slept_for own.lock.slept u) (slept_for own.waits u) (talk_of talks u)
+        (ap (λ (x : Waiting BufferOut). slept_for x.lock.slept u) own_is ∙ same_default {A = Option BufId} THREADS u.0 None)
+        (ap (λ (x : Waiting BufferOut). slept_for x.waits u) own_is ∙ same_default {A = Option BufId} THREADS u.0 None)
+        (ap (λ (l : List Talk). talk_of l u) talks_are ∙ same_default {A = Talk} THREADS u.0 quiet));
+  };
+}

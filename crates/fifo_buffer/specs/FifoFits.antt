@@ -1,0 +1,43 @@
+-- A part of the buffers and its machine agree.
+use Rattle.std.specs.Prelude.{◌≡◌, ℕ, ◌+◌, List, [], ◌∷◌, Option, Some, None}
+use Rattle.std.proofs.Common.{zero, suc}
+use Rattle.event_log.specs.declared.ids.CpuId.{CpuId}
+use Rattle.event_log.specs.declared.ids.LockId.{LockId}
+use Rattle.event_log.specs.declared.ids.LockId.TheVariants.{Buffer}
+use Rattle.event_log.specs.declared.ids.Tid.{Tid}
+use Rattle.layer_traits.specs.declared.buffer_edits.BufferEdit.{BufferEdit}
+use Rattle.layer_traits.specs.declared.buffer_edits.BufferOut.{BufferOut}
+use Rattle.layer_traits.specs.declared.queue_edits.QueueBlock.{QueueBlock}
+use Rattle.layer_traits.specs.declared.scheds.SchedCall.{SchedCall}
+use Rattle.layer_traits.specs.declared.talks.Talk.{Talk}
+use Rattle.layer_traits.specs.BufferEffects.{opening_locks}
+use Rattle.layer_traits.specs.BufferProtocol.{BufferLock}
+use Rattle.layer_traits.specs.Conditions.{CvCall}
+use Rattle.layer_traits.specs.CvLaw.{Waiting}
+use Rattle.layer_traits.specs.QueueBlocks.{homes_in, inner}
+use Rattle.layer_traits.specs.Queues.{buffer_sections}
+use Rattle.fifo_buffer.specs.Turns.{BufferEvent, CallsFit, Sizes}
+
+-- the capacity of a buffer's lock before those of the next ones, while there is one
+abbrev pub caps_at : Option BufferLock → List ℕ → List ℕ
+caps_at None rest = []
+caps_at (Some lock) rest = lock.above.capacity ∷ rest
+
+-- the capacities of buffers n, n + 1 and so on, while there is one, at most so many
+unfoldable pub caps_from : ℕ → ℕ → (LockId → Option BufferLock) → List ℕ
+caps_from zero n locks = []
+caps_from (suc more) n locks = caps_at (locks (Buffer (record { 0 = n }))) (caps_from more (n + 1) locks)
+
+-- the capacities of the buffers: a buffer's number is less than 256
+unfoldable pub caps_in : (LockId → Option (QueueBlock BufferLock)) → List ℕ
+caps_in opening = caps_from 256 0 (inner opening)
+
+-- the machine opened with a fresh lock round each buffer
+abbrev pub BootsSo : (LockId → Option (QueueBlock BufferLock)) → Type 0
+BootsSo opening = inner opening ≡ opening_locks (caps_in opening)
+
+-- the lists by thread have their sizes, and each talk fits what was done
+pub record PartFits (opening : LockId → Option (QueueBlock BufferLock)) (c : CpuId) (past : List BufferEvent) (own : Waiting BufferOut) (talks : List Talk) (under_way : Option (SchedCall (CvCall BufferEdit))) (calling : Option Tid) : Type 0 where
+  pub boots : BootsSo opening
+  pub sizes : Sizes own talks
+  pub calls : CallsFit (homes_in opening) c (inner opening) (buffer_sections past) own talks under_way calling

@@ -1,0 +1,5 @@
+pub mod Stances
+pub mod Turns
+pub mod FifoFits
+pub mod Tallies
+pub mod FifoLaws

@@ -1,0 +1,196 @@
+-- Where a thread stands in its message call, read over the sections of the buffers: which lock it holds, in which line it stands with
+-- which position, and whether it tried in vain.
+use Rattle.std.specs.Prelude.{◌≡◌, ◌≢◌, ℕ, Bool, true, false, not, ◌&&◌, List, [], Option, Some, None, is_some}
+use Rattle.event_log.specs.declared.ids.BufId.{BufId}
+use Rattle.event_log.specs.declared.ids.LockId.{LockId}
+use Rattle.event_log.specs.declared.ids.LockId.TheVariants.{Buffer}
+use Rattle.event_log.specs.declared.ids.Tid.{Tid}
+use Rattle.event_log.specs.History.{same_lock}
+use Rattle.layer_traits.specs.declared.calls.Call.{Call}
+use Rattle.layer_traits.specs.declared.calls.Effect.{Effect}
+use Rattle.layer_traits.specs.declared.buffer_edits.BufferOut.{BufferOut}
+use Rattle.layer_traits.specs.declared.conditions.CvOut.{CvOut}
+use Rattle.layer_traits.specs.declared.conditions.CvOut.TheVariants as answer
+use Rattle.layer_traits.specs.declared.locked.QOut.{QOut}
+use Rattle.layer_traits.specs.declared.locked.QOut.TheVariants.{Acquired, Queued, Did, Released}
+use Rattle.layer_traits.specs.declared.locked.Side.{Side}
+use Rattle.layer_traits.specs.declared.locked.Side.TheVariants.{Receivers, Senders}
+use Rattle.layer_traits.specs.declared.talks.Stage.{Stage}
+use Rattle.layer_traits.specs.declared.talks.Stage.TheVariants.{Between, Acquires, Enters, Tries, Waits, AcquiresAgain, Signals, SignalsOwn, Releases}
+use Rattle.layer_traits.specs.declared.talks.Talk.{Talk}
+use Rattle.layer_traits.specs.BufferBlocks.{line_of}
+use Rattle.layer_traits.specs.BufferEffects.{drawn}
+use Rattle.layer_traits.specs.BufferLaw.{buffer_of, heard, side_of}
+use Rattle.layer_traits.specs.BufferProtocol.{BufferLock, BufferSection, buffer_at, has_tried_in_vain}
+use Rattle.layer_traits.specs.Places.{count_in, one_if}
+use Rattle.thread_blocks.specs.Queues.{is_in}
+
+-- whether two sides are one
+abbrev pub same_side : Side → Side → Bool
+same_side Receivers Receivers = true
+same_side Receivers Senders = false
+same_side Senders Receivers = false
+same_side Senders Senders = true
+
+-- a thread owns a lock, and does not sleep for it
+abbrev pub Holds : Tid → Option BufferLock → Type 0
+Holds t None = ⊥
+Holds t (Some lock) = (lock.owner ≡ Some t) × (is_in t lock.sleepers ≡ false)
+
+-- it neither owns it nor sleeps for it
+abbrev pub IsFreeOf : Tid → Option BufferLock → Type 0
+IsFreeOf t None = Unit {0}
+IsFreeOf t (Some lock) = (lock.owner ≢ Some t) × (is_in t lock.sleepers ≡ false)
+
+-- it holds the lock, or asks for it, or neither
+abbrev pub Grip : Tid → Bool → Bool → Option BufferLock → Type 0
+Grip t true asks lock = Holds t lock
+Grip t false true lock = Unit {0}
+Grip t false false lock = IsFreeOf t lock
+
+-- what a stage says of its thread: whether it holds its buffer's lock, given whether it waits; and whether it stands in its line
+abbrev pub holds_at : Stage → Bool → Bool
+holds_at Between waits = false
+holds_at Acquires waits = false
+holds_at Enters waits = true
+holds_at Tries waits = true
+holds_at Waits waits = not waits
+holds_at AcquiresAgain waits = false
+holds_at Signals waits = true
+holds_at SignalsOwn waits = true
+holds_at Releases waits = true
+
+abbrev pub lined_at : Stage → Bool
+lined_at Between = false
+lined_at Acquires = false
+lined_at Enters = false
+lined_at Tries = true
+lined_at Waits = true
+lined_at AcquiresAgain = true
+lined_at Signals = false
+lined_at SignalsOwn = false
+lined_at Releases = false
+
+-- whether a thread may sleep for its lock there, whether it may wait, and whether its effect is done
+abbrev pub asks_at : Stage → Bool
+asks_at Between = false
+asks_at Acquires = true
+asks_at Enters = false
+asks_at Tries = false
+asks_at Waits = false
+asks_at AcquiresAgain = true
+asks_at Signals = false
+asks_at SignalsOwn = false
+asks_at Releases = false
+
+abbrev pub waits_at : Stage → Bool
+waits_at Between = false
+waits_at Acquires = false
+waits_at Enters = false
+waits_at Tries = false
+waits_at Waits = true
+waits_at AcquiresAgain = false
+waits_at Signals = false
+waits_at SignalsOwn = false
+waits_at Releases = false
+
+abbrev pub done_at : Stage → Bool
+done_at Between = true
+done_at Acquires = false
+done_at Enters = false
+done_at Tries = false
+done_at Waits = false
+done_at AcquiresAgain = false
+done_at Signals = true
+done_at SignalsOwn = true
+done_at Releases = true
+
+-- whether a stage is one of a call
+abbrev pub called_at : Stage → Bool
+called_at Between = false
+called_at Acquires = true
+called_at Enters = true
+called_at Tries = true
+called_at Waits = true
+called_at AcquiresAgain = true
+called_at Signals = true
+called_at SignalsOwn = true
+called_at Releases = true
+
+-- the line of a side at a lock
+abbrev pub line_at : Side → Option BufferLock → List Tid
+line_at side None = []
+line_at side (Some lock) = line_of side lock.above
+
+-- a mark is at the call's buffer, and its stage is one that has such marks
+abbrev pub IsMark : BufId → Bool → Option BufId → Type 0
+IsMark b may None = Unit {0}
+IsMark b may (Some at) = (at ≡ b) × (may ≡ true)
+
+module _ (opening : LockId → Option BufferLock) (past : List BufferSection) (t : Tid) where
+  -- a thread's grip on each lock, how often it stands in each line, and its position where it stands in one
+  pub record Stance (b : BufId) (side : Side) (holds asks lined : Bool) (position : ℕ) : Type 0 where
+    pub grip : (lock : LockId) → Grip t (holds && same_lock lock (Buffer b)) (asks && same_lock lock (Buffer b)) (buffer_at opening past lock)
+    pub line : (lock : LockId) (at : Side)
+        → count_in t (line_at at (buffer_at opening past lock)) ≡ one_if (lined && (same_lock lock (Buffer b) && same_side at side))
+    pub place : lined ≡ true → position ≡ drawn opening (Buffer b) side t past
+
+  -- a thread within a call, at a stage, with its position and its effect
+  pub record InCall (call : Call) (slept waits : Option BufId) (stage : Stage) (position : ℕ) (effect : Option Effect) : Type 0 where
+    pub called : called_at stage ≡ true
+    pub stance : Stance (buffer_of call) (side_of call) (holds_at stage (is_some waits)) (is_some slept) (lined_at stage) position
+    pub vain : (waits_at stage && not (is_some waits)) ≡ true → has_tried_in_vain opening (Buffer (buffer_of call)) (side_of call) t past ≡ true
+    pub effect_is : is_some effect ≡ done_at stage
+    pub slept_here : IsMark (buffer_of call) (asks_at stage) slept
+    pub waits_here : IsMark (buffer_of call) (waits_at stage) waits
+
+  -- a thread between calls
+  pub record AtRest (slept waits : Option BufId) (stage : Stage) : Type 0 where
+    pub stage_is : stage ≡ Between
+    pub stance : Stance (record { 0 = 0 }) Senders false false false 0
+    pub slept_none : slept ≡ None
+    pub waits_none : waits ≡ None
+
+  -- a thread's talk, by its call
+  abbrev pub TalkFits : Option Call → Option BufId → Option BufId → Talk → Type 0
+  TalkFits None slept waits talk = AtRest slept waits talk.stage
+  TalkFits (Some call) slept waits talk = InCall call slept waits talk.stage talk.position talk.effect
+
+  abbrev pub ThreadFits : Option BufId → Option BufId → Talk → Type 0
+  ThreadFits slept waits talk = TalkFits talk.call slept waits talk
+
+-- a talk within a call
+abbrev pub talk_in : Stage → Call → ℕ → Option Effect → Talk
+talk_in stage call position effect = record { stage = stage; call = Some call; position = position; effect = effect }
+
+-- what a section's answer leaves of the marks of its caller: whether it sleeps for the lock, and whether it waits
+abbrev pub slept_by : BufId → QOut (CvOut BufferOut) → Option BufId
+slept_by b Acquired = None
+slept_by b Queued = Some b
+slept_by b (Did out) = None
+slept_by b (Released out) = None
+
+abbrev pub waits_told : BufId → CvOut BufferOut → Option BufId
+waits_told b (answer.Did out) = None
+waits_told b (answer.Signalled side front) = None
+waits_told b answer.Left = None
+waits_told b (answer.Waited side) = Some b
+
+abbrev pub waits_by : BufId → QOut (CvOut BufferOut) → Option BufId
+waits_by b Acquired = None
+waits_by b Queued = None
+waits_by b (Did out) = None
+waits_by b (Released out) = waits_told b out
+
+-- and of its talk: whoever sleeps or waits has not heard yet
+abbrev pub heard_in : Talk → Stage → CvOut BufferOut → Talk
+heard_in talk stage (answer.Did out) = heard talk stage (Released (answer.Did out))
+heard_in talk stage (answer.Signalled side front) = heard talk stage (Released (answer.Signalled side front))
+heard_in talk stage answer.Left = heard talk stage (Released answer.Left)
+heard_in talk stage (answer.Waited side) = talk
+
+abbrev pub heard_by : Talk → Stage → QOut (CvOut BufferOut) → Talk
+heard_by talk stage Acquired = heard talk stage Acquired
+heard_by talk stage Queued = talk
+heard_by talk stage (Did out) = heard talk stage (Did out)
+heard_by talk stage (Released out) = heard_in talk stage out

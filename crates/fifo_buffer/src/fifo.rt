@@ -1,0 +1,209 @@
+//! First-in first-out buffers.
+
+ghost use Rattle.std.specs.Prelude.{◌≡◌, ◌≢◌, ◌+◌, ◌<◌, ◌≤◌, Some, None, IsSome, slice_set, if◌then◌else◌};
+ghost use Rattle.event_log.specs.declared.ids.CpuId.{CpuId};
+ghost use Rattle.event_log.specs.declared.ids.LockId.TheVariants.{Buffer};
+ghost use Rattle.event_log.specs.declared.ids.TheConstants.{THREADS};
+ghost use Rattle.layer_traits.specs.BufferLaw.{buffer_of, buffering, plan_of, replied, talk_of};
+ghost use Rattle.layer_traits.specs.BufferProtocol.{buffer_rules};
+ghost use Rattle.layer_traits.specs.Locking.{lock_moves, lock_rules};
+ghost use Rattle.layer_traits.specs.LockLaw.{slept_for};
+ghost use Rattle.layer_traits.specs.Plans.{Follows, table_of};
+ghost use Rattle.layer_traits.specs.QueueBlocks.{homes_in, inner};
+ghost use Rattle.layer_traits.specs.QueueRules.{queue_rules};
+ghost use Rattle.layer_traits.specs.Queues.{buffer_sections};
+ghost use Rattle.fifo_buffer.specs.Turns.{MayTurn, Sizes, Turned, calling_after};
+
+use crate::sections::{answers_at_once, begin, buffer_in, reply, section};
+use crate::talk_table::Talks;
+use event_log::{CpuId, Tid};
+use layer_traits::{BufferEdit, BufferLayer, Call, CvLayer, Effect, Pass, Reply, Talk};
+
+/// One CPU's part of first-in first-out blocking bounded buffers (Anderson and Dahlin), over a part
+/// `C` of conditions: it keeps of each thread how far its message call has come, and whose call is
+/// under way.
+#[derive(Drop)]
+pub struct Fifo<C> {
+    lower: C,
+    talks: Talks,
+    calling: Option<Tid>,
+}
+
+impl<C: CvLayer<BufferEdit>> Fifo<C> {
+    /// Polls the section of `talk`, the talk of `t` within `call`, and tells whether it ended.
+    fn turn(&mut self, m: &mut C::Machine, t: Tid, call: &Call, talk: &Talk) -> bool
+        requires known { t.0 < THREADS }
+        requires fits { C.Fits self.old.lower m.old }
+        requires buffer { IsSome (C.opening m.old (Buffer (buffer_of call.now))) }
+        requires room { 0 < C.room m.old }
+        requires sizes { Sizes (C.own self.old.lower) self.old.talks.talks }
+        requires may { MayTurn (inner (C.opening m.old)) (buffer_sections (C.seen m.old)) t call.now talk.now (C.own self.old.lower)
+            (C.under_way self.old.lower) }
+        ensures turned { Turned (homes_in (C.opening m.old)) (λ c. C.ActsFor m.old c) (inner (C.opening m.old)) (C.cpu_of self.old.lower) t call.now
+            talk.now (C.seen m.old) (C.seen m.new) (C.own self.old.lower) (C.own self.new.lower) (C.under_way self.new.lower) result
+            (talk_of self.new.talks.talks t) }
+        ensures talks { self.new.talks.talks ≡ slice_set self.old.talks.talks t.0 (talk_of self.new.talks.talks t) }
+        ensures calling { self.new.calling ≡ self.old.calling }
+        ensures woken { IsSome (slept_for (C.own self.old.lower).waits t) → m.new ≡ m.old }
+        ensures handed { IsSome (slept_for (C.own self.old.lower).lock.slept t) → m.new ≡ m.old }
+        ensures fits { C.Fits self.new.lower m.new }
+        ensures cpu { C.cpu_of self.new.lower ≡ C.cpu_of self.old.lower }
+        ensures opening { C.opening m.new ≡ C.opening m.old }
+        ensures site { C.site m.new ≡ C.site m.old }
+        ensures room { C.room m.old ≤ C.room m.new + 1 }
+        ensures acts { (c : CpuId) → C.ActsFor m.old c → C.ActsFor m.new c }
+        ensures others { (p : C) → C.cpu_of p ≢ C.cpu_of self.old.lower → C.Fits p m.old → C.Fits p m.new }
+        ensures follows { C.IsStepwise
+            → Follows (C.ActsFor m.old) (table_of (queue_rules (lock_rules buffer_rules) (lock_moves buffer_rules))) (C.opening m.old)
+            (C.cpu_of self.old.lower)
+            (plan_of (homes_in (C.opening m.old)) (C.cpu_of self.old.lower) t call.now talk.now.stage talk.now
+            (buffering (C.own self.old.lower) self.old.talks.talks))
+            (C.acts m.old) (C.acts m.new)
+            (record {
+              own = buffering (C.own self.new.lower) self.new.talks.talks;
+              answer = if result then replied call.now talk.now talk.now.stage else None;
+            }) }
+    {
+        let edit = section(t, call, talk.stage);
+        let answer = self.lower.poll(m, buffer_in(call), &edit);
+        self.talks.hear(t, talk, &answer)
+    }
+
+    /// The reply of `call` after a turn at `talk`, which ended its section or not; and notes whether
+    /// the call is still under way.
+    fn told(&mut self, t: Tid, call: &Call, talk: &Talk, done: bool) -> Option<Reply>
+        ensures answer { result ≡ (if done then replied call.now talk.now talk.now.stage else None) }
+        ensures calling { self.new.calling ≡ calling_after t (C.own self.old.lower).lock.sleep.threads.current result }
+        ensures lower { self.new.lower ≡ self.old.lower }
+        ensures talks { self.new.talks.talks ≡ self.old.talks.talks }
+    {
+        let answer = if done { reply(call, talk) } else { None };
+        self.calling = match self.lower.current() {
+            None => None,
+            Some(_) => { if answer.is_none() { Some(t) } else { None } }
+        };
+        answer
+    }
+}
+
+impl<C: CvLayer<BufferEdit>> BufferLayer for Fifo<C> {
+    ghost use Rattle.std.proofs.Common.{ap};
+    ghost use Rattle.event_log.specs.declared.ids.LockId.TheVariants.{Buffer};
+    ghost use Rattle.layer_traits.specs.BufferEffects.{effects_in};
+    ghost use Rattle.layer_traits.specs.BufferLaw.{buffering};
+    ghost use Rattle.layer_traits.specs.BufferProtocol.{buffer_deeds};
+    ghost use Rattle.layer_traits.specs.Conditions.{cv_rules};
+    ghost use Rattle.layer_traits.specs.LockLaw.{lock_kernel};
+    ghost use Rattle.layer_traits.specs.Locking.{line_in, lock_after};
+    ghost use Rattle.layer_traits.specs.QueueBlocks.{inner};
+    ghost use Rattle.layer_traits.specs.Queues.{buffer_sections, moves_in};
+    ghost use Rattle.fifo_buffer.specs.FifoFits.{BootsSo, PartFits, caps_in};
+    ghost use Rattle.fifo_buffer.specs.FifoLaws.{fifo_lawful, fifo_lines, none_under};
+    ghost use Rattle.fifo_buffer.specs.Turns.{doing_at};
+
+    type Machine = C::Machine;
+
+    ghost opening = { λ m. C.opening m };
+
+    ghost caps = { λ m. caps_in (C.opening m) };
+
+    ghost seen = { λ m. effects_in (inner (C.opening m)) (buffer_sections (C.seen m)) };
+
+    ghost moves = { λ m. moves_in (lock_kernel (cv_rules buffer_deeds) (C.opening m)) (C.seen m) };
+
+    ghost lines = { λ m b line. line_in line (lock_after (cv_rules buffer_deeds) (inner (C.opening m)) (Buffer b) (buffer_sections (C.seen m))) };
+
+    ghost ActsFor = { λ m c. C.ActsFor m c × BootsSo (C.opening m) };
+
+    ghost room = { λ m. C.room m };
+
+    ghost site = { λ m. C.site m };
+
+    ghost IsOutside = { λ m c. C.IsOutside m c };
+
+    ghost cpu_of = { λ p. C.cpu_of p.lower };
+
+    ghost own = { λ p. buffering (C.own p.lower) p.talks.talks };
+
+    ghost is_inside = { λ p. C.is_inside p.lower };
+
+    ghost doing = { λ p. doing_at p.calling (C.under_way p.lower) };
+
+    ghost Fits = { λ p m. C.Fits p.lower m
+        × PartFits (C.opening m) (C.cpu_of p.lower) (C.seen m) (C.own p.lower) p.talks.talks (C.under_way p.lower) p.calling };
+
+    ghost IsWhole = { ⊥ };
+
+    ghost IsStepwise = { C.IsStepwise };
+
+    ghost acts = { λ m. C.acts m };
+
+    fn part(cpu: CpuId, homes: &[CpuId], buffers: u8) -> Self {
+        Fifo {
+            lower: C::part(cpu, homes, buffers),
+            talks: Talks::new(),
+            calling: None,
+        }
+    }
+
+    fn is_busy(&self) -> bool {
+        self.lower.is_busy()
+    }
+
+    fn current(&self) -> Option<Tid> {
+        self.lower.current()
+    }
+
+    fn hand(&self) -> Option<Tid> {
+        self.lower.hand()
+    }
+
+    fn has_ready(&self) -> bool {
+        self.lower.has_ready()
+    }
+
+    fn effect(&self, t: Tid) -> Option<Effect> {
+        self.talks.get(t).effect
+    }
+
+    fn look(&mut self, m: &mut C::Machine) -> bool {
+        self.lower.look(m)
+    }
+
+    fn poll(&mut self, m: &mut C::Machine, t: Tid, call: &Call) -> Option<Reply> {
+        let talk = begin(self.talks.get(t), call);
+        let at_once = answers_at_once(talk.stage, self.lower.at_once());
+        let done = self.turn(m, t, call, &talk);
+        if done && at_once {
+            let next = self.talks.get(t);
+            let last = self.turn(m, t, call, &next);
+            return self.told(t, call, &next, last);
+        }
+        self.told(t, call, &talk, done)
+    }
+
+    fn pass(&mut self, m: &mut C::Machine, call: Pass) -> Option<()> {
+        self.lower.pass(m, call)
+    }
+
+    ghost own_cpu = { λ p m fits. (C.own_cpu p.lower m fits.0, fits.1.boots) };
+
+    ghost lawful = { λ m c acts. fifo_lawful (C.opening m) (C.seen m) acts.1 (C.lawful m c acts.0) };
+
+    ghost stands = { λ p m fits. C.stands p.lower m fits.0 };
+
+    ghost moved = { λ m c acts. C.moving m c acts.0 };
+
+    ghost lists = { λ p m fits. fifo_lines (C.opening m) (C.seen m) fits.1.boots (C.lists p.lower m fits.0) };
+
+    ghost opens = { λ m c acts. C.opens m c acts.0 };
+
+    ghost legal = { λ m c acts. C.legal m c acts.0 };
+
+    ghost seen_is = { λ step m. ap (λ seen. effects_in (inner (C.opening m)) (buffer_sections seen)) (C.seen_is step m) };
+
+    ghost busy = { λ p m fits. C.busy p.lower m fits.0 };
+
+    ghost rests = { λ p m fits nothing. C.idle p.lower m fits.0
+        (none_under (C.opening m) (C.cpu_of p.lower) (C.seen m) (C.own p.lower) p.talks.talks (C.under_way p.lower) p.calling fits.1 nothing) };
+}

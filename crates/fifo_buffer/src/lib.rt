@@ -1,0 +1,9 @@
+//! First-in first-out blocking bounded buffers over locks with conditions: whoever calls enters the
+//! line of its side, and the first of a line goes on once the buffer allows it.
+#![tactic(auto)]
+
+mod fifo;
+mod sections;
+mod talk_table;
+
+pub use fifo::Fifo;
