@@ -470,6 +470,21 @@ fn count_if_open<R: Threads + Wait + Sync>(
     }
 }
 
+// As `count_table`, with the number that is left where nothing was counted.
+fn count_or_leave<R: Threads + Wait + Sync>(
+    rt: &R,
+    alloc: Global,
+    cpus: u8,
+    times: u64,
+) -> Result<u64, NotCounted>
+    requires cpus { cpus ≤ CPUS }
+    requires times { times ≤ MOST_TIMES }
+    ensures number { IfOk result (λ number. number ≡ times * cpus) }
+    ensures none { IfErr result (λ not. not.left ≡ 0) }
+{
+    count_if_open(rt, alloc, open_number(alloc, cpus), times)
+}
+
 /// Counts over shared words: each of `cpus` CPUs does `times` sections that add 1 to one number, in
 /// a thread of its own, with its own seat at one table. All threads are started before any is handed
 /// its CPU's key, without which there is no section, and all are joined. The number is read from the
@@ -487,7 +502,7 @@ pub fn count_table<R: Threads + Wait + Sync>(
     requires times { times ≤ MOST_TIMES }
     ensures { IfOk result (λ number. number ≡ times * cpus) }
 {
-    match count_if_open(rt, alloc, open_number(alloc, cpus), times) {
+    match count_or_leave(rt, alloc, cpus, times) {
         Ok(number) => Ok(number),
         Err(not) => Err(not.fault),
     }
@@ -522,8 +537,7 @@ mod tests {
     // that could not be started. After a refusal no section was done.
     #[test]
     fn after_a_refused_allocation_or_start_the_number_is_0(rt: HostRuntime) {
-        let opened = open_number(rt.alloc(), 2);
-        match count_if_open(&rt, rt.alloc(), opened, 5) {
+        match count_or_leave(&rt, rt.alloc(), 2, 5) {
             Ok(number) => assert_eq!(rt; number, 10),
             Err(not) => assert_eq!(rt; not.left, 0),
         }
