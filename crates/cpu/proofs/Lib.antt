@@ -1,1 +1,6 @@
 pub mod Wakeups
+pub mod Follow
+pub mod GuestLists
+pub mod Steps
+pub mod Passing
+pub mod Schedules

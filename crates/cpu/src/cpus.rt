@@ -1,14 +1,14 @@
 //! One CPU over a layer of message calls.
 
-ghost use Rattle.std.specs.Prelude.{◌≡◌, ◌<◌, ◌≤◌, [], ◌∷◌, ◌++◌, Some, None, length, vec_capacity};
+ghost use Rattle.std.specs.Prelude.{◌≡◌, ◌≢◌, ◌+◌, ◌<◌, true, false, ◌≤◌, [], ◌∷◌, ◌++◌, Some, None, length, vec_capacity};
 ghost use Rattle.std.specs.List.{list_all};
 ghost use Rattle.layer_traits.specs.BufferLaw.{buffer_of, entry_of};
-ghost use Rattle.cpu.specs.Guests.{computed, polled};
+ghost use Rattle.cpu.specs.Guests.{computed, entries_of, polled};
 ghost use Rattle.cpu.specs.Cpus.{begins_at, begun_count, chosen_for, fresh_at, guest_at, is_begun_guest, is_over, passed_by, with_guest};
 
 use crate::guests::{Guest, Stage, Todo};
 use event_log::{CpuId, Entry, Tid};
-use layer_traits::{Call, Effect, IpcLayer, Pass, Reason, Reply};
+use layer_traits::{Call, Effect, IpcLayer, Pass, Reason, Reply, Step};
 
 /// What a CPU does next that is not halted.
 #[derive(Clone, Copy, Debug)]
@@ -38,7 +38,12 @@ pub struct Cpu<I: IpcLayer> {
 }
 
 impl<I: IpcLayer> Cpu<I> {
-    ghost use Rattle.cpu.specs.Cpus.{chosen, halted_at, reason_in};
+    ghost use Rattle.event_log.specs.declared.ids.CpuId.{CpuId};
+    ghost use Rattle.layer_traits.specs.declared.steps.Reason.{Reason};
+    ghost use Rattle.layer_traits.specs.declared.steps.Step.TheVariants.{Halted};
+    ghost use Rattle.layer_traits.specs.BufferLaw.{MovesGrow};
+    ghost use Rattle.cpu.specs.declared.cpus.Choice.TheVariants.{Polls, Passes, Computes};
+    ghost use Rattle.cpu.specs.Cpus.{ActsGrow, IsCpu, SeenGrows, chosen, halted_at, programs_of, reason_in, step_answer};
 
     /// What the CPU does next, where it is not halted.
     fn choice(&self) -> Choice
@@ -92,6 +97,214 @@ impl<I: IpcLayer> Cpu<I> {
         ensures { result.now ≡ self.now.trace.items }
     {
         self.trace.as_slice()
+    }
+
+    /// Polls this message call of the thread that runs.
+    fn call(&mut self, m: &mut I::Machine, thread: Tid, call: Call)
+        requires fits { I.Fits self.old.part m.old }
+        requires room { 0 < I.room m.old }
+        requires number { I.cpu_of self.old.part ≡ self.old.number }
+        requires is { IsCpu (I.homes_of m.old) (length (I.caps m.old)) (I.seen m.old) (I.threads self.old.part) (I.talks self.old.part)
+            (I.doing self.old.part) self.old.number self.old.guests.items self.old.trace.items self.old.limit (vec_capacity self.old.trace) }
+        requires live { reason_in (I.is_inside self.old.part) (halted_at (I.threads self.old.part) self.old.guests.items self.old.trace.items self.old.limit) ≡ None }
+        requires chosen { chosen (I.threads self.old.part) self.old.guests.items ≡ Polls thread call }
+        requires not_full { begins_at (guest_at self.old.guests.items thread.0) ≡ true
+            → length self.old.trace.items + begun_count self.old.guests.items < self.old.limit }
+        ensures fits { I.Fits self.new.part m.new }
+        ensures is { IsCpu (I.homes_of m.new) (length (I.caps m.new)) (I.seen m.new) (I.threads self.new.part) (I.talks self.new.part)
+            (I.doing self.new.part) self.new.number self.new.guests.items self.new.trace.items self.new.limit (vec_capacity self.new.trace) }
+        ensures number { self.new.number ≡ self.old.number }
+        ensures limit { self.new.limit ≡ self.old.limit }
+        ensures cpu { I.cpu_of self.new.part ≡ self.old.number }
+        ensures programs { programs_of self.new.guests.items ≡ programs_of self.old.guests.items }
+        ensures seen { SeenGrows (I.ActsFor m.old) self.old.number (I.seen m.old) (I.seen m.new) }
+        ensures moves { MovesGrow (I.ActsFor m.old) self.old.number (I.moves m.old) (I.moves m.new) }
+        ensures grows { I.IsStepwise → ActsGrow (I.ActsFor m.old) self.old.number (I.acts m.old) (I.acts m.new) }
+        ensures opening { I.opening m.new ≡ I.opening m.old }
+        ensures caps { I.caps m.new ≡ I.caps m.old }
+        ensures homes { I.homes_of m.new ≡ I.homes_of m.old }
+        ensures site { I.site m.new ≡ I.site m.old }
+        ensures room { I.room m.old ≤ I.room m.new + 1 }
+        ensures acts { (c : CpuId) → I.ActsFor m.old c → I.ActsFor m.new c }
+        ensures others { (p : I) → I.cpu_of p ≢ self.old.number → I.Fits p m.old → I.Fits p m.new }
+    {
+        let answer = self.part.poll(m, thread, &call);
+        let effect = self.part.effect(thread);
+        let fresh = note_poll(&mut self.guests, thread, &effect, &answer);
+        note_effect(&mut self.trace, self.number, thread, &call, &fresh);
+    }
+
+    /// Polls this pass from thread to thread.
+    fn pass(&mut self, m: &mut I::Machine, pass: Pass)
+        requires fits { I.Fits self.old.part m.old }
+        requires room { 0 < I.room m.old }
+        requires number { I.cpu_of self.old.part ≡ self.old.number }
+        requires is { IsCpu (I.homes_of m.old) (length (I.caps m.old)) (I.seen m.old) (I.threads self.old.part) (I.talks self.old.part)
+            (I.doing self.old.part) self.old.number self.old.guests.items self.old.trace.items self.old.limit (vec_capacity self.old.trace) }
+        requires live { reason_in (I.is_inside self.old.part) (halted_at (I.threads self.old.part) self.old.guests.items self.old.trace.items self.old.limit) ≡ None }
+        requires chosen { chosen (I.threads self.old.part) self.old.guests.items ≡ Passes pass }
+        ensures fits { I.Fits self.new.part m.new }
+        ensures is { IsCpu (I.homes_of m.new) (length (I.caps m.new)) (I.seen m.new) (I.threads self.new.part) (I.talks self.new.part)
+            (I.doing self.new.part) self.new.number self.new.guests.items self.new.trace.items self.new.limit (vec_capacity self.new.trace) }
+        ensures number { self.new.number ≡ self.old.number }
+        ensures limit { self.new.limit ≡ self.old.limit }
+        ensures cpu { I.cpu_of self.new.part ≡ self.old.number }
+        ensures programs { programs_of self.new.guests.items ≡ programs_of self.old.guests.items }
+        ensures seen { SeenGrows (I.ActsFor m.old) self.old.number (I.seen m.old) (I.seen m.new) }
+        ensures moves { MovesGrow (I.ActsFor m.old) self.old.number (I.moves m.old) (I.moves m.new) }
+        ensures grows { I.IsStepwise → ActsGrow (I.ActsFor m.old) self.old.number (I.acts m.old) (I.acts m.new) }
+        ensures opening { I.opening m.new ≡ I.opening m.old }
+        ensures caps { I.caps m.new ≡ I.caps m.old }
+        ensures homes { I.homes_of m.new ≡ I.homes_of m.old }
+        ensures site { I.site m.new ≡ I.site m.old }
+        ensures room { I.room m.old ≤ I.room m.new + 1 }
+        ensures acts { (c : CpuId) → I.ActsFor m.old c → I.ActsFor m.new c }
+        ensures others { (p : I) → I.cpu_of p ≢ self.old.number → I.Fits p m.old → I.Fits p m.new }
+    {
+        let runs = self.part.current();
+        let done = self.part.pass(m, pass);
+        if done.is_some() {
+            note_pass(&mut self.guests, runs, pass);
+        }
+    }
+
+    /// Lets this thread, which runs, do an instruction of its own.
+    fn compute(&mut self, m: &mut I::Machine, thread: Tid)
+        requires fits { I.Fits self.old.part m.old }
+        requires room { 0 < I.room m.old }
+        requires number { I.cpu_of self.old.part ≡ self.old.number }
+        requires is { IsCpu (I.homes_of m.old) (length (I.caps m.old)) (I.seen m.old) (I.threads self.old.part) (I.talks self.old.part)
+            (I.doing self.old.part) self.old.number self.old.guests.items self.old.trace.items self.old.limit (vec_capacity self.old.trace) }
+        requires live { reason_in (I.is_inside self.old.part) (halted_at (I.threads self.old.part) self.old.guests.items self.old.trace.items self.old.limit) ≡ None }
+        requires chosen { chosen (I.threads self.old.part) self.old.guests.items ≡ Computes thread }
+        ensures fits { I.Fits self.new.part m.new }
+        ensures is { IsCpu (I.homes_of m.new) (length (I.caps m.new)) (I.seen m.new) (I.threads self.new.part) (I.talks self.new.part)
+            (I.doing self.new.part) self.new.number self.new.guests.items self.new.trace.items self.new.limit (vec_capacity self.new.trace) }
+        ensures number { self.new.number ≡ self.old.number }
+        ensures limit { self.new.limit ≡ self.old.limit }
+        ensures cpu { I.cpu_of self.new.part ≡ self.old.number }
+        ensures programs { programs_of self.new.guests.items ≡ programs_of self.old.guests.items }
+        ensures seen { SeenGrows (I.ActsFor m.old) self.old.number (I.seen m.old) (I.seen m.new) }
+        ensures moves { MovesGrow (I.ActsFor m.old) self.old.number (I.moves m.old) (I.moves m.new) }
+        ensures grows { I.IsStepwise → ActsGrow (I.ActsFor m.old) self.old.number (I.acts m.old) (I.acts m.new) }
+        ensures opening { I.opening m.new ≡ I.opening m.old }
+        ensures caps { I.caps m.new ≡ I.caps m.old }
+        ensures homes { I.homes_of m.new ≡ I.homes_of m.old }
+        ensures site { I.site m.new ≡ I.site m.old }
+        ensures room { I.room m.old ≤ I.room m.new + 1 }
+        ensures acts { (c : CpuId) → I.ActsFor m.old c → I.ActsFor m.new c }
+        ensures others { (p : I) → I.cpu_of p ≢ self.old.number → I.Fits p m.old → I.Fits p m.new }
+    {
+        note_compute(&mut self.guests, thread);
+        let _ = m;
+    }
+
+    /// One step of the CPU that asks for no further look at a lock: one local action or one atomic
+    /// action. `Halted` where it took none, and then nothing changed: `AllEnded` where each home
+    /// thread of the CPU has ended, `TraceFull` where its thread is about to begin a call that its
+    /// trace has no room for.
+    pub fn act(&mut self, m: &mut I::Machine) -> Step
+        requires fits { I.Fits self.old.part m.old }
+        requires room { 0 < I.room m.old }
+        requires number { I.cpu_of self.old.part ≡ self.old.number }
+        requires is { IsCpu (I.homes_of m.old) (length (I.caps m.old)) (I.seen m.old) (I.threads self.old.part) (I.talks self.old.part)
+            (I.doing self.old.part) self.old.number self.old.guests.items self.old.trace.items self.old.limit (vec_capacity self.old.trace) }
+        ensures fits { I.Fits self.new.part m.new }
+        ensures is { IsCpu (I.homes_of m.new) (length (I.caps m.new)) (I.seen m.new) (I.threads self.new.part) (I.talks self.new.part)
+            (I.doing self.new.part) self.new.number self.new.guests.items self.new.trace.items self.new.limit (vec_capacity self.new.trace) }
+        ensures number { self.new.number ≡ self.old.number }
+        ensures limit { self.new.limit ≡ self.old.limit }
+        ensures cpu { I.cpu_of self.new.part ≡ self.old.number }
+        ensures programs { programs_of self.new.guests.items ≡ programs_of self.old.guests.items }
+        ensures seen { SeenGrows (I.ActsFor m.old) self.old.number (I.seen m.old) (I.seen m.new) }
+        ensures moves { MovesGrow (I.ActsFor m.old) self.old.number (I.moves m.old) (I.moves m.new) }
+        ensures grows { I.IsStepwise → ActsGrow (I.ActsFor m.old) self.old.number (I.acts m.old) (I.acts m.new) }
+        ensures opening { I.opening m.new ≡ I.opening m.old }
+        ensures caps { I.caps m.new ≡ I.caps m.old }
+        ensures homes { I.homes_of m.new ≡ I.homes_of m.old }
+        ensures site { I.site m.new ≡ I.site m.old }
+        ensures room { I.room m.old ≤ I.room m.new + 1 }
+        ensures acts { (c : CpuId) → I.ActsFor m.old c → I.ActsFor m.new c }
+        ensures others { (p : I) → I.cpu_of p ≢ self.old.number → I.Fits p m.old → I.Fits p m.new }
+        ensures answer { result ≡ step_answer (reason_in (I.is_inside self.old.part) (halted_at (I.threads self.old.part) self.old.guests.items self.old.trace.items self.old.limit)) }
+        ensures still { (r : Reason) → result ≡ Halted r → (m.new ≡ m.old) × (self.new ≡ self.old) }
+    {
+        if let Some(reason) = self.reason() {
+            return Step::Halted(reason);
+        }
+        match self.choice() {
+            Choice::Polls(thread, call) => self.call(m, thread, call),
+            Choice::Passes(pass) => self.pass(m, pass),
+            Choice::Computes(thread) => self.compute(m, thread),
+        }
+        Step::Stepped
+    }
+
+    /// Looks again for a section that waits at its lock, and tells whether it did. Where it tells
+    /// `true` this was the CPU's step; where it tells `false` nothing has changed.
+    pub fn look(&mut self, m: &mut I::Machine) -> bool
+        requires fits { I.Fits self.old.part m.old }
+        requires room { 0 < I.room m.old }
+        requires number { I.cpu_of self.old.part ≡ self.old.number }
+        requires is { IsCpu (I.homes_of m.old) (length (I.caps m.old)) (I.seen m.old) (I.threads self.old.part) (I.talks self.old.part)
+            (I.doing self.old.part) self.old.number self.old.guests.items self.old.trace.items self.old.limit (vec_capacity self.old.trace) }
+        ensures fits { I.Fits self.new.part m.new }
+        ensures is { IsCpu (I.homes_of m.new) (length (I.caps m.new)) (I.seen m.new) (I.threads self.new.part) (I.talks self.new.part)
+            (I.doing self.new.part) self.new.number self.new.guests.items self.new.trace.items self.new.limit (vec_capacity self.new.trace) }
+        ensures number { self.new.number ≡ self.old.number }
+        ensures limit { self.new.limit ≡ self.old.limit }
+        ensures cpu { I.cpu_of self.new.part ≡ self.old.number }
+        ensures programs { programs_of self.new.guests.items ≡ programs_of self.old.guests.items }
+        ensures seen { SeenGrows (I.ActsFor m.old) self.old.number (I.seen m.old) (I.seen m.new) }
+        ensures moves { MovesGrow (I.ActsFor m.old) self.old.number (I.moves m.old) (I.moves m.new) }
+        ensures grows { I.IsStepwise → ActsGrow (I.ActsFor m.old) self.old.number (I.acts m.old) (I.acts m.new) }
+        ensures opening { I.opening m.new ≡ I.opening m.old }
+        ensures caps { I.caps m.new ≡ I.caps m.old }
+        ensures homes { I.homes_of m.new ≡ I.homes_of m.old }
+        ensures site { I.site m.new ≡ I.site m.old }
+        ensures room { I.room m.old ≤ I.room m.new + 1 }
+        ensures acts { (c : CpuId) → I.ActsFor m.old c → I.ActsFor m.new c }
+        ensures others { (p : I) → I.cpu_of p ≢ self.old.number → I.Fits p m.old → I.Fits p m.new }
+        ensures still { result ≡ false → (self.new ≡ self.old) × (m.new ≡ m.old) }
+        ensures live { result ≡ true → reason_in (I.is_inside self.old.part) (halted_at (I.threads self.old.part) self.old.guests.items self.old.trace.items self.old.limit) ≡ None }
+    {
+        self.part.look(m)
+    }
+
+    /// One step of the CPU: one local action or one atomic action. `Halted` where it took none, and
+    /// then nothing changed: `AllEnded` where each home thread of the CPU has ended, `TraceFull`
+    /// where its thread is about to begin a call that its trace has no room for. Neither comes
+    /// while a section is under way.
+    pub fn step(&mut self, m: &mut I::Machine) -> Step
+        requires fits { I.Fits self.old.part m.old }
+        requires room { 0 < I.room m.old }
+        requires number { I.cpu_of self.old.part ≡ self.old.number }
+        requires is { IsCpu (I.homes_of m.old) (length (I.caps m.old)) (I.seen m.old) (I.threads self.old.part) (I.talks self.old.part)
+            (I.doing self.old.part) self.old.number self.old.guests.items self.old.trace.items self.old.limit (vec_capacity self.old.trace) }
+        ensures fits { I.Fits self.new.part m.new }
+        ensures is { IsCpu (I.homes_of m.new) (length (I.caps m.new)) (I.seen m.new) (I.threads self.new.part) (I.talks self.new.part)
+            (I.doing self.new.part) self.new.number self.new.guests.items self.new.trace.items self.new.limit (vec_capacity self.new.trace) }
+        ensures number { self.new.number ≡ self.old.number }
+        ensures limit { self.new.limit ≡ self.old.limit }
+        ensures cpu { I.cpu_of self.new.part ≡ self.old.number }
+        ensures programs { programs_of self.new.guests.items ≡ programs_of self.old.guests.items }
+        ensures seen { SeenGrows (I.ActsFor m.old) self.old.number (I.seen m.old) (I.seen m.new) }
+        ensures moves { MovesGrow (I.ActsFor m.old) self.old.number (I.moves m.old) (I.moves m.new) }
+        ensures grows { I.IsStepwise → ActsGrow (I.ActsFor m.old) self.old.number (I.acts m.old) (I.acts m.new) }
+        ensures opening { I.opening m.new ≡ I.opening m.old }
+        ensures caps { I.caps m.new ≡ I.caps m.old }
+        ensures homes { I.homes_of m.new ≡ I.homes_of m.old }
+        ensures site { I.site m.new ≡ I.site m.old }
+        ensures room { I.room m.old ≤ I.room m.new + 1 }
+        ensures acts { (c : CpuId) → I.ActsFor m.old c → I.ActsFor m.new c }
+        ensures others { (p : I) → I.cpu_of p ≢ self.old.number → I.Fits p m.old → I.Fits p m.new }
+        ensures answer { result ≡ step_answer (reason_in (I.is_inside self.old.part) (halted_at (I.threads self.old.part) self.old.guests.items self.old.trace.items self.old.limit)) }
+        ensures still { (r : Reason) → result ≡ Halted r → (m.new ≡ m.old) × (self.new ≡ self.old) }
+    {
+        if self.look(m) {
+            return Step::Stepped;
+        }
+        self.act(m)
     }
 }
 
@@ -213,6 +426,23 @@ fn note_compute(guests: &mut Vec<Option<Guest>>, thread: Tid)
     match &mut guests[usize::from(thread.0)] {
         Some(guest) => guest.compute(),
         None => {}
+    }
+}
+
+/// Writes the entry of a call's effect, where there is one; room for it is reserved.
+fn note_effect(
+    trace: &mut Vec<Entry>,
+    cpu: CpuId,
+    thread: Tid,
+    call: &Call,
+    effect: &Option<Effect>,
+)
+    requires { (f : _) → effect.now ≡ Some f → length trace.old.items < vec_capacity trace.old }
+    ensures items { trace.new.items ≡ trace.old.items ++ entries_of cpu thread (buffer_of call.now) effect.now }
+    ensures capacity { vec_capacity trace.old ≤ vec_capacity trace.new }
+{
+    if let Some(effect) = effect {
+        put_entry(trace, entry(cpu, thread, call, *effect));
     }
 }
 

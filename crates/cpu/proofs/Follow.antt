@@ -1,0 +1,198 @@
+-- How a guest follows its entries over one poll of its call.
+use Rattle.std.proofs.Common.{◌≡◌, ◌⊎◌, inl, inr, List, ◌∷◌, ◌++◌, Option, Some, None, refl, ap, sym, ◌∙◌, subst}
+use Rattle.event_log.specs.declared.entries.Entry.{Entry}
+use Rattle.event_log.specs.declared.ids.CpuId.{CpuId}
+use Rattle.event_log.specs.declared.ids.Tid.{Tid}
+use Rattle.guest.specs.declared.instructions.Instruction.{Instruction}
+use Rattle.guest.specs.declared.instructions.Instruction.TheVariants as ins
+use Rattle.guest.specs.State.{State, next_of}
+use Rattle.guest.specs.Calls.{IsProgramsCalls, sends, receives}
+use Rattle.layer_traits.specs.declared.calls.Call.{Call}
+use Rattle.layer_traits.specs.declared.calls.Call.TheVariants.{Send, Recv}
+use Rattle.layer_traits.specs.declared.calls.Effect.{Effect}
+use Rattle.layer_traits.specs.declared.calls.Reply.{Reply}
+use Rattle.layer_traits.specs.declared.talks.Talk.{Talk}
+use Rattle.layer_traits.specs.declared.talks.Stage.{Stage as TalkStage}
+use Rattle.layer_traits.specs.declared.talks.Stage.TheVariants as at
+use Rattle.layer_traits.specs.BufferLaw.{Answered, IsEffectOf, MayTalk, begun_at, begun_of, buffer_of, entry_of, going, going_at, reply_of}
+use Rattle.cpu.specs.declared.guests.Stage.{Stage}
+use Rattle.cpu.specs.declared.guests.Stage.TheVariants.{Between, Begun, Done, Ended}
+use Rattle.cpu.specs.declared.guests.Todo.TheVariants.{Finish, Calls}
+use Rattle.cpu.specs.Guests.{FollowsIn, IsSettled, after_answer, after_effect, entries_of, fresh_effect, had, stage_after, todo_at}
+
+going_effect : (stage : TalkStage) (talk : Talk) (c : Call) → (going_at stage talk c).call ≡ Some c
+    → (going_at stage talk c).effect ≡ had (begun_at stage talk.call) talk.effect
+going_effect at.Between talk c may = refl
+going_effect at.Acquires talk c may = sym (ap (λ x. had x talk.effect) may)
+going_effect at.Enters talk c may = sym (ap (λ x. had x talk.effect) may)
+going_effect at.Tries talk c may = sym (ap (λ x. had x talk.effect) may)
+going_effect at.Waits talk c may = sym (ap (λ x. had x talk.effect) may)
+going_effect at.AcquiresAgain talk c may = sym (ap (λ x. had x talk.effect) may)
+going_effect at.Signals talk c may = sym (ap (λ x. had x talk.effect) may)
+going_effect at.SignalsOwn talk c may = sym (ap (λ x. had x talk.effect) may)
+going_effect at.Releases talk c may = sym (ap (λ x. had x talk.effect) may)
+
+-- what a call that may be polled has had
+pub had_going : (talk : Talk) (c : Call) → MayTalk talk c → (going talk c).effect ≡ had (begun_of talk) talk.effect
+had_going talk c may = going_effect talk.stage talk c may
+
+going_begun : (stage : TalkStage) (talk : Talk) (c : Call) → begun_at stage talk.call ≡ Some c → (going_at stage talk c).call ≡ Some c
+going_begun at.Between talk c is = refl
+going_begun at.Acquires talk c is = is
+going_begun at.Enters talk c is = is
+going_begun at.Tries talk c is = is
+going_begun at.Waits talk c is = is
+going_begun at.AcquiresAgain talk c is = is
+going_begun at.Signals talk c is = is
+going_begun at.SignalsOwn talk c is = is
+going_begun at.Releases talk c is = is
+
+-- a talk may go on with the call that it has begun, and where it has begun none with any
+pub may_talk : (talk : Talk) (c : Call) → IsSettled talk → (begun_of talk ≡ None) ⊎ (begun_of talk ≡ Some c) → MayTalk talk c
+may_talk talk c settled (inl none) = subst (λ (s : TalkStage). (going_at s talk c).call ≡ Some c) (sym (settled none)) refl
+may_talk talk c settled (inr some) = going_begun talk.stage talk c some
+
+-- an answered talk is settled
+pub stays_settled : (c : Call) (talk : Talk) (answer : Option Reply) → Answered c talk answer → IsSettled talk
+stays_settled c talk None is = λ none. absurd (cc (is, none))
+stays_settled c talk (Some reply) is = λ none. is.0
+
+-- an answer and what the talk then says, on plain values
+abbrev pub AnsweredBy : Call → Option Call → Option Effect → Option Reply → Type 0
+AnsweredBy c saved effect None = saved ≡ Some c
+AnsweredBy c saved effect (Some reply) = (saved ≡ None) × ((f : Effect) × (effect ≡ Some f) × (reply ≡ reply_of c f))
+
+pub answered_by : (c : Call) (talk : Talk) (answer : Option Reply) → Answered c talk answer → AnsweredBy c (begun_of talk) talk.effect answer
+answered_by c talk None is = is
+answered_by c talk (Some reply) is = (ap (λ s. begun_at s talk.call) is.0, is.1)
+
+-- the reply moves the guest to where the effect leads
+same_state : (i : Instruction) (s : State) (c : Call) (f : Effect) → todo_at s i ≡ Calls c
+    → after_effect i f s ≡ after_answer (Some (reply_of c f)) i s
+same_state (ins.Send b r) s (Send q m) f at = refl
+same_state (ins.Send b r) s (Recv q) f at = absurd cc
+same_state (ins.Recv b r) s (Send q m) f at = absurd cc
+same_state (ins.Recv b r) s (Recv q) f at = refl
+same_state ins.Exit s c f at = absurd cc
+same_state ins.Yield s c f at = absurd cc
+same_state (ins.Set r n) s c f at = absurd cc
+same_state (ins.Add r q) s c f at = absurd cc
+same_state (ins.Sub r q) s c f at = absurd cc
+same_state (ins.Jnz r k) s c f at = absurd cc
+
+-- an effect of a call is one more of the program's calls
+calls_more : (program : List Instruction) (es : List Entry) (s : State) (i : Instruction) (c : Call) (f : Effect) (cpu : CpuId) (t : Tid)
+    → next_of program s ≡ i → todo_at s i ≡ Calls c → IsEffectOf c f → IsProgramsCalls program es s
+    → IsProgramsCalls program (entry_of cpu t (buffer_of c) f ∷ es) (after_effect i f s)
+calls_more program es s (ins.Send b r) (Send q m) f cpu t at todo is calls =
+    sends b r (entry_of cpu t q f) calls at is.0 (cc todo) (is.1 ∙ cc todo)
+calls_more program es s (ins.Send b r) (Recv q) f cpu t at todo is calls = absurd cc
+calls_more program es s (ins.Recv b r) (Send q m) f cpu t at todo is calls = absurd cc
+calls_more program es s (ins.Recv b r) (Recv q) f cpu t at todo is calls = receives b r (entry_of cpu t q f) calls at is (cc todo)
+calls_more program es s ins.Exit c f cpu t at todo is calls = absurd cc
+calls_more program es s ins.Yield c f cpu t at todo is calls = absurd cc
+calls_more program es s (ins.Set r n) c f cpu t at todo is calls = absurd cc
+calls_more program es s (ins.Add r q) c f cpu t at todo is calls = absurd cc
+calls_more program es s (ins.Sub r q) c f cpu t at todo is calls = absurd cc
+calls_more program es s (ins.Jnz r k) c f cpu t at todo is calls = absurd cc
+
+module _ (program : List Instruction) (s : State) (i : Instruction) (c : Call) (cpu : CpuId) (t : Tid) (at : next_of program s ≡ i)
+    (todo : todo_at s i ≡ Calls c) where
+  -- between polls of the call: no effect and the calls that lead to the state, or an effect and those that lead past it
+  abbrev Mid : Option Effect → List Entry → Type 0
+  Mid None es = IsProgramsCalls program es s
+  Mid (Some f) es = IsEffectOf c f × IsProgramsCalls program es (after_effect i f s)
+
+  here : todo_at s (next_of program s) ≡ Calls c
+  here = subst (λ (j : Instruction). todo_at s j ≡ Calls c) (sym at) todo
+
+  -- before a poll: by the stage, what the call has had, and what an effect after the poll adds
+  before : (stage : Stage) (es : List Entry) (saved : Option Call) (effect : Option Effect)
+      → FollowsIn stage program s es saved effect → Mid (had saved effect) es
+  before Between es saved effect follows = subst (λ (x : Option Call). Mid (had x effect) es) (sym follows.0) follows.1
+  before Begun es saved effect follows =
+      subst (λ (x : Option Call). Mid (had x effect) es) (sym follows.2)
+      (subst (λ (x : Option Effect). Mid x es) (sym follows.3) follows.4)
+  before Done es saved effect follows =
+      let same : follows.0 ≡ c = cc (follows.2, here) in
+      subst (λ (x : Option Call). Mid (had x effect) es) (sym follows.3)
+      (subst (λ (x : Option Effect). Mid x es) (sym follows.4) (
+        subst (λ (d : Call). IsEffectOf d follows.1) same follows.5,
+        subst (λ (j : Instruction). IsProgramsCalls program es (after_effect j follows.1 s)) at follows.6,
+      ))
+  before Ended es saved effect follows =
+      let line : i ≡ ins.Exit = sym at ∙ follows.2 in
+      let none : Finish ≡ Calls c = subst (λ (j : Instruction). todo_at s j ≡ Calls c) line todo in
+      absurd (cc none)
+
+  -- an effect is fresh where the call had none before
+  fresh_none : (stage : Stage) (es : List Entry) (saved : Option Call) (effect left : Option Effect)
+      → FollowsIn stage program s es saved effect → had saved effect ≡ None → fresh_effect stage left ≡ left
+  fresh_none Between es saved effect left follows none = refl
+  fresh_none Begun es saved effect left follows none = refl
+  fresh_none Done es saved effect left follows none =
+      let some : had saved effect ≡ effect = ap (λ x. had x effect) follows.3 in
+      absurd (cc (some, none, follows.4))
+  fresh_none Ended es saved effect left follows none = refl
+
+  -- and where it had one nothing is
+  fresh_some : (stage : Stage) (es : List Entry) (saved : Option Call) (effect left : Option Effect) (f : Effect)
+      → FollowsIn stage program s es saved effect → had saved effect ≡ Some f → fresh_effect stage left ≡ None
+  fresh_some Between es saved effect left f follows some =
+      let none : had saved effect ≡ None = ap (λ x. had x effect) follows.0 in
+      absurd (cc (none, some))
+  fresh_some Begun es saved effect left f follows some =
+      let none : had saved effect ≡ effect = ap (λ x. had x effect) follows.2 in
+      absurd (cc (none, some, follows.3))
+  fresh_some Done es saved effect left f follows some = refl
+  fresh_some Ended es saved effect left f follows some =
+      let line : i ≡ ins.Exit = sym at ∙ follows.2 in
+      let none : Finish ≡ Calls c = subst (λ (j : Instruction). todo_at s j ≡ Calls c) line todo in
+      absurd (cc none)
+
+  -- after a poll, from what the call has had and what the poll answered
+  after : (es : List Entry) (saved : Option Call) (effect : Option Effect) (answer : Option Reply)
+      → Mid effect es → AnsweredBy c saved effect answer → FollowsIn (stage_after effect answer) program (after_answer answer i s) es saved effect
+  after es saved None None mid told = (c, here, told, refl, mid)
+  after es saved (Some f) None mid told =
+      (c, f, here, told, refl, mid.0, subst (λ (j : Instruction). IsProgramsCalls program es (after_effect j f s)) (sym at) mid.1)
+  after es saved None (Some reply) mid told = absurd (cc told.1.1)
+  after es saved (Some f) (Some reply) mid told =
+      let same : told.1.0 ≡ f = sym (cc told.1.1) in
+      let gives : after_effect i f s ≡ after_answer (Some reply) i s =
+      same_state i s c f todo ∙ ap (λ (r : Reply). after_answer (Some r) i s) (sym (told.1.2 ∙ ap (λ (x : Effect). reply_of c x) same)) in
+      (told.0, subst (λ (x : State). IsProgramsCalls program es x) gives mid.1)
+
+  -- what one poll does to a guest: which effect is written, and that the guest follows its entries with that one
+  pub followed : (stage : Stage) (es : List Entry) (saved saved2 : Option Call) (effect effect2 mine : Option Effect) (answer : Option Reply)
+      → FollowsIn stage program s es saved effect
+      → ((f : Effect) → mine ≡ Some f → (had saved effect ≡ None) × (effect2 ≡ Some f) × IsEffectOf c f)
+      → (mine ≡ None → effect2 ≡ had saved effect) → AnsweredBy c saved2 effect2 answer
+      → (mine ≡ fresh_effect stage effect2)
+      × FollowsIn (stage_after effect2 answer) program (after_answer answer i s)
+      (entries_of cpu t (buffer_of c) (fresh_effect stage effect2) ++ es) saved2 effect2
+  followed stage es saved saved2 effect effect2 (Some f) answer follows fresh stays told =
+      let new = fresh f refl in
+      let is : Some f ≡ fresh_effect stage effect2 = sym (fresh_none stage es saved effect effect2 follows new.0 ∙ new.1) in
+      let held : IsProgramsCalls program es s =
+      subst (λ (x : Option Effect). Mid x es) new.0 (before stage es saved effect follows) in
+      let next : Mid (Some f) (entry_of cpu t (buffer_of c) f ∷ es) = (new.2, calls_more program es s i c f cpu t at todo new.2 held) in
+      let mid : Mid effect2 (entry_of cpu t (buffer_of c) f ∷ es) = subst
+      (λ (x : Option Effect). Mid x (entry_of cpu t (buffer_of c) f ∷ es)) (sym new.1) next in (
+        is,
+        subst (λ (x : Option Effect). FollowsIn (stage_after effect2 answer) program (after_answer answer i s)
+            (entries_of cpu t (buffer_of c) x ++ es) saved2 effect2)
+            is (after (entry_of cpu t (buffer_of c) f ∷ es) saved2 effect2 answer mid told),
+      )
+  followed stage es saved saved2 effect effect2 None answer follows fresh stays told =
+      let mid : Mid effect2 es = subst (λ (x : Option Effect). Mid x es) (sym (stays refl)) (before stage es saved effect follows) in
+      let is : None ≡ fresh_effect stage effect2 = sym (stale (had saved effect) refl) in (
+        is,
+        subst (λ (x : Option Effect). FollowsIn (stage_after effect2 answer) program (after_answer answer i s)
+            (entries_of cpu t (buffer_of c) x ++ es) saved2 effect2)
+            is (after es saved2 effect2 answer mid told),
+      )
+    where
+      stale : (h : Option Effect) → had saved effect ≡ h → fresh_effect stage effect2 ≡ None
+      stale None none = fresh_none stage es saved effect effect2 follows none ∙ (stays refl ∙ none)
+      stale (Some f) some = fresh_some stage es saved effect effect2 f follows some

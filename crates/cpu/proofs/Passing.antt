@@ -1,0 +1,117 @@
+-- What a step leaves beside the guests: how effects and actions grow, and the steps in which no guest's call goes on.
+use Rattle.std.proofs.Common.{◌≡◌, ◌==◌, Bool, true, false, List, [], ◌∷◌, ◌++◌, Option, Some, None, is_some, refl, ap, ◌∙◌, arith}
+use Rattle.event_log.specs.declared.entries.Entry.{Entry}
+use Rattle.event_log.specs.declared.ids.CpuId.{CpuId}
+use Rattle.event_log.specs.declared.ids.LockId.{LockId}
+use Rattle.event_log.specs.declared.ids.Tid.{Tid}
+use Rattle.event_log.specs.Actions.{Action, Try, Phase, Rests, Waits, Holds, action_in, doer, gives, phase, place}
+use Rattle.layer_traits.specs.declared.calls.Call.{Call}
+use Rattle.layer_traits.specs.declared.calls.Effect.{Effect}
+use Rattle.layer_traits.specs.declared.calls.Reply.{Reply}
+use Rattle.layer_traits.specs.declared.talks.Talk.{Talk}
+use Rattle.layer_traits.specs.Looks.{Tries}
+use Rattle.layer_traits.specs.Places.{Step}
+use Rattle.layer_traits.specs.Plans.{Plan, Table, Left, Now, Act, Follows}
+use Rattle.layer_traits.specs.BufferLaw.{Called, MovesGrow, OthersSeen, Passing, buffer_of, entry_of, still_passing}
+use Rattle.layer_traits.specs.declared.passes.Pass.{Pass}
+use Rattle.layer_traits.specs.declared.passes.Pass.TheVariants.{Switch, YieldNow, Drain, MakeReady, End}
+use Rattle.cpu.specs.declared.guests.Guest.{Guest}
+use Rattle.cpu.specs.Guests.{after_pass, entries_of}
+use Rattle.cpu.specs.Cpus.{ActsGrow, SeenGrows, of_cpu, passed_by, programs_of}
+use Rattle.cpu.proofs.GuestLists.{cpu_same, programs_with}
+
+-- an action that is due to a CPU is its own
+own_action : {N : Type 0} (cpu : CpuId) (lock : LockId) (name : N) (past : List (Action N)) (p : Phase) → doer (action_in cpu lock name past p) ≡ cpu
+own_action cpu lock name past Rests = refl
+own_action cpu lock name past (Waits at) = refl
+own_action cpu lock name past (Holds at) = refl
+
+-- a poll that followed any plan did at most one action
+pub follows_grow : {N B R S A : Type 0} (ActsFor : CpuId → Type 0) (table : Table N B R) (opening : LockId → Option B) (cpu : CpuId) (plan : Plan N R S A)
+    (old new : List (Action N)) (got : Left S A) → Follows ActsFor table opening cpu plan old new got → ActsGrow ActsFor cpu old new
+follows_grow ActsFor table opening cpu (Now left) old new got follows =
+    record { others = []; mine = []; foreign = λ c acts. tt; own = tt; is = follows.0 }
+follows_grow ActsFor table opening cpu (Act lock name react) old new got follows = record {
+  others = follows.acted.others;
+  mine = action_in cpu lock name follows.past (phase cpu follows.past) ∷ [];
+  foreign = follows.acted.foreign;
+  own = (own_action cpu lock name follows.past (phase cpu follows.past), tt);
+  is = follows.acted.grows ∙ ap (λ (l : List (Action _)). action_in cpu lock name follows.past (phase cpu follows.past) ∷ l) follows.acted.joined;
+}
+
+-- a look did one
+pub tries_grow : {N : Type 0} (ActsFor : CpuId → Type 0) (cpu : CpuId) (old new : List (Action N)) → Tries ActsFor cpu old new
+    → ActsGrow ActsFor cpu old new
+tries_grow ActsFor cpu old new tries = record {
+  others = tries.others;
+  mine = Try cpu tries.lock (gives tries.lock tries.past == place cpu tries.past) ∷ [];
+  foreign = tries.foreign;
+  own = (refl, tt);
+  is = tries.grows ∙ ap (λ (l : List (Action _)). Try cpu tries.lock (gives tries.lock tries.past == place cpu tries.past) ∷ l) tries.joined;
+}
+
+-- nothing came
+pub none_grow : {N : Type 0} (ActsFor : CpuId → Type 0) (cpu : CpuId) (old new : List (Action N)) → new ≡ old → ActsGrow ActsFor cpu old new
+none_grow ActsFor cpu old new is = record { others = []; mine = []; foreign = λ c acts. tt; own = tt; is = is }
+
+pub none_seen : (ActsFor : CpuId → Type 0) (cpu : CpuId) (old new : List Entry) → new ≡ old → SeenGrows ActsFor cpu old new
+none_seen ActsFor cpu old new is = record { others = []; mine = []; foreign = λ c acts. tt; own = tt; few = omega arith; is = is }
+
+pub none_moved : (ActsFor : CpuId → Type 0) (cpu : CpuId) (old new : List Step) → new ≡ old → MovesGrow ActsFor cpu old new
+none_moved ActsFor cpu old new is = record { others = []; mine = []; foreign = λ c acts. tt; own = tt; is = is }
+
+-- effects of others alone
+pub others_grow : (ActsFor : CpuId → Type 0) (cpu : CpuId) (old new : List Entry) → OthersSeen ActsFor old new → SeenGrows ActsFor cpu old new
+others_grow ActsFor cpu old new seen = record { others = seen.others; mine = []; foreign = seen.foreign; own = tt; few = omega arith; is = seen.is }
+
+-- a poll of a call has at most one effect, its CPU's own
+pub called_grows : (ActsFor : CpuId → Type 0) (cpu : CpuId) (t : Tid) (call : Call) (talks left : List Talk) (old new : List Entry) (answer : Option Reply)
+    → Called ActsFor cpu t call talks left old new answer → SeenGrows ActsFor cpu old new
+called_grows ActsFor cpu t call talks left old new answer called = go called.mine called.is
+  where
+    go : (mine : Option Effect) → new ≡ entries_of cpu t (buffer_of call) mine ++ (called.others ++ old) → SeenGrows ActsFor cpu old new
+    go None is = record { others = called.others; mine = []; foreign = called.foreign; own = tt; few = omega arith; is = is }
+    go (Some f) is =
+        record {
+          others = called.others;
+          mine = entry_of cpu t (buffer_of call) f ∷ [];
+          foreign = called.foreign;
+          own =
+              (refl, tt);
+          few = omega arith;
+          is = is;
+        }
+
+-- effects of others leave a CPU's own
+pub others_same : (ActsFor : CpuId → Type 0) (number : CpuId) (old new : List Entry) → OthersSeen ActsFor old new → ActsFor number
+    → of_cpu number new ≡ of_cpu number old
+others_same ActsFor number old new seen acts =
+    ap (λ (l : List Entry). of_cpu number l) seen.is ∙ cpu_same ActsFor number seen.others old seen.foreign acts
+
+-- a look did one action or none
+pub look_grows : {N : Type 0} (ActsFor : CpuId → Type 0) (cpu : CpuId) (old new : List (Action N)) (looked : Bool)
+    → (looked ≡ true → Tries ActsFor cpu old new)
+    → (looked ≡ false → new ≡ old) → ActsGrow ActsFor cpu old new
+look_grows ActsFor cpu old new true tries still = tries_grow ActsFor cpu old new (tries refl)
+look_grows ActsFor cpu old new false tries still = none_grow ActsFor cpu old new (still refl)
+
+-- what is under way after a pass
+pub doing_done : {A : Type 0} (pass : Pass) (answer : Option A) → is_some answer ≡ true → still_passing pass answer ≡ None
+doing_done pass None some = absurd (cc some)
+doing_done pass (Some a) some = refl
+
+pub doing_waits : {A : Type 0} (pass : Pass) (answer : Option A) → is_some answer ≡ false → still_passing pass answer ≡ Some (Passing pass)
+doing_waits pass None none = refl
+doing_waits pass (Some a) none = absurd (cc none)
+
+-- a pass leaves the programs
+pub programs_passed : (runs : Option Tid) (guests : List (Option Guest)) (pass : Pass) → programs_of (passed_by runs guests pass) ≡ programs_of guests
+programs_passed None guests pass = refl
+programs_passed (Some t) guests pass = programs_with guests t.0 (after_pass pass) (keeps pass)
+  where
+    keeps : (p : Pass) (g : Guest) → (after_pass p g).program ≡ g.program
+    keeps Switch g = refl
+    keeps YieldNow g = refl
+    keeps Drain g = refl
+    keeps (MakeReady s) g = refl
+    keeps End g = refl

@@ -1,0 +1,26 @@
+use Rattle.std.proofs.Common.{ap, subst}
+use Rattle.event_log.specs.declared.ids.CpuId.{CpuId}
+use Rattle.layer_traits.specs.Looks.{Tries}
+use Rattle.cpu.proofs.Passing.{look_grows, others_same}
+use Rattle.cpu.proofs.Schedules.{seen_stays}
+use Rattle.cpu.proofs.cpus.Cpu.look.Goals as goal
+
+pub returns-clause-is : goal.returns-clause-is
+returns-clause-is g c =
+    let I = g.I.IpcLayer in
+    let law = g.met.I.IpcLayer in
+    let m = c.args.m.now in
+    let p = c.args.self.now in
+    let acts = law.own_cpu p.part m c.requires.fits in
+    rw (c.look.ensures.homes, c.look.ensures.caps, c.look.ensures.threads, c.look.ensures.talks, c.look.ensures.doing)
+    (seen_stays _ _ _ _ _ _ _ _ _ _ _ c.requires.is (I.seen c.look.new.m)
+    (others_same (λ d. I.ActsFor m d) p.number (I.seen m) (I.seen c.look.new.m) c.look.ensures.seen
+    (subst (λ (d : CpuId). I.ActsFor m d) c.requires.number acts)))
+
+pub returns-clause-grows : goal.returns-clause-grows
+returns-clause-grows g c = λ step.
+    let I = g.I.IpcLayer in
+    let m = c.args.m.now in
+    look_grows (λ d. I.ActsFor m d) c.args.self.now.number (I.acts m) (I.acts c.look.new.m) c.look.result
+    (λ looked. subst (λ (d : CpuId). Tries (λ e. I.ActsFor m e) d (I.acts m) (I.acts c.look.new.m)) c.requires.number (c.look.ensures.tries step looked))
+    (λ no. ap I.acts (c.look.ensures.still no).1)
