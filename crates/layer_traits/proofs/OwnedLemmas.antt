@@ -1,13 +1,28 @@
 -- What a layer beneath tells of its blocks, a layer tells of what it makes of them.
-use Rattle.std.proofs.Common.{◌≡◌, Option, Some, None, option_map, refl, ap, ◌∙◌, subst}
+use Rattle.std.proofs.Common.{◌≡◌, Option, Some, None, option_map, refl, ap, sym, ◌∙◌, subst}
+use Rattle.std.proofs.lemmas.Option.{same_Some}
 use Rattle.event_log.specs.declared.ids.CpuId.{CpuId}
 use Rattle.layer_traits.specs.Owned.{IsHeld, IsShown}
+use Rattle.layer_traits.specs.Told.{IsTold}
 
 -- what is true under one name is true under another
 pub same_shown : {P A : Type 0} (Fits : P → Type 0) (cpu_of : P → CpuId) (IsInside : CpuId → Type 0) (here : P → Option A) (home truth other : Option A)
     → truth ≡ other
     → IsShown Fits cpu_of IsInside here home truth → IsShown Fits cpu_of IsInside here home other
 same_shown Fits cpu_of IsInside here home truth other same shown = subst (λ o. IsShown Fits cpu_of IsInside here home o) same shown
+
+-- a block in the hands of a part beneath is in those of the part that stands on it
+held_under : {P Q A : Type 0} (below : Q → P) (FitsP : P → Type 0) (FitsQ : Q → Type 0) (cpu_below : P → CpuId) (cpu_of : Q → CpuId)
+    (InsideP InsideQ : CpuId → Type 0)
+    (here : P → Option A) → ((q : Q) → FitsQ q → FitsP (below q)) → ((q : Q) → FitsQ q → cpu_below (below q) ≡ cpu_of q)
+    → ((c : CpuId) → InsideP c → InsideQ c)
+    → IsHeld FitsP cpu_below InsideP here → IsHeld FitsQ cpu_of InsideQ (λ q. here (below q))
+held_under below FitsP FitsQ cpu_below cpu_of InsideP InsideQ here fits cpus inside is = record {
+  cpu = is.cpu;
+  known = is.known;
+  inside = inside is.cpu is.inside;
+  has = λ q at fit. is.has (below q) (cpus q fit ∙ at) (fits q fit);
+}
 
 -- parts that stand on those beneath tell what those tell
 pub shown_under : {P Q A : Type 0} (below : Q → P) (FitsP : P → Type 0) (FitsQ : Q → Type 0) (cpu_below : P → CpuId) (cpu_of : Q → CpuId)
@@ -18,16 +33,8 @@ pub shown_under : {P Q A : Type 0} (below : Q → P) (FitsP : P → Type 0) (Fit
 shown_under below FitsP FitsQ cpu_below cpu_of InsideP InsideQ here home truth fits cpus inside shown = record {
   by_machine = shown.by_machine;
   by_part = λ q x fit tells. shown.by_part (below q) x (fits q fit) tells;
-  somewhere = λ none. held (shown.somewhere none);
+  somewhere = λ none. held_under below FitsP FitsQ cpu_below cpu_of InsideP InsideQ here fits cpus inside (shown.somewhere none);
 }
-  where
-    held : IsHeld FitsP cpu_below InsideP here → IsHeld FitsQ cpu_of InsideQ (λ q. here (below q))
-    held is = record {
-      cpu = is.cpu;
-      known = is.known;
-      inside = inside is.cpu is.inside;
-      has = λ q at fit. is.has (below q) (cpus q fit ∙ at) (fits q fit);
-    }
 
 viewed_some : {A B : Type 0} (view : A → B) (truth : Option A) (o : Option A) (y : B)
     → ((x : A) → o ≡ Some x → truth ≡ Some x) → option_map view o ≡ Some y
@@ -57,3 +64,25 @@ viewed_shown view Fits cpu_of IsInside here home truth seen is shown = record {
       inside = at.inside;
       has = λ p same fits none. at.has p same fits (viewed_none view (here p) none);
     }
+
+-- what is shown of a block that there is is true of it
+pub told_shown : {P A : Type 0} (Fits : P → Type 0) (cpu_of : P → CpuId) (IsInside : CpuId → Type 0) (here : P → Option A) (home truth : Option A) (x : A)
+    → truth ≡ Some x
+    → IsShown Fits cpu_of IsInside here home truth → IsTold Fits cpu_of IsInside here home x
+told_shown Fits cpu_of IsInside here home truth x is shown = record {
+  by_machine = λ y tells. same_Some y x (sym (shown.by_machine y tells) ∙ is);
+  by_part = λ p y fits tells. same_Some y x (sym (shown.by_part p y fits tells) ∙ is);
+  somewhere = shown.somewhere;
+}
+
+-- parts that stand on those beneath tell what those tell
+pub told_under : {P Q A : Type 0} (below : Q → P) (FitsP : P → Type 0) (FitsQ : Q → Type 0) (cpu_below : P → CpuId) (cpu_of : Q → CpuId)
+    (InsideP InsideQ : CpuId → Type 0)
+    (here : P → Option A) (home : Option A) (truth : A) → ((q : Q) → FitsQ q → FitsP (below q)) → ((q : Q) → FitsQ q → cpu_below (below q) ≡ cpu_of q)
+    → ((c : CpuId) → InsideP c → InsideQ c)
+    → IsTold FitsP cpu_below InsideP here home truth → IsTold FitsQ cpu_of InsideQ (λ q. here (below q)) home truth
+told_under below FitsP FitsQ cpu_below cpu_of InsideP InsideQ here home truth fits cpus inside told = record {
+  by_machine = told.by_machine;
+  by_part = λ q x fit tells. told.by_part (below q) x (fits q fit) tells;
+  somewhere = λ none. held_under below FitsP FitsQ cpu_below cpu_of InsideP InsideQ here fits cpus inside (told.somewhere none);
+}

@@ -27,3 +27,5 @@ pub mod BufferEffects
 pub mod BufferLaw
 pub mod IpcLaw
 pub mod Owned
+pub mod Told
+pub mod Openings

@@ -1,0 +1,115 @@
+//! A layer of message calls that opens a machine and tells of its blocks and threads.
+
+ghost use Rattle.std.specs.Prelude.{◌≡◌, ◌⊎◌, ◌<◌, true, [], List, Option, Some, None, IfOk, length, option_map};
+
+use crate::calls::Place;
+use crate::ipc_layers::IpcLayer;
+use arrayvec::ArrayVec;
+use event_log::{BufId, CAPACITY, CpuId, Msg, NoMemory, Tid};
+use std::alloc::Global;
+
+/// The top of a tower whose machine is opened with its blocks and tells of those that are at home,
+/// and whose parts tell of those in their CPU's hands, and of where a thread stands.
+pub trait Owned: IpcLayer {
+    ghost use Rattle.std.specs.List.{AllByRecursion};
+    ghost use Rattle.event_log.specs.declared.ids.BufId.{BufId};
+    ghost use Rattle.event_log.specs.declared.ids.CpuId.{CpuId};
+    ghost use Rattle.event_log.specs.declared.ids.Tid.{Tid};
+    ghost use Rattle.event_log.specs.declared.ids.TheConstants.{CPUS};
+    ghost use Rattle.event_log.specs.Actions.{phase};
+    ghost use Rattle.event_log.specs.Buffers.{items_of};
+    ghost use Rattle.event_log.specs.Messages.{Message};
+    ghost use Rattle.layer_traits.specs.declared.calls.Place.{Place};
+    ghost use Rattle.layer_traits.specs.BufferEffects.{contents_of};
+    ghost use Rattle.layer_traits.specs.Openings.{AreOpenable, Opened};
+    ghost use Rattle.layer_traits.specs.Places.{home_of, where_is};
+    ghost use Rattle.layer_traits.specs.Plans.{is_in_section};
+    ghost use Rattle.layer_traits.specs.Told.{IsOwnPlace, IsTold, Tells, queue_place};
+
+    /// The owner of the lock of a buffer, as its last section left it.
+    ghost owner: { Self.Machine → BufId → Option Tid };
+
+    /// The items of a buffer, first in front, where its block is at home in the machine.
+    ghost items_in: { Self.Machine → BufId → Option (List Message) };
+
+    /// The items of a buffer, first in front, where its block is in the hands of the part's CPU.
+    ghost items_here: { Self → BufId → Option (List Message) };
+
+    /// The owner of the lock of a buffer, where its block is at home in the machine.
+    ghost owner_in: { Self.Machine → BufId → Option (Option Tid) };
+
+    /// The owner of the lock of a buffer, where its block is in the hands of the part's CPU.
+    ghost owner_here: { Self → BufId → Option (Option Tid) };
+
+    /// The part can tell nothing of where a thread stands.
+    ghost IsSilent: { Self → Self.Machine → Tid → Type 0 };
+
+    /// A machine of so many CPUs, with a buffer of each of these capacities and a thread of each of
+    /// these homes, and with room for `room` polls. All memory is taken here.
+    ///
+    /// Errors: `NoMemory` where an allocation was refused.
+    fn open(
+        alloc: Global,
+        cpus: u8,
+        caps: &[u8],
+        homes: &[CpuId],
+        room: usize,
+    ) -> Result<Self::Machine, NoMemory>
+        requires { AreOpenable cpus caps.now homes.now }
+        ensures opened { IfOk result (λ m.
+            Opened (Self.caps m) (Self.homes_of m) (Self.seen m) (Self.moves m) (Self.room m) caps.now homes.now room) }
+        ensures fresh { IfOk result (λ m. (c : CpuId) → c.0 < cpus → Self.IsFresh m homes.now c) }
+        ensures acts { IfOk result (λ m. (c : CpuId) → c.0 < CPUS → Self.ActsFor m c) }
+        ensures none { IfOk result (λ m. Self.acts m ≡ []) };
+
+    /// The items of the buffer `b`, first in front; `None` where its block is in the hands of a CPU.
+    fn buffer_in(m: &Self::Machine, b: BufId) -> Option<ArrayVec<Msg, CAPACITY>>
+        requires acts { (c : CpuId) × Self.ActsFor m.now c }
+        requires buffer { b.0 < length (Self.caps m.now) }
+        ensures { option_map (λ items. items.items) result ≡ items_in m.now b };
+
+    /// The same of a block in this CPU's hands; `None` where it is not there.
+    fn buffer_here(&self, b: BufId) -> Option<ArrayVec<Msg, CAPACITY>>
+        ensures { option_map (λ items. items.items) result ≡ items_here self.now b };
+
+    /// The owner of the lock of the buffer `b`; `None` where its block is in the hands of a CPU.
+    fn busy_in(m: &Self::Machine, b: BufId) -> Option<Option<Tid>>
+        requires acts { (c : CpuId) × Self.ActsFor m.now c }
+        requires buffer { b.0 < length (Self.caps m.now) }
+        ensures { result ≡ owner_in m.now b };
+
+    /// The same of a block in this CPU's hands; `None` where it is not there.
+    fn busy_here(&self, b: BufId) -> Option<Option<Tid>>
+        ensures { result ≡ owner_here self.now b };
+
+    /// Where `t` stands, as far as this CPU can tell: among its own threads, or in a queue that is at
+    /// home in the machine or in this CPU's hands; `None` where it can tell nothing of it.
+    fn place_at(&self, m: &Self::Machine, t: Tid) -> Option<Place>
+        requires fits { Self.Fits self.now m.now }
+        requires thread { t.0 < length (Self.homes_of m.now) }
+        ensures told { (x : Place) → result ≡ Some x
+            → IsOwnPlace (Self.cpu_of self.now) (Self.threads self.now) t x
+            ⊎ (queue_place (where_is (Self.homes_of m.now) (Self.moves m.now) t) ≡ Some x) }
+        ensures silent { result ≡ None → IsSilent self.now m.now t };
+
+    /// Law: each effect that was seen is one of a CPU that there may be.
+    ghost known: { (m : Self.Machine) (c : CpuId) → Self.ActsFor m c → AllByRecursion (λ e. e.cpu.0 < CPUS) (Self.seen m) };
+
+    /// Law: the items that the machine or a part tells of a buffer are those that the effects leave
+    /// in it.
+    ghost items: { (m : Self.Machine) (c : CpuId) (b : BufId) → Self.ActsFor m c → b.0 < length (Self.caps m)
+        → IsTold (λ (p : Self). Self.Fits p m) (λ p. Self.cpu_of p) (λ d. Self.IsStepwise × (is_in_section (phase d (Self.acts m)) ≡ true)) (λ p. items_here p b) (items_in m b)
+        (items_of (contents_of (Self.caps m) (Self.seen m)) b.0) };
+
+    /// Law: the owner that the machine or a part tells of a buffer's lock is the one that its last
+    /// section left.
+    ghost owners: { (m : Self.Machine) (c : CpuId) (b : BufId) → Self.ActsFor m c → b.0 < length (Self.caps m)
+        → IsTold (λ (p : Self). Self.Fits p m) (λ p. Self.cpu_of p) (λ d. Self.IsStepwise × (is_in_section (phase d (Self.acts m)) ≡ true)) (λ p. owner_here p b) (owner_in m b)
+        (owner m b) };
+
+    /// Law: of each thread some CPU can tell where it stands: its home, the CPU that has it in its
+    /// hand, or one that is in a section.
+    ghost place: { (p : Self) (m : Self.Machine) (t : Tid) → Self.Fits p m → t.0 < length (Self.homes_of m)
+        → Tells (λ (q : Self). Self.Fits q m) (λ q. Self.cpu_of q) (λ d. Self.IsStepwise × (is_in_section (phase d (Self.acts m)) ≡ true)) (λ q. IsSilent q m t)
+        (home_of (Self.homes_of m) t) (where_is (Self.homes_of m) (Self.moves m) t) };
+}

@@ -1,0 +1,133 @@
+//! A layer of buffers that tells of its blocks.
+
+ghost use Rattle.std.specs.Prelude.{◌≡◌, ◌<◌, true, List, Option, Some, IsSome, length, option_and_then, option_map};
+
+use crate::buffer_layers::BufferLayer;
+use crate::moves::Line;
+use arrayvec::ArrayVec;
+use event_log::{BufId, CAPACITY, CpuId, Msg, Tid};
+
+/// A layer of buffers whose machine tells of the blocks that are at home, and whose parts tell of
+/// those in their CPU's hands.
+pub trait OwnedBuffers: BufferLayer {
+    ghost use Rattle.std.specs.List.{AllByRecursion};
+    ghost use Rattle.event_log.specs.declared.ids.BufId.{BufId};
+    ghost use Rattle.event_log.specs.declared.ids.CpuId.{CpuId};
+    ghost use Rattle.event_log.specs.declared.ids.LockId.TheVariants.{Pending};
+    ghost use Rattle.event_log.specs.declared.ids.Tid.{Tid};
+    ghost use Rattle.event_log.specs.declared.ids.TheConstants.{CPUS};
+    ghost use Rattle.event_log.specs.Actions.{phase};
+    ghost use Rattle.event_log.specs.Buffers.{items_of};
+    ghost use Rattle.event_log.specs.Messages.{Message};
+    ghost use Rattle.layer_traits.specs.declared.moves.Line.{Line};
+    ghost use Rattle.layer_traits.specs.BufferEffects.{contents_of};
+    ghost use Rattle.layer_traits.specs.Owned.{line_among};
+    ghost use Rattle.layer_traits.specs.Places.{pending_by};
+    ghost use Rattle.layer_traits.specs.Plans.{is_in_section};
+    ghost use Rattle.layer_traits.specs.Told.{IsTold};
+    ghost use Rattle.thread_blocks.specs.Queues.{is_in};
+
+    /// The owner of the lock of a buffer, as its last section left it.
+    ghost owner: { Self.Machine → BufId → Option Tid };
+
+    /// The items of a buffer, first in front, where its block is at home in the machine.
+    ghost items_at: { Self.Machine → BufId → Option (List Message) };
+
+    /// The items of a buffer, first in front, where its block is in the hands of the part's CPU.
+    ghost items_with: { Self → BufId → Option (List Message) };
+
+    /// The owner of the lock of a buffer, where its block is at home in the machine.
+    ghost owner_at: { Self.Machine → BufId → Option (Option Tid) };
+
+    /// The owner of the lock of a buffer, where its block is in the hands of the part's CPU.
+    ghost owner_with: { Self → BufId → Option (Option Tid) };
+
+    /// The waiting lists of a buffer, where its block is at home in the machine.
+    ghost lines_at: { Self.Machine → BufId → Option (Line → List Tid) };
+
+    /// The waiting lists of a buffer, where its block is in the hands of the part's CPU.
+    ghost lines_with: { Self → BufId → Option (Line → List Tid) };
+
+    /// The pending queue of a CPU where it is at home in the machine, front first.
+    ghost queue_at: { Self.Machine → CpuId → Option (List Tid) };
+
+    /// The pending queue of a CPU where it is in the hands of the part's CPU.
+    ghost queue_with: { Self → CpuId → Option (List Tid) };
+
+    /// Whether `t` is ready on this CPU.
+    fn is_ready(&self, t: Tid) -> bool
+        ensures { result ≡ is_in t (Self.own self.now).cv.lock.sleep.threads.ready };
+
+    /// Whether `t` has ended on this CPU.
+    fn has_ended(&self, t: Tid) -> bool
+        ensures { result ≡ is_in t (Self.own self.now).cv.lock.sleep.threads.ended };
+
+    /// The items of the buffer `b`, first in front; `None` where its block is in the hands of a CPU.
+    fn items_in(m: &Self::Machine, b: BufId) -> Option<ArrayVec<Msg, CAPACITY>>
+        requires acts { (c : CpuId) × Self.ActsFor m.now c }
+        requires buffer { b.0 < length (Self.caps m.now) }
+        ensures { option_map (λ items. items.items) result ≡ items_at m.now b };
+
+    /// The same of a block in this CPU's hands; `None` where it is not there.
+    fn items_here(&self, b: BufId) -> Option<ArrayVec<Msg, CAPACITY>>
+        ensures { option_map (λ items. items.items) result ≡ items_with self.now b };
+
+    /// The owner of the lock of the buffer `b`; `None` where its block is in the hands of a CPU.
+    fn owner_in(m: &Self::Machine, b: BufId) -> Option<Option<Tid>>
+        requires acts { (c : CpuId) × Self.ActsFor m.now c }
+        requires buffer { b.0 < length (Self.caps m.now) }
+        ensures { result ≡ owner_at m.now b };
+
+    /// The same of a block in this CPU's hands; `None` where it is not there.
+    fn owner_here(&self, b: BufId) -> Option<Option<Tid>>
+        ensures { result ≡ owner_with self.now b };
+
+    /// The waiting list of the buffer `b` in which `t` stands; `None` where it stands in none or the
+    /// block is in the hands of a CPU.
+    fn line_in(m: &Self::Machine, b: BufId, t: Tid) -> Option<Line>
+        requires acts { (c : CpuId) × Self.ActsFor m.now c }
+        requires buffer { b.0 < length (Self.caps m.now) }
+        ensures { result ≡ option_and_then (line_among t) (lines_at m.now b) };
+
+    /// The same of a block in this CPU's hands; `None` where it is not there.
+    fn line_here(&self, b: BufId, t: Tid) -> Option<Line>
+        ensures { result ≡ option_and_then (line_among t) (lines_with self.now b) };
+
+    /// Whether `t` stands in the pending queue of `d`, which there is; `None` where that queue is in
+    /// the hands of a CPU.
+    fn pends_in(m: &Self::Machine, d: CpuId, t: Tid) -> Option<bool>
+        requires acts { (c : CpuId) × Self.ActsFor m.now c }
+        requires queue { IsSome (Self.opening m.now (Pending d)) }
+        ensures { result ≡ option_map (λ queue. is_in t queue) (queue_at m.now d) };
+
+    /// The same of a queue in this CPU's hands; `None` where it is not there.
+    fn pends_here(&self, d: CpuId, t: Tid) -> Option<bool>
+        ensures { result ≡ option_map (λ queue. is_in t queue) (queue_with self.now d) };
+
+    /// Law: each effect that was seen is one of a CPU that there may be.
+    ghost known: { (m : Self.Machine) (c : CpuId) → Self.ActsFor m c → AllByRecursion (λ e. e.cpu.0 < CPUS) (Self.seen m) };
+
+    /// Law: the items that the machine or a part tells of a buffer are those that the effects leave
+    /// in it.
+    ghost items: { (m : Self.Machine) (c : CpuId) (b : BufId) → Self.ActsFor m c → b.0 < length (Self.caps m)
+        → IsTold (λ (p : Self). Self.Fits p m) (λ p. Self.cpu_of p) (λ d. Self.IsStepwise × (is_in_section (phase d (Self.acts m)) ≡ true)) (λ p. items_with p b) (items_at m b)
+        (items_of (contents_of (Self.caps m) (Self.seen m)) b.0) };
+
+    /// Law: the owner that the machine or a part tells of a buffer's lock is the one that its last
+    /// section left.
+    ghost owners: { (m : Self.Machine) (c : CpuId) (b : BufId) → Self.ActsFor m c → b.0 < length (Self.caps m)
+        → IsTold (λ (p : Self). Self.Fits p m) (λ p. Self.cpu_of p) (λ d. Self.IsStepwise × (is_in_section (phase d (Self.acts m)) ≡ true)) (λ p. owner_with p b) (owner_at m b)
+        (owner m b) };
+
+    /// Law: the waiting lists that the machine or a part tells of a buffer are those that its last
+    /// section left.
+    ghost beds: { (m : Self.Machine) (c : CpuId) (b : BufId) → Self.ActsFor m c → b.0 < length (Self.caps m)
+        → IsTold (λ (p : Self). Self.Fits p m) (λ p. Self.cpu_of p) (λ d. Self.IsStepwise × (is_in_section (phase d (Self.acts m)) ≡ true)) (λ p. lines_with p b) (lines_at m b)
+        (Self.lines m b) };
+
+    /// Law: the threads that the machine or a part tells of a pending queue are those that the moves
+    /// leave in it.
+    ghost queues: { (m : Self.Machine) (c d : CpuId) → Self.ActsFor m c → IsSome (Self.opening m (Pending d))
+        → IsTold (λ (p : Self). Self.Fits p m) (λ p. Self.cpu_of p) (λ d. Self.IsStepwise × (is_in_section (phase d (Self.acts m)) ≡ true)) (λ p. queue_with p d) (queue_at m d)
+        (pending_by (Self.moves m) d) };
+}
