@@ -14,3 +14,4 @@ pub mod SleepRenaming
 pub mod CallLemmas
 pub mod NestedLemmas
 pub mod OwnedLemmas
+pub mod EffectRunLemmas

@@ -29,3 +29,4 @@ pub mod IpcLaw
 pub mod Owned
 pub mod Told
 pub mod Openings
+pub mod EffectRuns

@@ -43,7 +43,7 @@ pub use conditions::{CvEdit, CvLeave, CvOut, Guarded};
 pub use cv_layers::CvLayer;
 pub use edits::{Edit, Mark};
 pub use ipc_layers::IpcLayer;
-pub use laws::one_place;
+pub use laws::{effects_are_run, one_place};
 pub use locked::{Locked, QEdit, QOut, Side, Signal};
 pub use locks::LockLayer;
 pub use moves::{Line, Moves};
