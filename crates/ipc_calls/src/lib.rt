@@ -1,0 +1,7 @@
+//! The layer of message calls, the top of the tower: a number that is no buffer's is refused at
+//! once, and a part tells where each thread stands.
+#![tactic(auto)]
+
+mod ipc;
+
+pub use ipc::Ipc;
