@@ -3,3 +3,4 @@ pub mod Parts
 pub mod Edits
 pub mod NestedLaws
 pub mod Steady
+pub mod OwnedLaws

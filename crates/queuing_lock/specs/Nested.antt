@@ -24,6 +24,10 @@ edit_in section = section.edit
 abbrev pub as_section : {F R : Type 0} → QEdit F R → QLockEdit F R
 as_section e = record { edit = e }
 
+-- a block of the layer above under a lock without an owner
+abbrev pub unowned : {B : Type 0} → B → QBlock B
+unowned above = record { busy = None; above = above }
+
 -- the lock that a block with waiting lists is: its owner is the thread in the busy word
 abbrev pub lock_of : {B : Type 0} → SleepState (QBlock B) → LockState B
 lock_of state = record {

@@ -2,9 +2,11 @@
 //! so that it passes from owner to owner without becoming free.
 #![tactic(auto)]
 
+mod blocks;
 mod edits;
 mod qlock;
 mod slept;
 
+pub use blocks::lock_blocks;
 pub use edits::{QBlock, QLockEdit};
 pub use qlock::QLock;

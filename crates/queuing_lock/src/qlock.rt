@@ -3,7 +3,10 @@
 use crate::edits::QLockEdit;
 use crate::slept::Slept;
 use event_log::{BufId, CpuId, Tid};
-use layer_traits::{Locked, Outcome, Pass, QEdit, QLockLayer, QOut, SleepLayer, Sleeps};
+use layer_traits::{
+    Line, Locked, Outcome, OwnedQLocks, OwnedSleeps, Pass, QEdit, QLockLayer, QOut, SleepLayer,
+    Sleeps,
+};
 
 /// One CPU's part of queuing locks over a part `S` of a layer that lets threads sleep: it keeps of
 /// each thread for the lock of which buffer it slept.
@@ -154,4 +157,76 @@ impl<F: Locked, S: SleepLayer<QLockEdit<F, F::Release>>> QLockLayer<F> for QLock
     ghost busy = { λ p m fits step. locks_busy (S.cpu_of p.lower) (S.acts m) (S.is_inside p.lower) (S.busy p.lower m fits.0 step) };
 
     ghost idle = { λ p m fits none. S.idle p.lower m fits.0 (none_beneath (S.under_way p.lower) none) };
+}
+
+impl<F: Locked, S: OwnedSleeps<QLockEdit<F, F::Release>>> OwnedQLocks<F> for QLock<S> {
+    ghost use Rattle.std.specs.Prelude.{option_map};
+    ghost use Rattle.event_log.specs.declared.ids.LockId.TheVariants.{Buffer, Pending};
+    ghost use Rattle.layer_traits.proofs.KernelRenaming.{there_viewed};
+    ghost use Rattle.queuing_lock.specs.Nested.{lock_of};
+    ghost use Rattle.queuing_lock.specs.OwnedLaws.{locks_queues, locks_shown};
+
+    ghost lock_at = { λ m b. option_map lock_of (S.state_at m b) };
+
+    ghost lock_with = { λ p b. option_map lock_of (S.state_with p.lower b) };
+
+    ghost queue_at = { λ m d. S.queue_at m d };
+
+    ghost queue_with = { λ p d. S.queue_with p.lower d };
+
+    fn block_in(m: &S::Machine, b: BufId) -> Option<&F::Block> {
+        match S::block_in(m, b) {
+            None => None,
+            Some(block) => Some(&block.above),
+        }
+    }
+
+    fn block_here(&self, b: BufId) -> Option<&F::Block> {
+        match self.lower.block_here(b) {
+            None => None,
+            Some(block) => Some(&block.above),
+        }
+    }
+
+    fn owner_in(m: &S::Machine, b: BufId) -> Option<Option<Tid>> {
+        match S::block_in(m, b) {
+            None => None,
+            Some(block) => Some(block.busy),
+        }
+    }
+
+    fn owner_here(&self, b: BufId) -> Option<Option<Tid>> {
+        match self.lower.block_here(b) {
+            None => None,
+            Some(block) => Some(block.busy),
+        }
+    }
+
+    #[inline(always)]
+    fn line_in(m: &S::Machine, b: BufId, t: Tid) -> Option<Line> {
+        S::line_in(m, b, t)
+    }
+
+    #[inline(always)]
+    fn line_here(&self, b: BufId, t: Tid) -> Option<Line> {
+        self.lower.line_here(b, t)
+    }
+
+    #[inline(always)]
+    fn pends_in(m: &S::Machine, d: CpuId, t: Tid) -> Option<bool> {
+        S::pends_in(m, d, t)
+    }
+
+    #[inline(always)]
+    fn pends_here(&self, d: CpuId, t: Tid) -> Option<bool> {
+        self.lower.pends_here(d, t)
+    }
+
+    ghost shown = { λ m c b acts there. locks_shown F.rules (S.opening m) (S.seen m) (λ (p : Self). p.lower) (λ p. S.Fits p m) (λ (p : Self). Self.Fits p m)
+        (λ p. S.cpu_of p) S.IsStepwise (S.acts m) (λ p fits. fits.0) b (λ p. S.state_with p b) (S.state_at m b)
+        (S.shown m c b acts (there_viewed lock_of (S.opening m) (Buffer b) there)) };
+
+    ghost queues = { λ m c d acts there. locks_queues F.rules (S.opening m) (S.seen m) (λ (p : Self). p.lower) (λ p. S.Fits p m) (λ (p : Self). Self.Fits p m)
+        (λ p. S.cpu_of p) S.IsStepwise (S.acts m) (λ p fits. fits.0) d (λ p. S.queue_with p d) (S.queue_at m d)
+        (S.queues m c d acts (there_viewed lock_of (S.opening m) (Pending d) there)) };
 }

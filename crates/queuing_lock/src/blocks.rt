@@ -1,0 +1,28 @@
+//! The blocks at boot.
+
+ghost use Rattle.std.specs.Prelude.{◌≡◌, IfOk, map};
+ghost use Rattle.queuing_lock.specs.Nested.{unowned};
+
+use crate::edits::QBlock;
+use event_log::NoMemory;
+use std::alloc::Global;
+
+/// The blocks of the layer above, each under a lock without an owner, in their order.
+///
+/// Errors: `NoMemory` where there is none for them; then the blocks are gone.
+pub fn lock_blocks<B: Drop>(alloc: Global, blocks: Vec<B>) -> Result<Vec<QBlock<B>>, NoMemory>
+    ensures { IfOk result (λ made. made.items ≡ map unowned blocks.items) }
+{
+    let mut left = blocks;
+    let Ok(mut made) = Vec::with_capacity(alloc, left.len()) else {
+        return Err(NoMemory);
+    };
+    while !left.is_empty() {
+        made.push(QBlock {
+            busy: None,
+            above: left.remove(0),
+        })
+        .unwrap();
+    }
+    Ok(made)
+}
