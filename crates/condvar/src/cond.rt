@@ -4,7 +4,8 @@ use crate::calls::{caller_of, side_of};
 use crate::waits::Waits;
 use event_log::{BufId, CpuId, Tid};
 use layer_traits::{
-    CvEdit, CvLayer, CvLeave, CvOut, Guarded, Outcome, Pass, QEdit, QLockLayer, QOut,
+    CvEdit, CvLayer, CvLeave, CvOut, Guarded, Line, Outcome, OwnedConds, OwnedQLocks, Pass, QEdit,
+    QLockLayer, QOut,
 };
 
 /// One CPU's part of queuing locks with Mesa conditions (Anderson and Dahlin), over a part `Q` of
@@ -51,38 +52,47 @@ impl<G: Guarded, Q: QLockLayer<CvEdit<G>>> CvLayer<G> for Cond<Q> {
         }
     }
 
+    #[inline(always)]
     fn is_busy(&self) -> bool {
         self.lower.is_busy()
     }
 
+    #[inline(always)]
     fn current(&self) -> Option<Tid> {
         self.lower.current()
     }
 
+    #[inline(always)]
     fn hand(&self) -> Option<Tid> {
         self.lower.hand()
     }
 
+    #[inline(always)]
     fn has_ready(&self) -> bool {
         self.lower.has_ready()
     }
 
+    #[inline(always)]
     fn is_ready(&self, t: Tid) -> bool {
         self.lower.is_ready(t)
     }
 
+    #[inline(always)]
     fn has_ended(&self, t: Tid) -> bool {
         self.lower.has_ended(t)
     }
 
+    #[inline(always)]
     fn at_once(&self) -> bool {
         self.lower.at_once()
     }
 
+    #[inline(always)]
     fn look(&mut self, m: &mut Q::Machine) -> bool {
         self.lower.look(m)
     }
 
+    #[inline(always)]
     fn poll(
         &mut self,
         m: &mut Q::Machine,
@@ -101,6 +111,7 @@ impl<G: Guarded, Q: QLockLayer<CvEdit<G>>> CvLayer<G> for Cond<Q> {
         self.waits.told(t, buffer, answer)
     }
 
+    #[inline(always)]
     fn pass(&mut self, m: &mut Q::Machine, call: Pass) -> Option<()> {
         self.lower.pass(m, call)
     }
@@ -128,4 +139,76 @@ impl<G: Guarded, Q: QLockLayer<CvEdit<G>>> CvLayer<G> for Cond<Q> {
     ghost busy = { λ p m. Q.busy p.lower m };
 
     ghost idle = { λ p m. Q.idle p.lower m };
+}
+
+impl<G: Guarded, Q: OwnedQLocks<CvEdit<G>>> OwnedConds<G> for Cond<Q> {
+    ghost use Rattle.std.specs.Prelude.{◌≡◌, Some, true, refl};
+    ghost use Rattle.event_log.specs.declared.ids.LockId.TheVariants.{Buffer};
+    ghost use Rattle.event_log.specs.Actions.{phase};
+    ghost use Rattle.layer_traits.specs.Conditions.{cv_rules};
+    ghost use Rattle.layer_traits.specs.LockLaw.{lock_kernel};
+    ghost use Rattle.layer_traits.specs.Locking.{lock_after};
+    ghost use Rattle.layer_traits.specs.Places.{pending_by};
+    ghost use Rattle.layer_traits.specs.Plans.{is_in_section};
+    ghost use Rattle.layer_traits.specs.QueueBlocks.{inner};
+    ghost use Rattle.layer_traits.specs.Queues.{buffer_sections, moves_in};
+    ghost use Rattle.layer_traits.proofs.OwnedLemmas.{shown_under};
+
+    ghost lock_at = { λ m b. Q.lock_at m b };
+
+    ghost lock_with = { λ p b. Q.lock_with p.lower b };
+
+    ghost queue_at = { λ m d. Q.queue_at m d };
+
+    ghost queue_with = { λ p d. Q.queue_with p.lower d };
+
+    #[inline(always)]
+    fn block_in(m: &Q::Machine, b: BufId) -> Option<&G::Block> {
+        Q::block_in(m, b)
+    }
+
+    #[inline(always)]
+    fn block_here(&self, b: BufId) -> Option<&G::Block> {
+        self.lower.block_here(b)
+    }
+
+    #[inline(always)]
+    fn owner_in(m: &Q::Machine, b: BufId) -> Option<Option<Tid>> {
+        Q::owner_in(m, b)
+    }
+
+    #[inline(always)]
+    fn owner_here(&self, b: BufId) -> Option<Option<Tid>> {
+        self.lower.owner_here(b)
+    }
+
+    #[inline(always)]
+    fn line_in(m: &Q::Machine, b: BufId, t: Tid) -> Option<Line> {
+        Q::line_in(m, b, t)
+    }
+
+    #[inline(always)]
+    fn line_here(&self, b: BufId, t: Tid) -> Option<Line> {
+        self.lower.line_here(b, t)
+    }
+
+    #[inline(always)]
+    fn pends_in(m: &Q::Machine, d: CpuId, t: Tid) -> Option<bool> {
+        Q::pends_in(m, d, t)
+    }
+
+    #[inline(always)]
+    fn pends_here(&self, d: CpuId, t: Tid) -> Option<bool> {
+        self.lower.pends_here(d, t)
+    }
+
+    ghost shown = { λ m c b acts there. shown_under (λ (p : Self). p.lower) (λ p. Q.Fits p m) (λ (p : Self). Self.Fits p m) (λ p. Q.cpu_of p) (λ (p : Self). Q.cpu_of p.lower)
+        (λ d. Q.IsStepwise × (is_in_section (phase d (Q.acts m)) ≡ true)) (λ d. Q.IsStepwise × (is_in_section (phase d (Q.acts m)) ≡ true)) (λ p. Q.lock_with p b) (Q.lock_at m b)
+        (lock_after (cv_rules G.deeds) (inner (Q.opening m)) (Buffer b) (buffer_sections (Q.seen m)))
+        (λ p fits. fits) (λ p fits. refl) (λ d inside. inside) (Q.shown m c b acts there) };
+
+    ghost queues = { λ m c d acts there. shown_under (λ (p : Self). p.lower) (λ p. Q.Fits p m) (λ (p : Self). Self.Fits p m) (λ p. Q.cpu_of p) (λ (p : Self). Q.cpu_of p.lower)
+        (λ d. Q.IsStepwise × (is_in_section (phase d (Q.acts m)) ≡ true)) (λ d. Q.IsStepwise × (is_in_section (phase d (Q.acts m)) ≡ true)) (λ p. Q.queue_with p d) (Q.queue_at m d)
+        (Some (pending_by (moves_in (lock_kernel (cv_rules G.deeds) (Q.opening m)) (Q.seen m)) d))
+        (λ p fits. fits) (λ p fits. refl) (λ d inside. inside) (Q.queues m c d acts there) };
 }
