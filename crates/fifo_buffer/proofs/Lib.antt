@@ -11,3 +11,4 @@ pub mod First
 pub mod Twice
 pub mod Starting
 pub mod Chains
+pub mod Opening

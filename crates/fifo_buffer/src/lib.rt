@@ -2,8 +2,10 @@
 //! line of its side, and the first of a line goes on once the buffer allows it.
 #![tactic(auto)]
 
+mod blocks;
 mod fifo;
 mod sections;
 mod talk_table;
 
+pub use blocks::empty_blocks;
 pub use fifo::Fifo;

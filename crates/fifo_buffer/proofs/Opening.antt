@@ -1,0 +1,79 @@
+-- A machine that opens with an empty buffer for each capacity boots as the layer wants it.
+use Rattle.std.proofs.Common.{◌≡◌, ℕ, zero, suc, ◌+◌, ◌≤◌, List, [], ◌∷◌, length, map, Option, Some, None, option_map, slice_get}
+use Rattle.std.proofs.Common.{refl, ap, sym, ◌∙◌, arith}
+use Rattle.std.proofs.Math.Path.{fun_ext}
+use Rattle.std.proofs.lemmas.Option.{slice_get-map}
+use Rattle.event_log.specs.declared.ids.BufId.{BufId}
+use Rattle.event_log.specs.declared.ids.CpuId.{CpuId}
+use Rattle.event_log.specs.declared.ids.LockId.{LockId}
+use Rattle.event_log.specs.declared.ids.LockId.TheVariants.{Pending, Buffer}
+use Rattle.layer_traits.specs.declared.queue_edits.QueueBlock.{QueueBlock}
+use Rattle.layer_traits.specs.declared.queue_edits.QueueBlock.TheVariants.{Queue, Above}
+use Rattle.layer_traits.specs.BufferBlocks.{BufferState, empty_block}
+use Rattle.layer_traits.specs.BufferEffects.{fresh_lock, opening_locks}
+use Rattle.layer_traits.specs.BufferProtocol.{BufferLock}
+use Rattle.layer_traits.specs.QueueBlocks.{StartsAs, above_of, inner}
+use Rattle.fifo_buffer.specs.FifoFits.{BootsSo, caps_at, caps_from, caps_in}
+
+-- a lock round a block, with no owner and nobody asleep
+abbrev pub resting : BufferState → BufferLock
+resting block = record { owner = None; sleepers = []; receivers = []; senders = []; above = block }
+
+rested : (o : Option ℕ) → option_map resting (option_map empty_block o) ≡ option_map fresh_lock o
+rested None = refl
+rested (Some capacity) = refl
+
+module _ (opening : LockId → Option (QueueBlock BufferLock)) (caps : List ℕ) where
+  -- each lock opens as one of its kind, and each buffer's with an empty block of its capacity at rest
+  pub boots_so : ((lock : LockId) → StartsAs lock (opening lock))
+      → ((b : BufId) → inner opening (Buffer b) ≡ option_map resting (slice_get (map empty_block caps) b.0)) → inner opening ≡ opening_locks caps
+  boots_so kinds blocks = fun_ext by_lock
+    where
+      no_buffer : (c : CpuId) (o : Option (QueueBlock BufferLock)) → StartsAs (Pending c) o → above_of o ≡ None
+      no_buffer c None kind = refl
+      no_buffer c (Some (Queue queue homes)) kind = refl
+      no_buffer c (Some (Above block)) kind = absurd kind
+
+      by_lock : (lock : LockId) → inner opening lock ≡ opening_locks caps lock
+      by_lock (Pending c) = no_buffer c (opening (Pending c)) (kinds (Pending c))
+      by_lock (Buffer b) = blocks b ∙ ap (option_map resting) (slice_get-map empty_block caps b.0) ∙ rested (slice_get caps b.0)
+
+  -- the same where the blocks stand in a list
+  pub boots_at : (blocks : List BufferState) → ((lock : LockId) → StartsAs lock (opening lock))
+      → ((b : BufId) → inner opening (Buffer b) ≡ option_map resting (slice_get blocks b.0)) → blocks ≡ map empty_block caps
+      → inner opening ≡ opening_locks caps
+  boots_at blocks kinds at are = boots_so kinds (λ b. at b ∙ ap (λ l. option_map resting (slice_get l b.0)) are)
+
+-- the capacities are read off the locks one by one
+module _ (all : List ℕ) where
+  here : (n : ℕ) (o : Option ℕ) → slice_get all (n + 0) ≡ o → slice_get all n ≡ o
+  here n o is = let at : n ≡ n + 0 = omega arith in ap (slice_get all) at ∙ is
+
+  further : (n i : ℕ) (o : Option ℕ) → slice_get all (n + suc i) ≡ o → slice_get all (n + 1 + i) ≡ o
+  further n i o is = let at : n + 1 + i ≡ n + suc i = omega arith in ap (slice_get all) at ∙ is
+
+  pub caps_read : (caps : List ℕ) (more n : ℕ) → ((i : ℕ) → slice_get all (n + i) ≡ slice_get caps i) → length caps ≤ more
+      → caps_from more n (opening_locks all) ≡ caps
+  unfolding caps_from
+  caps_read [] zero n same few = refl
+  caps_read (capacity ∷ caps) zero n same few = absurd (omega (arith, few))
+  caps_read [] (suc more) n same few =
+      ap (λ o. caps_at (option_map fresh_lock o) (caps_from more (n + 1) (opening_locks all))) (here n None (same 0))
+  caps_read (capacity ∷ caps) (suc more) n same few =
+      ap (λ o. caps_at (option_map fresh_lock o) (caps_from more (n + 1) (opening_locks all))) (here n (Some capacity) (same 0))
+      ∙ ap (λ rest. capacity ∷ rest)
+      (caps_read caps more (n + 1) (λ i. further n i (slice_get caps i) (same (suc i))) (omega (arith, few)))
+
+-- the capacities that the locks tell are those with which they opened
+pub caps_are : (opening : LockId → Option (QueueBlock BufferLock)) (caps : List ℕ) → inner opening ≡ opening_locks caps → length caps ≤ 256
+    → caps_in opening ≡ caps
+unfolding caps_in
+caps_are opening caps boots few = ap (caps_from 256 0) boots ∙ caps_read caps caps 256 0 from_zero few
+  where
+    from_zero : (i : ℕ) → slice_get caps (0 + i) ≡ slice_get caps i
+    from_zero i = let at : 0 + i ≡ i = omega arith in ap (slice_get caps) at
+
+-- so the machine boots as the layer wants it
+pub boots_well : (opening : LockId → Option (QueueBlock BufferLock)) (caps : List ℕ) → inner opening ≡ opening_locks caps → length caps ≤ 256
+    → BootsSo opening
+boots_well opening caps boots few = boots ∙ ap opening_locks (sym (caps_are opening caps boots few))

@@ -1,0 +1,28 @@
+//! The blocks of buffers at boot.
+
+ghost use Rattle.std.specs.Prelude.{◌≡◌, All, IfOk, map};
+ghost use Rattle.event_log.specs.Buffers.{IsCapacity};
+ghost use Rattle.layer_traits.specs.BufferBlocks.{empty_block};
+
+use event_log::NoMemory;
+use layer_traits::BufferBlock;
+use std::alloc::Global;
+
+/// The blocks of empty buffers with these capacities, in their order. All memory that they need is
+/// taken here.
+///
+/// Errors: `NoMemory` where there is none for them.
+pub fn empty_blocks(alloc: Global, caps: &[u8]) -> Result<Vec<BufferBlock>, NoMemory>
+    requires { All IsCapacity caps.now }
+    ensures { IfOk result (λ blocks. blocks.items ≡ map empty_block caps.now) }
+{
+    let Ok(mut blocks) = Vec::with_capacity(alloc, caps.len()) else {
+        return Err(NoMemory);
+    };
+    for capacity in caps {
+        blocks
+            .push(BufferBlock::new(usize::from(*capacity)))
+            .unwrap();
+    }
+    Ok(blocks)
+}
