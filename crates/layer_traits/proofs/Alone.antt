@@ -1,27 +1,24 @@
 -- A machine whose holder acts for every CPU sees no foreign events; and a section where every CPU rests.
-use Rattle.std.proofs.Common.{◌≡◌, ◌<◌, Bool, true, false, List, [], ◌∷◌, ◌++◌, Option, Some, None, IsSome, option_map, if◌then◌else◌, refl, ap, sym, ◌∙◌, subst, arith}
+use Rattle.std.proofs.Common.{◌≡◌, ◌<◌, Bool, true, false, List, [], ◌∷◌, ◌++◌, Option, Some, None, IsSome, option_map, if◌then◌else◌}
+use Rattle.std.proofs.Common.{refl, ap, sym, ◌∙◌, subst, arith}
 use Rattle.std.proofs.lemmas.Bool.{eq-eqb}
 use Rattle.event_log.specs.declared.ids.CpuId.{CpuId}
 use Rattle.event_log.specs.declared.ids.LockId.{LockId}
 use Rattle.event_log.specs.declared.ids.TheConstants.{CPUS}
 use Rattle.event_log.specs.History.{AreForeign, IsLawful, same_cpu, same_lock}
-use Rattle.event_log.specs.Actions.{Action, Take, Try, Give, Phase, Rests, Waits, Holds, doer, phase, takes, gives, place, MayAct, AreLegal, next_action, action_in}
+use Rattle.event_log.specs.Actions.{Action, Take, Try, Give, Phase, Rests, Waits, Holds, doer, phase}
+use Rattle.event_log.specs.Actions.{takes, gives, place, AreLegal, next_action, action_in}
 use Rattle.event_log.specs.Sections.{Section, section_actor, sections_in, block_after}
-use Rattle.event_log.proofs.Exclusion.{is_at, line_at, knows, phase_own, phase_other}
+use Rattle.event_log.proofs.Exclusion.{is_at, line_at, phase_own, phase_other}
+use Rattle.event_log.proofs.Foreign.{doer_known}
 use Rattle.event_log.proofs.Line.{crowd, crowd_same, crowd_none}
-use Rattle.event_log.proofs.Same.{same_cpu_self, same_lock_self}
+use Rattle.event_log.proofs.Same.{same_cpu_self}
 use Rattle.layer_traits.specs.Plans.{Table, Left, Acting, at_give, reply}
 use Rattle.layer_traits.specs.Protocol.{IsKnown}
 
--- each CPU that acts is one that a machine may have
-pub doer_known : {N : Type 0} (a : Action N) (past : List (Action N)) → MayAct past a → AreLegal past → (doer a).0 < CPUS
-doer_known (Take cpu lock) past may legal = may.0
-doer_known (Try cpu lock hit) past may legal = knows past legal cpu lock (ap (is_at lock) may.0 ∙ same_lock_self lock)
-doer_known (Give cpu lock name) past may legal = knows past legal cpu lock (ap (is_at lock) may ∙ same_lock_self lock)
-
 -- no action is foreign to a holder that acts for every CPU
-pub no_foreign_acts : {N : Type 0} (ActsFor : CpuId → Type 0) → ((c : CpuId) → c.0 < CPUS → ActsFor c) → (others old : List (Action N)) → AreLegal (others ++ old)
-    → AreForeign ActsFor doer others → others ≡ []
+pub no_foreign_acts : {N : Type 0} (ActsFor : CpuId → Type 0) → ((c : CpuId) → c.0 < CPUS → ActsFor c) → (others old : List (Action N))
+    → AreLegal (others ++ old) → AreForeign ActsFor doer others → others ≡ []
 no_foreign_acts ActsFor all [] old legal foreign = refl
 no_foreign_acts ActsFor all (a ∷ others) old legal foreign =
     let other : same_cpu (doer a) (doer a) ≡ false = (foreign (doer a) (all (doer a) (doer_known a (others ++ old) legal.0 legal.1))).0 in
@@ -29,8 +26,8 @@ no_foreign_acts ActsFor all (a ∷ others) old legal foreign =
     absurd (cc (other, itself))
 
 -- nor is a section
-pub no_foreign_sections : {E : Type 0} (ActsFor : CpuId → Type 0) → ((c : CpuId) → c.0 < CPUS → ActsFor c) → (others old : List (Section E)) → IsLawful IsKnown (others ++ old)
-    → AreForeign ActsFor section_actor others → others ≡ []
+pub no_foreign_sections : {E : Type 0} (ActsFor : CpuId → Type 0) → ((c : CpuId) → c.0 < CPUS → ActsFor c) → (others old : List (Section E))
+    → IsLawful IsKnown (others ++ old) → AreForeign ActsFor section_actor others → others ≡ []
 no_foreign_sections ActsFor all [] old known foreign = refl
 no_foreign_sections ActsFor all (s ∷ others) old known foreign =
     let other : same_cpu s.cpu s.cpu ≡ false = (foreign s.cpu (all s.cpu known.0)).0 in
@@ -41,7 +38,8 @@ no_foreign_sections ActsFor all (s ∷ others) old known foreign =
 pub block_there : {E B : Type 0} (edited : E → B → B) (opening : LockId → Option B) (lock : LockId) (past : List (Section E)) → IsSome (opening lock)
     → IsSome (block_after edited opening lock past)
 block_there {B = B} edited opening lock [] some = some
-block_there {B = B} edited opening lock (s ∷ past) some = either (same_lock lock s.lock) (block_after edited opening lock past) (block_there edited opening lock past some)
+block_there {B = B} edited opening lock (s ∷ past) some =
+    either (same_lock lock s.lock) (block_after edited opening lock past) (block_there edited opening lock past some)
   where
     mapped : (o : Option B) → IsSome o → IsSome (option_map (edited s.edit) o)
     mapped None there = there
@@ -56,7 +54,8 @@ module _ {N : Type 0} (cpu : CpuId) (lock : LockId) (name : N) (past : List (Act
   all_given : AreLegal past → takes lock past ≡ gives lock past
   all_given legal =
       let line = line_at lock past legal in
-      let nobody : crowd (λ c. is_at lock (phase c past)) CPUS ≡ 0 = crowd_same (λ c. false) (λ c. is_at lock (phase c past)) CPUS (λ c. ap (is_at lock) (rests c)) ∙ crowd_none CPUS in
+      let nobody : crowd (λ c. is_at lock (phase c past)) CPUS ≡ 0
+      = crowd_same (λ c. false) (λ c. is_at lock (phase c past)) CPUS (λ c. ap (is_at lock) (rests c)) ∙ crowd_none CPUS in
       omega (arith, line.balance, nobody)
 
   -- the three actions of a section where every CPU rests
@@ -68,8 +67,10 @@ module _ {N : Type 0} (cpu : CpuId) (lock : LockId) (name : N) (past : List (Act
 
   pub second_action : AreLegal past → next_action cpu lock name (Take cpu lock ∷ past) ≡ Try cpu lock true
   second_action legal =
-      let placed : place {N = N} cpu (Take cpu lock ∷ past) ≡ gives lock past = ap (λ b. if b then takes lock past else place cpu past) (same_cpu_self cpu) ∙ all_given legal in
-      ap (action_in cpu lock name (Take cpu lock ∷ past)) waits ∙ ap (Try cpu lock) (eq-eqb (gives lock past) (place {N = N} cpu (Take cpu lock ∷ past)) (sym placed))
+      let placed : place {N = N} cpu (Take cpu lock ∷ past) ≡ gives lock past
+      = ap (λ b. if b then takes lock past else place cpu past) (same_cpu_self cpu) ∙ all_given legal in
+      ap (action_in cpu lock name (Take cpu lock ∷ past)) waits
+      ∙ ap (Try cpu lock) (eq-eqb (gives lock past) (place {N = N} cpu (Take cpu lock ∷ past)) (sym placed))
 
   holds : phase cpu (Try cpu lock true ∷ Take cpu lock ∷ past) ≡ Holds lock
   holds = phase_own {N = N} (Try cpu lock true) (Take cpu lock ∷ past)
@@ -85,7 +86,8 @@ module _ {N : Type 0} (cpu : CpuId) (lock : LockId) (name : N) (past : List (Act
   second_reply table opening = ap (λ p. at_give p (option_map (table.answer name) (block_after table.edited opening lock (sections_in past)))) waits
 
   pub third_reply : {B R : Type 0} (table : Table N B R) (opening : LockId → Option B)
-      → reply table opening cpu lock name (Try cpu lock true ∷ Take cpu lock ∷ past) ≡ option_map (table.answer name) (block_after table.edited opening lock (sections_in past))
+      → reply table opening cpu lock name (Try cpu lock true ∷ Take cpu lock ∷ past)
+      ≡ option_map (table.answer name) (block_after table.edited opening lock (sections_in past))
   third_reply table opening = ap (λ p. at_give p (option_map (table.answer name) (block_after table.edited opening lock (sections_in past)))) holds
 
   -- and then every CPU rests again
@@ -102,22 +104,28 @@ module _ {N : Type 0} (cpu : CpuId) (lock : LockId) (name : N) (past : List (Act
           ∙ (phase_other {N = N} (Try cpu lock true) (Take cpu lock ∷ past) c other ∙ (phase_other {N = N} (Take cpu lock) past c other ∙ rests c))
 
 -- where the holder acts for every CPU, a planned action is exactly the one that is due
-pub acts_alone : {N B R S A : Type 0} (ActsFor : CpuId → Type 0) (table : Table N B R) (opening : LockId → Option B) (cpu : CpuId) (lock : LockId) (name : N) (react : Option R → Left S A)
-    (old new : List (Action N)) (got : Left S A) → ((c : CpuId) → c.0 < CPUS → ActsFor c) → AreLegal new → Acting ActsFor table opening cpu lock name react old new got
+pub acts_alone : {N B R S A : Type 0} (ActsFor : CpuId → Type 0) (table : Table N B R) (opening : LockId → Option B) (cpu : CpuId) (lock : LockId)
+    (name : N) (react : Option R → Left S A) (old new : List (Action N)) (got : Left S A)
+    → ((c : CpuId) → c.0 < CPUS → ActsFor c) → AreLegal new → Acting ActsFor table opening cpu lock name react old new got
     → (new ≡ next_action cpu lock name old ∷ old) × (got ≡ react (reply table opening cpu lock name old))
 acts_alone ActsFor table opening cpu lock name react old new got all legal acting =
     let past_legal : AreLegal acting.past = (subst (λ l. AreLegal l) acting.acted.grows legal).1 in
-    let none : acting.acted.others ≡ [] = no_foreign_acts ActsFor all acting.acted.others old (subst (λ l. AreLegal l) acting.acted.joined past_legal) acting.acted.foreign in
-    let same : acting.past ≡ old = acting.acted.joined ∙ ap (λ l. l ++ old) none in
-    (acting.acted.grows ∙ ap (λ past. next_action cpu lock name past ∷ past) same, acting.moves ∙ ap (λ past. react (reply table opening cpu lock name past)) same)
+    let none : acting.acted.others ≡ []
+    = no_foreign_acts ActsFor all acting.acted.others old (subst (λ l. AreLegal l) acting.acted.joined past_legal) acting.acted.foreign in
+    let same : acting.past ≡ old = acting.acted.joined ∙ ap (λ l. l ++ old) none in (
+      acting.acted.grows ∙ ap (λ past. next_action cpu lock name past ∷ past) same,
+      acting.moves ∙ ap (λ past. react (reply table opening cpu lock name past)) same,
+    )
 
 -- what three polls in a row leave where every CPU rests
-pub record Section3 {N B R : Type 0} (table : Table N B R) (opening : LockId → Option B) (cpu : CpuId) (lock : LockId) (name : N) (first third fourth : List (Action N)) (answer : Option R) : Type 0 where
+pub record Section3 {N B R : Type 0} (table : Table N B R) (opening : LockId → Option B) (cpu : CpuId) (lock : LockId) (name : N)
+    (first third fourth : List (Action N)) (answer : Option R) : Type 0 where
   pub tried : third ≡ Try cpu lock true ∷ Take cpu lock ∷ first
   pub given : fourth ≡ Give cpu lock name ∷ Try cpu lock true ∷ Take cpu lock ∷ first
   pub answers : answer ≡ option_map (table.answer name) (block_after table.edited opening lock (sections_in first))
 
-pub three_polls : {N B R : Type 0} (table : Table N B R) (lock : LockId) (name : N) (o o' o'' : LockId → Option B) (cpu cpu' cpu'' : CpuId) (first second third fourth : List (Action N)) (answer : Option R)
+pub three_polls : {N B R : Type 0} (table : Table N B R) (lock : LockId) (name : N) (o o' o'' : LockId → Option B) (cpu cpu' cpu'' : CpuId)
+    (first second third fourth : List (Action N)) (answer : Option R)
     → ((c : CpuId) → phase c first ≡ Rests) → AreLegal first → cpu' ≡ cpu → cpu'' ≡ cpu' → o' ≡ o → o'' ≡ o'
     → second ≡ next_action cpu lock name first ∷ first → third ≡ next_action cpu' lock name second ∷ second → fourth ≡ next_action cpu'' lock name third ∷ third
     → answer ≡ reply table o'' cpu'' lock name third → Section3 table o cpu lock name first third fourth answer
@@ -125,9 +133,13 @@ three_polls {N = N} table lock name o o' o'' cpu cpu' cpu'' first second third f
     let cpu2 : cpu'' ≡ cpu = same' ∙ same in
     let taken : second ≡ Take cpu lock ∷ first = one ∙ ap (λ a. a ∷ first) (first_action cpu lock name first rests) in
     let tried : third ≡ Try cpu lock true ∷ Take cpu lock ∷ first
-    = two ∙ (ap (λ c. next_action c lock name second ∷ second) same ∙ (ap (λ l. next_action cpu lock name l ∷ l) taken ∙ ap (λ a. a ∷ Take cpu lock ∷ first) (second_action cpu lock name first rests legal))) in
+    = two ∙ (ap (λ c. next_action c lock name second ∷ second) same
+    ∙ (ap (λ l. next_action cpu lock name l ∷ l) taken
+    ∙ ap (λ a. a ∷ Take cpu lock ∷ first) (second_action cpu lock name first rests legal))) in
     let given : fourth ≡ Give cpu lock name ∷ Try cpu lock true ∷ Take cpu lock ∷ first
-    = three ∙ (ap (λ c. next_action c lock name third ∷ third) cpu2 ∙ (ap (λ l. next_action cpu lock name l ∷ l) tried ∙ ap (λ a. a ∷ Try cpu lock true ∷ Take cpu lock ∷ first) (third_action cpu lock name first rests))) in
+    = three ∙ (ap (λ c. next_action c lock name third ∷ third) cpu2
+    ∙ (ap (λ l. next_action cpu lock name l ∷ l) tried
+    ∙ ap (λ a. a ∷ Try cpu lock true ∷ Take cpu lock ∷ first) (third_action cpu lock name first rests))) in
     record {
       tried = tried;
       given = given;

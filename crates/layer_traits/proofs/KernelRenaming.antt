@@ -1,6 +1,7 @@
 -- A layer that wraps its edits in those of the layer beneath: what was seen, allowed, polled and planned there is so here, under the
 -- layer's own names.
-use Rattle.std.proofs.Common.{◌≡◌, ◌≤◌, length, Bool, true, false, List, [], ◌∷◌, ◌++◌, Option, Some, None, IsSome, MatchOption, option_map, is_some, if◌then◌else◌, map, refl, ap, sym, ◌∙◌, subst}
+use Rattle.std.proofs.Common.{◌≡◌, ◌≤◌, length, Bool, true, false, List, [], ◌∷◌, ◌++◌, Option, Some, None, IsSome}
+use Rattle.std.proofs.Common.{MatchOption, option_map, is_some, if◌then◌else◌, map, refl, ap, sym, ◌∙◌, subst}
 use Rattle.std.proofs.Math.Path.{transport}
 use Rattle.event_log.specs.declared.ids.BufId.{BufId}
 use Rattle.event_log.specs.declared.ids.CpuId.{CpuId}
@@ -33,7 +34,8 @@ use Rattle.layer_traits.specs.Plans.{Left, Plan, Now, Act, Follows, raised, repl
 use Rattle.layer_traits.specs.Protocol.{section}
 use Rattle.layer_traits.specs.QueueBlocks.{StartsAs, StartsWell, above_of, homes_in, homes_of, inner}
 use Rattle.layer_traits.specs.QueueRules.{queue_answer, queue_edited, queue_rules}
-use Rattle.layer_traits.specs.Queues.{Kernel, CallAllowed, IsKnownEvent, QueueAllowed, buffer_sections, call_move, event, event_actor, event_of, call_at, moves_in, out_at, with_section}
+use Rattle.layer_traits.specs.Queues.{Kernel, CallAllowed, IsKnownEvent, QueueAllowed, buffer_sections, call_move}
+use Rattle.layer_traits.specs.Queues.{event, event_actor, event_of, call_at, moves_in, out_at, with_section}
 use Rattle.layer_traits.specs.Renaming.{named, renamed_call, renamed_edit, renamed_event, renamed_events, renamed_sched, viewed, viewed_block}
 use Rattle.layer_traits.specs.Scheds.{EditStays, IsLocal, SchedPolled, answer_to, events_of, left, left_by, own_after, own_answered, queue_call, sched_plan}
 use Rattle.layer_traits.proofs.PlanRenaming.{block_viewed, map-append, reply_viewed}

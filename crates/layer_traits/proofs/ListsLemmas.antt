@@ -1,5 +1,6 @@
 -- The waiting lists of locks and the places of threads agree after each section, so whom a section wakes sleeps.
-use Rattle.std.proofs.Common.{◌≡◌, ◌+◌, ◌<◌, Bool, true, false, not, ◌&&◌, List, [], ◌∷◌, ◌++◌, Option, Some, None, option_map, if◌then◌else◌, refl, ap, sym, ◌∙◌, subst, arith}
+use Rattle.std.proofs.Common.{◌≡◌, ◌+◌, ◌<◌, Bool, true, false, not, ◌&&◌, List, [], ◌∷◌, ◌++◌, Option, Some, None, option_map, if◌then◌else◌}
+use Rattle.std.proofs.Common.{refl, ap, sym, ◌∙◌, subst, arith}
 use Rattle.std.proofs.lemmas.Bool.{lt-ltb, and_parts, and_left, and_right, or_parts, true≢false}
 use Rattle.event_log.specs.declared.ids.LockId.{LockId}
 use Rattle.event_log.specs.declared.ids.Tid.{Tid}
@@ -15,7 +16,8 @@ use Rattle.layer_traits.specs.declared.sleeps.Outcome.{Outcome}
 use Rattle.layer_traits.specs.ListsAgree.{same_line, is_at, Agrees}
 use Rattle.layer_traits.specs.MoveRules.{edit_move, section_moves, slept_at, asleep_after, asleep_by}
 use Rattle.layer_traits.specs.Places.{Place, At, Moved, is_thread, is_place, one_if, count_in}
-use Rattle.layer_traits.specs.Sleeping.{SleepRules, SleepState, joined, line_joined, left, woken, line_of, line_at, answer_above, sleep_edited, sleep_answer, sleep_woke, sleep_rules, sleep_moves, NobodySleeps, IsAwake}
+use Rattle.layer_traits.specs.Sleeping.{SleepRules, SleepState, joined, line_joined, left, woken, line_of, line_at, answer_above}
+use Rattle.layer_traits.specs.Sleeping.{sleep_edited, sleep_answer, sleep_woke, sleep_rules, sleep_moves, NobodySleeps, IsAwake}
 use Rattle.layer_traits.proofs.CountLemmas.{same_tid_sym, count_append, count_front, one_if_most, in_counted, is_thread_self, not_counted}
 use Rattle.thread_blocks.specs.Queues.{same_tid, is_in, first, rest, without}
 use Rattle.thread_blocks.proofs.Members.{same_tid_true}

@@ -1,5 +1,6 @@
 -- The words and the home of one lock, event by event.
-use Rattle.std.proofs.Common.{◌≡◌, ℕ, ◌+◌, ◌%◌, ◌^◌, Bool, true, false, List, [], ◌∷◌, ◌==◌, Option, Some, None, IsSome, option_map, if◌then◌else◌, refl, ap, sym, ◌∙◌, subst, arith}
+use Rattle.std.proofs.Common.{◌≡◌, ℕ, ◌+◌, ◌%◌, ◌^◌, Bool, true, false, List, [], ◌∷◌, ◌==◌, Option, Some, None, IsSome, option_map, if◌then◌else◌}
+use Rattle.std.proofs.Common.{refl, ap, sym, ◌∙◌, subst, arith}
 use Rattle.event_log.specs.declared.ids.CpuId.{CpuId}
 use Rattle.event_log.specs.declared.ids.LockId.{LockId}
 use Rattle.event_log.specs.declared.events.Event.{Event}
@@ -55,7 +56,8 @@ module _ {E B : Type 0} (edited : E → B → B) (opening : LockId → Option B)
   block_keeps (Draw cpu at ticket) log other = refl
   block_keeps (Look cpu at ticket read) log other = refl
   block_keeps (Free cpu at mark) log other =
-      ap (λ b. if b then option_map (edited mark.edit) (block_after edited opening lock (sections log)) else block_after edited opening lock (sections log)) other
+      let before = block_after edited opening lock (sections log) in
+      ap (λ b. if b then option_map (edited mark.edit) before else before) other
 
   -- an event that neither draws at this lock nor frees it, and by which nobody enters or leaves it
   lock_stays : (e : Event (Mark E)) (log : List (Event (Mark E))) → is_draw lock e ≡ false → is_free lock e ≡ false
@@ -123,15 +125,22 @@ module _ {E B : Type 0} (edited : E → B → B) (opening : LockId → Option B)
       → LockFits edited opening log lock next serving home → LockFits edited opening (Free cpu lock mark ∷ log) lock next ((serving + 1) % 2 ^ 64) (Some block)
   freed cpu ticket mark log legal inside block is next serving home fits = record {
     next_is = fits.next_is;
-    serving_is = wraps (frees lock log) serving fits.serving_is ∙ sym (ap (λ b. (if b then frees lock log + 1 else frees lock log) % 2 ^ 64) (same_lock_self lock));
-    home_is = (nobody, ap (λ b. if b then option_map (edited mark.edit) (block_after edited opening lock (sections log)) else block_after edited opening lock (sections log)) (same_lock_self lock) ∙ is);
+    serving_is = wraps (frees lock log) serving fits.serving_is
+        ∙ sym (ap (λ b. (if b then frees lock log + 1 else frees lock log) % 2 ^ 64) (same_lock_self lock));
+    home_is = (nobody, ap (λ b. if b then option_map (edited mark.edit) before else before) (same_lock_self lock) ∙ is);
   }
     where
+      before : Option B
+      before = block_after edited opening lock (sections log)
+
       nobody : NobodyInside lock (Free cpu lock mark ∷ log)
       nobody c t h = go (same_cpu cpu c) refl
         where
           go : (b : Bool) → same_cpu cpu c ≡ b → ⊥
-          go true same = absurd (cc (sym (standing_own (Free cpu lock mark) log) ∙ subst (λ d. standing d (Free cpu lock mark ∷ log) ≡ Inside lock t) (sym (same_cpu_true cpu c same)) h))
+          go true same =
+              let here : standing cpu (Free cpu lock mark ∷ log) ≡ Inside lock t
+              = subst (λ d. standing d (Free cpu lock mark ∷ log) ≡ Inside lock t) (sym (same_cpu_true cpu c same)) h in
+              absurd (cc (sym (standing_own (Free cpu lock mark) log) ∙ here))
           go false other =
               let there : standing c log ≡ Inside lock t = sym (standing_other (Free cpu lock mark) log c other) ∙ h in
               let one : c ≡ cpu = one_inside log legal c cpu lock t ticket there inside in
@@ -153,12 +162,14 @@ module _ {E B : Type 0} (edited : E → B → B) (opening : LockId → Option B)
       go : (b : Bool) → same_cpu cpu c ≡ b → ⊥
       go true same = cc (legal.0.0, subst (λ d. standing d log ≡ Inside lock fits.home_is.1) (sym (same_cpu_true cpu c same)) fits.home_is.2)
       go false other =
-          let there : standing c (Look cpu lock ticket read ∷ log) ≡ Inside lock fits.home_is.1 = standing_other (Look cpu lock ticket read) log c other ∙ fits.home_is.2 in
+          let there : standing c (Look cpu lock ticket read ∷ log) ≡ Inside lock fits.home_is.1
+          = standing_other (Look cpu lock ticket read) log c other ∙ fits.home_is.2 in
           let one : c ≡ cpu = one_inside (Look cpu lock ticket read ∷ log) legal c cpu lock fits.home_is.1 ticket there entered in
           cc (other, subst (λ d. same_cpu cpu d ≡ true) (sym one) (same_cpu_self cpu))
 
   -- where nobody is inside, the block is home
-  pub all_home : (log : List (Event (Mark E))) → NobodyInside lock log → (next serving : ℕ) (home : Option B) → LockFits edited opening log lock next serving home → IsSome home
+  pub all_home : (log : List (Event (Mark E))) → NobodyInside lock log → (next serving : ℕ) (home : Option B)
+      → LockFits edited opening log lock next serving home → IsSome home
   all_home log nobody next serving (Some block) fits = refl
   all_home log nobody next serving None fits = absurd (nobody fits.home_is.0 fits.home_is.1 fits.home_is.2)
 

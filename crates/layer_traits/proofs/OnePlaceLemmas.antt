@@ -6,7 +6,8 @@ use Rattle.event_log.specs.declared.ids.Tid.{Tid}
 use Rattle.event_log.specs.History.{same_cpu}
 use Rattle.event_log.proofs.Same.{same_cpu_self}
 use Rattle.layer_traits.specs.OnePlace.{total, cpu_at, running, held, pending, over, AllStand, OnePlace}
-use Rattle.layer_traits.specs.Places.{Step, Threads, Where, Home, Hand, Pend, Asleep, home_of, is_cpu, is_thread, is_asleep, is_home, is_hand, is_pend, where_is, pending_by, one_if, count_in, copies}
+use Rattle.layer_traits.specs.Places.{Step, Threads, Where, Home, Hand, Pend, Asleep, home_of, is_cpu, is_thread}
+use Rattle.layer_traits.specs.Places.{is_asleep, is_home, is_hand, is_pend, where_is, pending_by, one_if, count_in, copies}
 use Rattle.layer_traits.proofs.PlaceLemmas.{pend_home, away_known, hand_home, pend_count}
 
 total_same : (f g : ℕ → ℕ) (n : ℕ) → ((k : ℕ) → k < n → f k ≡ g k) → total f n ≡ total g n

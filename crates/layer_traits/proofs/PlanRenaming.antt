@@ -26,12 +26,16 @@ module _ {M N A B Q R : Type 0} (low : Table M A Q) (high : Table N B R) (name :
 
   -- the layer's block is its view of the block beneath
   pub block_viewed : (lock : LockId) (past : List (Section M))
-      → block_after high.edited (λ l. option_map view (opening l)) lock (map (renamed_section name) past) ≡ option_map view (block_after low.edited opening lock past)
+      → block_after high.edited (λ l. option_map view (opening l)) lock (map (renamed_section name) past)
+      ≡ option_map view (block_after low.edited opening lock past)
   block_viewed lock [] = refl
-  block_viewed lock (s ∷ past) = either (same_lock lock s.lock) (block_after high.edited (λ l. option_map view (opening l)) lock (map (renamed_section name) past)) (block_after low.edited opening lock past) (block_viewed lock past)
+  block_viewed lock (s ∷ past) =
+      either (same_lock lock s.lock) (block_after high.edited (λ l. option_map view (opening l)) lock (map (renamed_section name) past))
+      (block_after low.edited opening lock past) (block_viewed lock past)
     where
       either : (b : Bool) (above : Option B) (beneath : Option A) → above ≡ option_map view beneath
-          → (if b then option_map (high.edited (name s.edit)) above else above) ≡ option_map view (if b then option_map (low.edited s.edit) beneath else beneath)
+          → (if b then option_map (high.edited (name s.edit)) above else above)
+          ≡ option_map view (if b then option_map (low.edited s.edit) beneath else beneath)
       either true above beneath same = ap (option_map (high.edited (name s.edit))) same ∙ viewed_edit s.edit beneath
       either false above beneath same = same
 
@@ -45,14 +49,17 @@ module _ {M N A B Q R : Type 0} (low : Table M A Q) (high : Table N B R) (name :
       → option_map told (reply low opening cpu lock m past) ≡ reply high (λ l. option_map view (opening l)) cpu lock (name m) (map (renamed name) past)
   reply_viewed cpu lock m past =
       let block : Option A = block_after low.edited opening lock (sections_in past) in
+      let answer : List (Section N) → Option R
+      = λ l. option_map (high.answer (name m)) (block_after high.edited (λ k. option_map view (opening k)) lock l) in
       at_give_told (phase cpu past) (option_map (low.answer m) block)
       ∙ (ap (at_give (phase cpu past)) (viewed_answer m block)
       ∙ (ap (λ b. at_give (phase cpu past) (option_map (high.answer (name m)) b)) (sym (block_viewed lock (sections_in past)))
-      ∙ (ap (λ l. at_give (phase cpu past) (option_map (high.answer (name m)) (block_after high.edited (λ k. option_map view (opening k)) lock l))) (sym (sections_in_renamed name past))
-      ∙ ap (λ p. at_give p (option_map (high.answer (name m)) (block_after high.edited (λ k. option_map view (opening k)) lock (sections_in (map (renamed name) past))))) (sym (phase_renamed name cpu past)))))
+      ∙ (ap (λ l. at_give (phase cpu past) (answer l)) (sym (sections_in_renamed name past))
+      ∙ ap (λ p. at_give p (answer (sections_in (map (renamed name) past)))) (sym (phase_renamed name cpu past)))))
 
   -- a poll that followed the lowered plan beneath followed the plan here
-  pub follows_renamed : {S T : Type 0} (code : N → M) → ((n : N) → name (code n) ≡ n) → (ActsFor : CpuId → Type 0) (cpu : CpuId) (plan : Plan N R S T) (old new : List (Action M)) (got : Left S T)
+  pub follows_renamed : {S T : Type 0} (code : N → M) → ((n : N) → name (code n) ≡ n) → (ActsFor : CpuId → Type 0) (cpu : CpuId)
+      (plan : Plan N R S T) (old new : List (Action M)) (got : Left S T)
       → Follows ActsFor low opening cpu (lowered code told plan) old new got
       → Follows ActsFor high (λ l. option_map view (opening l)) cpu plan (map (renamed name) old) (map (renamed name) new) got
   follows_renamed code codes ActsFor cpu (Now left) old new got follows = (ap (map (renamed name)) follows.0, follows.1)

@@ -26,7 +26,8 @@ pub others_sections : {E : Type 0} (cpu : CpuId) (more : List (Event (Mark E))) 
 others_sections cpu more others = others_sections_of edit_of cpu more others
 
 -- the sections of foreign events are foreign
-pub foreign_sections : {E : Type 0} (ActsFor : CpuId → Type 0) (more : List (Event (Mark E))) → AreForeign ActsFor actor more → AreForeign ActsFor section_actor (sections more)
+pub foreign_sections : {E : Type 0} (ActsFor : CpuId → Type 0) (more : List (Event (Mark E)))
+    → AreForeign ActsFor actor more → AreForeign ActsFor section_actor (sections more)
 foreign_sections ActsFor more foreign = λ cpu acts. others_sections cpu more (foreign cpu acts)
 
 module _ {E : Type 0} (Allowed : List (Section E) → Section E → Type 0) where
@@ -43,7 +44,8 @@ module _ {E : Type 0} (Allowed : List (Section E) → Section E → Type 0) wher
   sections_allowed (Free cpu lock mark ∷ past) h = (h.0.1, sections_allowed past h.1)
 
   -- a section that stays allowed does so after sections of others
-  pub stays_on : (more past : List (Section E)) (s : Section E) → AreOthers section_actor s.cpu more → StaysAllowed Allowed past s → StaysAllowed Allowed (more ++ past) s
+  pub stays_on : (more past : List (Section E)) (s : Section E) → AreOthers section_actor s.cpu more
+      → StaysAllowed Allowed past s → StaysAllowed Allowed (more ++ past) s
   stays_on more past s others stays = λ later theirs lawful.
       let joined : (later ++ more) ++ past ≡ later ++ (more ++ past) = append_assoc later more past in
       subst (λ l. Allowed l s) joined (stays (later ++ more) (both later theirs) (subst (λ l. IsLawful Allowed l) (sym joined) lawful))

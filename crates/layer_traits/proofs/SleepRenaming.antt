@@ -16,7 +16,8 @@ use Rattle.layer_traits.specs.Plans.{Left, raised}
 use Rattle.layer_traits.specs.Queues.{Kernel, event}
 use Rattle.layer_traits.specs.Renaming.{named, renamed_edit, renamed_events, renamed_sched}
 use Rattle.layer_traits.specs.Scheds.{sched_plan}
-use Rattle.layer_traits.specs.SleepLaw.{Deed, MayDo, SleepPolled, Sleeping, Waits, Does, Sends, due, left_done, left_passed, left_told, left_with, pass_plan, seen_with, sleep_plan}
+use Rattle.layer_traits.specs.SleepLaw.{Deed, MayDo, SleepPolled, Sleeping, Waits, Does, Sends, due, left_done}
+use Rattle.layer_traits.specs.SleepLaw.{left_passed, left_told, left_with, pass_plan, seen_with, sleep_plan}
 use Rattle.layer_traits.proofs.KernelRenaming.{answered_renamed, events_append, events_others, named_raised, out_renamed, plan_renamed}
 
 module _ {D E A B O : Type 0} (k : Kernel D A (Outcome O)) (j : Kernel E B (Outcome O)) (name : D → E) (view : A → B)

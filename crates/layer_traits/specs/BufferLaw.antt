@@ -142,7 +142,8 @@ entry_cpu e = e.cpu
 
 -- a poll of a call: foreign effects come first, then at most the call's own one, of which it has one in all; the talks of other
 -- threads stay
-pub record Called (ActsFor : CpuId → Type 0) (cpu : CpuId) (t : Tid) (call : Call) (talks left : List Talk) (old new : List Entry) (answer : Option Reply) : Type 0 where
+pub record Called (ActsFor : CpuId → Type 0) (cpu : CpuId) (t : Tid) (call : Call) (talks left : List Talk)
+    (old new : List Entry) (answer : Option Reply) : Type 0 where
   pub others : List Entry
   pub mine : Option Effect
   pub foreign : AreForeign ActsFor entry_cpu others

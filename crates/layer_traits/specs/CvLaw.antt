@@ -78,21 +78,28 @@ abbrev pub left_woken : {O : Type 0} → Tid → Side → List (Option BufId) �
 left_woken t side waits lock = waiting_with lock (slice_set waits t.0 None) (Some (waited side))
 
 -- a poll of a thread that does not wait is a poll of its lock
-pub record Waits {G B O : Type 0} (deeds : Deeds G B O) (k : Kernel (CvCall G) (LockState B) (Outcome (QOut (CvOut O)))) (ActsFor : CpuId → Type 0) (c : CpuId) (b : BufId) (call : CvCall G) (old new : List (QueueEvent (CvCall G))) (own : Waiting O) (under_way : Option (SchedCall (CvCall G))) (got : Left (Waiting O) (Outcome (QOut (CvOut O)))) : Type 0 where
+pub record Waits {G B O : Type 0} (deeds : Deeds G B O) (k : Kernel (CvCall G) (LockState B) (Outcome (QOut (CvOut O)))) (ActsFor : CpuId → Type 0)
+    (c : CpuId) (b : BufId) (call : CvCall G) (old new : List (QueueEvent (CvCall G))) (own : Waiting O)
+    (under_way : Option (SchedCall (CvCall G))) (got : Left (Waiting O) (Outcome (QOut (CvOut O)))) : Type 0 where
   pub left : Left (Locking (CvOut O)) (Outcome (QOut (CvOut O)))
   pub polled : LockPolled (cv_rules deeds) k ActsFor c b call (slept_for own.lock.slept (lock_caller (cv_rules deeds) call)) old new own.lock under_way left
   pub leaves : got ≡ left_waiting (lock_caller (cv_rules deeds) call) b own.waits left.own left.answer
 
 -- a poll of a thread that waited does nothing but answer: the thread stands on no line of the buffer any more
-pub record WaitOver {G B O : Type 0} (deeds : Deeds G B O) (opening : LockId → Option (LockState B)) (b : BufId) (call : CvCall G) (old : List (QueueEvent (CvCall G))) (own : Waiting O) (under_way : Option (SchedCall (CvCall G))) (got : Left (Waiting O) (Outcome (QOut (CvOut O)))) : Type 0 where
+pub record WaitOver {G B O : Type 0} (deeds : Deeds G B O) (opening : LockId → Option (LockState B)) (b : BufId) (call : CvCall G)
+    (old : List (QueueEvent (CvCall G))) (own : Waiting O)
+    (under_way : Option (SchedCall (CvCall G))) (got : Left (Waiting O) (Outcome (QOut (CvOut O)))) : Type 0 where
   pub side : Side
   pub is : call ≡ Release (Wait (lock_caller (cv_rules deeds) call) side)
-  pub left : (line : Line) → is_in (lock_caller (cv_rules deeds) call) (line_in line (lock_after (cv_rules deeds) opening (Buffer b) (buffer_sections old))) ≡ false
+  pub left : (line : Line)
+      → is_in (lock_caller (cv_rules deeds) call) (line_in line (lock_after (cv_rules deeds) opening (Buffer b) (buffer_sections old))) ≡ false
   pub ends : under_way ≡ None
   pub leaves : got ≡ left_woken (lock_caller (cv_rules deeds) call) side own.waits own.lock
 
 -- a poll of a call, by the buffer at which its caller waits
-abbrev pub CvPolled : {G B O : Type 0} → Deeds G B O → Kernel (CvCall G) (LockState B) (Outcome (QOut (CvOut O))) → (CpuId → Type 0) → CpuId → BufId → CvCall G → Option BufId → List (QueueEvent (CvCall G)) → List (QueueEvent (CvCall G)) → Waiting O → Option (SchedCall (CvCall G)) → Left (Waiting O) (Outcome (QOut (CvOut O))) → Type 0
+abbrev pub CvPolled : {G B O : Type 0} → Deeds G B O → Kernel (CvCall G) (LockState B) (Outcome (QOut (CvOut O))) → (CpuId → Type 0) → CpuId → BufId → CvCall G
+    → Option BufId → List (QueueEvent (CvCall G)) → List (QueueEvent (CvCall G)) → Waiting O → Option (SchedCall (CvCall G))
+    → Left (Waiting O) (Outcome (QOut (CvOut O))) → Type 0
 CvPolled deeds k ActsFor c b call None old new own under_way got = Waits deeds k ActsFor c b call old new own under_way got
 CvPolled deeds k ActsFor c b call (Some at) old new own under_way got = WaitOver deeds k.opening b call old own under_way got
 

@@ -19,7 +19,8 @@ NobodyInside lock log = (cpu : CpuId) (ticket : ℕ) → standing cpu log ≡ In
 
 -- the words and the home of a lock are those that its log says: `next` counts the draws and `serving` the frees, modulo 2^64;
 -- the home is empty exactly while a CPU is inside, and else it holds the block that the sections leave
-pub record LockFits {E B : Type 0} (edited : E → B → B) (opening : LockId → Option B) (log : List (Event (Mark E))) (lock : LockId) (next serving : ℕ) (home : Option B) : Type 0 where
+pub record LockFits {E B : Type 0} (edited : E → B → B) (opening : LockId → Option B) (log : List (Event (Mark E)))
+    (lock : LockId) (next serving : ℕ) (home : Option B) : Type 0 where
   pub next_is : next ≡ draws lock log % 2 ^ 64
   pub serving_is : serving ≡ frees lock log % 2 ^ 64
   pub home_is : MatchOption home (SomeoneInside lock log) (λ block. NobodyInside lock log × (block_after edited opening lock (sections log) ≡ Some block))

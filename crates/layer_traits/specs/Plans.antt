@@ -57,13 +57,15 @@ pub record Acted {N : Type 0} (ActsFor : CpuId → Type 0) (cpu : CpuId) (lock :
   pub grows : new ≡ next_action cpu lock name past ∷ past
 
 -- one action was done, and the poll left what its plan makes of that action's answer
-pub record Acting {N B R S A : Type 0} (ActsFor : CpuId → Type 0) (table : Table N B R) (opening : LockId → Option B) (cpu : CpuId) (lock : LockId) (name : N) (react : Option R → Left S A) (old new : List (Action N)) (got : Left S A) : Type 0 where
+pub record Acting {N B R S A : Type 0} (ActsFor : CpuId → Type 0) (table : Table N B R) (opening : LockId → Option B) (cpu : CpuId) (lock : LockId)
+    (name : N) (react : Option R → Left S A) (old new : List (Action N)) (got : Left S A) : Type 0 where
   pub past : List (Action N)
   pub acted : Acted ActsFor cpu lock name old new past
   pub moves : got ≡ react (reply table opening cpu lock name past)
 
 -- a poll followed its plan: the actions went from old to new, and it left what it got
-abbrev pub Follows : {N B R S A : Type 0} → (CpuId → Type 0) → Table N B R → (LockId → Option B) → CpuId → Plan N R S A → List (Action N) → List (Action N) → Left S A → Type 0
+abbrev pub Follows : {N B R S A : Type 0} → (CpuId → Type 0) → Table N B R → (LockId → Option B) → CpuId → Plan N R S A
+    → List (Action N) → List (Action N) → Left S A → Type 0
 Follows ActsFor table opening cpu (Now left) old new got = (new ≡ old) × (got ≡ left)
 Follows ActsFor table opening cpu (Act lock name react) old new got = Acting ActsFor table opening cpu lock name react old new got
 

@@ -5,7 +5,6 @@ use Rattle.event_log.specs.declared.ids.LockId.{LockId}
 use Rattle.event_log.specs.declared.ids.TheConstants.{CPUS}
 use Rattle.event_log.specs.History.{IsLawful, AreOthers}
 use Rattle.event_log.specs.Sections.{Section, section_actor}
-pub use Rattle.layer_traits.specs.WordsProtocol.{KeepsProtocol, MayCome, edit_of, mark_of, sections}
 
 -- what an edit means: the block that it leaves, its answer, and, from the opening blocks on, after which sections which CPU may do it
 pub record Rules (E B O : Type 0) : Type 1 where

@@ -12,7 +12,7 @@ use Rattle.event_log.specs.Sections.{Section, block_after, sections_of}
 use Rattle.event_log.specs.Actions.{Rests, acts_of, phase}
 use Rattle.event_log.proofs.Tickets.{phase_acts, phase_of}
 use Rattle.layer_traits.specs.declared.edits.Mark.{Mark}
-use Rattle.layer_traits.specs.Protocol.{edit_of, sections}
+use Rattle.layer_traits.specs.WordsProtocol.{edit_of, sections}
 use Rattle.std.specs.Prelude.{IfSome, IsNone, IsSome}
 use Rattle.std.specs.Borrow.{Bor}
 use Rattle.mctower.specs.declared.count.AddOne.{AddOne}

@@ -18,7 +18,8 @@ use Rattle.event_log.specs.Sections.{Section, section_actor}
 use Rattle.event_log.proofs.Same.{same_cpu_self, same_lock_self}
 use Rattle.layer_traits.specs.declared.edits.Mark.{Mark}
 use Rattle.layer_traits.specs.OneLock.{opened}
-use Rattle.layer_traits.specs.Protocol.{Rules, edit_of, section, sections}
+use Rattle.layer_traits.specs.Protocol.{Rules, section}
+use Rattle.layer_traits.specs.WordsProtocol.{edit_of, sections}
 use Rattle.layer_traits.specs.Turns.{Polled}
 use Rattle.table_machine.specs.Desks.{Board, Desk, new_desk, new_desks, Covers, IsOver, Closes}
 use Rattle.mctower.specs.declared.count.AddOne.{AddOne}

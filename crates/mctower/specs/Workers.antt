@@ -10,7 +10,8 @@ use Rattle.event_log.specs.WordsLog.{actor, frees, standing, Outside}
 use Rattle.event_log.specs.Sections.{Section, section_actor}
 use Rattle.layer_traits.specs.declared.edits.Mark.{Mark}
 use Rattle.layer_traits.specs.OneLock.{opened}
-use Rattle.layer_traits.specs.Protocol.{Rules, MayCome, sections}
+use Rattle.layer_traits.specs.Protocol.{Rules}
+use Rattle.layer_traits.specs.WordsProtocol.{MayCome, sections}
 use Rattle.table_machine.specs.Desks.{Board, Desk, IsIn, new_desk}
 use Rattle.mctower.specs.Count.{sections_at}
 

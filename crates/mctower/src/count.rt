@@ -5,7 +5,7 @@ ghost use Rattle.event_log.specs.declared.ids.CpuId.{CpuId};
 ghost use Rattle.event_log.specs.declared.ids.TheConstants.{CPUS};
 ghost use Rattle.event_log.specs.Actions.{acts_of, phase, Rests};
 ghost use Rattle.event_log.specs.WordsLog.{frees, standing, Outside};
-ghost use Rattle.layer_traits.specs.Protocol.{edit_of};
+ghost use Rattle.layer_traits.specs.WordsProtocol.{edit_of};
 ghost use Rattle.mctower.specs.Count.{AreReady, after_round, after_rounds, counting, sections_at};
 
 use crate::line::MOST_TIMES;

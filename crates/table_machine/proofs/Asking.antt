@@ -10,7 +10,8 @@ use Rattle.event_log.specs.declared.events.Event.TheVariants.{Draw}
 use Rattle.event_log.specs.History.{Adds, Grows, IsLawful}
 use Rattle.event_log.specs.WordsLog.{actor, standing, Standing, Outside, Waiting, Inside}
 use Rattle.layer_traits.specs.declared.edits.Mark.{Mark}
-use Rattle.layer_traits.specs.Protocol.{Rules, MayCome}
+use Rattle.layer_traits.specs.Protocol.{Rules}
+use Rattle.layer_traits.specs.WordsProtocol.{MayCome}
 use Rattle.layer_traits.specs.OneLock.{opened}
 use Rattle.table_machine.specs.declared.views.Home.{Home}
 use Rattle.table_machine.specs.declared.views.View.{View}

@@ -14,7 +14,8 @@ use Rattle.event_log.specs.History.{AreOthers, IsLawful, own_events}
 use Rattle.event_log.specs.WordsLog.{actor, standing, left_by, Outside}
 use Rattle.event_log.specs.Sections.{block_after}
 use Rattle.layer_traits.specs.declared.edits.Mark.{Mark}
-use Rattle.layer_traits.specs.Protocol.{Rules, MayCome, sections}
+use Rattle.layer_traits.specs.Protocol.{Rules}
+use Rattle.layer_traits.specs.WordsProtocol.{MayCome, sections}
 use Rattle.layer_traits.specs.OneLock.{LockFits, NobodyInside, opened, AreDistinct}
 use Rattle.table_machine.specs.declared.views.Home.{Home}
 use Rattle.table_machine.specs.declared.views.View.{View}

@@ -11,7 +11,8 @@ use Rattle.event_log.specs.declared.events.Event.TheVariants.{Look, Free}
 use Rattle.event_log.specs.History.{Adds}
 use Rattle.event_log.specs.WordsLog.{actor, standing, Standing, Outside, Waiting, Inside}
 use Rattle.event_log.specs.Sections.{block_after}
-use Rattle.layer_traits.specs.Protocol.{Rules, StaysAllowed, sections, section, mark_of}
+use Rattle.layer_traits.specs.Protocol.{Rules, StaysAllowed, section}
+use Rattle.layer_traits.specs.WordsProtocol.{sections, mark_of}
 use Rattle.layer_traits.specs.OneLock.{opened}
 use Rattle.table_machine.specs.declared.views.Home.{Home}
 use Rattle.table_machine.specs.declared.views.View.{View}

@@ -11,7 +11,8 @@ use Rattle.event_log.specs.Sections.{block_after, Section, section_actor}
 use Rattle.event_log.proofs.Same.{same_lock_true}
 use Rattle.event_log.proofs.Foreign.{standing_others, own_others}
 use Rattle.layer_traits.specs.declared.edits.Mark.{Mark}
-use Rattle.layer_traits.specs.Protocol.{sections, MayCome, section}
+use Rattle.layer_traits.specs.Protocol.{section}
+use Rattle.layer_traits.specs.WordsProtocol.{sections, MayCome}
 use Rattle.table_machine.specs.Views.{EndsWith, IsSince}
 use Rattle.event_log.proofs.Tickets.{one_inside}
 

@@ -16,7 +16,8 @@ use Rattle.event_log.specs.History.{AreOthers, IsLawful}
 use Rattle.event_log.specs.WordsLog.{actor, MayFollow, standing, Outside, Waiting, Inside}
 use Rattle.event_log.specs.Sections.{block_after}
 use Rattle.layer_traits.specs.declared.edits.Mark.{Mark}
-use Rattle.layer_traits.specs.Protocol.{Rules, MayCome, StaysAllowed, sections, section, mark_of}
+use Rattle.layer_traits.specs.Protocol.{Rules, StaysAllowed, section}
+use Rattle.layer_traits.specs.WordsProtocol.{MayCome, sections, mark_of}
 use Rattle.layer_traits.specs.OneLock.{LockFits, opened}
 use Rattle.table_machine.specs.declared.views.Home.{Home}
 use Rattle.table_machine.specs.declared.views.View.{View}

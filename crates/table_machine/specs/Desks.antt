@@ -11,7 +11,8 @@ use Rattle.event_log.specs.History.{IsLawful, own_events}
 use Rattle.event_log.specs.WordsLog.{actor, Standing, Outside, Waiting, Inside, standing}
 use Rattle.layer_traits.specs.declared.edits.Mark.{Mark}
 use Rattle.event_log.specs.Sections.{block_after}
-use Rattle.layer_traits.specs.Protocol.{Rules, MayCome, sections}
+use Rattle.layer_traits.specs.Protocol.{Rules}
+use Rattle.layer_traits.specs.WordsProtocol.{MayCome, sections}
 use Rattle.layer_traits.specs.OneLock.{opened}
 use Rattle.table_machine.specs.declared.views.Home.{Home}
 use Rattle.table_machine.specs.Layout.{rank_of}

@@ -8,7 +8,8 @@ use Rattle.event_log.specs.History.{IsLawful, Adds}
 use Rattle.event_log.specs.WordsLog.{actor, standing, Waiting, Inside}
 use Rattle.layer_traits.specs.declared.edits.Mark.{Mark}
 use Rattle.event_log.specs.Sections.{block_after}
-use Rattle.layer_traits.specs.Protocol.{Rules, MayCome, sections, mark_of}
+use Rattle.layer_traits.specs.Protocol.{Rules}
+use Rattle.layer_traits.specs.WordsProtocol.{MayCome, sections, mark_of}
 use Rattle.layer_traits.specs.OneLock.{opened}
 use Rattle.table_machine.specs.declared.views.View.{View}
 use Rattle.table_machine.specs.declared.views.Home.{Home}

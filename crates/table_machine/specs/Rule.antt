@@ -10,7 +10,8 @@ use Rattle.event_log.specs.declared.events.Event.{Event}
 use Rattle.event_log.specs.History.{IsLawful, AreOthers}
 use Rattle.event_log.specs.WordsLog.{actor}
 use Rattle.layer_traits.specs.declared.edits.Mark.{Mark}
-use Rattle.layer_traits.specs.Protocol.{Rules, MayCome}
+use Rattle.layer_traits.specs.Protocol.{Rules}
+use Rattle.layer_traits.specs.WordsProtocol.{MayCome}
 use Rattle.layer_traits.specs.OneLock.{LockFits, opened}
 use Rattle.table_machine.specs.declared.views.View.{View}
 use Rattle.table_machine.specs.declared.views.Home.{Home}

@@ -5,7 +5,8 @@ ghost use Rattle.event_log.specs.declared.events.Event.TheVariants.{Draw, Look, 
 ghost use Rattle.event_log.specs.History.{Adds, Grows, IsLawful};
 ghost use Rattle.event_log.specs.WordsLog.{actor, standing, Outside, Waiting, Inside};
 ghost use Rattle.event_log.specs.Sections.{block_after};
-ghost use Rattle.layer_traits.specs.Protocol.{mark_of, section, sections, MayCome, StaysAllowed};
+ghost use Rattle.layer_traits.specs.Protocol.{section, StaysAllowed};
+ghost use Rattle.layer_traits.specs.WordsProtocol.{mark_of, sections, MayCome};
 ghost use Rattle.layer_traits.specs.OneLock.{opened};
 ghost use Rattle.table_machine.specs.Desks.{IsOf};
 ghost use Rattle.table_machine.specs.Views.{viewed, EndsWith, IsCpu};

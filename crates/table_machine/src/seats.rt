@@ -4,7 +4,7 @@ ghost use Rattle.std.specs.Prelude.{◌≡◌, List, IsSome, Some, MatchOption, 
 ghost use Rattle.event_log.specs.declared.ids.CpuId.{CpuId};
 ghost use Rattle.event_log.specs.History.{Grows, IsLawful};
 ghost use Rattle.event_log.specs.WordsLog.{actor};
-ghost use Rattle.layer_traits.specs.Protocol.{MayCome};
+ghost use Rattle.layer_traits.specs.WordsProtocol.{MayCome};
 ghost use Rattle.layer_traits.specs.OneLock.{opened};
 ghost use Rattle.table_machine.specs.Desks.{IsOf};
 ghost use Rattle.table_machine.specs.Views.{EndsWith, IsCpu};
@@ -67,7 +67,7 @@ impl<'a, E: Edit> Seat<'a, E> {
 impl<'a, E: Edit> Words for Seat<'a, E> {
     ghost use Rattle.std.specs.Prelude.{◌≡◌, ℕ};
     ghost use Rattle.event_log.specs.History.{IsLawful};
-    ghost use Rattle.layer_traits.specs.Protocol.{MayCome, edit_of};
+    ghost use Rattle.layer_traits.specs.WordsProtocol.{MayCome, edit_of};
     ghost use Rattle.layer_traits.specs.OneLock.{opened};
     ghost use Rattle.table_machine.specs.Desks.{site_of};
 

@@ -3,7 +3,7 @@
 ghost use Rattle.std.specs.Prelude.{◌≡◌, ◌+◌, ◌%◌, ◌^◌, ◌<◌, [], ◌∷◌, Some, IsSome, IfOk, MatchOption};
 ghost use Rattle.event_log.specs.WordsLog.{standing, Outside, Waiting, Inside};
 ghost use Rattle.event_log.specs.Sections.{block_after};
-ghost use Rattle.layer_traits.specs.Protocol.{sections};
+ghost use Rattle.layer_traits.specs.WordsProtocol.{sections};
 ghost use Rattle.table_machine.specs.Desks.{IsOver, new_desk, new_desks};
 ghost use Rattle.table_machine.specs.declared.tests.TheConstants.{LOCK, OTHER};
 

@@ -2,7 +2,7 @@ use Rattle.std.proofs.Common.{◌+◌, ◌*◌, ◌∙◌, [], ap, arith, length
 use Rattle.event_log.specs.WordsLog.{standing}
 use Rattle.event_log.specs.Sections.{sections_of}
 use Rattle.event_log.specs.Actions.{acts_of}
-use Rattle.layer_traits.specs.Protocol.{edit_of}
+use Rattle.layer_traits.specs.WordsProtocol.{edit_of}
 use Rattle.plain_machine.specs.Machine.{history}
 use Rattle.mctower.specs.Count.{after_rounds, sections_at}
 use Rattle.mctower.specs.declared.count.AddOne.{AddOne}

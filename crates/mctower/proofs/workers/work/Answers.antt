@@ -1,5 +1,5 @@
 use Rattle.std.proofs.Common.{◌≡◌, ◌+◌, IsSome, sym, ap, subst, ◌∙◌, add_assoc}
-use Rattle.layer_traits.specs.Protocol.{sections}
+use Rattle.layer_traits.specs.WordsProtocol.{sections}
 use Rattle.mctower.specs.declared.count.TheConstants.{NUMBER}
 use Rattle.mctower.specs.Workers.{made}
 use Rattle.mctower.proofs.workers.work.Goals as goal

@@ -1,7 +1,7 @@
 use Rattle.std.proofs.Common.{◌≡◌, ◌+◌, None}
 use Rattle.event_log.specs.History.{IsLawful}
 use Rattle.layer_traits.specs.OneLock.{opened}
-use Rattle.layer_traits.specs.Protocol.{MayCome, sections}
+use Rattle.layer_traits.specs.WordsProtocol.{MayCome, sections}
 use Rattle.spinlock.specs.Stages.{StageFits, stage_section}
 use Rattle.table_machine.specs.Desks.{site_of}
 use Rattle.mctower.specs.Count.{counting}

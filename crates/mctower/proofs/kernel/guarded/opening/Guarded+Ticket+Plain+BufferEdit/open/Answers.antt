@@ -2,7 +2,7 @@ use Rattle.std.proofs.Common.{sym, ap, ◌∙◌, subst}
 use Rattle.event_log.specs.Actions.{acts_of}
 use Rattle.event_log.specs.WordsLog.{standing}
 use Rattle.layer_traits.specs.OneLock.{opened, AreDistinct}
-use Rattle.layer_traits.specs.Protocol.{edit_of}
+use Rattle.layer_traits.specs.WordsProtocol.{edit_of}
 use Rattle.mctower.proofs.OpenLemmas.{locks_distinct, guards_start, rest_all, fresh_is}
 use Rattle.mctower.proofs.kernel.guarded.opening.Guarded+Ticket+Plain+BufferEdit.open.Goals as goal
 
