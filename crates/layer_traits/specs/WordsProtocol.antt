@@ -1,7 +1,6 @@
 -- The protocol in a words log: its Frees are the sections, each with the edit that its mark tells. Only locks of words and what lies
 -- beneath them need it.
 use Rattle.std.specs.Prelude.{List}
-use Rattle.event_log.specs.declared.ids.LockId.{LockId}
 use Rattle.event_log.specs.declared.events.Event.{Event}
 use Rattle.event_log.specs.declared.events.Event.TheVariants.{Draw, Look, Free}
 use Rattle.event_log.specs.WordsLog.{MayFollow}
