@@ -1,0 +1,23 @@
+#!/usr/bin/env bash
+# Compares `mctower run` with the plain program of the step table over random plans and schedules: trace text, state lines
+# and status. It takes how many (500 where nothing is said) and the first seed; its last line counts what was equal.
+# Build first: (cd crates/mctower && rt run -- count --cpus 1 --times 1).
+set -eu
+cd "$(dirname "$0")"
+count=${1:-500}; first=${2:-1}
+ours=$(realpath ../crates/mctower/out/mctower 2> /dev/null) && [ -x "$ours" ] || { echo "build mctower first: (cd crates/mctower && rt run -- count --cpus 1 --times 1)"; exit 1; }
+work=$(mktemp -d); trap 'rm -rf "$work"' EXIT
+rustc -O -o "$work/plain_tower" plain_tower.rs
+equal=0
+for seed in $(seq "$first" $((first + count - 1))); do
+  python3 random_plan.py "$seed" "$work/plan" "$work/schedule"
+  "$work/plain_tower" "$(cat "$work/schedule")" < "$work/plan" > "$work/text" 2> "$work/states"
+  status=0; "$ours" run --schedule "$(cat "$work/schedule")" < "$work/plan" > "$work/our_text" 2> "$work/our_states" || status=$?
+  if [ $status = 0 ] && cmp -s "$work/text" "$work/our_text" && cmp -s "$work/states" "$work/our_states"; then
+    equal=$((equal + 1))
+  else
+    echo "seed $seed differs (status $status)"
+  fi
+done
+echo "$equal of $count equal"
+[ "$equal" = "$count" ]

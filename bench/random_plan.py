@@ -1,0 +1,51 @@
+#!/usr/bin/env python3
+"""Writes a random plan and a schedule for it: random_plan.py SEED PLAN SCHEDULE.
+
+Small systems that block often: up to 4 CPUs, 8 threads and 3 buffers of little room, schedules that
+run a CPU for a while or hand over at every step, and traces that are sometimes too short."""
+import random
+import sys
+
+
+def program(choose, buffers):
+    lines = []
+    for _ in range(choose.randint(1, 6)):
+        word = choose.choices(["set", "add", "sub", "send", "recv", "yield", "exit", "loop"], [3, 1, 1, 6, 6, 2, 1, 1])[0]
+        d, s, b = choose.randint(0, 3), choose.randint(0, 3), choose.randrange(buffers)
+        if word == "set":
+            lines.append(f"set r{d} {choose.choice([0, 1, 2, 7, 2**64 - 1, choose.randrange(2**64)])}")
+        elif word in ("add", "sub"):
+            lines.append(f"{word} r{d} r{s}")
+        elif word == "send":
+            lines.append(f"send {b} r{s}")
+        elif word == "recv":
+            lines.append(f"recv {b} r{d}")
+        elif word == "loop":
+            lines.append(f"jnz r{s} {choose.randint(0, len(lines))}")
+        else:
+            lines.append(word)
+    return lines
+
+
+def schedule(choose, cpus):
+    items = []
+    for _ in range(choose.randint(1, 40)):
+        steps = choose.choice([1, 1, 2, 3, choose.randint(1, 30), choose.randint(1, 80)])
+        items.append(f"{choose.randrange(cpus)}*{steps}")
+    return ",".join(items)
+
+
+def main():
+    choose = random.Random(int(sys.argv[1]))
+    cpus, threads, buffers = choose.randint(1, 4), choose.randint(1, 8), choose.randint(1, 3)
+    with open(sys.argv[2], "w") as plan:
+        capacities = ", ".join(str(choose.choice([1, 1, 2, 3])) for _ in range(buffers))
+        plan.write(f"cpus = {cpus}\ntrace = {choose.choice([1, 2, 5, 40, 40, 40])}\nbuffers = [{capacities}]\n")
+        for _ in range(threads):
+            lines = ", ".join(f'"{line}"' for line in program(choose, buffers))
+            plan.write(f"\n[[thread]]\ncpu = {choose.randrange(cpus)}\nprogram = [{lines}]\n")
+    with open(sys.argv[3], "w") as text:
+        text.write(schedule(choose, cpus))
+
+
+main()
