@@ -1,5 +1,5 @@
 -- How the effects and the moves of the buffers grow with events, and that a part keeps fitting over events of other CPUs.
-use Rattle.std.proofs.Common.{◌≡◌, ◌≢◌, ℕ, Bool, true, false, List, [], ◌∷◌, ◌++◌, Option, Some, None, option_map, option_to_list, if◌then◌else◌, refl, ap, sym, ◌∙◌, subst, append_assoc, ◌<◌, length, get_or, IsSome}
+use Rattle.std.proofs.Common.{◌≡◌, ◌≢◌, ℕ, Bool, true, false, List, [], ◌∷◌, ◌++◌, Option, Some, None, option_to_list, if◌then◌else◌, refl, ap, sym, ◌∙◌, subst, append_assoc}
 use Rattle.std.specs.List.{AllByRecursion}
 use Rattle.event_log.specs.declared.entries.Entry.{Entry}
 use Rattle.event_log.specs.declared.ids.BufId.{BufId}
@@ -34,10 +34,7 @@ use Rattle.layer_traits.specs.QueueBlocks.{homes_in, inner}
 use Rattle.layer_traits.specs.Queues.{QueueAllowed, buffer_sections, event_actor, moves_in, with_section}
 use Rattle.layer_traits.proofs.CallLemmas.{moves_append, moves_others, moves_over}
 use Rattle.event_log.proofs.Same.{same_cpu_true}
-use Rattle.layer_traits.specs.BufferEffects.{fresh_lock}
-use Rattle.layer_traits.specs.QueueBlocks.{above_of}
-use Rattle.std.proofs.lemmas.Option.{slice_get-get_or}
-use Rattle.fifo_buffer.specs.FifoFits.{BootsSo, PartFits, caps_in}
+use Rattle.fifo_buffer.specs.FifoFits.{PartFits}
 use Rattle.fifo_buffer.specs.Stances.{TalkFits}
 use Rattle.fifo_buffer.specs.Turns.{BufferEvent, BufferOutcome, CallsFit, Goes, Kept, Midway}
 use Rattle.fifo_buffer.proofs.Events.{keeps_fits}
@@ -197,17 +194,6 @@ moves_grown opening ActsFor Acts c mine others old new weaker foreign own is = r
   is = ap (moves_in (lock_kernel (cv_rules buffer_deeds) opening)) is ∙ moves_append (lock_kernel (cv_rules buffer_deeds) opening) mine (others ++ old)
       ∙ ap (λ steps. moves_over (lock_kernel (cv_rules buffer_deeds) opening) mine (others ++ old) ++ steps) (moves_append (lock_kernel (cv_rules buffer_deeds) opening) others old);
 }
-
--- the buffers of the capacities are there
-pub buffer_there : (opening : LockId → Option (QueueBlock BufferLock)) → BootsSo opening → (b : BufId) → b.0 < length (caps_in opening) → IsSome (opening (Buffer b))
-buffer_there opening boots b within = there (opening (Buffer b)) shown
-  where
-    shown : above_of (opening (Buffer b)) ≡ Some (fresh_lock (get_or (caps_in opening) b.0 0))
-    shown = ap (λ locks. locks (Buffer b)) boots ∙ ap (option_map fresh_lock) (slice_get-get_or (caps_in opening) b.0 0 within)
-
-    there : {lock : BufferLock} (x : Option (QueueBlock BufferLock)) → above_of x ≡ Some lock → IsSome x
-    there None is = absurd cc
-    there (Some block) is = refl
 
 -- the part of another CPU keeps fitting over a turn
 own_others : (c d : CpuId) → d ≢ c → (mine : List BufferEvent) → AllByRecursion (λ (e : BufferEvent). e.cpu ≡ c) mine → AreOthers event_actor d mine

@@ -3,3 +3,4 @@ pub mod Turns
 pub mod FifoFits
 pub mod Tallies
 pub mod FifoLaws
+pub mod OwnedLaws

@@ -386,23 +386,29 @@ module _ (caps : List ℕ) (b : ℕ) (es : List Entry) where
         numbered = λ to. numbered_apart (p to) (q to) (count_of_kind es b (kind_on to)) u (line_of to lock.above) (nowhere to) (others to) (tally.numbered to);
       }
 
--- an effect is on its section's buffer
-effect_buffer : (cpu : CpuId) (d : BufId) (call : CvCall BufferEdit) (p : Side → Tid → ℕ) (x : Option BufferLock) (e : Entry) → effect_on cpu d call p x ≡ Some e → e.buffer ≡ d
-effect_buffer cpu d call p None e is = absurd cc
-effect_buffer cpu d (Acquire u) p (Some lock) e is = absurd cc
-effect_buffer cpu d (Inside (Edit (Enter u side))) p (Some lock) e is = absurd cc
-effect_buffer cpu d (Inside (Edit (TryPut u m))) p (Some lock) e is = go (is_turn Senders u lock.above) is
-  where
-    go : (v : Bool) → (if v then Some (entry cpu u (effect_kind Senders lock.above) d m lock.above.effects (p Senders u)) else None) ≡ Some e → e.buffer ≡ d
-    go true same = let one : entry cpu u (effect_kind Senders lock.above) d m lock.above.effects (p Senders u) ≡ e = cc in sym (ap (λ (y : Entry). y.buffer) one)
-    go false same = absurd cc
-effect_buffer cpu d (Inside (Edit (TryTake u))) p (Some lock) e is = go (is_turn Receivers u lock.above) is
-  where
-    go : (v : Bool) → (if v then Some (entry cpu u (effect_kind Receivers lock.above) d (first_item lock.above.items) lock.above.effects (p Receivers u)) else None) ≡ Some e → e.buffer ≡ d
-    go true same = let one : entry cpu u (effect_kind Receivers lock.above) d (first_item lock.above.items) lock.above.effects (p Receivers u) ≡ e = cc in sym (ap (λ (y : Entry). y.buffer) one)
-    go false same = absurd cc
-effect_buffer cpu d (Inside (SignalFront u side)) p (Some lock) e is = absurd cc
-effect_buffer cpu d (Release leave) p (Some lock) e is = absurd cc
+-- an effect is of its section's CPU, on its section's buffer
+abbrev pub IsPlaced : CpuId → BufId → Entry → Type 0
+IsPlaced cpu d e = (e.cpu ≡ cpu) × (e.buffer ≡ d)
+
+placed_as : (cpu : CpuId) (d : BufId) (t : Tid) (kind : Kind) (m : Message) (op pos : ℕ) (v : Bool) (e : Entry)
+    → (if v then Some (entry cpu t kind d m op pos) else None) ≡ Some e → IsPlaced cpu d e
+placed_as cpu d t kind m op pos true e is =
+    let one : entry cpu t kind d m op pos ≡ e = cc in
+    (sym (ap (λ (y : Entry). y.cpu) one), sym (ap (λ (y : Entry). y.buffer) one))
+placed_as cpu d t kind m op pos false e is = absurd cc
+
+pub effect_place : (cpu : CpuId) (d : BufId) (call : CvCall BufferEdit) (p : Side → Tid → ℕ) (x : Option BufferLock) (e : Entry)
+    → effect_on cpu d call p x ≡ Some e → IsPlaced cpu d e
+effect_place cpu d call p None e is = absurd cc
+effect_place cpu d (Acquire u) p (Some lock) e is = absurd cc
+effect_place cpu d (Inside (Edit (Enter u side))) p (Some lock) e is = absurd cc
+effect_place cpu d (Inside (Edit (TryPut u m))) p (Some lock) e is =
+    placed_as cpu d u (effect_kind Senders lock.above) m lock.above.effects (p Senders u) (is_turn Senders u lock.above) e is
+effect_place cpu d (Inside (Edit (TryTake u))) p (Some lock) e is =
+    placed_as cpu d u (effect_kind Receivers lock.above) (first_item lock.above.items) lock.above.effects (p Receivers u)
+    (is_turn Receivers u lock.above) e is
+effect_place cpu d (Inside (SignalFront u side)) p (Some lock) e is = absurd cc
+effect_place cpu d (Release leave) p (Some lock) e is = absurd cc
 
 enter_other : (u t : Tid) (side to : Side) → same_tid u t ≡ false → is_enter to t (Inside (Edit (Enter u side))) ≡ false
 enter_other u t Receivers Receivers other = other
@@ -503,7 +509,7 @@ section_tallied O caps past cpu d call due tallied b lock at = go (same_lock (Bu
         let was : buffer_at O past (Buffer b) ≡ Some lock
         = sym (ap (λ v. if v then option_map (lock_edited buffer_rules call) (buffer_at O past (Buffer b)) else buffer_at O past (Buffer b)) is) ∙ at in
         elsewhere caps b.0 (effects_in O past) (effect_of O past (section cpu (Buffer d) call))
-        (λ e same. ne_eqb e.buffer.0 b.0 (λ one_number. eqb-false b.0 d.0 is (sym one_number ∙ ap (λ (n : BufId). n.0) (effect_buffer cpu d call _ (buffer_at O past (Buffer d)) e same))))
+        (λ e same. ne_eqb e.buffer.0 b.0 (λ one_number. eqb-false b.0 d.0 is (sym one_number ∙ ap (λ (n : BufId). n.0) (effect_place cpu d call _ (buffer_at O past (Buffer d)) e same).1)))
         (λ side t. drawn O (Buffer b) side t past) (λ side t. drawn O (Buffer b) side t (section cpu (Buffer d) call ∷ past)) lock.above
         (λ side t. ap (λ v. if v && is_enter side t call then places_in side (buffer_at O past (Buffer b)) else drawn O (Buffer b) side t past) is) (tallied b lock was)
 
@@ -539,7 +545,7 @@ start_tallied caps b (Some n) lock is at p =
     start_numbers Senders = tt
 
 module _ (opening : LockId → Option (QueueBlock BufferLock)) (caps : List ℕ) (boots : inner opening ≡ opening_locks caps) where
-  all_tallied : (past : List BufferEvent) → IsLawful (QueueAllowed (lock_kernel (cv_rules buffer_deeds) opening)) past → Tallied (inner opening) caps (buffer_sections past)
+  pub all_tallied : (past : List BufferEvent) → IsLawful (QueueAllowed (lock_kernel (cv_rules buffer_deeds) opening)) past → Tallied (inner opening) caps (buffer_sections past)
   all_tallied [] lawful = λ b lock at. start_tallied caps b (slice_get caps b.0) lock refl (sym (ap (λ locks. locks (Buffer b)) boots) ∙ at) (λ side t. 0)
   all_tallied (e ∷ past) lawful = go e.call lawful.0 (all_tallied past lawful.1)
     where

@@ -16,8 +16,12 @@ ghost use Rattle.fifo_buffer.specs.Turns.{MayTurn, Sizes, Turned, calling_after}
 
 use crate::sections::{answers_at_once, begin, buffer_in, reply, section};
 use crate::talk_table::Talks;
-use event_log::{CpuId, Tid};
-use layer_traits::{BufferEdit, BufferLayer, Call, CvLayer, Effect, Pass, Reply, Talk};
+use arrayvec::ArrayVec;
+use event_log::{BufId, CAPACITY, CpuId, Msg, Tid};
+use layer_traits::{
+    BufferEdit, BufferLayer, Call, CvLayer, Effect, Line, OwnedBuffers, OwnedConds, Pass, Reply,
+    Talk,
+};
 
 /// One CPU's part of first-in first-out blocking bounded buffers (Anderson and Dahlin), over a part
 /// `C` of conditions: it keeps of each thread how far its message call has come, and whose call is
@@ -206,4 +210,119 @@ impl<C: CvLayer<BufferEdit>> BufferLayer for Fifo<C> {
 
     ghost rests = { λ p m fits nothing. C.idle p.lower m fits.0
         (none_under (C.opening m) (C.cpu_of p.lower) (C.seen m) (C.own p.lower) p.talks.talks (C.under_way p.lower) p.calling fits.1 nothing) };
+}
+
+impl<C: OwnedConds<BufferEdit>> OwnedBuffers for Fifo<C> {
+    ghost use Rattle.std.specs.Prelude.{◌≡◌, true, option_map};
+    ghost use Rattle.event_log.specs.Actions.{phase};
+    ghost use Rattle.event_log.specs.Buffers.{items_of};
+    ghost use Rattle.layer_traits.specs.BufferEffects.{contents_of, effects_in};
+    ghost use Rattle.layer_traits.specs.BufferProtocol.{buffer_deeds};
+    ghost use Rattle.layer_traits.specs.Conditions.{cv_rules};
+    ghost use Rattle.layer_traits.specs.LockLaw.{lock_kernel};
+    ghost use Rattle.layer_traits.specs.Locking.{line_in, owner_in};
+    ghost use Rattle.layer_traits.specs.Places.{pending_by};
+    ghost use Rattle.layer_traits.specs.Plans.{is_in_section};
+    ghost use Rattle.layer_traits.specs.QueueBlocks.{inner};
+    ghost use Rattle.layer_traits.specs.Queues.{buffer_sections, moves_in};
+    ghost use Rattle.fifo_buffer.specs.FifoFits.{caps_in};
+    ghost use Rattle.fifo_buffer.specs.OwnedLaws.{block_there, effects_known, items_in, items_told, lines_of, lines_told, lock_of, lock_told, owner_of, owner_told, queue_told};
+
+    ghost owner = { λ m b. owner_in (lock_of (C.opening m) (C.seen m) b) };
+
+    ghost items_at = { λ m b. option_map items_in (C.lock_at m b) };
+
+    ghost items_with = { λ p b. option_map items_in (C.lock_with p.lower b) };
+
+    ghost owner_at = { λ m b. option_map owner_of (C.lock_at m b) };
+
+    ghost owner_with = { λ p b. option_map owner_of (C.lock_with p.lower b) };
+
+    ghost lines_at = { λ m b. option_map lines_of (C.lock_at m b) };
+
+    ghost lines_with = { λ p b. option_map lines_of (C.lock_with p.lower b) };
+
+    ghost queue_at = { λ m d. C.queue_at m d };
+
+    ghost queue_with = { λ p d. C.queue_with p.lower d };
+
+    #[inline(always)]
+    fn is_ready(&self, t: Tid) -> bool {
+        self.lower.is_ready(t)
+    }
+
+    #[inline(always)]
+    fn has_ended(&self, t: Tid) -> bool {
+        self.lower.has_ended(t)
+    }
+
+    fn items_in(m: &C::Machine, b: BufId) -> Option<ArrayVec<Msg, CAPACITY>> {
+        match C::block_in(m, b) {
+            None => None,
+            Some(block) => Some(block.items()),
+        }
+    }
+
+    fn items_here(&self, b: BufId) -> Option<ArrayVec<Msg, CAPACITY>> {
+        match self.lower.block_here(b) {
+            None => None,
+            Some(block) => Some(block.items()),
+        }
+    }
+
+    #[inline(always)]
+    fn owner_in(m: &C::Machine, b: BufId) -> Option<Option<Tid>> {
+        C::owner_in(m, b)
+    }
+
+    #[inline(always)]
+    fn owner_here(&self, b: BufId) -> Option<Option<Tid>> {
+        self.lower.owner_here(b)
+    }
+
+    #[inline(always)]
+    fn line_in(m: &C::Machine, b: BufId, t: Tid) -> Option<Line> {
+        C::line_in(m, b, t)
+    }
+
+    #[inline(always)]
+    fn line_here(&self, b: BufId, t: Tid) -> Option<Line> {
+        self.lower.line_here(b, t)
+    }
+
+    #[inline(always)]
+    fn pends_in(m: &C::Machine, d: CpuId, t: Tid) -> Option<bool> {
+        C::pends_in(m, d, t)
+    }
+
+    #[inline(always)]
+    fn pends_here(&self, d: CpuId, t: Tid) -> Option<bool> {
+        self.lower.pends_here(d, t)
+    }
+
+    ghost known = { λ m c acts. effects_known (inner (C.opening m)) (C.seen m) (C.known m c acts.0) };
+
+    ghost items = { λ m c b acts within. lock_told (λ (p : Self). p.lower) (λ p. C.Fits p m) (λ (p : Self). Self.Fits p m)
+        (λ p. C.cpu_of p) (λ d. C.IsStepwise × (is_in_section (phase d (C.acts m)) ≡ true)) (λ p fits. fits.0)
+        (lock_of (C.opening m) (C.seen m) b) items_in (λ p. C.lock_with p b) (C.lock_at m b)
+        (items_of (contents_of (caps_in (C.opening m)) (effects_in (inner (C.opening m)) (buffer_sections (C.seen m)))) b.0)
+        (items_told (C.opening m) acts.1 b within (C.seen m) (C.lawful m c acts.0))
+        (C.shown m c b acts.0 (block_there (C.opening m) acts.1 b within)) };
+
+    ghost owners = { λ m c b acts within. lock_told (λ (p : Self). p.lower) (λ p. C.Fits p m) (λ (p : Self). Self.Fits p m)
+        (λ p. C.cpu_of p) (λ d. C.IsStepwise × (is_in_section (phase d (C.acts m)) ≡ true)) (λ p fits. fits.0)
+        (lock_of (C.opening m) (C.seen m) b) owner_of (λ p. C.lock_with p b) (C.lock_at m b)
+        (owner_in (lock_of (C.opening m) (C.seen m) b)) (owner_told (C.opening m) acts.1 b within (C.seen m))
+        (C.shown m c b acts.0 (block_there (C.opening m) acts.1 b within)) };
+
+    ghost beds = { λ m c b acts within. lock_told (λ (p : Self). p.lower) (λ p. C.Fits p m) (λ (p : Self). Self.Fits p m)
+        (λ p. C.cpu_of p) (λ d. C.IsStepwise × (is_in_section (phase d (C.acts m)) ≡ true)) (λ p fits. fits.0)
+        (lock_of (C.opening m) (C.seen m) b) lines_of (λ p. C.lock_with p b) (C.lock_at m b)
+        (λ line. line_in line (lock_of (C.opening m) (C.seen m) b)) (lines_told (C.opening m) acts.1 b within (C.seen m))
+        (C.shown m c b acts.0 (block_there (C.opening m) acts.1 b within)) };
+
+    ghost queues = { λ m c d acts there. queue_told (λ (p : Self). p.lower) (λ p. C.Fits p m)
+        (λ (p : Self). Self.Fits p m) (λ p. C.cpu_of p) (λ d. C.IsStepwise × (is_in_section (phase d (C.acts m)) ≡ true)) (λ p fits. fits.0)
+        (λ p. C.queue_with p d) (C.queue_at m d) (pending_by (moves_in (lock_kernel (cv_rules buffer_deeds) (C.opening m)) (C.seen m)) d)
+        (C.queues m c d acts.0 there) };
 }

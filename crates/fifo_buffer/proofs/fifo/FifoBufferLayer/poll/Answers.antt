@@ -16,7 +16,8 @@ use Rattle.fifo_buffer.proofs.Chains.{follows_for, one_follows, two_follows}
 use Rattle.fifo_buffer.proofs.Finish.{called_by, finish, others_after}
 use Rattle.fifo_buffer.proofs.First.{first_may, goes_called}
 use Rattle.fifo_buffer.proofs.Heard.{runs_home}
-use Rattle.fifo_buffer.proofs.Parts.{buffer_there, moves_grown, other_part}
+use Rattle.fifo_buffer.specs.OwnedLaws.{block_there}
+use Rattle.fifo_buffer.proofs.Parts.{moves_grown, other_part}
 use Rattle.fifo_buffer.proofs.Twice.{apart_talk, ended_of, exit_free, marks_of, doing_by, later_call, later_effect, next_may, other_talk, runs_by, sizes_of, why, why_slept}
 use Rattle.fifo_buffer.proofs.fifo.FifoBufferLayer.poll.Goals as goal
 
@@ -30,11 +31,11 @@ returns-then-at_once-clause-acts g c d both =
 
 pub turn-done-requires-clause-buffer : goal.turn-done-requires-clause-buffer
 turn-done-requires-clause-buffer g c =
-    buffer_there (g.C.CvLayer.opening c.args.m.now) c.requires.fits.1.boots (buffer_of c.args.call.now) c.requires.buffer
+    block_there (g.C.CvLayer.opening c.args.m.now) c.requires.fits.1.boots (buffer_of c.args.call.now) c.requires.buffer
 
 pub turn-last-requires-clause-buffer : goal.turn-last-requires-clause-buffer
 turn-last-requires-clause-buffer g c =
-    rw c.turn-done.ensures.opening (buffer_there (g.C.CvLayer.opening c.args.m.now) c.requires.fits.1.boots (buffer_of c.args.call.now) c.requires.buffer)
+    rw c.turn-done.ensures.opening (block_there (g.C.CvLayer.opening c.args.m.now) c.requires.fits.1.boots (buffer_of c.args.call.now) c.requires.buffer)
 
 pub turn-done-requires-clause-may : goal.turn-done-requires-clause-may
 turn-done-requires-clause-may g c =
