@@ -1,9 +1,53 @@
--- What a part of message calls keeps for itself.
-use Rattle.std.specs.Prelude.{◌≡◌, ℕ, List}
+-- What a part of message calls keeps for itself, and what it tells of where a thread stands.
+use Rattle.std.specs.Prelude.{◌≡◌, ℕ, ◌<◌, Bool, false, ◌||◌, List, Option, Some, None, option_map, option_and_then}
+use Rattle.std.specs.Option.{option_or}
+use Rattle.event_log.specs.declared.ids.BufId.{BufId}
 use Rattle.event_log.specs.declared.ids.CpuId.{CpuId}
+use Rattle.event_log.specs.declared.ids.Tid.{Tid}
+use Rattle.layer_traits.specs.declared.calls.Place.{Place}
+use Rattle.layer_traits.specs.declared.calls.Place.TheVariants as place
+use Rattle.layer_traits.specs.declared.moves.Line.{Line}
+use Rattle.layer_traits.specs.declared.moves.Line.TheVariants.{Sleepers, Receivers, Senders}
+use Rattle.layer_traits.specs.Owned.{line_among}
+use Rattle.layer_traits.specs.Places.{Threads, is_thread}
+use Rattle.thread_blocks.specs.Queues.{is_in}
 
 -- it keeps the number of its CPU, the homes of the threads, and how many buffers there are
 pub record KeepsPlan (homes : List CpuId) (buffers : ℕ) (number cpu : CpuId) (kept : List CpuId) (count : ℕ) : Type 0 where
   pub number_is : number ≡ cpu
   pub homes_are : kept ≡ homes
   pub count_is : buffers ≡ count
+
+-- a thread is none of the CPU's own
+pub record IsAway (t : Tid) (own : Threads) : Type 0 where
+  pub current : is_thread t own.current ≡ false
+  pub hand : is_thread t own.hand ≡ false
+  pub ready : is_in t own.ready ≡ false
+  pub ended : is_in t own.ended ≡ false
+
+-- whether it was told to be so
+abbrev pub said : Option Bool → Bool
+said None = false
+said (Some told) = told
+
+-- whether the machine or the part tells that a thread stands in a pending queue
+abbrev pub pends_told : Tid → Option (List Tid) → Option (List Tid) → Bool
+pends_told t home here = said (option_map (is_in t) home) || said (option_map (is_in t) here)
+
+-- the line of a buffer in which a thread stands, as the machine or the part tells it
+abbrev pub line_told : Tid → Option (Line → List Tid) → Option (Line → List Tid) → Option Line
+line_told t home here = option_or (option_and_then (line_among t) home) (option_and_then (line_among t) here)
+
+-- the place of a thread that sleeps in this line of a buffer
+abbrev pub asleep_at : BufId → Line → Place
+asleep_at b Sleepers = place.LockSleeper b
+asleep_at b Receivers = place.WaitRecv b
+asleep_at b Senders = place.WaitSend b
+
+-- a part can tell nothing of where a thread stands: it is none of the CPU's own, and neither the machine nor the part tells that it stands
+-- in the pending queue of its home or in a line of a buffer
+pub record IsSilentOf (t : Tid) (own : Threads) (home : Option CpuId) (buffers : ℕ) (queue_at queue_with : CpuId → Option (List Tid))
+    (lines_at lines_with : BufId → Option (Line → List Tid)) : Type 0 where
+  pub away : IsAway t own
+  pub pends : (d : CpuId) → home ≡ Some d → pends_told t (queue_at d) (queue_with d) ≡ false
+  pub lines : (b : BufId) → b.0 < buffers → line_told t (lines_at b) (lines_with b) ≡ None

@@ -1,12 +1,22 @@
 //! Message calls over buffers.
 
-ghost use Rattle.std.specs.Prelude.{◌≡◌, ◌≤◌, [], IsSome, length, refl};
+ghost use Rattle.std.specs.Prelude.{◌≡◌, ◌<◌, ◌≤◌, true, [], None, Some, IsSome, length, refl};
+ghost use Rattle.event_log.specs.declared.ids.CpuId.{CpuId};
+ghost use Rattle.event_log.specs.declared.ids.LockId.TheVariants.{Pending};
 ghost use Rattle.event_log.specs.declared.ids.TheConstants.{THREADS};
+ghost use Rattle.layer_traits.specs.declared.calls.Place.{Place};
 ghost use Rattle.layer_traits.specs.BufferLaw.{buffer_of};
+ghost use Rattle.layer_traits.specs.Places.{home_of, is_thread};
+ghost use Rattle.layer_traits.specs.Told.{IsOwnPlace};
+ghost use Rattle.ipc_calls.specs.Parts.{IsAway, asleep_at, line_told, pends_told, said};
 
+use crate::opening::OpensBuffers;
 use arrayvec::ArrayVec;
-use event_log::{BufId, CpuId, THREADS, Tid};
-use layer_traits::{BufferLayer, Call, Effect, IpcLayer, Pass, Reply};
+use event_log::{BufId, CAPACITY, CpuId, Msg, NoMemory, THREADS, Tid};
+use layer_traits::{
+    BufferLayer, Call, Effect, IpcLayer, Line, Owned, OwnedBuffers, Pass, Place, Reply,
+};
+use std::alloc::Global;
 
 /// The buffer of a call.
 fn buffer_in(call: &Call) -> BufId
@@ -29,6 +39,37 @@ fn kept(homes: &[CpuId]) -> ArrayVec<CpuId, THREADS>
     kept
 }
 
+/// Whether it is this thread.
+fn is_it(t: Tid, other: Option<Tid>) -> bool
+    ensures { result ≡ is_thread t other }
+{
+    match other {
+        None => false,
+        Some(other) => other.0 == t.0,
+    }
+}
+
+/// Whether it was told to be so.
+fn says(told: Option<bool>) -> bool
+    ensures { result ≡ said told }
+{
+    match told {
+        None => false,
+        Some(told) => told,
+    }
+}
+
+/// The place of a thread that sleeps in this line of a buffer.
+fn bed(buffer: BufId, line: Line) -> Place
+    ensures { result ≡ asleep_at buffer line }
+{
+    match line {
+        Line::Sleepers => Place::LockSleeper(buffer),
+        Line::Receivers => Place::WaitRecv(buffer),
+        Line::Senders => Place::WaitSend(buffer),
+    }
+}
+
 /// One CPU's part of the layer of message calls, over a part `B` of buffers. It keeps how many
 /// buffers there are, by which it refuses a number that is none's, and the home of each thread, by
 /// which it knows the one pending queue in which a thread may stand.
@@ -41,7 +82,6 @@ pub struct Ipc<B> {
 }
 
 impl<B: BufferLayer> IpcLayer for Ipc<B> {
-    ghost use Rattle.event_log.specs.declared.ids.LockId.TheVariants.{Pending};
     ghost use Rattle.layer_traits.specs.BufferEffects.{opening_locks};
     ghost use Rattle.layer_traits.specs.QueueBlocks.{homes_in, inner};
     ghost use Rattle.ipc_calls.specs.Parts.{KeepsPlan};
@@ -166,4 +206,171 @@ impl<B: BufferLayer> IpcLayer for Ipc<B> {
     ghost busy = { λ p m fits. B.busy p.lower m fits.0 };
 
     ghost opens = { λ step m homes c fresh. opens_so (B.caps m) homes c (B.opening m) (B.opens m c fresh.0) fresh.4 fresh.5 fresh.6 };
+}
+
+impl<B: OwnedBuffers> Ipc<B> {
+    ghost use Rattle.event_log.specs.declared.ids.BufId.{BufId};
+
+    /// Where `t` stands among this CPU's own threads; `None` where it is none of them.
+    fn own_place(&self, t: Tid) -> Option<Place>
+        requires { B.cpu_of self.now.lower ≡ self.now.cpu }
+        ensures told { (x : Place) → result ≡ Some x
+            → IsOwnPlace (B.cpu_of self.now.lower) (B.own self.now.lower).cv.lock.sleep.threads t x }
+        ensures away { result ≡ None → IsAway t (B.own self.now.lower).cv.lock.sleep.threads }
+    {
+        if is_it(t, self.lower.current()) {
+            return Some(Place::Running(self.cpu));
+        }
+        if is_it(t, self.lower.hand()) {
+            return Some(Place::Hand(self.cpu));
+        }
+        if self.lower.is_ready(t) {
+            return Some(Place::Ready(self.cpu));
+        }
+        if self.lower.has_ended(t) {
+            return Some(Place::Ended);
+        }
+        None
+    }
+
+    /// The home of `t`, which there is.
+    fn home(&self, t: Tid) -> CpuId
+        requires { t.0 < length self.now.homes.items }
+        ensures { home_of self.now.homes.items t ≡ Some result }
+    {
+        self.homes[usize::from(t.0)]
+    }
+
+    /// Whether the machine or the part tells that `t` stands in the pending queue of `d`.
+    fn pends(&self, m: &B::Machine, d: CpuId, t: Tid) -> bool
+        requires acts { (c : CpuId) × B.ActsFor m.now c }
+        requires queue { IsSome (B.opening m.now (Pending d)) }
+        ensures { result ≡ pends_told t (B.queue_at m.now d) (B.queue_with self.now.lower d) }
+    {
+        says(B::pends_in(m, d, t)) || says(self.lower.pends_here(d, t))
+    }
+
+    /// The line of a buffer in which `t` stands, as the machine or the part tells it.
+    fn line(&self, m: &B::Machine, buffer: BufId, t: Tid) -> Option<Line>
+        requires acts { (c : CpuId) × B.ActsFor m.now c }
+        requires buffer { buffer.0 < length (B.caps m.now) }
+        ensures { result ≡ line_told t (B.lines_at m.now buffer) (B.lines_with self.now.lower buffer) }
+    {
+        match B::line_in(m, buffer, t) {
+            Some(line) => Some(line),
+            None => self.lower.line_here(buffer, t),
+        }
+    }
+
+    /// The first buffer, and its line, in which the machine or the part tells that `t` stands.
+    fn asleep(&self, m: &B::Machine, t: Tid) -> Option<(BufId, Line)>
+        requires acts { (c : CpuId) × B.ActsFor m.now c }
+        requires count { length (B.caps m.now) ≡ self.now.buffers }
+        ensures within { (x : _) → result ≡ Some x → x.0.0 < length (B.caps m.now) }
+        ensures found { (x : _) → result ≡ Some x → line_told t (B.lines_at m.now x.0) (B.lines_with self.now.lower x.0) ≡ Some x.1 }
+        ensures none { result ≡ None → (b : BufId) → b.0 < length (B.caps m.now)
+            → line_told t (B.lines_at m.now b) (B.lines_with self.now.lower b) ≡ None }
+    {
+        for number in 0..self.buffers {
+            let buffer = BufId(number);
+            if let Some(line) = self.line(m, buffer, t) {
+                return Some((buffer, line));
+            }
+        }
+        None
+    }
+}
+
+impl<B: OpensBuffers> Owned for Ipc<B> {
+    ghost use Rattle.event_log.specs.Actions.{phase};
+    ghost use Rattle.event_log.specs.Buffers.{items_of};
+    ghost use Rattle.layer_traits.proofs.OwnedLemmas.{told_under};
+    ghost use Rattle.layer_traits.specs.BufferEffects.{contents_of};
+    ghost use Rattle.layer_traits.specs.Places.{pending_by};
+    ghost use Rattle.layer_traits.specs.Plans.{is_in_section};
+    ghost use Rattle.layer_traits.specs.QueueBlocks.{homes_in};
+    ghost use Rattle.ipc_calls.specs.Parts.{IsSilentOf};
+    ghost use Rattle.ipc_calls.specs.PlaceLaws.{home_there, place_tells};
+
+    ghost owner = { λ m b. B.owner m b };
+
+    ghost items_in = { λ m b. B.items_at m b };
+
+    ghost items_here = { λ p b. B.items_with p.lower b };
+
+    ghost owner_in = { λ m b. B.owner_at m b };
+
+    ghost owner_here = { λ p b. B.owner_with p.lower b };
+
+    ghost IsSilent = { λ p m t. IsSilentOf t (B.own p.lower).cv.lock.sleep.threads (home_of (homes_in (B.opening m)) t) (length (B.caps m))
+        (B.queue_at m) (B.queue_with p.lower) (B.lines_at m) (B.lines_with p.lower) };
+
+    fn open(
+        alloc: Global,
+        cpus: u8,
+        caps: &[u8],
+        homes: &[CpuId],
+        room: usize,
+    ) -> Result<B::Machine, NoMemory> {
+        B::open(alloc, cpus, caps, homes, room)
+    }
+
+    fn buffer_in(m: &B::Machine, b: BufId) -> Option<ArrayVec<Msg, CAPACITY>> {
+        B::items_in(m, b)
+    }
+
+    fn buffer_here(&self, b: BufId) -> Option<ArrayVec<Msg, CAPACITY>> {
+        self.lower.items_here(b)
+    }
+
+    fn busy_in(m: &B::Machine, b: BufId) -> Option<Option<Tid>> {
+        B::owner_in(m, b)
+    }
+
+    fn busy_here(&self, b: BufId) -> Option<Option<Tid>> {
+        self.lower.owner_here(b)
+    }
+
+    fn place_at(&self, m: &B::Machine, t: Tid) -> Option<Place> {
+        if let Some(place) = self.own_place(t) {
+            return Some(place);
+        }
+        let home = self.home(t);
+        if self.pends(m, home, t) {
+            return Some(Place::Pending(home));
+        }
+        let (buffer, line) = self.asleep(m, t)?;
+        Some(bed(buffer, line))
+    }
+
+    ghost known = { B.known };
+
+    ghost items = { λ m c b acts within. told_under (λ (p : Self). p.lower) (λ p. B.Fits p m) (λ (p : Self). Self.Fits p m) (λ p. B.cpu_of p)
+        (λ (p : Self). B.cpu_of p.lower) (λ d. B.IsStepwise × (is_in_section (phase d (B.acts m)) ≡ true))
+        (λ d. B.IsStepwise × (is_in_section (phase d (B.acts m)) ≡ true)) (λ p. B.items_with p b) (B.items_at m b)
+        (items_of (contents_of (B.caps m) (B.seen m)) b.0) (λ p fits. fits.0) (λ p fits. refl) (λ d inside. inside) (B.items m c b acts within) };
+
+    ghost owners = { λ m c b acts within. told_under (λ (p : Self). p.lower) (λ p. B.Fits p m) (λ (p : Self). Self.Fits p m) (λ p. B.cpu_of p)
+        (λ (p : Self). B.cpu_of p.lower) (λ d. B.IsStepwise × (is_in_section (phase d (B.acts m)) ≡ true))
+        (λ d. B.IsStepwise × (is_in_section (phase d (B.acts m)) ≡ true)) (λ p. B.owner_with p b) (B.owner_at m b)
+        (B.owner m b) (λ p fits. fits.0) (λ p fits. refl) (λ d inside. inside) (B.owners m c b acts within) };
+
+    ghost place = { λ p m t fits there.
+        let home = home_there (homes_in (B.opening m)) t there in
+        let acts = B.own_cpu p.lower m fits.0 in
+        let cpu = B.cpu_of p.lower in
+        place_tells (λ (q : Self). Self.Fits q m) (λ (q : Self). B.cpu_of q.lower) (λ d. B.IsStepwise × (is_in_section (phase d (B.acts m)) ≡ true))
+        (homes_in (B.opening m)) (B.moves m) (length (B.caps m)) (B.lines m) (λ (q : Self). (B.own q.lower).cv.lock.sleep.threads)
+        (B.queue_at m) (λ (q : Self). B.queue_with q.lower) (B.lines_at m) (λ (q : Self). B.lines_with q.lower)
+        (B.moved m cpu acts) (B.lists p.lower m fits.0) (λ q fit. B.stands q.lower m fit.0)
+        (λ u d at. told_under (λ (q : Self). q.lower) (λ q. B.Fits q m) (λ (q : Self). Self.Fits q m) (λ q. B.cpu_of q)
+        (λ (q : Self). B.cpu_of q.lower) (λ d. B.IsStepwise × (is_in_section (phase d (B.acts m)) ≡ true))
+        (λ d. B.IsStepwise × (is_in_section (phase d (B.acts m)) ≡ true)) (λ q. B.queue_with q d) (B.queue_at m d)
+        (pending_by (B.moves m) d) (λ q fit. fit.0) (λ q fit. refl) (λ d inside. inside)
+        (B.queues m cpu d acts ((B.opens m cpu acts).queues u d at)))
+        (λ b within. told_under (λ (q : Self). q.lower) (λ q. B.Fits q m) (λ (q : Self). Self.Fits q m) (λ q. B.cpu_of q)
+        (λ (q : Self). B.cpu_of q.lower) (λ d. B.IsStepwise × (is_in_section (phase d (B.acts m)) ≡ true))
+        (λ d. B.IsStepwise × (is_in_section (phase d (B.acts m)) ≡ true)) (λ q. B.lines_with q b) (B.lines_at m b)
+        (B.lines m b) (λ q fit. fit.0) (λ q fit. refl) (λ d inside. inside) (B.beds m cpu b acts within))
+        t home.0 home.1 };
 }

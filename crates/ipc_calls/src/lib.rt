@@ -3,5 +3,7 @@
 #![tactic(auto)]
 
 mod ipc;
+mod opening;
 
 pub use ipc::Ipc;
+pub use opening::OpensBuffers;
