@@ -1,12 +1,10 @@
 //! Which call a scheduler's call is at the shared queues.
 
-ghost use Rattle.std.specs.Prelude.{◌≡◌, ◌≤◌, length};
-ghost use Rattle.event_log.specs.declared.ids.TheConstants.{THREADS};
+ghost use Rattle.std.specs.Prelude.{◌≡◌};
 ghost use Rattle.layer_traits.specs.Passes.{queue_for};
 ghost use Rattle.layer_traits.specs.Scheds.{queue_call};
 
-use arrayvec::ArrayVec;
-use event_log::{CpuId, THREADS, Tid};
+use event_log::{CpuId, Tid};
 use layer_traits::{Pass, QueueCall, SchedCall};
 
 /// The call of `cpu` at the shared queues; `None` where `call` touches nothing shared. `homes` holds
@@ -38,16 +36,4 @@ fn queue_for(homes: &[CpuId], cpu: CpuId, t: Tid) -> CpuId
         None => cpu,
         Some(home) => *home,
     }
-}
-
-/// A list of the homes to keep: at most `THREADS` of them.
-pub fn kept(homes: &[CpuId]) -> ArrayVec<CpuId, THREADS>
-    requires { length homes.now ≤ THREADS }
-    ensures { result.items ≡ homes.now }
-{
-    let mut kept = ArrayVec::new();
-    for home in homes {
-        kept.push(*home);
-    }
-    kept
 }

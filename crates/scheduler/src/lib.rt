@@ -5,7 +5,7 @@ mod calls;
 mod owns;
 mod sched;
 
-pub use calls::{call_beneath, kept};
+pub use calls::call_beneath;
 pub use owns::OwnThreads;
 pub use sched::Sched;
 

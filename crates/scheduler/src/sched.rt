@@ -2,12 +2,12 @@
 
 ghost use Rattle.std.specs.Prelude.{◌≡◌};
 
-use crate::calls::{call_beneath, kept};
+use crate::calls::call_beneath;
 use crate::owns::OwnThreads;
 use arrayvec::ArrayVec;
 use event_log::{BufId, CpuId, THREADS, Tid};
 use layer_traits::{
-    Moves, OwnedQueues, OwnedScheds, QueueLayer, SchedAnswer, SchedCall, SchedLayer,
+    Moves, OwnedQueues, OwnedScheds, QueueLayer, SchedAnswer, SchedCall, SchedLayer, kept_homes,
 };
 
 /// One CPU's part of a scheduler over shared queues: it does its CPU's calls one by one, and keeps
@@ -55,7 +55,7 @@ impl<E: Moves, Q: QueueLayer<E>> SchedLayer<E> for Sched<Q> {
         Sched {
             lower: Q::part(cpu, homes, buffers),
             cpu,
-            homes: kept(homes),
+            homes: kept_homes(homes),
             own: OwnThreads::at_boot(homes, cpu),
         }
     }

@@ -1,8 +1,9 @@
 //! Schedulers over shared queues and ticket locks, run.
 
-ghost use Rattle.std.specs.Prelude.{◌≡◌, ◌≢◌, ◌+◌, ◌<◌, ◌≤◌, [], IsSome, IfOk, None, Some, true, length};
+ghost use Rattle.std.specs.Prelude.{◌≡◌, ◌≢◌, ◌+◌, ◌<◌, ◌≤◌, [], IsSome, IfOk, MatchOption, None, Some, true, length};
 ghost use Rattle.event_log.specs.declared.ids.LockId.TheVariants.{Pending};
 ghost use Rattle.event_log.specs.declared.ids.TheConstants.{CPUS, THREADS};
+ghost use Rattle.layer_traits.specs.declared.scheds.SchedCall.TheVariants.{Pass as ThePass};
 ghost use Rattle.layer_traits.specs.Passes.{MayPass};
 ghost use Rattle.layer_traits.specs.QueueBlocks.{StartsWell, homes_in, inner};
 ghost use Rattle.scheduler.specs.Naps.{bed};
@@ -166,8 +167,8 @@ fn take_turns<S: SchedLayer<Nap>>(rt: &impl Abort, part: &mut S, m: &mut S::Mach
     assert!(rt; part.has_ended(Tid(1)) && !part.is_busy());
 }
 
-/// Thread 0 runs and goes to sleep.
-fn falls_asleep<S: SchedLayer<Nap>>(rt: &impl Abort, part: &mut S, m: &mut S::Machine)
+/// The front of the ready threads, which is `t`, runs and goes to sleep.
+fn falls_asleep<S: SchedLayer<Nap>>(rt: &impl Abort, part: &mut S, m: &mut S::Machine, t: Tid)
     requires fits { S.Fits part.old m.old }
     requires room { 6 ≤ S.room m.old }
     requires free { inner (S.opening m.old) bed ≡ Some None }
@@ -179,30 +180,46 @@ fn falls_asleep<S: SchedLayer<Nap>>(rt: &impl Abort, part: &mut S, m: &mut S::Ma
 {
     assert_eq!(rt; passed_at(part, m, Pass::Switch), 1);
     let nap = Nap {
-        by: Tid(0),
+        by: t,
         wakes: false,
     };
     assert_eq!(rt; napped_at(part, m, nap), 3);
     assert!(rt; part.current().is_none());
 }
 
-/// Thread 1 runs and wakes thread 0, which stands in hand and is then pushed to its home.
-fn wakes<S: SchedLayer<Nap>>(rt: &impl Abort, part: &mut S, m: &mut S::Machine)
+/// The front of the ready threads, which is `t`, runs and wakes `sleeper`, which stands in hand.
+fn wakes<S: SchedLayer<Nap>>(
+    rt: &impl Abort,
+    part: &mut S,
+    m: &mut S::Machine,
+    t: Tid,
+    sleeper: Tid,
+)
     requires fits { S.Fits part.old m.old }
-    requires room { 9 ≤ S.room m.old }
+    requires room { 6 ≤ S.room m.old }
     requires free { inner (S.opening m.old) bed ≡ Some None }
-    ensures room { S.room m.old ≤ S.room m.new + 9 }
+    ensures fits { S.Fits part.new m.new }
+    ensures room { S.room m.old ≤ S.room m.new + 6 }
     ensures free { inner (S.opening m.new) bed ≡ Some None }
+    ensures cpu { S.cpu_of part.new ≡ S.cpu_of part.old }
     ensures others { (p : S) → S.cpu_of p ≢ S.cpu_of part.old → S.Fits p m.old → S.Fits p m.new }
 {
     assert_eq!(rt; passed_at(part, m, Pass::Switch), 1);
-    let nap = Nap {
-        by: Tid(1),
-        wakes: true,
-    };
+    let nap = Nap { by: t, wakes: true };
     assert_eq!(rt; napped_at(part, m, nap), 3);
-    assert!(rt; part.hand() == Some(Tid(0)));
-    assert_eq!(rt; passed_at(part, m, Pass::MakeReady(Tid(0))), 3);
+    assert!(rt; part.hand() == Some(sleeper));
+}
+
+/// The thread in hand is pushed to its home.
+fn sends_home<S: SchedLayer<Nap>>(rt: &impl Abort, part: &mut S, m: &mut S::Machine, t: Tid)
+    requires fits { S.Fits part.old m.old }
+    requires room { 3 ≤ S.room m.old }
+    requires free { inner (S.opening m.old) bed ≡ Some None }
+    ensures room { S.room m.old ≤ S.room m.new + 3 }
+    ensures free { inner (S.opening m.new) bed ≡ Some None }
+    ensures others { (p : S) → S.cpu_of p ≢ S.cpu_of part.old → S.Fits p m.old → S.Fits p m.new }
+{
+    assert_eq!(rt; passed_at(part, m, Pass::MakeReady(t)), 3);
     assert!(rt; part.hand().is_none());
 }
 
@@ -216,6 +233,50 @@ fn runs_again<S: SchedLayer<Nap>>(rt: &impl Abort, part: &mut S, m: &mut S::Mach
     assert!(rt; part.is_ready(Tid(0)));
     assert_eq!(rt; passed_at(part, m, Pass::Switch), 1);
     assert!(rt; part.current() == Some(Tid(0)));
+}
+
+/// Polls a pass once, where it is under way or may come, and tells whether it is done.
+fn polled<S: SchedLayer<Nap>>(part: &mut S, m: &mut S::Machine, pass: Pass) -> bool
+    requires fits { S.Fits part.old m.old }
+    requires call { MatchOption (S.under_way part.old) (Unit {0}) (λ s. s ≡ ThePass pass) }
+    requires room { 0 < S.room m.old }
+    ensures fits { S.Fits part.new m.new }
+    ensures call { MatchOption (S.under_way part.new) (Unit {0}) (λ s. s ≡ ThePass pass) }
+    ensures room { S.room m.old ≤ S.room m.new + 1 }
+    ensures cpu { S.cpu_of part.new ≡ S.cpu_of part.old }
+    ensures others { (p : S) → S.cpu_of p ≢ S.cpu_of part.old → S.Fits p m.old → S.Fits p m.new }
+{
+    if !part.is_busy() && !may_pass(part, pass) {
+        return false;
+    }
+    part.poll(m, &SchedCall::Pass(pass)).is_some()
+}
+
+/// The second CPU pushes thread 1, which it has in hand, into the queue of the first CPU, while the
+/// first CPU takes that queue. The push came first, so the queue that is taken holds the thread.
+fn meet_at_one_queue<S: SchedLayer<Nap>>(
+    rt: &impl Abort,
+    first: &mut S,
+    second: &mut S,
+    m: &mut S::Machine,
+)
+    requires first { S.Fits first.old m.old }
+    requires second { S.Fits second.old m.old }
+    requires apart { S.cpu_of first.old ≢ S.cpu_of second.old }
+    requires others { S.cpu_of second.old ≢ S.cpu_of first.old }
+    requires room { 7 ≤ S.room m.old }
+{
+    assert!(rt; !first.is_busy() && !second.is_busy());
+    let push = Pass::MakeReady(Tid(1));
+    assert!(rt; !polled(second, m, push));
+    assert!(rt; !polled(first, m, Pass::Drain));
+    assert!(rt; !polled(first, m, Pass::Drain));
+    assert!(rt; !polled(second, m, push));
+    assert!(rt; polled(second, m, push));
+    assert!(rt; second.hand().is_none());
+    assert!(rt; !polled(first, m, Pass::Drain));
+    assert!(rt; polled(first, m, Pass::Drain));
+    assert!(rt; first.is_ready(Tid(1)));
 }
 
 /// The part of `cpu` at boot.
@@ -248,8 +309,21 @@ fn a_woken_thread_goes_home(rt: HostRuntime) -> Result<(), Fail> {
     let mut m = machine(rt.alloc(), 2, &homes)?;
     let mut first: Tower = part(&m, CpuId(0), &homes);
     let mut second: Tower = part(&m, CpuId(1), &homes);
-    falls_asleep(&rt, &mut first, &mut m);
-    wakes(&rt, &mut second, &mut m);
+    falls_asleep(&rt, &mut first, &mut m, Tid(0));
+    wakes(&rt, &mut second, &mut m, Tid(1), Tid(0));
+    sends_home(&rt, &mut second, &mut m, Tid(0));
     runs_again(&rt, &mut first, &mut m);
+    Ok(())
+}
+
+#[test]
+fn two_cpus_meet_at_one_queue(rt: HostRuntime) -> Result<(), Fail> {
+    let homes = [CpuId(1), CpuId(0)];
+    let mut m = machine(rt.alloc(), 2, &homes)?;
+    let mut first: Tower = part(&m, CpuId(0), &homes);
+    let mut second: Tower = part(&m, CpuId(1), &homes);
+    falls_asleep(&rt, &mut first, &mut m, Tid(1));
+    wakes(&rt, &mut second, &mut m, Tid(0), Tid(1));
+    meet_at_one_queue(&rt, &mut first, &mut second, &mut m);
     Ok(())
 }

@@ -7,24 +7,11 @@ ghost use Rattle.layer_traits.specs.OneLock.{AreDistinct, opened};
 ghost use Rattle.layer_traits.specs.QueueBlocks.{StartsWell, homes_in, inner};
 ghost use Rattle.shared_queue.specs.Opening.{AreEmptyQueues, AreQueues, buffers_from};
 
-use arrayvec::ArrayVec;
-use event_log::{BufId, CpuId, LockId, NoMemory, THREADS};
-use layer_traits::{QueueBlock, Room};
+use event_log::{BufId, CpuId, LockId, NoMemory};
+use layer_traits::{QueueBlock, Room, kept_homes};
 use std::alloc::Global;
 use std::snapshot::Snapshot;
 use thread_blocks::ThreadQueue;
-
-/// A list of the homes to keep: at most `THREADS` of them.
-fn kept(homes: &[CpuId]) -> ArrayVec<CpuId, THREADS>
-    requires { length homes.now ≤ THREADS }
-    ensures { result.items ≡ homes.now }
-{
-    let mut kept = ArrayVec::new();
-    for home in homes {
-        kept.push(*home);
-    }
-    kept
-}
 
 /// The lock of each CPU's pending queue, which is empty, with room for so many locks more.
 fn empty_queues<B: Drop>(
@@ -39,7 +26,7 @@ fn empty_queues<B: Drop>(
     ensures count { IfOk result (λ locks. vec_len locks ≡ cpus) }
     ensures room { IfOk result (λ locks. cpus + more ≤ vec_capacity locks) }
 {
-    let kept = kept(homes);
+    let kept = kept_homes(homes);
     let Ok(mut locks) = Vec::with_capacity(alloc, usize::from(cpus) + more) else {
         return Err(NoMemory);
     };

@@ -13,7 +13,7 @@ loop-cpu-preserved g c =
     let homes = c.args.homes.now in
     let block = Queue c.in_ok-queue.queue c.of.result in
     let pushed : c.push.new.self.items ≡ locks.items ++ (Pending (record { 0 = c.loop-cpu.cpu }), block) ∷ [] = rw c.unwrap.ensures at c.push.ensures.items in
-    let told = ap (λ v. v.items) c.of.ensures ∙ c.kept-kept.ensures in
+    let told = ap (λ v. v.items) c.of.ensures ∙ c.kept_homes-kept.ensures in
     let empty = c.in_ok-queue.ensures ∙ c.new.ensures in
     let count = c.loop-cpu.invariant.1 in
     let more = ap length pushed ∙ length_push locks.items (Pending (record { 0 = c.loop-cpu.cpu }), block) in (

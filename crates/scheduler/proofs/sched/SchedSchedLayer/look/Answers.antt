@@ -41,7 +41,8 @@ returns-clause-others g c = λ p other theirs.
     let n = c.look.new.m in
     let said = c.look.ensures in
     let their = subst (λ d. Q.ActsFor m d) theirs.1.cpu (g.met.Q.QueueLayer.own p.lower m theirs.0) in
-    let legal = subst (λ o. IsLawful (QueueAllowed (kernel rules mv o)) (Q.seen n)) said.opening (g.met.Q.QueueLayer.lawful n p.cpu (said.acts p.cpu their)) in (
+    let legal = subst (λ o. IsLawful (QueueAllowed (kernel rules mv o)) (Q.seen n)) said.opening
+    (g.met.Q.QueueLayer.lawful n p.cpu (said.acts p.cpu their)) in (
       said.others p.lower (λ e. other (sym theirs.1.cpu ∙ (e ∙ fits.1.cpu))) theirs.0,
       subst (λ o. PartFits rules mv o p.cpu (Q.cpu_of p.lower) p.homes.items (Q.under_way p.lower) (Q.seen n) p.own) (sym said.opening)
           (looked_fits rules mv (Q.opening m) wakes opens (λ d. Q.ActsFor m d) p.cpu (Q.cpu_of p.lower) (Q.cpu_of p.lower) p.homes.items

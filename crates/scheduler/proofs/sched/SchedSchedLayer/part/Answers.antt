@@ -15,7 +15,7 @@ returns-clause-fits g c = λ m acts outside none homes queue.
       c.part.ensures.fits m acts outside,
       record {
         cpu = c.part.ensures.cpu;
-        homes = homes ∙ sym c.kept.ensures;
+        homes = homes ∙ sym c.kept_homes.ensures;
         queue = queue;
         stands = subst₂ (λ own past. Stands H c.args.cpu (moves_in K past) own) (sym (c.at_boot.ensures ∙ ap (λ h. at_boot h c.args.cpu) (sym homes)))
             (sym none) (stands_boot H c.args.cpu);
