@@ -4,3 +4,4 @@ pub mod GuestLists
 pub mod Steps
 pub mod Passing
 pub mod Schedules
+pub mod Tower

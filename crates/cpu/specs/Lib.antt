@@ -2,3 +2,4 @@ pub mod Table
 pub mod Wakeups
 pub mod Guests
 pub mod Cpus
+pub mod Tower

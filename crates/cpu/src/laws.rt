@@ -8,6 +8,8 @@ ghost use Rattle.cpu.specs.Wakeups.Quiet.{QuietIsStuck};
 ghost use Rattle.cpu.specs.Wakeups.Alone.{CallsReturnAlone};
 ghost use Rattle.cpu.specs.Wakeups.OnePlace.{StandInOnePlace};
 ghost use Rattle.cpu.specs.Wakeups.Met.{PremisesAreMet};
+ghost use Rattle.cpu.specs.Tower.Views.{TablesAgree};
+ghost use Rattle.cpu.specs.Tower.Composed.{PlansAreLines};
 
 /// Worked runs of one thread on one CPU, by computation: what each leaves after its schedule.
 pub fn runs_alone()
@@ -83,4 +85,16 @@ pub fn stand_in_one_place()
 /// and both numbers of steps are exact.
 pub fn premises_are_met()
     ensures { PremisesAreMet }
+{}
+
+/// The layers' sections are the table's: each has one name there, and the blocks that they leave and
+/// their answers are seen as the table's, of every section on every block.
+pub fn tables_agree()
+    ensures { TablesAgree }
+{}
+
+/// The plan of every poll of a begun call is a line of the table: it asks for the table's section,
+/// and makes of each answer what the table makes of it.
+pub fn plans_are_lines()
+    ensures { PlansAreLines }
 {}

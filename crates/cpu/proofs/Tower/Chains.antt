@@ -1,0 +1,267 @@
+-- The plan of a begun call is a line of the table: where its caller neither slept nor waited; and where it did, the poll goes on with the
+-- next section.
+use Rattle.std.proofs.Common.{◌≡◌, ◌≢◌, ℕ, ◌<◌, false, ◌&&◌, List, length, get_or, slice_set, Option, Some, None, is_some, refl, ap, sym, ◌∙◌, subst}
+use Rattle.std.proofs.lemmas.Bool.{ne_eqb}
+use Rattle.thread_blocks.proofs.Members.{same_tid_self}
+use Rattle.std.proofs.lemmas.List.{get_or-set_same, get_or-set_other, length-set, set-get_or}
+use Rattle.event_log.specs.declared.entries.Entry.{Entry}
+use Rattle.event_log.specs.declared.ids.BufId.{BufId}
+use Rattle.event_log.specs.declared.ids.CpuId.{CpuId}
+use Rattle.event_log.specs.declared.ids.Tid.{Tid}
+use Rattle.guest.specs.State.{State, at_start}
+use Rattle.thread_blocks.specs.Queues.{is_in}
+use Rattle.layer_traits.specs.declared.calls.Call.{Call as TowerCall}
+use Rattle.layer_traits.specs.declared.calls.Effect.{Effect}
+use Rattle.layer_traits.specs.declared.calls.Reply.{Reply}
+use Rattle.layer_traits.specs.declared.locked.QEdit.TheVariants.{Acquire, Inside, Release}
+use Rattle.layer_traits.specs.declared.conditions.CvLeave.TheVariants.{Leave, Wait}
+use Rattle.layer_traits.specs.declared.buffer_edits.BufferEdit.{BufferEdit}
+use Rattle.layer_traits.specs.declared.buffer_edits.BufferOut.{BufferOut}
+use Rattle.layer_traits.specs.declared.talks.Stage.{Stage as TowerStage}
+use Rattle.layer_traits.specs.declared.talks.Stage.TheVariants as at
+use Rattle.layer_traits.specs.declared.talks.Talk.{Talk}
+use Rattle.layer_traits.specs.BufferProtocol.{buffer_rules}
+use Rattle.layer_traits.specs.BufferLaw.{BufferPlan, Buffering, at_stage, buffer_of, chained, fifo_plan, going, left_heard, plan_at, plan_of, plan_on, quiet, side_of as tower_side, talk_of}
+use Rattle.layer_traits.specs.Conditions.{CvCall}
+use Rattle.layer_traits.specs.CvLaw.{Waiting, cv_plan, cv_plan_for, left_waiting}
+use Rattle.layer_traits.specs.LockLaw.{plan_for, slept_for}
+use Rattle.layer_traits.specs.Locking.{lock_moves}
+use Rattle.layer_traits.specs.Plans.{Left, Plan, raised}
+use Rattle.cpu.specs.Table.Setups.{Setup, Acquires, Enters, Tries, Waits, AcquiresAgain, Signals, SignalsOwn, Releases, Stage, Thread, Private}
+use Rattle.cpu.specs.Tower.Views.{TowerAnswer, TowerName, TowerOut}
+use Rattle.cpu.specs.Tower.Privates.{guest_at, guests_after, private_after, private_of, thread_from, tid, trace_after}
+use Rattle.cpu.specs.Tower.Composed.{IsLine}
+use Rattle.cpu.proofs.Tower.Numbered.{changed, goes, own_at, parts, threads_at}
+use Rattle.cpu.proofs.Tower.Lines.{HasHad, Site, after, e, from, g, own, talk, threads, with_call, k}
+use Rattle.cpu.proofs.Tower.Composition.{asks_line, asks_again_line, enters_line, tries_line, waits_line, signals_line, own_signals_line, releases_line}
+
+-- the plan of a poll of this call is a line of the table
+abbrev pub LineOf : Setup → CpuId → Tid → TowerCall → Buffering → List State → List Entry → Type 0
+LineOf setup c t call own guests trace =
+    IsLine setup c (private_of own guests trace) (fifo_plan setup.homes c t call own) (private_after setup c t call own guests trace)
+
+-- a list in which an element is put that stands there
+pub put_same : {X : Type 0} (xs : List X) (n : ℕ) (x d : X) → get_or xs n d ≡ x → xs ≡ slice_set xs n x
+put_same xs n x d is = sym (set-get_or xs n d) ∙ ap (slice_set xs n) is
+
+-- the part's private state, with its current thread in the place of its number
+pub private_here : (t : Tid) (hand : Option Tid) (ready ended : List Tid) (kept : Option TowerOut) (slept waits : List (Option BufId)) (talks : List Talk)
+    (guests : List State) (trace : List Entry) → t.0 < length guests → t.0 < length talks → (talk : Talk) (s w : Option BufId)
+    → talk_of talks t ≡ talk → slept_for slept t ≡ s → slept_for waits t ≡ w
+    → private_of (own_at (Some t) hand ready ended kept slept waits talks) guests trace
+    ≡ parts (Some t) ready hand (slice_set (threads_at (own_at (Some t) hand ready ended kept slept waits talks) guests) t.0
+    (thread_from talk s w (is_some kept) (is_in t ended) (guest_at guests t))) trace
+private_here t hand ready ended kept slept waits talks guests trace in_guests in_talks talk s w is is_s is_w =
+    (λ i. private_of (own_at (Some t) hand ready ended kept slept waits (put_same talks t.0 talk quiet is i)) (put_same guests t.0 (guest_at guests t) at_start refl i) trace)
+    ∙ goes t hand ready ended kept slept waits talks guests in_guests in_talks hand ready kept talk (guest_at guests t) trace s w is_s is_w
+
+-- the plan of a poll, where the talk is this
+pub fifo_at : (setup : Setup) (c : CpuId) (t : Tid) (call : TowerCall) (own : Buffering) (talk : Talk) → talk_of own.talks t ≡ talk
+    → fifo_plan setup.homes c t call own ≡ plan_at setup.homes c t call (going talk call).stage (going talk call) own
+fifo_at setup c t call own talk is = ap (λ x. plan_at setup.homes c t call (going x call).stage (going x call) own) is
+
+-- a line of a begun call
+module _ (site : Site) (effect : Option Effect) (had : HasHad site effect) (stage : TowerStage) (is : talk_of site.talks site.t ≡ talk site effect had stage) where
+  pub going_line : (at : Stage) → thread_from (talk site effect had stage) None None false (e site effect had) (g site effect had) ≡ with_call site effect had (k site effect had at)
+      → (plan : BufferPlan Reply)
+      → plan_at site.setup.homes site.c site.t site.call (going (talk site effect had stage) site.call).stage (going (talk site effect had stage) site.call) (own site effect had) ≡ plan
+      → IsLine site.setup site.c (from site effect had at) plan (after site effect had)
+      → LineOf site.setup site.c site.t site.call (own site effect had) site.guests site.trace
+  going_line at same plan is_plan line =
+      let here = private_here site.t None site.ready site.ended None site.slept site.waits site.talks site.guests site.trace site.in_guests site.in_talks
+      (talk site effect had stage) None None is site.is_slept site.is_waits
+      ∙ ap (λ x. parts (Some site.t) site.ready None (slice_set (threads site effect had) site.t.0 x) site.trace) same in
+      let way = fifo_at site.setup site.c site.t site.call (own site effect had) (talk site effect had stage) is ∙ is_plan in
+      subst (λ x. x) (λ i. IsLine site.setup site.c (sym here i) (sym way i) (after site effect had)) line
+
+module _ (site : Site) where
+  abbrev talk_at : TowerStage → Option Effect → Talk
+  talk_at stage effect = record { stage = stage; call = Some site.call; position = site.position; effect = effect }
+
+  abbrev pub SiteLine : Type 0
+  SiteLine = LineOf site.setup site.c site.t site.call (own_at (Some site.t) None site.ready site.ended None site.slept site.waits site.talks) site.guests site.trace
+
+  had_none : (stage : TowerStage) → (going (talk_at stage None) site.call).effect ≡ None → talk_of site.talks site.t ≡ talk_at stage None → HasHad site None
+  had_none stage so is = ap (λ x. (going x site.call).effect) is ∙ so
+
+  pub site_asks : talk_of site.talks site.t ≡ talk_at at.Acquires None → SiteLine
+  site_asks is = let had = had_none at.Acquires refl is in going_line site None had at.Acquires is Acquires refl _ refl (asks_line site had)
+
+  pub site_enters : talk_of site.talks site.t ≡ talk_at at.Enters None → SiteLine
+  site_enters is = let had = had_none at.Enters refl is in going_line site None had at.Enters is Enters refl _ refl (enters_line site had)
+
+  pub site_tries : talk_of site.talks site.t ≡ talk_at at.Tries None → SiteLine
+  site_tries is = let had = had_none at.Tries refl is in going_line site None had at.Tries is Tries refl _ refl (tries_line site had)
+
+  pub site_waits : talk_of site.talks site.t ≡ talk_at at.Waits None → SiteLine
+  site_waits is = let had = had_none at.Waits refl is in going_line site None had at.Waits is Waits refl _ refl (waits_line site had)
+
+  pub site_asks_again : talk_of site.talks site.t ≡ talk_at at.AcquiresAgain None → SiteLine
+  site_asks_again is =
+      let had = had_none at.AcquiresAgain refl is in going_line site None had at.AcquiresAgain is AcquiresAgain refl _ refl (asks_again_line site had)
+
+  pub site_signals : (f : Effect) → talk_of site.talks site.t ≡ talk_at at.Signals (Some f) → SiteLine
+  site_signals f is =
+      let had : HasHad site (Some f) = ap (λ x. (going x site.call).effect) is in
+      going_line site (Some f) had at.Signals is Signals refl _ refl (signals_line site f had)
+
+  pub site_own_signals : (f : Effect) → talk_of site.talks site.t ≡ talk_at at.SignalsOwn (Some f) → SiteLine
+  site_own_signals f is =
+      let had : HasHad site (Some f) = ap (λ x. (going x site.call).effect) is in
+      going_line site (Some f) had at.SignalsOwn is SignalsOwn refl _ refl (own_signals_line site f had)
+
+  pub site_releases : (f : Effect) → talk_of site.talks site.t ≡ talk_at at.Releases (Some f) → SiteLine
+  site_releases f is =
+      let had : HasHad site (Some f) = ap (λ x. (going x site.call).effect) is in
+      going_line site (Some f) had at.Releases is Releases refl _ refl (releases_line site f had)
+
+-- Chains: the thread slept for the lock and was handed it, or waited and was woken.
+
+module _ (setup : Setup) (c : CpuId) (t : Tid) (ready ended : List Tid) (slept waits : List (Option BufId)) (talks : List Talk) (guests : List State)
+    (trace : List Entry) (call : TowerCall) (position : ℕ) (in_guests : t.0 < length guests) (in_talks : t.0 < length talks)
+    (in_slept : t.0 < length slept) (in_waits : t.0 < length waits) where
+  abbrev was : Buffering
+  was = own_at (Some t) None ready ended None slept waits talks
+
+  abbrev so : TowerStage → Talk
+  so stage = record { stage = stage; call = Some call; position = position; effect = None }
+
+  abbrev then_own : List (Option BufId) → List (Option BufId) → TowerStage → Buffering
+  then_own slept2 waits2 stage = own_at (Some t) None ready ended None slept2 waits2 (slice_set talks t.0 (so stage))
+
+  now_talk : (stage : TowerStage) → talk_of (slice_set talks t.0 (so stage)) t ≡ so stage
+  now_talk stage = get_or-set_same talks t.0 (so stage) quiet in_talks
+
+  now_long : (stage : TowerStage) → t.0 < length (slice_set talks t.0 (so stage))
+  now_long stage = subst (λ n. t.0 < n) (sym (length-set talks t.0 (so stage))) in_talks
+
+  -- the private state is the same
+  same_private : (stage next : TowerStage) (slept2 waits2 : List (Option BufId)) (s w : Option BufId) → talk_of talks t ≡ so stage
+      → slept_for slept t ≡ s → slept_for waits t ≡ w
+      → ((j : ℕ) → j ≢ t.0 → slept_for slept2 (tid j) ≡ slept_for slept (tid j))
+      → ((j : ℕ) → j ≢ t.0 → slept_for waits2 (tid j) ≡ slept_for waits (tid j)) → slept_for slept2 t ≡ None → slept_for waits2 t ≡ None
+      → thread_from (so next) None None false (is_in t ended) (guest_at guests t) ≡ thread_from (so stage) s w false (is_in t ended) (guest_at guests t)
+      → private_of (then_own slept2 waits2 next) guests trace ≡ private_of was guests trace
+  same_private stage next slept2 waits2 s w is is_s is_w slept_same waits_same s2 w2 same =
+      (λ i. private_of (then_own slept2 waits2 next) (put_same guests t.0 (guest_at guests t) at_start refl i) trace)
+      ∙ (changed t None ready ended None slept waits talks guests in_guests in_talks (Some t) None ready None slept2 waits2 (so next) (guest_at guests t) trace None None false
+      (λ j other. ap (λ b. b && false) (ne_eqb t.0 j (λ e. other (sym e)))) slept_same waits_same s2 w2 (ap (λ b. b && false) (same_tid_self t))
+      ∙ (ap (λ x. parts (Some t) ready None (slice_set (threads_at was guests) t.0 x) trace) same
+      ∙ sym (private_here t None ready ended None slept waits talks guests trace in_guests in_talks (so stage) s w is is_s is_w)))
+
+  -- a line of the state to which the poll went on is one of the state from which it came
+  chained_line : (stage next : TowerStage) (own2 : Buffering) → talk_of talks t ≡ so stage → talk_of own2.talks t ≡ so next
+      → (going (so stage) call).effect ≡ None → (going (so next) call).effect ≡ None
+      → private_of own2 guests trace ≡ private_of was guests trace → fifo_plan setup.homes c t call was ≡ fifo_plan setup.homes c t call own2
+      → LineOf setup c t call own2 guests trace → LineOf setup c t call was guests trace
+  chained_line stage next own2 is is2 none none2 private plan line =
+      let effects : (going (talk_of own2.talks t) call).effect ≡ (going (talk_of talks t) call).effect
+      = (ap (λ x. (going x call).effect) is2 ∙ none2) ∙ sym (ap (λ x. (going x call).effect) is ∙ none) in
+      subst (λ x. x) (λ i. IsLine setup c (private i) (sym plan i) (λ left. private_of left.own (guests_after setup t left.answer guests)
+      (trace_after c t (buffer_of call) (effects i) (talk_of left.own.talks t).effect trace))) line
+
+  abbrev beneath : CvCall BufferEdit → Plan TowerName TowerAnswer (Waiting BufferOut) TowerOut
+  beneath s = cv_plan (lock_moves buffer_rules) setup.homes c (buffer_of call) s was.cv
+
+  -- the plan beneath of a thread that was handed the lock
+  handed_now : (b : BufId) → slept_for waits t ≡ None → slept_for slept t ≡ Some b
+      → beneath (Acquire t) ≡ raised (λ l. left_waiting t (buffer_of call) waits l.own l.answer)
+      (plan_for (lock_moves buffer_rules) setup.homes c (buffer_of call) (Acquire t) was.cv.lock (Some b))
+  handed_now b w s =
+      ap (cv_plan_for (lock_moves buffer_rules) setup.homes c (buffer_of call) (Acquire t) was.cv) w
+      ∙ ap (λ o. raised (λ l. left_waiting t (buffer_of call) waits l.own l.answer)
+      (plan_for (lock_moves buffer_rules) setup.homes c (buffer_of call) (Acquire t) was.cv.lock o)) s
+
+  abbrev site_then : (slept2 waits2 : List (Option BufId)) (stage : TowerStage) → t.0 < length slept2 → t.0 < length waits2
+      → slept_for slept2 t ≡ None → slept_for waits2 t ≡ None → Site
+  site_then slept2 waits2 stage long_slept long_waits s2 w2 = record {
+    setup = setup;
+    c = c;
+    t = t;
+    ready = ready;
+    ended = ended;
+    slept = slept2;
+    waits = waits2;
+    talks = slice_set talks t.0 (so stage);
+    guests = guests;
+    trace = trace;
+    call = call;
+    position = position;
+    in_guests = in_guests;
+    in_talks = now_long stage;
+    in_slept = long_slept;
+    in_waits = long_waits;
+    is_slept = s2;
+    is_waits = w2;
+  }
+
+  slept_set : slept_for (slice_set slept t.0 None) t ≡ None
+  slept_set = get_or-set_same slept t.0 None None in_slept
+
+  waits_set : slept_for (slice_set waits t.0 None) t ≡ None
+  waits_set = get_or-set_same waits t.0 None None in_waits
+
+  slept_long : t.0 < length (slice_set slept t.0 None)
+  slept_long = subst (λ n. t.0 < n) (sym (length-set slept t.0 None)) in_slept
+
+  waits_long : t.0 < length (slice_set waits t.0 None)
+  waits_long = subst (λ n. t.0 < n) (sym (length-set waits t.0 None)) in_waits
+
+  -- the plan of a thread that was handed the lock is that of its next section
+  pub handed_plan : (b : BufId) → talk_of talks t ≡ so at.Acquires → slept_for slept t ≡ Some b → slept_for waits t ≡ None
+      → fifo_plan setup.homes c t call was ≡ fifo_plan setup.homes c t call (then_own (slice_set slept t.0 None) waits at.Enters)
+  handed_plan b is s w =
+      let own2 = then_own (slice_set slept t.0 None) waits at.Enters in
+      fifo_at setup c t call was (so at.Acquires) is
+      ∙ (ap (chained (λ left. plan_of setup.homes c t call at.Enters (talk_of left.talks t) left) (left_heard t call (so at.Acquires) talks at.Acquires)) (handed_now b w s)
+      ∙ (ap (λ x. plan_of setup.homes c t call at.Enters x own2) (now_talk at.Enters)
+      ∙ sym (fifo_at setup c t call own2 (so at.Enters) (now_talk at.Enters))))
+
+  pub handed_line : (b : BufId) → talk_of talks t ≡ so at.Acquires → slept_for slept t ≡ Some b → slept_for waits t ≡ None → LineOf setup c t call was guests trace
+  handed_line b is s w =
+      let own2 = then_own (slice_set slept t.0 None) waits at.Enters in
+      chained_line at.Acquires at.Enters own2 is (now_talk at.Enters) refl refl
+      (same_private at.Acquires at.Enters (slice_set slept t.0 None) waits (Some b) None is s w
+      (λ j other. get_or-set_other slept t.0 j None None other) (λ j other. refl) slept_set w refl)
+      (handed_plan b is s w)
+      (site_enters (site_then (slice_set slept t.0 None) waits at.Enters slept_long in_waits slept_set w) (now_talk at.Enters))
+
+  pub handed_again_plan : (b : BufId) → talk_of talks t ≡ so at.AcquiresAgain → slept_for slept t ≡ Some b → slept_for waits t ≡ None
+      → fifo_plan setup.homes c t call was ≡ fifo_plan setup.homes c t call (then_own (slice_set slept t.0 None) waits at.Tries)
+  handed_again_plan b is s w =
+      let own2 = then_own (slice_set slept t.0 None) waits at.Tries in
+      fifo_at setup c t call was (so at.AcquiresAgain) is
+      ∙ (ap (chained (λ left. plan_of setup.homes c t call at.Tries (talk_of left.talks t) left) (left_heard t call (so at.AcquiresAgain) talks at.AcquiresAgain)) (handed_now b w s)
+      ∙ (ap (λ x. plan_of setup.homes c t call at.Tries x own2) (now_talk at.Tries)
+      ∙ sym (fifo_at setup c t call own2 (so at.Tries) (now_talk at.Tries))))
+
+  pub handed_again_line : (b : BufId) → talk_of talks t ≡ so at.AcquiresAgain → slept_for slept t ≡ Some b → slept_for waits t ≡ None
+      → LineOf setup c t call was guests trace
+  handed_again_line b is s w =
+      let own2 = then_own (slice_set slept t.0 None) waits at.Tries in
+      chained_line at.AcquiresAgain at.Tries own2 is (now_talk at.Tries) refl refl
+      (same_private at.AcquiresAgain at.Tries (slice_set slept t.0 None) waits (Some b) None is s w
+      (λ j other. get_or-set_other slept t.0 j None None other) (λ j other. refl) slept_set w refl)
+      (handed_again_plan b is s w)
+      (site_tries (site_then (slice_set slept t.0 None) waits at.Tries slept_long in_waits slept_set w) (now_talk at.Tries))
+
+  -- the plan of a thread that was woken is to ask for the lock again
+  pub woken_plan : (b : BufId) → talk_of talks t ≡ so at.Waits → slept_for slept t ≡ None → slept_for waits t ≡ Some b
+      → fifo_plan setup.homes c t call was ≡ fifo_plan setup.homes c t call (then_own slept (slice_set waits t.0 None) at.AcquiresAgain)
+  woken_plan b is s w =
+      let own2 = then_own slept (slice_set waits t.0 None) at.AcquiresAgain in
+      fifo_at setup c t call was (so at.Waits) is
+      ∙ (ap (chained (λ left. plan_on setup.homes c t call at.AcquiresAgain (plan_of setup.homes c t call at.Tries) (talk_of left.talks t) left)
+      (left_heard t call (so at.Waits) talks at.Waits))
+      (ap (cv_plan_for (lock_moves buffer_rules) setup.homes c (buffer_of call) (Release (Wait t (tower_side call))) was.cv) w)
+      ∙ (ap (λ x. plan_on setup.homes c t call at.AcquiresAgain (plan_of setup.homes c t call at.Tries) x own2) (now_talk at.AcquiresAgain)
+      ∙ sym (fifo_at setup c t call own2 (so at.AcquiresAgain) (now_talk at.AcquiresAgain))))
+
+  pub woken_line : (b : BufId) → talk_of talks t ≡ so at.Waits → slept_for slept t ≡ None → slept_for waits t ≡ Some b → LineOf setup c t call was guests trace
+  woken_line b is s w =
+      let own2 = then_own slept (slice_set waits t.0 None) at.AcquiresAgain in
+      chained_line at.Waits at.AcquiresAgain own2 is (now_talk at.AcquiresAgain) refl refl
+      (same_private at.Waits at.AcquiresAgain slept (slice_set waits t.0 None) None (Some b) is s w
+      (λ j other. refl) (λ j other. get_or-set_other waits t.0 j None None other) s waits_set refl)
+      (woken_plan b is s w)
+      (site_asks_again (site_then slept (slice_set waits t.0 None) at.AcquiresAgain in_slept waits_long s waits_set) (now_talk at.AcquiresAgain))

@@ -1,0 +1,340 @@
+-- The plan of each section of a call is a line of the table: its caller asks, enters, tries, waits, signals and releases.
+use Rattle.std.proofs.Common.{◌≡◌, ◌≢◌, ◌⊎◌, inl, inr, ℕ, ◌<◌, Bool, true, false, List, [], ◌∷◌, ◌++◌, length, slice_get, slice_set, Option, Some, None, IsSome, is_some, if◌then◌else◌, refl, ap, sym, ◌∙◌, subst}
+use Rattle.std.proofs.lemmas.List.{get_or-set_same, get_or-set_other, set-get_or}
+use Rattle.event_log.specs.declared.entries.Entry.{Entry}
+use Rattle.event_log.specs.declared.ids.BufId.{BufId}
+use Rattle.event_log.specs.declared.ids.CpuId.{CpuId}
+use Rattle.event_log.specs.declared.ids.LockId.TheVariants.{Buffer}
+use Rattle.event_log.specs.declared.ids.Tid.{Tid}
+use Rattle.event_log.specs.History.{same_cpu}
+use Rattle.event_log.specs.Messages.{Message}
+use Rattle.guest.specs.declared.instructions.Instruction.{Instruction}
+use Rattle.guest.specs.State.{State, at_start, next_of}
+use Rattle.thread_blocks.specs.Queues.{first, is_in}
+use Rattle.layer_traits.proofs.CountLemmas.{same_cpu_sym}
+use Rattle.layer_traits.specs.declared.calls.Call.{Call as TowerCall}
+use Rattle.layer_traits.specs.declared.calls.Call.TheVariants.{Send, Recv}
+use Rattle.layer_traits.specs.declared.calls.Effect.{Effect}
+use Rattle.layer_traits.specs.declared.calls.Reply.{Reply}
+use Rattle.layer_traits.specs.declared.locked.QEdit.TheVariants.{Acquire, Inside, Release}
+use Rattle.layer_traits.specs.declared.locked.QOut.{QOut}
+use Rattle.layer_traits.specs.declared.locked.QOut.TheVariants as lock
+use Rattle.layer_traits.specs.declared.locked.Side.{Side}
+use Rattle.layer_traits.specs.declared.locked.Side.TheVariants.{Receivers, Senders}
+use Rattle.layer_traits.specs.declared.conditions.CvEdit.TheVariants.{Edit, SignalFront}
+use Rattle.layer_traits.specs.declared.conditions.CvLeave.TheVariants.{Leave, Wait}
+use Rattle.layer_traits.specs.declared.conditions.CvOut.{CvOut}
+use Rattle.layer_traits.specs.declared.conditions.CvOut.TheVariants as cv
+use Rattle.layer_traits.specs.declared.buffer_edits.BufferEdit.{BufferEdit}
+use Rattle.layer_traits.specs.declared.buffer_edits.BufferOut.{BufferOut}
+use Rattle.layer_traits.specs.declared.buffer_edits.BufferOut.TheVariants.{Entered, NotYet, Done}
+use Rattle.layer_traits.specs.declared.queue_edits.QueueBlock.TheVariants as block
+use Rattle.layer_traits.specs.declared.queue_edits.QueueEdit.TheVariants as queue
+use Rattle.layer_traits.specs.declared.queues.QueueAnswer.TheVariants as told
+use Rattle.layer_traits.specs.declared.sleeps.Outcome.{Outcome}
+use Rattle.layer_traits.specs.declared.talks.Stage.{Stage as TowerStage}
+use Rattle.layer_traits.specs.declared.talks.Stage.TheVariants as at
+use Rattle.layer_traits.specs.declared.talks.Talk.{Talk}
+use Rattle.layer_traits.specs.BufferBlocks.{BufferState, buffer_answer, editor, first_item, is_turn}
+use Rattle.layer_traits.specs.BufferProtocol.{buffer_rules}
+use Rattle.layer_traits.specs.BufferLaw.{BufferPlan, Buffering, at_stage, chained, buffer_of, entry_of, plan_on, first_of, going, left_heard, other_side, plan_at, plan_beneath, plan_of, quiet, reply_of, section_at as tower_section, side_of as tower_side, talk_of, try_of}
+use Rattle.layer_traits.specs.Conditions.{CvCall}
+use Rattle.layer_traits.specs.CvLaw.{Waiting, cv_plan, cv_plan_for, left_waiting}
+use Rattle.layer_traits.specs.LockLaw.{Locking, left_after, plan_for, slept_for}
+use Rattle.layer_traits.specs.Locking.{LockState, line_asked, lock_answer, lock_moves, told_asker}
+use Rattle.layer_traits.specs.Places.{Threads, is_cpu}
+use Rattle.layer_traits.specs.Plans.{Left, Plan, Now, Act, raised}
+use Rattle.layer_traits.specs.SleepLaw.{Sleeping, left_done, sleep_plan}
+use Rattle.cpu.specs.Guests.{after_answer}
+use Rattle.cpu.specs.Table.Blocks.{Answer, Asks, Sends, Receives, Told, Position, effect_of}
+use Rattle.cpu.specs.Table.Setups.{Setup, Acquires, Enters, Tries, Waits, AcquiresAgain, Signals, SignalsOwn, Releases, Returns, Stage, Call, Thread, Private, cpu_or, home_of, program_of, thread_at}
+use Rattle.cpu.specs.Table.Choice.{after_section, at_buffer, first_section, guest_after, heard, heard_entry, heard_position, returned_at, section_at, settled, slept_if, woken}
+use Rattle.cpu.specs.Tower.Views.{TowerAnswer, TowerBlock, TowerName, TowerOut, answer_view, name_of, tower}
+use Rattle.cpu.specs.Tower.Privates.{asks_in, call_from, guest_at, guests_after, private_after, private_of, thread_from, tid, trace_after}
+use Rattle.cpu.specs.Tower.Composed.{HandIsKnown, IsKind, IsLine}
+use Rattle.cpu.proofs.Tower.Numbered.{changed, goes, gone, numbered_long, own_at, parts, threads_at}
+use Rattle.cpu.proofs.Tower.Settled.{asks_for, calling, done_with, from_t, goes_on, heard_is, put, returns, with_t}
+use Rattle.cpu.proofs.Tower.Lines.{Site, HasHad, Tried, first_editor, first_name, first_answer, try_editor, try_name, try_answer, wait_name, signal_name, own_signal_name, reply_guest, entry_heard}
+use Rattle.cpu.proofs.Tower.Lines.{own, g, e, threads, buf, talk, k, from, after, runs_on, sleeps_now, waits_now, beneath_is, fresh, react, line, lift, waking, by_home}
+use Rattle.cpu.proofs.Tower.Lines.{stands, by_table, stays_so, has_returned}
+
+-- what is answered to an Acquire, to an edit inside, to a signal, a leave and a wait
+abbrev asked_out : Option Tid → TowerOut
+asked_out o = record { out = told_asker o; slept = is_some (line_asked o); woke = None }
+
+abbrev did_out : BufferOut → TowerOut
+did_out o = record { out = lock.Did (cv.Did o); slept = false; woke = None }
+
+abbrev signal_out : CvOut BufferOut → Option Tid → TowerOut
+signal_out v o = record { out = lock.Did v; slept = false; woke = o }
+
+abbrev left_out : Option Tid → TowerOut
+left_out o = record { out = lock.Released cv.Left; slept = false; woke = o }
+
+abbrev wait_out : Side → Option Tid → TowerOut
+wait_out side o = record { out = lock.Released (cv.Waited side); slept = true; woke = o }
+
+-- Before the effect.
+
+module _ (site : Site) (had : HasHad site None) where
+  abbrev plan : TowerStage → BufferPlan Reply
+  plan stage = plan_at site.setup.homes site.c site.t site.call stage (talk site None had stage) (own site None had)
+
+  abbrev at_buf : TowerStage → (Buffering → BufferPlan Reply) → Plan TowerName TowerAnswer (Waiting BufferOut) TowerOut → BufferPlan Reply
+  at_buf stage next p = chained next (left_heard site.t site.call (talk site None had stage) site.talks stage) p
+
+  -- it asks for the lock
+  ask : (o : Option Tid) → after site None had (react site None had at.Acquires (Acquire site.t) (Some (told.Answer (asked_out o))))
+      ≡ after_section site.setup site.c (from site None had Acquires) (answer_view (told.Answer (asked_out o)))
+  ask None =
+      runs_on site None had None site.ready None (at_stage at.Enters (talk site None had at.Acquires)) None
+      ∙ sym (by_table site None had Acquires (answer_view (told.Answer (asked_out None))) (k site None had Enters) site.trace refl
+      ∙ stays_so site None had (k site None had Enters) site.ready site.trace (λ p. refl))
+  ask (Some owner) =
+      sleeps_now site None had at.Acquires
+      ∙ sym (by_table site None had Acquires (answer_view (told.Answer (asked_out (Some owner)))) (k site None had Enters) site.trace refl)
+
+  pub asks_line : IsLine site.setup site.c (from site None had Acquires) (plan at.Acquires) (after site None had)
+  asks_line =
+      line site None had at.Acquires (Acquire site.t) Acquires (plan at.Acquires)
+      (ap (at_buf at.Acquires (λ l. plan_of site.setup.homes site.c site.t site.call at.Enters (talk_of l.talks site.t) l))
+      (beneath_is site None had (Acquire site.t) site.is_waits site.is_slept))
+      refl (runs_on site None had None site.ready None (talk site None had at.Acquires) None) (λ x known. ask x.owner)
+
+  ask_again : (o : Option Tid) → after site None had (react site None had at.AcquiresAgain (Acquire site.t) (Some (told.Answer (asked_out o))))
+      ≡ after_section site.setup site.c (from site None had AcquiresAgain) (answer_view (told.Answer (asked_out o)))
+  ask_again None =
+      runs_on site None had None site.ready None (at_stage at.Tries (talk site None had at.AcquiresAgain)) None
+      ∙ sym (by_table site None had AcquiresAgain (answer_view (told.Answer (asked_out None))) (k site None had Tries) site.trace refl
+      ∙ stays_so site None had (k site None had Tries) site.ready site.trace (λ p. refl))
+  ask_again (Some owner) =
+      sleeps_now site None had at.AcquiresAgain
+      ∙ sym (by_table site None had AcquiresAgain (answer_view (told.Answer (asked_out (Some owner)))) (k site None had Tries) site.trace refl)
+
+  pub asks_again_line : IsLine site.setup site.c (from site None had AcquiresAgain) (plan at.AcquiresAgain) (after site None had)
+  asks_again_line =
+      line site None had at.AcquiresAgain (Acquire site.t) AcquiresAgain (plan at.AcquiresAgain)
+      (ap (at_buf at.AcquiresAgain (λ l. plan_of site.setup.homes site.c site.t site.call at.Tries (talk_of l.talks site.t) l))
+      (beneath_is site None had (Acquire site.t) site.is_waits site.is_slept))
+      refl (runs_on site None had None site.ready None (talk site None had at.AcquiresAgain) None) (λ x known. ask_again x.owner)
+
+  -- it enters its line
+  enter : (pos : ℕ) → after site None had (react site None had at.Enters (Inside (Edit (first_of site.t site.call))) (Some (told.Answer (did_out (Entered pos)))))
+      ≡ after_section site.setup site.c (from site None had Enters) (answer_view (told.Answer (did_out (Entered pos))))
+  enter pos =
+      runs_on site None had None site.ready None (record { stage = at.Tries; call = Some site.call; position = pos; effect = None }) None
+      ∙ sym (by_table site None had Enters (answer_view (told.Answer (did_out (Entered pos)))) (call_from site.call pos None Tries) site.trace
+      (entry_heard site.c (from site None had Enters) site.t (k site None had Enters) (asks_in site.call) (Position pos))
+      ∙ stays_so site None had (call_from site.call pos None Tries) site.ready site.trace (λ p. refl))
+
+  pub enters_line : IsLine site.setup site.c (from site None had Enters) (plan at.Enters) (after site None had)
+  enters_line =
+      line site None had at.Enters (Inside (Edit (first_of site.t site.call))) Enters (plan at.Enters)
+      (ap (raised (left_heard site.t site.call (talk site None had at.Enters) site.talks at.Enters))
+      (beneath_is site None had (Inside (Edit (first_of site.t site.call)))
+      (ap (slept_for site.waits) (first_editor site.t site.call) ∙ site.is_waits) (ap (slept_for site.slept) (first_editor site.t site.call) ∙ site.is_slept)))
+      (first_name site.t site.call) (runs_on site None had None site.ready None (talk site None had at.Enters) None)
+      (λ x known. let drawn = first_answer site.t site.call x.above in
+      subst (λ o. after site None had (react site None had at.Enters (Inside (Edit (first_of site.t site.call))) (Some (told.Answer (did_out o))))
+      ≡ after_section site.setup site.c (from site None had Enters) (answer_view (told.Answer (did_out o)))) (sym drawn.1) (enter drawn.0))
+
+  -- it tries
+  abbrev try_fits : BufferOut → Type 0
+  try_fits o = after site None had (react site None had at.Tries (Inside (Edit (try_of site.t site.call))) (Some (told.Answer (did_out o))))
+      ≡ after_section site.setup site.c (from site None had Tries) (answer_view (told.Answer (did_out o)))
+
+  abbrev effect_is : ℕ → Message → Effect
+  effect_is op m = record { kind = effect_of (asks_in site.call); value = m; op = op; pos = site.position }
+
+  tries_done : (op : ℕ) (m : Message) → try_fits (Done (effect_of (asks_in site.call)) op m)
+  tries_done op m =
+      let f : Effect = effect_is op m in
+      runs_on site None had None site.ready None (record { stage = at.Signals; call = Some site.call; position = site.position; effect = Some f }) None
+      ∙ sym (by_table site None had Tries (answer_view (told.Answer (did_out (Done (effect_of (asks_in site.call)) op m))))
+      (call_from site.call site.position (Some f) Signals) (site.trace ++ entry_of site.c site.t (buffer_of site.call) f ∷ []) refl
+      ∙ stays_so site None had (call_from site.call site.position (Some f) Signals) site.ready
+      (site.trace ++ entry_of site.c site.t (buffer_of site.call) f ∷ []) (λ p. refl))
+
+  tries_vain : try_fits NotYet
+  tries_vain =
+      runs_on site None had None site.ready None (talk site None had at.Waits) None
+      ∙ sym (by_table site None had Tries (answer_view (told.Answer (did_out NotYet))) (k site None had Waits) site.trace refl
+      ∙ stays_so site None had (k site None had Waits) site.ready site.trace (λ p. refl))
+
+  tries_by : (x : BufferState) → (buffer_answer (try_of site.t site.call) x ≡ NotYet) ⊎ Tried site.t site.call x
+      → try_fits (buffer_answer (try_of site.t site.call) x)
+  tries_by x (inl vain) = subst try_fits (sym vain) tries_vain
+  tries_by x (inr tried) = subst try_fits (sym tried.is) (tries_done tried.op tried.message)
+
+  pub tries_line : IsLine site.setup site.c (from site None had Tries) (plan at.Tries) (after site None had)
+  tries_line =
+      line site None had at.Tries (Inside (Edit (try_of site.t site.call))) Tries (plan at.Tries)
+      (ap (raised (left_heard site.t site.call (talk site None had at.Tries) site.talks at.Tries))
+      (beneath_is site None had (Inside (Edit (try_of site.t site.call)))
+      (ap (slept_for site.waits) (try_editor site.t site.call) ∙ site.is_waits) (ap (slept_for site.slept) (try_editor site.t site.call) ∙ site.is_slept)))
+      (try_name site.t site.call site.position) (runs_on site None had None site.ready None (talk site None had at.Tries) None)
+      (λ x known. tries_by x.above (try_answer site.t site.call x.above))
+
+  -- it waits
+  abbrev wait_react : Side → Option Tid → Left Buffering Reply
+  wait_react side o = react site None had at.Waits (Release (Wait site.t side)) (Some (told.Answer (wait_out side o)))
+
+  -- its caller gone, with the thread that it woke at home or in the hand
+  abbrev gone_so : Private
+  gone_so = slept_if true (stands site None had site.ready None (k site None had AcquiresAgain) site.trace)
+
+  abbrev woken_to : Tid → Bool → Private
+  woken_to u b = if b then record gone_so { ready = site.ready ++ u ∷ [] } else record gone_so { hand = Some u }
+
+  waits_by : (side : Side) (u : Tid) (b : Bool)
+      → after site None had (lift site None had at.Waits (wait_out side (Some u)) (waking site None had None u b)) ≡ settled site.setup (woken_to u b)
+  waits_by side u true = waits_now site None had None (site.ready ++ u ∷ []) at.Waits
+  waits_by side u false = waits_now site None had (Some u) site.ready at.Waits
+
+  wait_now : (side : Side) (o : Option Tid) → HandIsKnown site.setup (wait_react side o).own
+      → after site None had (wait_react side o) ≡ after_section site.setup site.c (from site None had Waits) (answer_view (told.Answer (wait_out side o)))
+  wait_now Receivers None known =
+      waits_now site None had None site.ready at.Waits
+      ∙ sym (by_table site None had Waits (answer_view (told.Answer (wait_out Receivers None))) (k site None had AcquiresAgain) site.trace refl)
+  wait_now Senders None known =
+      waits_now site None had None site.ready at.Waits
+      ∙ sym (by_table site None had Waits (answer_view (told.Answer (wait_out Senders None))) (k site None had AcquiresAgain) site.trace refl)
+  wait_now Receivers (Some u) known =
+      by_home site None had u (λ b. lift site None had at.Waits (wait_out Receivers (Some u)) (waking site None had None u b))
+      (λ b. settled site.setup (woken_to u b)) (waits_by Receivers u) (λ hand. hand u refl) known
+      ∙ sym (by_table site None had Waits (answer_view (told.Answer (wait_out Receivers (Some u)))) (k site None had AcquiresAgain) site.trace refl)
+  wait_now Senders (Some u) known =
+      by_home site None had u (λ b. lift site None had at.Waits (wait_out Senders (Some u)) (waking site None had None u b))
+      (λ b. settled site.setup (woken_to u b)) (waits_by Senders u) (λ hand. hand u refl) known
+      ∙ sym (by_table site None had Waits (answer_view (told.Answer (wait_out Senders (Some u)))) (k site None had AcquiresAgain) site.trace refl)
+
+  waits_at : (side : Side) (x : LockState BufferState)
+      → HandIsKnown site.setup (react site None had at.Waits (Release (Wait site.t side)) (Some (told.Answer (lock_answer buffer_rules (Release (Wait site.t side)) x)))).own
+      → after site None had (react site None had at.Waits (Release (Wait site.t side)) (Some (told.Answer (lock_answer buffer_rules (Release (Wait site.t side)) x))))
+      ≡ after_section site.setup site.c (from site None had Waits) (answer_view (told.Answer (lock_answer buffer_rules (Release (Wait site.t side)) x)))
+  waits_at Receivers x known = wait_now Receivers (first x.sleepers) known
+  waits_at Senders x known = wait_now Senders (first x.sleepers) known
+
+  pub waits_line : IsLine site.setup site.c (from site None had Waits) (plan at.Waits) (after site None had)
+  waits_line =
+      line site None had at.Waits (Release (Wait site.t (tower_side site.call))) Waits (plan at.Waits)
+      (ap (at_buf at.Waits (λ l. plan_on site.setup.homes site.c site.t site.call at.AcquiresAgain
+      (plan_of site.setup.homes site.c site.t site.call at.Tries) (talk_of l.talks site.t) l))
+      (beneath_is site None had (Release (Wait site.t (tower_side site.call))) site.is_waits site.is_slept))
+      (wait_name site.t site.call site.position) (runs_on site None had None site.ready None (talk site None had at.Waits) None)
+      (λ x known. waits_at (tower_side site.call) x known)
+
+-- After the effect.
+
+module _ (site : Site) (f : Effect) (had : HasHad site (Some f)) where
+  abbrev plan_to : TowerStage → BufferPlan Reply
+  plan_to stage = plan_at site.setup.homes site.c site.t site.call stage (talk site (Some f) had stage) (own site (Some f) had)
+
+  signal_by : (v : CvOut BufferOut) (u : Tid) (b : Bool)
+      → after site (Some f) had (lift site (Some f) had at.Signals (signal_out v (Some u)) (waking site (Some f) had (Some site.t) u b))
+      ≡ settled site.setup (if b then stands site (Some f) had (site.ready ++ u ∷ []) None (k site (Some f) had SignalsOwn) site.trace
+      else stands site (Some f) had site.ready (Some u) (k site (Some f) had SignalsOwn) site.trace)
+  signal_by v u true =
+      runs_on site (Some f) had None (site.ready ++ u ∷ []) None (at_stage at.SignalsOwn (talk site (Some f) had at.Signals)) None
+      ∙ sym (stays_so site (Some f) had (k site (Some f) had SignalsOwn) (site.ready ++ u ∷ []) site.trace (λ p. refl))
+  signal_by v u false = runs_on site (Some f) had (Some u) site.ready (Some (signal_out v (Some u))) (talk site (Some f) had at.Signals) None
+
+  signal : (side : Side) (v : CvOut BufferOut) (o : Option Tid)
+      → HandIsKnown site.setup (react site (Some f) had at.Signals (Inside (SignalFront site.t side)) (Some (told.Answer (signal_out v o)))).own
+      → after site (Some f) had (react site (Some f) had at.Signals (Inside (SignalFront site.t side)) (Some (told.Answer (signal_out v o))))
+      ≡ after_section site.setup site.c (from site (Some f) had Signals) (answer_view (told.Answer (signal_out v o)))
+  signal side v None known =
+      runs_on site (Some f) had None site.ready None (at_stage at.SignalsOwn (talk site (Some f) had at.Signals)) None
+      ∙ sym (by_table site (Some f) had Signals (answer_view (told.Answer (signal_out v None))) (k site (Some f) had SignalsOwn) site.trace refl
+      ∙ stays_so site (Some f) had (k site (Some f) had SignalsOwn) site.ready site.trace (λ p. refl))
+  signal side v (Some u) known =
+      by_home site (Some f) had u (λ b. lift site (Some f) had at.Signals (signal_out v (Some u)) (waking site (Some f) had (Some site.t) u b))
+      (λ b. settled site.setup (if b then stands site (Some f) had (site.ready ++ u ∷ []) None (k site (Some f) had SignalsOwn) site.trace
+      else stands site (Some f) had site.ready (Some u) (k site (Some f) had SignalsOwn) site.trace))
+      (signal_by v u) (λ hand. hand u refl) known
+      ∙ sym (by_table site (Some f) had Signals (answer_view (told.Answer (signal_out v (Some u)))) (k site (Some f) had SignalsOwn) site.trace refl)
+
+  pub signals_line : IsLine site.setup site.c (from site (Some f) had Signals) (plan_to at.Signals) (after site (Some f) had)
+  signals_line =
+      line site (Some f) had at.Signals (Inside (SignalFront site.t (other_side site.call))) Signals (plan_to at.Signals)
+      (ap (raised (left_heard site.t site.call (talk site (Some f) had at.Signals) site.talks at.Signals))
+      (beneath_is site (Some f) had (Inside (SignalFront site.t (other_side site.call))) site.is_waits site.is_slept))
+      (signal_name site.t site.call site.position f) (runs_on site (Some f) had None site.ready None (talk site (Some f) had at.Signals) None)
+      (λ x known. signal (other_side site.call) _ _ known)
+
+  own_signal_by : (v : CvOut BufferOut) (u : Tid) (b : Bool)
+      → after site (Some f) had (lift site (Some f) had at.SignalsOwn (signal_out v (Some u)) (waking site (Some f) had (Some site.t) u b))
+      ≡ settled site.setup (if b then stands site (Some f) had (site.ready ++ u ∷ []) None (k site (Some f) had Releases) site.trace
+      else stands site (Some f) had site.ready (Some u) (k site (Some f) had Releases) site.trace)
+  own_signal_by v u true =
+      runs_on site (Some f) had None (site.ready ++ u ∷ []) None (at_stage at.Releases (talk site (Some f) had at.SignalsOwn)) None
+      ∙ sym (stays_so site (Some f) had (k site (Some f) had Releases) (site.ready ++ u ∷ []) site.trace (λ p. refl))
+  own_signal_by v u false = runs_on site (Some f) had (Some u) site.ready (Some (signal_out v (Some u))) (talk site (Some f) had at.SignalsOwn) None
+
+  own_signal : (side : Side) (v : CvOut BufferOut) (o : Option Tid)
+      → HandIsKnown site.setup (react site (Some f) had at.SignalsOwn (Inside (SignalFront site.t side)) (Some (told.Answer (signal_out v o)))).own
+      → after site (Some f) had (react site (Some f) had at.SignalsOwn (Inside (SignalFront site.t side)) (Some (told.Answer (signal_out v o))))
+      ≡ after_section site.setup site.c (from site (Some f) had SignalsOwn) (answer_view (told.Answer (signal_out v o)))
+  own_signal side v None known =
+      runs_on site (Some f) had None site.ready None (at_stage at.Releases (talk site (Some f) had at.SignalsOwn)) None
+      ∙ sym (by_table site (Some f) had SignalsOwn (answer_view (told.Answer (signal_out v None))) (k site (Some f) had Releases) site.trace refl
+      ∙ stays_so site (Some f) had (k site (Some f) had Releases) site.ready site.trace (λ p. refl))
+  own_signal side v (Some u) known =
+      by_home site (Some f) had u (λ b. lift site (Some f) had at.SignalsOwn (signal_out v (Some u)) (waking site (Some f) had (Some site.t) u b))
+      (λ b. settled site.setup (if b then stands site (Some f) had (site.ready ++ u ∷ []) None (k site (Some f) had Releases) site.trace
+      else stands site (Some f) had site.ready (Some u) (k site (Some f) had Releases) site.trace))
+      (own_signal_by v u) (λ hand. hand u refl) known
+      ∙ sym (by_table site (Some f) had SignalsOwn (answer_view (told.Answer (signal_out v (Some u)))) (k site (Some f) had Releases) site.trace refl)
+
+  pub own_signals_line : IsLine site.setup site.c (from site (Some f) had SignalsOwn) (plan_to at.SignalsOwn) (after site (Some f) had)
+  own_signals_line =
+      line site (Some f) had at.SignalsOwn (Inside (SignalFront site.t (tower_side site.call))) SignalsOwn (plan_to at.SignalsOwn)
+      (ap (raised (left_heard site.t site.call (talk site (Some f) had at.SignalsOwn) site.talks at.SignalsOwn))
+      (beneath_is site (Some f) had (Inside (SignalFront site.t (tower_side site.call))) site.is_waits site.is_slept))
+      (own_signal_name site.t site.call site.position f) (runs_on site (Some f) had None site.ready None (talk site (Some f) had at.SignalsOwn) None)
+      (λ x known. own_signal (tower_side site.call) _ _ known)
+
+  -- it releases the lock, and its call returns
+  abbrev over : Talk
+  over = record { stage = at.Between; call = None; position = site.position; effect = Some f }
+
+  returned_so : (ready2 : List Tid)
+      → after site (Some f) had (record {
+        own = own_at (Some site.t) None ready2 site.ended None site.slept site.waits (slice_set site.talks site.t.0 over);
+        answer = Some (reply_of site.call f);
+      })
+      ≡ settled site.setup (stands site (Some f) had ready2 None (k site (Some f) had Returns) site.trace)
+  returned_so ready2 =
+      runs_on site (Some f) had None ready2 None over (Some (reply_of site.call f))
+      ∙ (ap (λ x. parts (Some site.t) ready2 None (slice_set (threads site (Some f) had) site.t.0 (record { guest = x; call = None; ended = e site (Some f) had })) site.trace)
+      (reply_guest site.call f (next_of (program_of site.setup site.t) (g site (Some f) had)) (g site (Some f) had))
+      ∙ sym (has_returned site (Some f) had (k site (Some f) had Releases) ready2 site.trace))
+
+  release_by : (u : Tid) (b : Bool)
+      → after site (Some f) had (lift site (Some f) had at.Releases (left_out (Some u)) (waking site (Some f) had (Some site.t) u b))
+      ≡ settled site.setup (if b then stands site (Some f) had (site.ready ++ u ∷ []) None (k site (Some f) had Returns) site.trace
+      else stands site (Some f) had site.ready (Some u) (k site (Some f) had Returns) site.trace)
+  release_by u true = returned_so (site.ready ++ u ∷ [])
+  release_by u false = runs_on site (Some f) had (Some u) site.ready (Some (left_out (Some u))) (talk site (Some f) had at.Releases) None
+
+  release : (o : Option Tid)
+      → HandIsKnown site.setup (react site (Some f) had at.Releases (Release (Leave site.t)) (Some (told.Answer (left_out o)))).own
+      → after site (Some f) had (react site (Some f) had at.Releases (Release (Leave site.t)) (Some (told.Answer (left_out o))))
+      ≡ after_section site.setup site.c (from site (Some f) had Releases) (answer_view (told.Answer (left_out o)))
+  release None known =
+      returned_so site.ready
+      ∙ sym (by_table site (Some f) had Releases (answer_view (told.Answer (left_out None))) (k site (Some f) had Returns) site.trace refl)
+  release (Some u) known =
+      by_home site (Some f) had u (λ b. lift site (Some f) had at.Releases (left_out (Some u)) (waking site (Some f) had (Some site.t) u b))
+      (λ b. settled site.setup (if b then stands site (Some f) had (site.ready ++ u ∷ []) None (k site (Some f) had Returns) site.trace
+      else stands site (Some f) had site.ready (Some u) (k site (Some f) had Returns) site.trace))
+      (release_by u) (λ hand. hand u refl) known
+      ∙ sym (by_table site (Some f) had Releases (answer_view (told.Answer (left_out (Some u)))) (k site (Some f) had Returns) site.trace refl)
+
+  pub releases_line : IsLine site.setup site.c (from site (Some f) had Releases) (plan_to at.Releases) (after site (Some f) had)
+  releases_line =
+      line site (Some f) had at.Releases (Release (Leave site.t)) Releases (plan_to at.Releases)
+      (ap (raised (left_heard site.t site.call (talk site (Some f) had at.Releases) site.talks at.Releases))
+      (beneath_is site (Some f) had (Release (Leave site.t)) site.is_waits site.is_slept))
+      refl (runs_on site (Some f) had None site.ready None (talk site (Some f) had at.Releases) None)
+      (λ x known. release (first x.sleepers) known)

@@ -1,0 +1,318 @@
+-- The plan of a section of a call is a line of the table, where nobody is in the hand.
+use Rattle.std.proofs.Common.{◌≡◌, ◌≢◌, ◌⊎◌, inl, inr, ℕ, ◌<◌, Bool, true, false, List, [], ◌∷◌, ◌++◌, length, slice_get, slice_set, Option, Some, None, IsSome, is_some, if◌then◌else◌, refl, ap, sym, ◌∙◌, subst}
+use Rattle.std.proofs.lemmas.List.{get_or-set_same, get_or-set_other, set-get_or}
+use Rattle.event_log.specs.declared.entries.Entry.{Entry}
+use Rattle.event_log.specs.declared.ids.BufId.{BufId}
+use Rattle.event_log.specs.declared.ids.CpuId.{CpuId}
+use Rattle.event_log.specs.declared.ids.LockId.TheVariants.{Buffer}
+use Rattle.event_log.specs.declared.ids.Tid.{Tid}
+use Rattle.event_log.specs.History.{same_cpu}
+use Rattle.event_log.specs.Messages.{Message}
+use Rattle.guest.specs.declared.instructions.Instruction.{Instruction}
+use Rattle.guest.specs.State.{State, at_start, next_of}
+use Rattle.thread_blocks.specs.Queues.{is_in}
+use Rattle.layer_traits.proofs.CountLemmas.{same_cpu_sym}
+use Rattle.layer_traits.specs.declared.calls.Call.{Call as TowerCall}
+use Rattle.layer_traits.specs.declared.calls.Call.TheVariants.{Send, Recv}
+use Rattle.layer_traits.specs.declared.calls.Effect.{Effect}
+use Rattle.layer_traits.specs.declared.calls.Reply.{Reply}
+use Rattle.layer_traits.specs.declared.locked.QEdit.TheVariants.{Acquire, Inside, Release}
+use Rattle.layer_traits.specs.declared.locked.QOut.{QOut}
+use Rattle.layer_traits.specs.declared.locked.QOut.TheVariants as lock
+use Rattle.layer_traits.specs.declared.locked.Side.{Side}
+use Rattle.layer_traits.specs.declared.locked.Side.TheVariants.{Receivers, Senders}
+use Rattle.layer_traits.specs.declared.conditions.CvEdit.TheVariants.{Edit, SignalFront}
+use Rattle.layer_traits.specs.declared.conditions.CvLeave.TheVariants.{Leave, Wait}
+use Rattle.layer_traits.specs.declared.conditions.CvOut.{CvOut}
+use Rattle.layer_traits.specs.declared.conditions.CvOut.TheVariants as cv
+use Rattle.layer_traits.specs.declared.buffer_edits.BufferEdit.{BufferEdit}
+use Rattle.layer_traits.specs.declared.buffer_edits.BufferOut.{BufferOut}
+use Rattle.layer_traits.specs.declared.buffer_edits.BufferOut.TheVariants.{Entered, NotYet, Done}
+use Rattle.layer_traits.specs.declared.queue_edits.QueueBlock.TheVariants as block
+use Rattle.layer_traits.specs.declared.queue_edits.QueueEdit.TheVariants as queue
+use Rattle.layer_traits.specs.declared.queues.QueueAnswer.TheVariants as told
+use Rattle.layer_traits.specs.declared.sleeps.Outcome.{Outcome}
+use Rattle.layer_traits.specs.declared.talks.Stage.{Stage as TowerStage}
+use Rattle.layer_traits.specs.declared.talks.Stage.TheVariants as at
+use Rattle.layer_traits.specs.declared.talks.Talk.{Talk}
+use Rattle.layer_traits.specs.BufferBlocks.{BufferState, buffer_answer, editor, first_item, is_turn}
+use Rattle.layer_traits.specs.BufferProtocol.{buffer_rules}
+use Rattle.layer_traits.specs.BufferLaw.{BufferPlan, Buffering, at_stage, chained, buffer_of, first_of, going, left_heard, other_side, plan_at, plan_beneath, plan_of, quiet, reply_of, section_at as tower_section, side_of as tower_side, talk_of, try_of}
+use Rattle.layer_traits.specs.Conditions.{CvCall}
+use Rattle.layer_traits.specs.CvLaw.{Waiting, cv_plan, cv_plan_for, left_waiting}
+use Rattle.layer_traits.specs.LockLaw.{Locking, left_after, plan_for, slept_for}
+use Rattle.layer_traits.specs.Locking.{LockState, line_asked, lock_answer, lock_moves, told_asker}
+use Rattle.layer_traits.specs.Places.{Threads, is_cpu}
+use Rattle.layer_traits.specs.Plans.{Left, Plan, Now, Act, raised}
+use Rattle.layer_traits.specs.SleepLaw.{Sleeping, left_done, sleep_plan}
+use Rattle.cpu.specs.Guests.{after_answer}
+use Rattle.cpu.specs.Table.Blocks.{Answer, Asks, Sends, Receives, Told, effect_of}
+use Rattle.cpu.specs.Table.Setups.{Setup, Acquires, Enters, Tries, Waits, AcquiresAgain, Signals, SignalsOwn, Releases, Returns, Stage, Call, Thread, Private, cpu_or, home_of, program_of, thread_at}
+use Rattle.cpu.specs.Table.Choice.{after_section, at_buffer, first_section, guest_after, heard, heard_entry, heard_position, returned_at, section_at, settled, slept_if, woken}
+use Rattle.cpu.specs.Tower.Views.{TowerAnswer, TowerBlock, TowerName, TowerOut, answer_view, name_of, tower}
+use Rattle.cpu.specs.Tower.Privates.{asks_in, call_from, guest_at, guests_after, private_after, private_of, thread_from, tid, trace_after}
+use Rattle.cpu.specs.Tower.Composed.{HandIsKnown, IsKind, IsLine}
+use Rattle.cpu.proofs.Tower.Numbered.{changed, goes, gone, numbered_long, own_at, parts, threads_at}
+use Rattle.cpu.proofs.Tower.Settled.{asks_for, calling, done_with, from_t, goes_on, heard_is, put, returns, with_t}
+
+-- What a call's sections are, by what it asks.
+
+pub first_editor : (t : Tid) (call : TowerCall) → editor (first_of t call) ≡ t
+first_editor t (Send b m) = refl
+first_editor t (Recv b) = refl
+
+pub first_name : (t : Tid) (call : TowerCall) → first_section t (asks_in call) ≡ name_of (queue.Above (Inside (Edit (first_of t call))))
+first_name t (Send b m) = refl
+first_name t (Recv b) = refl
+
+pub first_answer : (t : Tid) (call : TowerCall) (x : BufferState) → (pos : ℕ) × (buffer_answer (first_of t call) x ≡ Entered pos)
+first_answer t (Send b m) x = (x.sends, refl)
+first_answer t (Recv b) x = (x.receives, refl)
+
+pub try_editor : (t : Tid) (call : TowerCall) → editor (try_of t call) ≡ t
+try_editor t (Send b m) = refl
+try_editor t (Recv b) = refl
+
+pub try_name : (t : Tid) (call : TowerCall) (position : ℕ)
+    → section_at t (call_from call position None Tries) Tries ≡ name_of (queue.Above (Inside (Edit (try_of t call))))
+try_name t (Send b m) position = refl
+try_name t (Recv b) position = refl
+
+pub record Tried (t : Tid) (call : TowerCall) (x : BufferState) : Type 0 where
+  pub op : ℕ
+  pub message : Message
+  pub is : buffer_answer (try_of t call) x ≡ Done (effect_of (asks_in call)) op message
+
+pub try_answer : (t : Tid) (call : TowerCall) (x : BufferState) → (buffer_answer (try_of t call) x ≡ NotYet) ⊎ Tried t call x
+try_answer t (Send b m) x = go (is_turn Senders t x) refl
+  where
+    go : (k : Bool) → is_turn Senders t x ≡ k → (buffer_answer (try_of t (Send b m)) x ≡ NotYet) ⊎ Tried t (Send b m) x
+    go true may = inr (record { op = x.effects; message = m; is = rw may refl })
+    go false not_yet = inl (rw not_yet refl)
+try_answer t (Recv b) x = go (is_turn Receivers t x) refl
+  where
+    go : (k : Bool) → is_turn Receivers t x ≡ k → (buffer_answer (try_of t (Recv b)) x ≡ NotYet) ⊎ Tried t (Recv b) x
+    go true may = inr (record { op = x.effects; message = first_item x.items; is = rw may refl })
+    go false not_yet = inl (rw not_yet refl)
+
+pub wait_name : (t : Tid) (call : TowerCall) (position : ℕ)
+    → section_at t (call_from call position None Waits) Waits ≡ name_of (queue.Above (Release (Wait t (tower_side call))))
+wait_name t (Send b m) position = refl
+wait_name t (Recv b) position = refl
+
+pub signal_name : (t : Tid) (call : TowerCall) (position : ℕ) (f : Effect)
+    → section_at t (call_from call position (Some f) Signals) Signals ≡ name_of (queue.Above (Inside (SignalFront t (other_side call))))
+signal_name t (Send b m) position f = refl
+signal_name t (Recv b) position f = refl
+
+pub own_signal_name : (t : Tid) (call : TowerCall) (position : ℕ) (f : Effect)
+    → section_at t (call_from call position (Some f) SignalsOwn) SignalsOwn ≡ name_of (queue.Above (Inside (SignalFront t (tower_side call))))
+own_signal_name t (Send b m) position f = refl
+own_signal_name t (Recv b) position f = refl
+
+pub reply_guest : (call : TowerCall) (f : Effect) (line : Instruction) (g : State)
+    → after_answer (Some (reply_of call f)) line g ≡ guest_after (asks_in call) line f.value g
+reply_guest (Send b m) f line g = refl
+reply_guest (Recv b) f line g = refl
+
+pub entry_heard : (c : CpuId) (p : Private) (t : Tid) (k : Call) (asks : Asks) (told : Told) → heard_entry c p t k asks told ≡ heard_position p t k told
+entry_heard c p t k Sends told = refl
+entry_heard c p t k Receives told = refl
+
+-- whether a woken thread is at home here: the table and the layers test the same, where it has a home
+same_home : (c : CpuId) (o : Option CpuId) → (is_cpu c o ≡ false → IsSome o) → is_cpu c o ≡ same_cpu (cpu_or (record { 0 = 0 }) o) c
+same_home c None known = absurd (cc (known refl))
+same_home c (Some d) known = same_cpu_sym c d
+
+abbrev pub react_in : {N R S A : Type 0} → Plan N R S A → Option R → Left S A
+react_in (Now left) = λ reply. left
+react_in (Act lock name react) = react
+
+-- thread t runs, nobody is in the hand, and it neither sleeps nor waits: the part's own state by its pieces, the guests, the trace, and
+-- the call that it is in
+pub record Site : Type 0 where
+  pub setup : Setup
+  pub c : CpuId
+  pub t : Tid
+  pub ready : List Tid
+  pub ended : List Tid
+  pub slept : List (Option BufId)
+  pub waits : List (Option BufId)
+  pub talks : List Talk
+  pub guests : List State
+  pub trace : List Entry
+  pub call : TowerCall
+  pub position : ℕ
+  pub in_guests : t.0 < length guests
+  pub in_talks : t.0 < length talks
+  pub in_slept : t.0 < length slept
+  pub in_waits : t.0 < length waits
+  pub is_slept : slept_for slept t ≡ None
+  pub is_waits : slept_for waits t ≡ None
+
+-- the effect that the call has had
+abbrev pub HasHad : Site → Option Effect → Type 0
+HasHad site effect = (going (talk_of site.talks site.t) site.call).effect ≡ effect
+
+module _ (site : Site) (effect : Option Effect) (is_effect : HasHad site effect) where
+  abbrev pub own : Buffering
+  own = own_at (Some site.t) None site.ready site.ended None site.slept site.waits site.talks
+
+  abbrev pub g : State
+  g = guest_at site.guests site.t
+
+  abbrev pub e : Bool
+  e = is_in site.t site.ended
+
+  abbrev pub threads : List Thread
+  threads = threads_at own site.guests
+
+  abbrev pub within : site.t.0 < length threads
+  within = subst (λ n. site.t.0 < n) (sym (numbered_long _ 0 site.guests)) site.in_guests
+
+  abbrev pub buf : BufId
+  buf = buffer_of site.call
+
+  abbrev pub talk : TowerStage → Talk
+  talk stage = record { stage = stage; call = Some site.call; position = site.position; effect = effect }
+
+  abbrev pub k : Stage → Call
+  k stage = call_from site.call site.position effect stage
+
+  -- the table's private state with the call at this stage
+  abbrev pub from : Stage → Private
+  from stage = from_t site.setup site.c site.ready threads site.trace site.t g e within (k stage)
+
+  abbrev pub after : Left Buffering Reply → Private
+  after left = private_after site.setup site.c site.t site.call own site.guests site.trace left
+
+  abbrev pub guest_by : Option Reply → State
+  guest_by None = g
+  guest_by (Some reply) = after_answer (Some reply) (next_of (program_of site.setup site.t) g) g
+
+  pub guests_by : (answer : Option Reply) → guests_after site.setup site.t answer site.guests ≡ slice_set site.guests site.t.0 (guest_by answer)
+  guests_by None = sym (set-get_or site.guests site.t.0 at_start)
+  guests_by (Some reply) = refl
+
+  -- what a poll leaves after which thread t runs on
+  pub runs_on : (hand2 : Option Tid) (ready2 : List Tid) (kept2 : Option TowerOut) (talk2 : Talk) (answer : Option Reply)
+      → after (record { own = own_at (Some site.t) hand2 ready2 site.ended kept2 site.slept site.waits (slice_set site.talks site.t.0 talk2); answer = answer })
+      ≡ parts (Some site.t) ready2 hand2 (slice_set threads site.t.0 (thread_from talk2 None None (is_some kept2) e (guest_by answer)))
+      (trace_after site.c site.t buf effect talk2.effect site.trace)
+  runs_on hand2 ready2 kept2 talk2 answer =
+      (λ i. private_of (own_at (Some site.t) hand2 ready2 site.ended kept2 site.slept site.waits (slice_set site.talks site.t.0 talk2)) (guests_by answer i)
+      (trace_after site.c site.t buf (is_effect i) (get_or-set_same site.talks site.t.0 talk2 quiet site.in_talks i).effect site.trace))
+      ∙ goes site.t None site.ready site.ended None site.slept site.waits site.talks site.guests site.in_guests site.in_talks hand2 ready2 kept2 talk2 (guest_by answer)
+      (trace_after site.c site.t buf effect talk2.effect site.trace) None None site.is_slept site.is_waits
+
+  -- what a poll leaves after which thread t sleeps for the lock, or waits
+  pub sleeps_now : (stage : TowerStage) → after (record { own = own_at None None site.ready site.ended None (slice_set site.slept site.t.0 (Some buf)) site.waits (slice_set site.talks site.t.0 (talk stage)); answer = None })
+      ≡ parts None site.ready None (slice_set threads site.t.0 (thread_from (talk stage) (Some buf) None false e g)) (trace_after site.c site.t buf effect effect site.trace)
+  sleeps_now stage =
+      (λ i. private_of (own_at None None site.ready site.ended None (slice_set site.slept site.t.0 (Some buf)) site.waits (slice_set site.talks site.t.0 (talk stage))) (guests_by None i)
+      (trace_after site.c site.t buf (is_effect i) (get_or-set_same site.talks site.t.0 (talk stage) quiet site.in_talks i).effect site.trace))
+      ∙ gone site.t None site.ready site.ended None site.slept site.waits site.talks site.guests site.in_guests site.in_talks None site.ready (slice_set site.slept site.t.0 (Some buf)) site.waits (talk stage) g
+      (trace_after site.c site.t buf effect effect site.trace) (Some buf) None (λ j other. get_or-set_other site.slept site.t.0 j (Some buf) None other) (λ j other. refl)
+      (get_or-set_same site.slept site.t.0 (Some buf) None site.in_slept) site.is_waits
+
+  pub waits_now : (hand2 : Option Tid) (ready2 : List Tid) (stage : TowerStage)
+      → after (record { own = own_at None hand2 ready2 site.ended None site.slept (slice_set site.waits site.t.0 (Some buf)) (slice_set site.talks site.t.0 (talk stage)); answer = None })
+      ≡ parts None ready2 hand2 (slice_set threads site.t.0 (thread_from (talk stage) None (Some buf) false e g)) (trace_after site.c site.t buf effect effect site.trace)
+  waits_now hand2 ready2 stage =
+      (λ i. private_of (own_at None hand2 ready2 site.ended None site.slept (slice_set site.waits site.t.0 (Some buf)) (slice_set site.talks site.t.0 (talk stage))) (guests_by None i)
+      (trace_after site.c site.t buf (is_effect i) (get_or-set_same site.talks site.t.0 (talk stage) quiet site.in_talks i).effect site.trace))
+      ∙ gone site.t None site.ready site.ended None site.slept site.waits site.talks site.guests site.in_guests site.in_talks hand2 ready2 site.slept (slice_set site.waits site.t.0 (Some buf)) (talk stage) g
+      (trace_after site.c site.t buf effect effect site.trace) None (Some buf) (λ j other. refl) (λ j other. get_or-set_other site.waits site.t.0 j (Some buf) None other)
+      site.is_slept (get_or-set_same site.waits site.t.0 (Some buf) None site.in_waits)
+
+  -- The plan of a section whose caller neither sleeps nor waits.
+
+  abbrev pub Beneath : Type 0
+  Beneath = Plan TowerName TowerAnswer (Waiting BufferOut) TowerOut
+
+  abbrev pub beneath : CvCall BufferEdit → Beneath
+  beneath s = raised (λ l. left_waiting ((lock_moves buffer_rules).caller s) buf site.waits l.own l.answer)
+      (raised (λ l. left_after ((lock_moves buffer_rules).caller s) buf site.slept l.own l.answer)
+      (sleep_plan (lock_moves buffer_rules) site.setup.homes site.c buf s own.cv.lock.sleep))
+
+  pub beneath_is : (s : CvCall BufferEdit) → slept_for site.waits ((lock_moves buffer_rules).caller s) ≡ None
+      → slept_for site.slept ((lock_moves buffer_rules).caller s) ≡ None → cv_plan (lock_moves buffer_rules) site.setup.homes site.c buf s own.cv ≡ beneath s
+  beneath_is s w n =
+      ap (cv_plan_for (lock_moves buffer_rules) site.setup.homes site.c buf s own.cv) w
+      ∙ ap (λ o. raised (λ l. left_waiting ((lock_moves buffer_rules).caller s) buf site.waits l.own l.answer)
+      (plan_for (lock_moves buffer_rules) site.setup.homes site.c buf s own.cv.lock o)) n
+
+  abbrev pub fresh : TowerStage → CvCall BufferEdit → BufferPlan Reply
+  fresh stage s = raised (left_heard site.t site.call (talk stage) site.talks stage) (beneath s)
+
+  abbrev pub react : TowerStage → CvCall BufferEdit → Option TowerAnswer → Left Buffering Reply
+  react stage s = react_in (fresh stage s)
+
+  pub line : (stage : TowerStage) (s : CvCall BufferEdit) (at : Stage) (plan : BufferPlan Reply) → plan ≡ fresh stage s
+      → section_at site.t (k at) at ≡ name_of (queue.Above s) → after (react stage s None) ≡ from at
+      → ((x : LockState BufferState) → HandIsKnown site.setup (react stage s (Some (told.Answer (lock_answer buffer_rules s x)))).own
+      → after (react stage s (Some (told.Answer (lock_answer buffer_rules s x)))) ≡ after_section site.setup site.c (from at) (answer_view (told.Answer (lock_answer buffer_rules s x))))
+      → IsLine site.setup site.c (from at) plan after
+  line stage s at plan is name stays gives = record {
+    lock = Buffer buf;
+    name = queue.Above s;
+    react = react stage s;
+    is = is;
+    asks = asks_for site.setup site.c site.ready threads site.trace site.t g e within (k at) ∙ ap (at_buffer buf) name;
+    used = tt;
+    stays = stays;
+    gives = by_block;
+  }
+    where
+      by_block : (x : TowerBlock) → IsKind (Buffer buf) x → HandIsKnown site.setup (react stage s (Some (tower.answer (queue.Above s) x))).own
+          → after (react stage s (Some (tower.answer (queue.Above s) x))) ≡ after_section site.setup site.c (from at) (answer_view (tower.answer (queue.Above s) x))
+      by_block (block.Above x) kind = gives x
+      by_block (block.Queue queue homes) kind = absurd kind
+
+  abbrev pub locked : Left (Sleeping (QOut (CvOut BufferOut))) TowerOut → Left (Locking (CvOut BufferOut)) TowerOut
+  locked l = left_after site.t buf site.slept l.own l.answer
+
+  abbrev pub waiting : Left (Locking (CvOut BufferOut)) TowerOut → Left (Waiting BufferOut) TowerOut
+  waiting l = left_waiting site.t buf site.waits l.own l.answer
+
+  -- what the part leaves after a section with this outcome, where the threads are now these
+  abbrev pub lift : TowerStage → TowerOut → Threads → Left Buffering Reply
+  lift stage outcome own2 = left_heard site.t site.call (talk stage) site.talks stage (waiting (locked (left_done outcome own2)))
+
+  -- with a thread woken that is at home here, or is not
+  abbrev pub waking : Option Tid → Tid → Bool → Threads
+  waking current u b = record { current = current; hand = if b then None else Some u; ready = if b then site.ready ++ u ∷ [] else site.ready; ended = site.ended }
+
+  pub by_home : (u : Tid) (F : Bool → Left Buffering Reply) (H : Bool → Private) → ((b : Bool) → after (F b) ≡ H b)
+      → (HandIsKnown site.setup (F false).own → IsSome (slice_get site.setup.homes u.0))
+      → HandIsKnown site.setup (F (is_cpu site.c (slice_get site.setup.homes u.0))).own
+      → after (F (is_cpu site.c (slice_get site.setup.homes u.0))) ≡ H (same_cpu (home_of site.setup u) site.c)
+  by_home u F H each hand known =
+      each (is_cpu site.c (slice_get site.setup.homes u.0))
+      ∙ ap H (same_home site.c (slice_get site.setup.homes u.0) (λ away. hand (subst (λ b. HandIsKnown site.setup (F b).own) away known)))
+
+  -- The table's side.
+
+  abbrev pub with_call : Call → Thread
+  with_call next = calling site.setup site.c site.ready threads site.trace site.t g e within next
+
+  abbrev pub stands : List Tid → Option Tid → Call → List Entry → Private
+  stands ready2 hand next trace2 = parts (Some site.t) ready2 hand (slice_set threads site.t.0 (with_call next)) trace2
+
+  abbrev pub putting : Call → Call → List Entry → Thread → Private
+  putting now next trace2 x = put site.setup site.c site.ready threads site.trace site.t g e within now next trace2 x
+
+  pub by_table : (stage : Stage) (a : Answer) (next : Call) (trace2 : List Entry)
+      → heard site.c (from stage) site.t (k stage) (k stage).stage a.told ≡ putting (k stage) next trace2 (thread_at (from stage) site.t)
+      → after_section site.setup site.c (from stage) a
+      ≡ settled site.setup (woken site.setup site.c a.woke (slept_if a.slept (stands site.ready None next trace2)))
+  by_table stage a next trace2 is = heard_is site.setup site.c site.ready threads site.trace site.t g e within (k stage) a next trace2 is
+
+  pub stays_so : (next : Call) (ready2 : List Tid) (trace2 : List Entry) → ((p : Private) → returned_at site.setup p site.t next next.stage ≡ p)
+      → settled site.setup (stands ready2 None next trace2) ≡ stands ready2 None next trace2
+  stays_so next ready2 trace2 is = goes_on site.setup site.c site.ready threads site.trace site.t g e within next ready2 trace2 is
+
+  pub has_returned : (now : Call) (ready2 : List Tid) (trace2 : List Entry)
+      → settled site.setup (stands ready2 None (record now { stage = Returns }) trace2)
+      ≡ parts (Some site.t) ready2 None (slice_set threads site.t.0 (done_with site.setup site.c site.ready threads site.trace site.t g e within now)) trace2
+  has_returned now ready2 trace2 = returns site.setup site.c site.ready threads site.trace site.t g e within now ready2 trace2

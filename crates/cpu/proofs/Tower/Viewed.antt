@@ -1,0 +1,240 @@
+-- The layers' sections are the table's: of every section on every block.
+use Rattle.std.proofs.Common.{◌≡◌, Bool, true, false, ◌&&◌, ◌||◌, List, [], ◌∷◌, Option, Some, None, is_some, if◌then◌else◌, refl, ap, sym}
+use Rattle.event_log.specs.declared.ids.Tid.{Tid}
+use Rattle.event_log.specs.declared.entries.Kind.TheVariants.{Send, Recv}
+use Rattle.event_log.specs.Messages.{Message}
+use Rattle.thread_blocks.specs.Queues.{same_tid, is_in, first, without}
+use Rattle.layer_traits.specs.declared.locked.QEdit.TheVariants.{Acquire, Inside, Release}
+use Rattle.layer_traits.specs.declared.locked.Side.TheVariants.{Receivers, Senders}
+use Rattle.layer_traits.specs.declared.conditions.CvEdit.TheVariants.{Edit, SignalFront}
+use Rattle.layer_traits.specs.declared.conditions.CvLeave.TheVariants.{Leave, Wait}
+use Rattle.layer_traits.specs.declared.conditions.CvOut.{CvOut}
+use Rattle.layer_traits.specs.declared.conditions.CvOut.TheVariants as cv
+use Rattle.layer_traits.specs.declared.buffer_edits.BufferEdit.{BufferEdit}
+use Rattle.layer_traits.specs.declared.buffer_edits.BufferEdit.TheVariants as edit
+use Rattle.layer_traits.specs.declared.buffer_edits.BufferOut.{BufferOut}
+use Rattle.layer_traits.specs.declared.buffer_edits.BufferOut.TheVariants as out
+use Rattle.layer_traits.specs.declared.queue_edits.QueueBlock.TheVariants as block
+use Rattle.layer_traits.specs.declared.queue_edits.QueueEdit.TheVariants as queue
+use Rattle.layer_traits.specs.BufferBlocks.{BufferState, entered as tower_entered, first_item, is_turn, may_go, may_join, put_in, taken_out}
+use Rattle.layer_traits.specs.Conditions.{CvCall, signal_to}
+use Rattle.layer_traits.specs.Locking.{LockState, asked, line_asked, signalled, told_asker, waiting_without}
+use Rattle.cpu.specs.Table.Blocks.{Buffer, Block, OfBuffer, OfPending, Name, AcqQ, Enter, TryPut, TryTake, WaitOn, SigRecv, SigSend, RelQ, Pend, TakeAll, Nothing, Done, NotYet, front_stands_in}
+use Rattle.cpu.specs.Table.Edits.{acquired, answer, answer_of_acquire, edited, entered, put, taken, tells, wakes, without_any}
+use Rattle.cpu.specs.Tower.Views.{TablesAgree, TowerBlock, TowerName, answer_view, buffer_view, code, name_of, told_above, told_in, tower, view}
+
+names : (n : Name) → name_of (code n) ≡ n
+names (AcqQ t) = refl
+names (Enter t side) = refl
+names (TryPut t m) = refl
+names (TryTake t) = refl
+names (WaitOn t side) = refl
+names (SigRecv t) = refl
+names (SigSend t) = refl
+names (RelQ t) = refl
+names (Pend t) = refl
+names TakeAll = refl
+
+codes : (e : TowerName) → code (name_of e) ≡ e
+codes (queue.Push t) = refl
+codes queue.TakeAll = refl
+codes (queue.Above (Acquire t)) = refl
+codes (queue.Above (Inside (Edit (edit.Enter t side)))) = refl
+codes (queue.Above (Inside (Edit (edit.TryPut t m)))) = refl
+codes (queue.Above (Inside (Edit (edit.TryTake t)))) = refl
+codes (queue.Above (Inside (SignalFront t Receivers))) = refl
+codes (queue.Above (Inside (SignalFront t Senders))) = refl
+codes (queue.Above (Release (Leave t))) = refl
+codes (queue.Above (Release (Wait t side))) = refl
+
+-- The lists after a signal.
+
+without_absent : (u : Tid) (q : List Tid) → is_in u q ≡ false → without u q ≡ q
+without_absent u [] is = refl
+without_absent u (x ∷ q) is = go (same_tid u x) is (without_absent u q)
+  where
+    go : (b : Bool) → (b || is_in u q) ≡ false → (is_in u q ≡ false → without u q ≡ q) → (if b then without u q else x ∷ without u q) ≡ x ∷ q
+    go true now more = absurd (cc now)
+    go false now more = ap (λ l. x ∷ l) (more now)
+
+left_in_list : (line queue : List Tid) (m : Bool)
+    → waiting_without Receivers (signal_to Receivers (if m then first line else None)) queue
+    ≡ without_any (if front_stands_in line queue && m then first line else None) queue
+left_in_list [] queue true = refl
+left_in_list [] queue false = refl
+left_in_list (u ∷ line) queue false = go (is_in u queue)
+  where
+    go : (b : Bool) → queue ≡ without_any (if b && false then Some u else None) queue
+    go true = refl
+    go false = refl
+left_in_list (u ∷ line) queue true = go (is_in u queue) refl
+  where
+    go : (b : Bool) → is_in u queue ≡ b → without u queue ≡ without_any (if b && true then Some u else None) queue
+    go true is = refl
+    go false is = without_absent u queue is
+
+left_in_list_senders : (line queue : List Tid) (m : Bool)
+    → waiting_without Senders (signal_to Senders (if m then first line else None)) queue
+    ≡ without_any (if front_stands_in line queue && m then first line else None) queue
+left_in_list_senders [] queue true = refl
+left_in_list_senders [] queue false = refl
+left_in_list_senders (u ∷ line) queue false = go (is_in u queue)
+  where
+    go : (b : Bool) → queue ≡ without_any (if b && false then Some u else None) queue
+    go true = refl
+    go false = refl
+left_in_list_senders (u ∷ line) queue true = go (is_in u queue) refl
+  where
+    go : (b : Bool) → is_in u queue ≡ b → without u queue ≡ without_any (if b && true then Some u else None) queue
+    go true is = refl
+    go false is = without_absent u queue is
+
+other_senders : (front : Option Tid) (queue : List Tid) → waiting_without Senders (signal_to Receivers front) queue ≡ queue
+other_senders None queue = refl
+other_senders (Some u) queue = refl
+
+other_receivers : (front : Option Tid) (queue : List Tid) → waiting_without Receivers (signal_to Senders front) queue ≡ queue
+other_receivers None queue = refl
+other_receivers (Some u) queue = refl
+
+-- whom a signal to this front wakes, where it may go on or not
+woke_by : (b m : Bool) (u : Tid) → (if m then (if b then Some u else None) else None) ≡ (if b && m then Some u else None)
+woke_by true true u = refl
+woke_by true false u = refl
+woke_by false true u = refl
+woke_by false false u = refl
+
+woke_receiver : (line receivers senders : List Tid) (m : Bool)
+    → signalled (signal_to Receivers (if m then first line else None)) receivers senders
+    ≡ (if front_stands_in line receivers && m then first line else None)
+woke_receiver [] receivers senders true = refl
+woke_receiver [] receivers senders false = refl
+woke_receiver (u ∷ line) receivers senders true = woke_by (is_in u receivers) true u
+woke_receiver (u ∷ line) receivers senders false = woke_by (is_in u receivers) false u
+
+woke_sender : (line receivers senders : List Tid) (m : Bool)
+    → signalled (signal_to Senders (if m then first line else None)) receivers senders
+    ≡ (if front_stands_in line senders && m then first line else None)
+woke_sender [] receivers senders true = refl
+woke_sender [] receivers senders false = refl
+woke_sender (u ∷ line) receivers senders true = woke_by (is_in u senders) true u
+woke_sender (u ∷ line) receivers senders false = woke_by (is_in u senders) false u
+
+-- The blocks.
+
+acquired_view : (t : Tid) (state : LockState BufferState) (o : Option Tid) → state.owner ≡ o
+    → buffer_view (asked t o state) ≡ acquired t o (buffer_view state)
+acquired_view t state None is = refl
+acquired_view t state (Some owner) is = ap (λ b. record (acquired t (Some owner) (buffer_view state)) { busy = b }) (sym is)
+
+module _ (state : LockState BufferState) where
+  -- the lock round another buffer
+  abbrev round : BufferState → Buffer
+  round x = buffer_view (record state { above = x })
+
+  entered_senders : (b : Bool) (t : Tid) → round (if b then tower_entered Senders t state.above else state.above)
+      ≡ (if b then entered t Senders (buffer_view state) else buffer_view state)
+  entered_senders true t = refl
+  entered_senders false t = refl
+
+  entered_receivers : (b : Bool) (t : Tid) → round (if b then tower_entered Receivers t state.above else state.above)
+      ≡ (if b then entered t Receivers (buffer_view state) else buffer_view state)
+  entered_receivers true t = refl
+  entered_receivers false t = refl
+
+  put_view : (b : Bool) (m : Message) → round (if b then put_in m state.above else state.above)
+      ≡ (if b then put m (buffer_view state) else buffer_view state)
+  put_view true m = refl
+  put_view false m = refl
+
+  taken_view : (b : Bool) → round (if b then taken_out state.above else state.above) ≡ (if b then taken (buffer_view state) else buffer_view state)
+  taken_view true = refl
+  taken_view false = refl
+
+  edits_above : (e : CvCall BufferEdit) → view (tower.edited (queue.Above e) (block.Above state)) ≡ edited (name_of (queue.Above e)) (view (block.Above state))
+  edits_above (Acquire t) = ap OfBuffer (acquired_view t state state.owner refl)
+  edits_above (Inside (Edit (edit.Enter t Senders))) = ap OfBuffer (entered_senders (may_join t state.above.send_line) t)
+  edits_above (Inside (Edit (edit.Enter t Receivers))) = ap OfBuffer (entered_receivers (may_join t state.above.receive_line) t)
+  edits_above (Inside (Edit (edit.TryPut t m))) = ap OfBuffer (put_view (is_turn Senders t state.above) m)
+  edits_above (Inside (Edit (edit.TryTake t))) = ap OfBuffer (taken_view (is_turn Receivers t state.above))
+  edits_above (Inside (SignalFront t Receivers)) = λ i. OfBuffer (record (buffer_view state) {
+    waiting_receivers = left_in_list state.above.receive_line state.receivers (may_go Receivers state.above) i;
+    waiting_senders = other_senders (if may_go Receivers state.above then first state.above.receive_line else None) state.senders i;
+  })
+  edits_above (Inside (SignalFront t Senders)) = λ i. OfBuffer (record (buffer_view state) {
+    waiting_receivers = other_receivers (if may_go Senders state.above then first state.above.send_line else None) state.receivers i;
+    waiting_senders = left_in_list_senders state.above.send_line state.senders (may_go Senders state.above) i;
+  })
+  edits_above (Release (Leave t)) = refl
+  edits_above (Release (Wait t Receivers)) = refl
+  edits_above (Release (Wait t Senders)) = refl
+
+  -- The answers.
+
+  asked_view : (o : Option Tid) → record { told = told_in (told_asker {O = CvOut BufferOut} o); slept = is_some (line_asked o); woke = None } ≡ answer_of_acquire o
+  asked_view None = refl
+  asked_view (Some owner) = refl
+
+  put_told : (b : Bool) (m : Message) → tells (told_above (if b then out.Done Send state.above.effects m else out.NotYet))
+      ≡ tells (if b then Done state.above.effects m else NotYet)
+  put_told true m = refl
+  put_told false m = refl
+
+  taken_told : (b : Bool) (m : Message) → tells (told_above (if b then out.Done Recv state.above.effects m else out.NotYet))
+      ≡ tells (if b then Done state.above.effects m else NotYet)
+  taken_told true m = refl
+  taken_told false m = refl
+
+  answers_above : (e : CvCall BufferEdit)
+      → answer_view (tower.answer (queue.Above e) (block.Above state)) ≡ answer (name_of (queue.Above e)) (view (block.Above state))
+  answers_above (Acquire t) = asked_view state.owner
+  answers_above (Inside (Edit (edit.Enter t Senders))) = refl
+  answers_above (Inside (Edit (edit.Enter t Receivers))) = refl
+  answers_above (Inside (Edit (edit.TryPut t m))) = put_told (is_turn Senders t state.above) m
+  answers_above (Inside (Edit (edit.TryTake t))) = taken_told (is_turn Receivers t state.above) (first_item state.above.items)
+  answers_above (Inside (SignalFront t Receivers)) =
+      ap wakes (woke_receiver state.above.receive_line state.receivers state.senders (may_go Receivers state.above))
+  answers_above (Inside (SignalFront t Senders)) =
+      ap wakes (woke_sender state.above.send_line state.receivers state.senders (may_go Senders state.above))
+  answers_above (Release (Leave t)) = refl
+  answers_above (Release (Wait t Receivers)) = refl
+  answers_above (Release (Wait t Senders)) = refl
+
+edits : (e : TowerName) (x : TowerBlock) → view (tower.edited e x) ≡ edited (name_of e) (view x)
+edits (queue.Push t) (block.Queue threads homes) = refl
+edits (queue.Push t) (block.Above state) = refl
+edits queue.TakeAll (block.Queue threads homes) = refl
+edits queue.TakeAll (block.Above state) = refl
+edits (queue.Above e) (block.Above state) = edits_above state e
+edits (queue.Above e) (block.Queue threads homes) = go e
+  where
+    go : (f : CvCall BufferEdit) → OfPending threads ≡ edited (name_of (queue.Above f)) (OfPending threads)
+    go (Acquire t) = refl
+    go (Inside (Edit (edit.Enter t side))) = refl
+    go (Inside (Edit (edit.TryPut t m))) = refl
+    go (Inside (Edit (edit.TryTake t))) = refl
+    go (Inside (SignalFront t Receivers)) = refl
+    go (Inside (SignalFront t Senders)) = refl
+    go (Release (Leave t)) = refl
+    go (Release (Wait t side)) = refl
+
+answers : (e : TowerName) (x : TowerBlock) → answer_view (tower.answer e x) ≡ answer (name_of e) (view x)
+answers (queue.Push t) (block.Queue threads homes) = refl
+answers (queue.Push t) (block.Above state) = refl
+answers queue.TakeAll (block.Queue threads homes) = refl
+answers queue.TakeAll (block.Above state) = refl
+answers (queue.Above e) (block.Above state) = answers_above state e
+answers (queue.Above e) (block.Queue threads homes) = go e
+  where
+    go : (f : CvCall BufferEdit) → tells Nothing ≡ answer (name_of (queue.Above f)) (OfPending threads)
+    go (Acquire t) = refl
+    go (Inside (Edit (edit.Enter t side))) = refl
+    go (Inside (Edit (edit.TryPut t m))) = refl
+    go (Inside (Edit (edit.TryTake t))) = refl
+    go (Inside (SignalFront t Receivers)) = refl
+    go (Inside (SignalFront t Senders)) = refl
+    go (Release (Leave t)) = refl
+    go (Release (Wait t side)) = refl
+
+pub tables_agree : TablesAgree
+tables_agree = record { names = names; codes = codes; edits = edits; answers = answers }

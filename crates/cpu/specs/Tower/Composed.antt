@@ -1,0 +1,149 @@
+-- The plan of each poll is a line of the step table: it asks for the table's section, and what it makes of the section's answer is what
+-- the table makes of it.
+use Rattle.std.specs.Prelude.{◌≡◌, ◌⊎◌, ◌<◌, ℕ, Bool, true, false, List, Option, Some, None, IsSome, length, map, option_map, slice_get}
+use Rattle.event_log.specs.declared.entries.Entry.{Entry}
+use Rattle.event_log.specs.declared.ids.BufId.{BufId}
+use Rattle.event_log.specs.declared.ids.CpuId.{CpuId}
+use Rattle.event_log.specs.declared.ids.LockId.{LockId}
+use Rattle.event_log.specs.declared.ids.LockId.TheVariants.{Pending, Buffer}
+use Rattle.event_log.specs.declared.ids.Tid.{Tid}
+use Rattle.event_log.specs.Actions.{Action, phase, renamed}
+use Rattle.guest.specs.declared.instructions.Instruction.{Instruction}
+use Rattle.guest.specs.declared.instructions.Instruction.TheVariants as instruction
+use Rattle.guest.specs.State.{State, next_of, sent_from}
+use Rattle.layer_traits.specs.declared.calls.Call.{Call}
+use Rattle.layer_traits.specs.declared.calls.Call.TheVariants as asks_for
+use Rattle.layer_traits.specs.declared.calls.Effect.{Effect}
+use Rattle.layer_traits.specs.declared.conditions.CvOut.{CvOut}
+use Rattle.layer_traits.specs.declared.conditions.CvOut.TheVariants as cv
+use Rattle.layer_traits.specs.declared.buffer_edits.BufferOut.{BufferOut}
+use Rattle.layer_traits.specs.declared.locked.QOut.{QOut}
+use Rattle.layer_traits.specs.declared.locked.QOut.TheVariants as lock
+use Rattle.layer_traits.specs.declared.queue_edits.QueueBlock.TheVariants as block
+use Rattle.layer_traits.specs.declared.steps.Reason.{Reason}
+use Rattle.layer_traits.specs.declared.steps.Step.{Step}
+use Rattle.layer_traits.specs.declared.steps.Step.TheVariants.{Stepped, Halted}
+use Rattle.layer_traits.specs.declared.talks.Stage.{Stage}
+use Rattle.layer_traits.specs.declared.talks.Stage.TheVariants.{Between, Acquires, Enters, Tries, Waits, AcquiresAgain, Signals, SignalsOwn, Releases}
+use Rattle.layer_traits.specs.LockLaw.{slept_for}
+use Rattle.layer_traits.specs.Plans.{Left, Plan, Act, is_in_section}
+use Rattle.layer_traits.specs.BufferLaw.{Buffering, fifo_plan, talk_of}
+use Rattle.cpu.specs.Table.Blocks.{Name}
+use Rattle.cpu.specs.Table.Setups.{Setup, Private, program_of, opening as table_opening}
+use Rattle.cpu.specs.Table.Choice.{asked, after_section}
+use Rattle.cpu.specs.Table.Steps.{cpu_step, halted_at}
+use Rattle.cpu.specs.Tower.Views.{TowerName, TowerOut, TowerAnswer, TowerBlock, tower, name_of, view, answer_view}
+use Rattle.cpu.specs.Tower.Privates.{guest_at, private_after, private_of, threads_in}
+
+-- the outcome of a section that woke this thread
+abbrev pub outcome_of : QOut (CvOut BufferOut) → Tid → TowerOut
+outcome_of out u = record { out = out; slept = false; woke = Some u }
+
+-- how a begun call may stand: at each stage the hand, the kept answer, where its caller slept or waited, and its effect. While a woken
+-- thread is in the hand, the answer of the section that woke it is kept.
+pub data Stands : Stage → (hand : Option Tid) → (kept : Option TowerOut) → (slept waits : Option BufId) → (effect : Option Effect) → Type 0 where
+  asks : Stands Acquires None None None None None
+  was_handed : (b : BufId) → Stands Acquires None None (Some b) None None
+  enters : Stands Enters None None None None None
+  tries : Stands Tries None None None None None
+  waits : Stands Waits None None None None None
+  was_woken : (b : BufId) → Stands Waits None None None (Some b) None
+  asks_again : Stands AcquiresAgain None None None None None
+  was_handed_again : (b : BufId) → Stands AcquiresAgain None None (Some b) None None
+  signals : (f : Effect) → Stands Signals None None None None (Some f)
+  signals_own : (f : Effect) → Stands SignalsOwn None None None None (Some f)
+  releases : (f : Effect) → Stands Releases None None None None (Some f)
+  has_signalled : (u : Tid) (v : CvOut BufferOut) (f : Effect) → Stands Signals (Some u) (Some (outcome_of (lock.Did v) u)) None None (Some f)
+  has_signalled_own : (u : Tid) (v : CvOut BufferOut) (f : Effect) → Stands SignalsOwn (Some u) (Some (outcome_of (lock.Did v) u)) None None (Some f)
+  has_released : (u : Tid) (f : Effect) → Stands Releases (Some u) (Some (outcome_of (lock.Released cv.Left) u)) None None (Some f)
+
+-- thread t runs and is inside this call
+pub record IsGoing (own : Buffering) (guests : List State) (t : Tid) (call : Call) : Type 0 where
+  pub current : (threads_in own).current ≡ Some t
+  pub begun : (talk_of own.talks t).call ≡ Some call
+  pub stands : Stands (talk_of own.talks t).stage (threads_in own).hand own.cv.lock.sleep.kept (slept_for own.cv.lock.slept t)
+      (slept_for own.cv.waits t) (talk_of own.talks t).effect
+  pub in_guests : t.0 < length guests
+  pub in_talks : t.0 < length own.talks
+  pub in_slept : t.0 < length own.cv.lock.slept
+  pub in_waits : t.0 < length own.cv.waits
+
+-- the thread in the hand has a home
+abbrev pub HandIsKnown : Setup → Buffering → Type 0
+HandIsKnown setup own = (u : Tid) → (threads_in own).hand ≡ Some u → IsSome (slice_get setup.homes u.0)
+
+-- a block is of its lock's kind
+abbrev pub IsKind : LockId → TowerBlock → Type 0
+IsKind (Buffer b) (block.Above state) = Unit {0}
+IsKind (Buffer b) (block.Queue threads homes) = ⊥
+IsKind (Pending c) (block.Above state) = ⊥
+IsKind (Pending c) (block.Queue threads homes) = Unit {0}
+
+-- the locks that a CPU asks for: those of the buffers, its own queue and the queues of the homes
+abbrev pub IsUsed : Setup → CpuId → LockId → Type 0
+IsUsed setup c (Buffer b) = Unit {0}
+IsUsed setup c (Pending d) = (d ≡ c) ⊎ ((u : Tid) × (slice_get setup.homes u.0 ≡ Some d))
+
+-- the plan of a poll is the table's line from p on: it asks for the section that the table asks for, leaves p while that has no answer,
+-- and makes of each answer what the table makes of it
+pub record IsLine {A : Type 0} (setup : Setup) (c : CpuId) (p : Private) (plan : Plan TowerName TowerAnswer Buffering A)
+    (after : Left Buffering A → Private) : Type 0 where
+  pub lock : LockId
+  pub name : TowerName
+  pub react : Option TowerAnswer → Left Buffering A
+  pub is : plan ≡ Act lock name react
+  pub asks : asked setup c p ≡ record { lock = lock; name = name_of name }
+  pub used : IsUsed setup c lock
+  pub stays : after (react None) ≡ p
+  pub gives : (x : TowerBlock) → IsKind lock x → HandIsKnown setup (react (Some (tower.answer name x))).own
+      → after (react (Some (tower.answer name x))) ≡ after_section setup c p (answer_view (tower.answer name x))
+
+-- the plan of every poll of a begun call is a line of the table
+abbrev pub PlansAreLines : Type 0
+PlansAreLines = (setup : Setup) (c : CpuId) (own : Buffering) (guests : List State) (trace : List Entry) (t : Tid) (call : Call)
+    → IsGoing own guests t call → HandIsKnown setup own
+    → IsLine setup c (private_of own guests trace) (fifo_plan setup.homes c t call own) (private_after setup c t call own guests trace)
+
+-- the actions under the table's names
+abbrev pub named : List (Action TowerName) → List (Action Name)
+named acts = map (renamed name_of) acts
+
+-- the opening blocks of the locks that a CPU asks for are the table's
+abbrev pub OpensAs : Setup → CpuId → (LockId → Option TowerBlock) → Type 0
+OpensAs setup c opening = (l : LockId) → IsUsed setup c l → option_map view (opening l) ≡ table_opening setup l
+
+-- the call that an instruction asks for
+abbrev pub AsksFor : Instruction → State → Call → Type 0
+AsksFor (instruction.Send b r) guest call = call ≡ asks_for.Send b (sent_from guest r)
+AsksFor (instruction.Recv b r) guest call = call ≡ asks_for.Recv b
+AsksFor instruction.Yield guest call = ⊥
+AsksFor instruction.Exit guest call = ⊥
+AsksFor (instruction.Set r n) guest call = ⊥
+AsksFor (instruction.Add r q) guest call = ⊥
+AsksFor (instruction.Sub r q) guest call = ⊥
+AsksFor (instruction.Jnz r k) guest call = ⊥
+
+-- thread t runs, is in no call, and stands at this one
+pub record IsBeginning (setup : Setup) (own : Buffering) (guests : List State) (t : Tid) (call : Call) : Type 0 where
+  pub current : (threads_in own).current ≡ Some t
+  pub hand : (threads_in own).hand ≡ None
+  pub kept : own.cv.lock.sleep.kept ≡ None
+  pub slept : slept_for own.cv.lock.slept t ≡ None
+  pub waits : slept_for own.cv.waits t ≡ None
+  pub between : (talk_of own.talks t).stage ≡ Between
+  pub at : AsksFor (next_of (program_of setup t) (guest_at guests t)) (guest_at guests t) call
+  pub in_guests : t.0 < length guests
+  pub in_talks : t.0 < length own.talks
+  pub in_slept : t.0 < length own.cv.lock.slept
+  pub in_waits : t.0 < length own.cv.waits
+
+-- what a step answers
+abbrev pub answer_of : (busy : Bool) → Option Reason → Step
+answer_of true reason = Stepped
+answer_of false None = Stepped
+answer_of false (Some reason) = Halted reason
+
+-- a step of the table answers that the CPU is halted exactly where it is and no section is under way
+abbrev pub HaltsExactly : Type 0
+HaltsExactly = (setup : Setup) (c : CpuId) (p : Private) (log : List (Action Name))
+    → (cpu_step setup c p log).answer ≡ answer_of (is_in_section (phase c log)) (halted_at setup c p)

@@ -1,0 +1,154 @@
+-- A CPU's part, its guests by thread number and its trace as the table's private state. Where the part does a woken thread's next
+-- section, or its caller's next one, only once that runs again, the table has already gone on: both do the same actions.
+use Rattle.std.specs.Prelude.{ℕ, ◌+◌, Bool, true, false, ◌&&◌, List, [], ◌∷◌, ◌++◌, Option, Some, None, is_some, option_map, slice_index_or, slice_set}
+use Rattle.event_log.specs.declared.entries.Entry.{Entry}
+use Rattle.event_log.specs.declared.ids.BufId.{BufId}
+use Rattle.event_log.specs.declared.ids.CpuId.{CpuId}
+use Rattle.event_log.specs.declared.ids.Tid.{Tid}
+use Rattle.event_log.specs.Messages.{Message, no_message}
+use Rattle.guest.specs.State.{State, at_start, next_of, after_yield}
+use Rattle.thread_blocks.specs.Queues.{is_in}
+use Rattle.layer_traits.specs.declared.calls.Call.{Call as TowerCall}
+use Rattle.layer_traits.specs.declared.calls.Call.TheVariants as asks
+use Rattle.layer_traits.specs.declared.calls.Effect.{Effect}
+use Rattle.layer_traits.specs.declared.calls.Reply.{Reply}
+use Rattle.layer_traits.specs.declared.passes.Pass.{Pass}
+use Rattle.layer_traits.specs.declared.passes.Pass.TheVariants as pass
+use Rattle.layer_traits.specs.declared.talks.Stage.{Stage as TowerStage}
+use Rattle.layer_traits.specs.declared.talks.Stage.TheVariants as tower
+use Rattle.layer_traits.specs.declared.talks.Talk.{Talk}
+use Rattle.layer_traits.specs.LockLaw.{slept_for}
+use Rattle.layer_traits.specs.Places.{Threads, is_thread}
+use Rattle.layer_traits.specs.Plans.{Left}
+use Rattle.layer_traits.specs.BufferLaw.{Buffering, begun_at, buffer_of, entry_of, going, talk_of}
+use Rattle.cpu.specs.Guests.{after_answer}
+use Rattle.cpu.specs.Table.Blocks.{Asks, Sends, Receives}
+use Rattle.cpu.specs.Table.Setups.{Setup, Stage, Acquires, Enters, Tries, Waits, AcquiresAgain, Signals, SignalsOwn, Releases, Returns, Call, Thread, Private, program_of}
+
+-- the stage of a call: one whose caller slept for the lock, or waited, has done that section
+abbrev pub stage_of : TowerStage → (slept waits : Option BufId) → Stage
+stage_of tower.Between slept waits = Acquires
+stage_of tower.Acquires None waits = Acquires
+stage_of tower.Acquires (Some b) waits = Enters
+stage_of tower.Enters slept waits = Enters
+stage_of tower.Tries slept waits = Tries
+stage_of tower.Waits slept None = Waits
+stage_of tower.Waits slept (Some b) = AcquiresAgain
+stage_of tower.AcquiresAgain None waits = AcquiresAgain
+stage_of tower.AcquiresAgain (Some b) waits = Tries
+stage_of tower.Signals slept waits = Signals
+stage_of tower.SignalsOwn slept waits = SignalsOwn
+stage_of tower.Releases slept waits = Releases
+
+-- the stage of a call whose section is done and answers once the thread that it woke has left the hand
+abbrev pub kept_stage : TowerStage → Stage
+kept_stage tower.Between = Acquires
+kept_stage tower.Acquires = Acquires
+kept_stage tower.Enters = Enters
+kept_stage tower.Tries = Tries
+kept_stage tower.Waits = Waits
+kept_stage tower.AcquiresAgain = AcquiresAgain
+kept_stage tower.Signals = SignalsOwn
+kept_stage tower.SignalsOwn = Releases
+kept_stage tower.Releases = Returns
+
+-- the message of a call: that of its effect, once this has come
+abbrev pub message_of : TowerCall → Option Effect → Message
+message_of call (Some f) = f.value
+message_of (asks.Send b m) None = m
+message_of (asks.Recv b) None = no_message
+
+abbrev pub op_of : Effect → ℕ
+op_of f = f.op
+
+-- what a call asks
+abbrev pub asks_in : TowerCall → Asks
+asks_in (asks.Send b m) = Sends
+asks_in (asks.Recv b) = Receives
+
+abbrev pub call_from : TowerCall → ℕ → Option Effect → Stage → Call
+call_from call position effect stage = record {
+  asks = asks_in call;
+  buffer = buffer_of call;
+  message = message_of call effect;
+  position = position;
+  effect = option_map op_of effect;
+  stage = stage;
+}
+
+abbrev pub stage_from : TowerStage → (slept waits : Option BufId) → (kept : Bool) → Stage
+stage_from stage slept waits true = kept_stage stage
+stage_from stage slept waits false = stage_of stage slept waits
+
+-- a thread, by its talk, where it sleeps or waits, whether its section's answer is kept, whether it has ended, and its guest
+abbrev pub thread_from : Talk → (slept waits : Option BufId) → (kept ended : Bool) → State → Thread
+thread_from talk slept waits kept ended guest = record {
+  guest = guest;
+  call = option_map (λ call. call_from call talk.position talk.effect (stage_from talk.stage slept waits kept)) (begun_at talk.stage talk.call);
+  ended = ended;
+}
+
+abbrev pub threads_in : Buffering → Threads
+threads_in own = own.cv.lock.sleep.threads
+
+-- whether an answer is kept for a thread
+abbrev pub is_kept : Buffering → Tid → Bool
+is_kept own u = is_thread u (threads_in own).current && is_some own.cv.lock.sleep.kept
+
+abbrev pub thread_of : Buffering → Tid → State → Thread
+thread_of own u guest = thread_from (talk_of own.talks u) (slept_for own.cv.lock.slept u) (slept_for own.cv.waits u) (is_kept own u)
+    (is_in u (threads_in own).ended) guest
+
+-- threads by number, from n on
+abbrev pub numbered : (ℕ → State → Thread) → ℕ → List State → List Thread
+numbered thread n [] = []
+numbered thread n (guest ∷ guests) = thread n guest ∷ numbered thread (n + 1) guests
+
+abbrev pub tid : ℕ → Tid
+tid n = record { 0 = n }
+
+-- a CPU's private state: its part, one guest's state for each number, and its trace, oldest first
+abbrev pub private_of : Buffering → List State → List Entry → Private
+private_of own guests trace = record {
+  current = (threads_in own).current;
+  ready = (threads_in own).ready;
+  hand = (threads_in own).hand;
+  threads = numbered (λ n. thread_of own (tid n)) 0 guests;
+  trace = trace;
+}
+
+abbrev pub guest_at : List State → Tid → State
+guest_at guests t = slice_index_or guests t.0 at_start
+
+-- the guests after a poll of a call: its caller's moves on once the call replies
+abbrev pub guests_after : Setup → Tid → Option Reply → List State → List State
+guests_after setup t None guests = guests
+guests_after setup t (Some reply) guests =
+    slice_set guests t.0 (after_answer (Some reply) (next_of (program_of setup t) (guest_at guests t)) (guest_at guests t))
+
+-- the trace after a poll: an effect writes its entry in the poll in which it comes
+abbrev pub trace_after : CpuId → Tid → BufId → (before after : Option Effect) → List Entry → List Entry
+trace_after c t b None (Some f) trace = trace ++ entry_of c t b f ∷ []
+trace_after c t b None None trace = trace
+trace_after c t b (Some f) after trace = trace
+
+-- the private state after a poll of a call
+abbrev pub private_after : Setup → CpuId → Tid → TowerCall → Buffering → List State → List Entry → Left Buffering Reply → Private
+private_after setup c t call own guests trace left = private_of left.own (guests_after setup t left.answer guests)
+    (trace_after c t (buffer_of call) (going (talk_of own.talks t) call).effect (talk_of left.own.talks t).effect trace)
+
+-- the guests after a poll of a pass: that of a thread which has yielded moves on
+abbrev pub guests_passed : Setup → Pass → Option Tid → Option (Unit {0}) → List State → List State
+guests_passed setup pass.YieldNow (Some t) (Some answer) guests =
+    slice_set guests t.0 (after_yield (next_of (program_of setup t) (guest_at guests t)) (guest_at guests t))
+guests_passed setup pass.YieldNow (Some t) None guests = guests
+guests_passed setup pass.YieldNow None answer guests = guests
+guests_passed setup pass.Switch current answer guests = guests
+guests_passed setup pass.Drain current answer guests = guests
+guests_passed setup (pass.MakeReady u) current answer guests = guests
+guests_passed setup pass.End current answer guests = guests
+
+-- the private state after a poll of a pass
+abbrev pub private_passed : Setup → Buffering → List State → List Entry → Pass → Left Buffering (Unit {0}) → Private
+private_passed setup own guests trace p left =
+    private_of left.own (guests_passed setup p (threads_in own).current left.answer guests) trace

@@ -1,0 +1,32 @@
+-- How all threads stand to a CPU's part between its polls.
+use Rattle.std.specs.Prelude.{◌≡◌, false, List, Option, Some, None, length}
+use Rattle.event_log.specs.declared.ids.BufId.{BufId}
+use Rattle.event_log.specs.declared.ids.Tid.{Tid}
+use Rattle.event_log.specs.declared.ids.TheConstants.{THREADS}
+use Rattle.layer_traits.specs.declared.calls.Effect.{Effect}
+use Rattle.layer_traits.specs.declared.talks.Stage.{Stage}
+use Rattle.layer_traits.specs.declared.talks.Stage.TheVariants.{Between}
+use Rattle.layer_traits.specs.LockLaw.{slept_for}
+use Rattle.layer_traits.specs.Places.{is_thread}
+use Rattle.layer_traits.specs.BufferLaw.{Buffering, talk_of}
+use Rattle.cpu.specs.Tower.Views.{TowerOut}
+use Rattle.cpu.specs.Tower.Privates.{threads_in}
+use Rattle.cpu.specs.Tower.Composed.{Stands}
+
+-- a thread is in no call, and then it neither sleeps nor waits, or it stands in one as a begun call may
+pub data MayStand : Stage → (hand : Option Tid) → (kept : Option TowerOut) → (slept waits : Option BufId) → (effect : Option Effect) → Type 0 where
+  outside : (effect : Option Effect) → MayStand Between None None None None effect
+  inside : (stage : Stage) (hand : Option Tid) (kept : Option TowerOut) (slept waits : Option BufId) (effect : Option Effect)
+      → Stands stage hand kept slept waits effect → MayStand stage hand kept slept waits effect
+
+-- the thread that runs stands so with the hand and the kept answer, each other thread without one; while nobody runs none is kept
+pub record IsPart (own : Buffering) : Type 0 where
+  pub mine : (t : Tid) → (threads_in own).current ≡ Some t
+      → MayStand (talk_of own.talks t).stage (threads_in own).hand own.cv.lock.sleep.kept (slept_for own.cv.lock.slept t)
+      (slept_for own.cv.waits t) (talk_of own.talks t).effect
+  pub other : (t : Tid) → is_thread t (threads_in own).current ≡ false
+      → MayStand (talk_of own.talks t).stage None None (slept_for own.cv.lock.slept t) (slept_for own.cv.waits t) (talk_of own.talks t).effect
+  pub idle : (threads_in own).current ≡ None → own.cv.lock.sleep.kept ≡ None
+  pub talks : length own.talks ≡ THREADS
+  pub slept : length own.cv.lock.slept ≡ THREADS
+  pub waits : length own.cv.waits ≡ THREADS

@@ -1,0 +1,131 @@
+-- The layers seen as the step table: the table's name of each section, its block and its answer.
+use Rattle.std.specs.Prelude.{◌≡◌, Option, None}
+use Rattle.event_log.specs.declared.ids.Tid.{Tid}
+use Rattle.layer_traits.specs.declared.locked.QEdit.TheVariants.{Acquire, Inside, Release}
+use Rattle.layer_traits.specs.declared.locked.QOut.{QOut}
+use Rattle.layer_traits.specs.declared.locked.QOut.TheVariants as lock
+use Rattle.layer_traits.specs.declared.locked.Side.{Side}
+use Rattle.layer_traits.specs.declared.locked.Side.TheVariants.{Receivers, Senders}
+use Rattle.layer_traits.specs.declared.conditions.CvEdit.TheVariants.{Edit, SignalFront}
+use Rattle.layer_traits.specs.declared.conditions.CvLeave.TheVariants.{Leave, Wait}
+use Rattle.layer_traits.specs.declared.conditions.CvOut.{CvOut}
+use Rattle.layer_traits.specs.declared.conditions.CvOut.TheVariants as cv
+use Rattle.layer_traits.specs.declared.buffer_edits.BufferEdit.{BufferEdit}
+use Rattle.layer_traits.specs.declared.buffer_edits.BufferEdit.TheVariants as edit
+use Rattle.layer_traits.specs.declared.buffer_edits.BufferOut.{BufferOut}
+use Rattle.layer_traits.specs.declared.buffer_edits.BufferOut.TheVariants as out
+use Rattle.layer_traits.specs.declared.queue_edits.QueueBlock.{QueueBlock}
+use Rattle.layer_traits.specs.declared.queue_edits.QueueBlock.TheVariants as block
+use Rattle.layer_traits.specs.declared.queue_edits.QueueEdit.{QueueEdit}
+use Rattle.layer_traits.specs.declared.queue_edits.QueueEdit.TheVariants as queue
+use Rattle.layer_traits.specs.declared.queues.QueueAnswer.{QueueAnswer}
+use Rattle.layer_traits.specs.declared.queues.QueueAnswer.TheVariants as told
+use Rattle.layer_traits.specs.declared.sleeps.Outcome.{Outcome}
+use Rattle.layer_traits.specs.BufferBlocks.{BufferState}
+use Rattle.layer_traits.specs.BufferProtocol.{buffer_rules}
+use Rattle.layer_traits.specs.Conditions.{CvCall}
+use Rattle.layer_traits.specs.Locking.{LockState, lock_moves, lock_rules}
+use Rattle.layer_traits.specs.Plans.{Table, table_of}
+use Rattle.layer_traits.specs.QueueRules.{queue_rules}
+use Rattle.cpu.specs.Table.Blocks.{Buffer, Block, OfBuffer, OfPending, Name, AcqQ, Enter, TryPut, TryTake, WaitOn, SigRecv, SigSend, RelQ, Pend, TakeAll, Told, Nothing, Position, Done, NotYet, Drained, Answer}
+use Rattle.cpu.specs.Table.Edits.{edited, answer, tells}
+
+-- the names, answers and blocks of the layers' sections
+abbrev pub TowerName : Type 0
+TowerName = QueueEdit (CvCall BufferEdit)
+
+abbrev pub TowerOut : Type 0
+TowerOut = Outcome (QOut (CvOut BufferOut))
+
+abbrev pub TowerAnswer : Type 0
+TowerAnswer = QueueAnswer TowerOut
+
+abbrev pub TowerBlock : Type 0
+TowerBlock = QueueBlock (LockState BufferState)
+
+-- what the layers' sections mean
+abbrev pub tower : Table TowerName TowerBlock TowerAnswer
+tower = table_of (queue_rules (lock_rules buffer_rules) (lock_moves buffer_rules))
+
+-- a signal to the front of a side
+abbrev pub signal_on : Tid → Side → Name
+signal_on t Receivers = SigRecv t
+signal_on t Senders = SigSend t
+
+-- the table's name of a section of the layers
+abbrev pub name_of : TowerName → Name
+name_of (queue.Push t) = Pend t
+name_of queue.TakeAll = TakeAll
+name_of (queue.Above (Acquire t)) = AcqQ t
+name_of (queue.Above (Inside (Edit (edit.Enter t side)))) = Enter t side
+name_of (queue.Above (Inside (Edit (edit.TryPut t m)))) = TryPut t m
+name_of (queue.Above (Inside (Edit (edit.TryTake t)))) = TryTake t
+name_of (queue.Above (Inside (SignalFront t side))) = signal_on t side
+name_of (queue.Above (Release (Leave t))) = RelQ t
+name_of (queue.Above (Release (Wait t side))) = WaitOn t side
+
+-- the layers' section of a name of the table
+abbrev pub code : Name → TowerName
+code (Pend t) = queue.Push t
+code TakeAll = queue.TakeAll
+code (AcqQ t) = queue.Above (Acquire t)
+code (Enter t side) = queue.Above (Inside (Edit (edit.Enter t side)))
+code (TryPut t m) = queue.Above (Inside (Edit (edit.TryPut t m)))
+code (TryTake t) = queue.Above (Inside (Edit (edit.TryTake t)))
+code (SigRecv t) = queue.Above (Inside (SignalFront t Receivers))
+code (SigSend t) = queue.Above (Inside (SignalFront t Senders))
+code (RelQ t) = queue.Above (Release (Leave t))
+code (WaitOn t side) = queue.Above (Release (Wait t side))
+
+-- a lock with its lists round a buffer
+abbrev pub buffer_view : LockState BufferState → Buffer
+buffer_view state = record {
+  busy = state.owner;
+  sleepers = state.sleepers;
+  waiting_receivers = state.receivers;
+  waiting_senders = state.senders;
+  receive_line = state.above.receive_line;
+  send_line = state.above.send_line;
+  items = state.above.items;
+  capacity = state.above.capacity;
+  effects = state.above.effects;
+  send_positions = state.above.sends;
+  receive_positions = state.above.receives;
+}
+
+-- a block of the layers
+abbrev pub view : TowerBlock → Block
+view (block.Queue threads homes) = OfPending threads
+view (block.Above state) = OfBuffer (buffer_view state)
+
+-- what the answers of the layers tell
+abbrev pub told_above : BufferOut → Told
+told_above (out.Entered pos) = Position pos
+told_above out.NotYet = NotYet
+told_above (out.Done kind op m) = Done op m
+
+abbrev pub told_inside : CvOut BufferOut → Told
+told_inside (cv.Did o) = told_above o
+told_inside (cv.Signalled side front) = Nothing
+told_inside cv.Left = Nothing
+told_inside (cv.Waited side) = Nothing
+
+abbrev pub told_in : QOut (CvOut BufferOut) → Told
+told_in lock.Acquired = Nothing
+told_in lock.Queued = Nothing
+told_in (lock.Did o) = told_inside o
+told_in (lock.Released o) = Nothing
+
+-- an answer of the layers
+abbrev pub answer_view : TowerAnswer → Answer
+answer_view told.Done = tells Nothing
+answer_view (told.Taken threads) = tells (Drained threads)
+answer_view (told.Answer o) = record { told = told_in o.out; slept = o.slept; woke = o.woke }
+
+-- the layers' sections are the table's, each with one name; the blocks that they leave and their answers are seen as the table's,
+-- of every section on every block
+pub record TablesAgree : Type 0 where
+  pub names : (n : Name) → name_of (code n) ≡ n
+  pub codes : (e : TowerName) → code (name_of e) ≡ e
+  pub edits : (e : TowerName) (x : TowerBlock) → view (tower.edited e x) ≡ edited (name_of e) (view x)
+  pub answers : (e : TowerName) (x : TowerBlock) → answer_view (tower.answer e x) ≡ answer (name_of e) (view x)
