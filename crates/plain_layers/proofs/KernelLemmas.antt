@@ -1,0 +1,292 @@
+-- The lists that all CPUs share: an allowed call can be done on them, and it keeps them in agreement with the calls.
+use Rattle.std.proofs.Common.{◌≡◌, ◌≢◌, ℕ, zero, suc, ◌<◌, Bool, true, false, List, [], ◌∷◌, ◌++◌, length, slice_get, slice_set, ◌==◌}
+use Rattle.std.proofs.Common.{if◌then◌else◌, Option, Some, None, IsSome, IfSome, option_map, refl, ap, sym, ◌∙◌, subst, arith}
+use Rattle.std.proofs.Common.{Result, Ok, OnOk, replicate, reverse, unwrap_or, ◌+◌, ◌≤◌}
+use Rattle.std.proofs.lemmas.Bool.{eq-eqb, eqb-true}
+use Rattle.std.proofs.lemmas.List.{get_or-replicate, length-replicate, reverse-append}
+use Rattle.std.proofs.lemmas.Option.{get_or_from_slice_get, slice_get-get_or, slice_get_within}
+use Rattle.event_log.specs.declared.ids.BufId.{BufId}
+use Rattle.event_log.specs.declared.ids.CpuId.{CpuId}
+use Rattle.event_log.specs.declared.ids.LockId.{LockId}
+use Rattle.event_log.specs.declared.ids.LockId.TheVariants.{Pending, Buffer}
+use Rattle.event_log.specs.declared.ids.Tid.{Tid}
+use Rattle.event_log.specs.declared.ids.TheConstants.{CPUS, THREADS}
+use Rattle.event_log.specs.History.{same_cpu}
+use Rattle.event_log.specs.Sections.{block_after}
+use Rattle.event_log.proofs.Same.{same_cpu_true}
+use Rattle.thread_blocks.specs.Queues.{is_in}
+use Rattle.layer_traits.specs.declared.queue_edits.QueueBlock.{QueueBlock}
+use Rattle.layer_traits.specs.declared.queue_edits.QueueBlock.TheVariants.{Queue, Above}
+use Rattle.layer_traits.specs.declared.queues.QueueAnswer.{QueueAnswer}
+use Rattle.layer_traits.specs.declared.queues.QueueAnswer.TheVariants.{Taken, Answer}
+use Rattle.layer_traits.specs.declared.queues.QueueCall.{QueueCall}
+use Rattle.layer_traits.specs.declared.queues.QueueCall.TheVariants.{Push, TakeAll, OnBuffer}
+use Rattle.layer_traits.specs.declared.queues.QueueEvent.{QueueEvent}
+use Rattle.layer_traits.specs.MoveRules.{MoveRules, WakesSleepers, edit_move}
+use Rattle.layer_traits.specs.Places.{home_of, pending_after, pending_by}
+use Rattle.layer_traits.specs.Protocol.{Rules}
+use Rattle.layer_traits.specs.QueueBlocks.{StartsAs, above_of, homes_in, homes_of, inner}
+use Rattle.layer_traits.specs.Queues.{CallAllowed, Kernel, answer_of, buffer_sections, event, kernel, lock_of, moves_in, out_at}
+use Rattle.layer_traits.proofs.Alone.{block_there}
+use Rattle.layer_traits.proofs.NestedLemmas.{push_known, push_new}
+use Rattle.plain_layers.specs.declared.kernel.Lists.{Lists}
+use Rattle.plain_layers.specs.declared.kernel.Opening.{Opening}
+use Rattle.shared_queue.specs.Opening.{AreQueues}
+use Rattle.plain_layers.specs.Kernels.{CanDo, IsDone, IsKernel, SetsBlock, SetsQueue, opening_of, pending_in}
+
+-- a list of events that has grown by one, newest first
+pub grown : {A F X : Type 0} (r : Result A F) (a : A) (old new : List X) (x : X) → r ≡ Ok a → OnOk r (new ≡ old ++ x ∷ []) → reverse new ≡ x ∷ reverse old
+grown r a old new x is pushed = ap reverse (subst (λ o. OnOk o (new ≡ old ++ x ∷ [])) is pushed) ∙ reverse-append old (x ∷ [])
+
+-- what is written at a place is there
+get_set : {X : Type 0} (xs : List X) (i : ℕ) (x : X) → i < length xs → slice_get (slice_set xs i x) i ≡ Some x
+get_set [] i x within = absurd (omega (arith, within))
+get_set (y ∷ xs) zero x within = refl
+get_set (y ∷ xs) (suc i) x within = let below : i < length xs = omega (arith, within) in get_set xs i x below
+
+-- and each other place has what it had
+get_other : {X : Type 0} (xs : List X) (i j : ℕ) (x : X) → j ≢ i → slice_get (slice_set xs i x) j ≡ slice_get xs j
+get_other [] i j x other = refl
+get_other (y ∷ xs) zero zero x other = absurd (other refl)
+get_other (y ∷ xs) zero (suc j) x other = refl
+get_other (y ∷ xs) (suc i) zero x other = refl
+get_other (y ∷ xs) (suc i) (suc j) x other = get_other xs i j x (λ same. other (ap suc same))
+
+not_equal : (i j : ℕ) → (i == j) ≡ false → i ≢ j
+not_equal i j other same = let equal : (i == j) ≡ true = eq-eqb i j same in absurd (cc (equal, other))
+
+-- a list read at a place where there is something
+within_some : {X : Type 0} (xs : List X) (i : ℕ) (o : Option X) → slice_get xs i ≡ o → IsSome o → i < length xs
+within_some xs i None is there = absurd cc
+within_some xs i (Some x) is there = slice_get_within xs i x is
+
+-- so many times the same
+pub repeated : {X : Type 0} (n i : ℕ) (x : X) → i < n → slice_get (replicate n x) i ≡ Some x
+repeated n i x within =
+    let long = length-replicate n x in
+    slice_get-get_or (replicate n x) i x (omega (arith, within, long)) ∙ ap Some (get_or-replicate n i x x within)
+
+-- one more of the same
+pub repeat_more : {X : Type 0} (n : ℕ) (x : X) → replicate n x ++ x ∷ [] ≡ replicate (n + 1) x
+repeat_more zero x = refl
+repeat_more (suc n) x =
+    let next : suc (n + 1) ≡ suc n + 1 = omega arith in
+    ap (λ l. x ∷ l) (repeat_more n x) ∙ ap (λ m. replicate m x) next
+
+module _ {E B O : Type 0} (rules : Rules E B O) (mv : MoveRules E O) (wakes : WakesSleepers rules mv) (start : Opening B) (past : List (QueueEvent E))
+    (lists : Lists B) (sound : IsKernel rules mv start past lists) where
+  abbrev K : Kernel E B O
+  K = kernel rules mv (opening_of start)
+
+  -- a queue that opened is there, and holds who is pending by the moves
+  queue_is : (d : CpuId) → IsSome (opening_of start (Pending d)) → slice_get lists.pending.items d.0 ≡ Some (pending_by (moves_in K past) d)
+  queue_is d there = sound.queues d ∙ go (slice_get start.lists.value.pending.items d.0) there
+    where
+      opened : List Tid → QueueBlock B
+      opened queue = Queue queue start.homes
+
+      go : (o : Option (List Tid)) → IsSome (option_map opened o)
+          → option_map (λ queue. pending_by (moves_in K past) d) o ≡ Some (pending_by (moves_in K past) d)
+      go None there = absurd cc
+      go (Some queue) there = refl
+
+  pending_is : (d : CpuId) → IsSome (opening_of start (Pending d)) → pending_in lists d ≡ pending_by (moves_in K past) d
+  pending_is d there = get_or_from_slice_get lists.pending.items d.0 (pending_by (moves_in K past) d) [] (queue_is d there)
+
+  queue_within : (d : CpuId) → IsSome (opening_of start (Pending d)) → d.0 < length lists.pending.items
+  queue_within d there = slice_get_within lists.pending.items d.0 (pending_by (moves_in K past) d) (queue_is d there)
+
+  -- a buffer that opened has its block
+  block_some : (b : BufId) → IsSome (opening_of start (Buffer b)) → IsSome (block_after rules.edited (inner (opening_of start)) (Buffer b) (buffer_sections past))
+  block_some b there = block_there rules.edited (inner (opening_of start)) (Buffer b) (buffer_sections past)
+      (go (slice_get start.lists.value.buffers.items b.0) there)
+    where
+      go : (o : Option B) → IsSome (option_map Above o) → IsSome (above_of (option_map Above o))
+      go None there = absurd cc
+      go (Some block) there = refl
+
+  block_within : (b : BufId) → IsSome (opening_of start (Buffer b)) → b.0 < length lists.buffers.items
+  block_within b there = within_some lists.buffers.items b.0 _ (sound.blocks b) (block_some b there)
+
+  -- an allowed call can be done
+  pub can_do : (c : CpuId) (call : QueueCall E) → IsSome (opening_of start (lock_of call)) → CallAllowed K past c call → CanDo call lists
+  can_do c (Push d t) there allowed = (
+    queue_within d there,
+    push_known rules mv (opening_of start) sound.starts wakes past c d t allowed,
+    ap (is_in t) (pending_is d there) ∙ push_new rules mv (opening_of start) sound.starts wakes past sound.lawful c d d t allowed,
+  )
+  can_do c (TakeAll d) there allowed = queue_within d there
+  can_do c (OnBuffer b e) there allowed = block_within b there
+
+  -- A call that was done.
+
+  -- the queues after one was written
+  queues_set : (d : CpuId) (queue : List Tid) (after : CpuId → List Tid) (new : Lists B) → IsSome (opening_of start (Pending d)) → SetsQueue d queue lists new
+      → queue ≡ after d → (e : CpuId)
+      → slice_get new.pending.items e.0
+      ≡ option_map (λ opened. if same_cpu d e then after e else pending_by (moves_in K past) e) (slice_get start.lists.value.pending.items e.0)
+  queues_set d queue after new there sets is e = ap (λ l. slice_get l e.0) sets.0 ∙ go (same_cpu d e) refl
+    where
+      queue_of : List Tid → QueueBlock B
+      queue_of queue = Queue queue start.homes
+
+      opened : (q : List Tid) (o : Option (List Tid)) → IsSome (option_map queue_of o)
+          → Some q ≡ option_map (λ queue. q) o
+      opened q None there = absurd cc
+      opened q (Some queue) there = refl
+
+      go : (b : Bool) → same_cpu d e ≡ b → slice_get (slice_set lists.pending.items d.0 queue) e.0
+          ≡ option_map (λ opened. if b then after e else pending_by (moves_in K past) e) (slice_get start.lists.value.pending.items e.0)
+      go true same =
+          let one = same_cpu_true d e same in
+          subst (λ x. slice_get (slice_set lists.pending.items d.0 queue) x.0 ≡ option_map (λ opened. after x) (slice_get start.lists.value.pending.items x.0)) one
+          (get_set lists.pending.items d.0 queue (queue_within d there)
+          ∙ (ap Some is ∙ opened (after d) (slice_get start.lists.value.pending.items d.0) there))
+      go false other =
+          get_other lists.pending.items d.0 e.0 queue (λ same. not_equal d.0 e.0 other (sym same)) ∙ sound.queues e
+
+  -- an edit moves nobody into a queue
+  still : (b : BufId) (e : E) (queue : List Tid) (d : CpuId) (out : Option O) → pending_after (edit_move mv (Buffer b) e out) d queue ≡ queue
+  still b e queue d None = refl
+  still b e queue d (Some out) = refl
+
+  -- the blocks after one was edited
+  blocks_set : (b : BufId) (e : E) (block : B) (c : CpuId) (new : Lists B) → slice_get lists.buffers.items b.0 ≡ Some block
+      → new.buffers.items ≡ slice_set lists.buffers.items b.0 (rules.edited e block) → (at : BufId)
+      → slice_get new.buffers.items at.0
+      ≡ block_after rules.edited (inner (opening_of start)) (Buffer at) (buffer_sections (event c (OnBuffer b e) ∷ past))
+  blocks_set b e block c new was sets at = ap (λ l. slice_get l at.0) sets ∙ go (at.0 == b.0) refl
+    where
+      go : (x : Bool) → (at.0 == b.0) ≡ x → slice_get (slice_set lists.buffers.items b.0 (rules.edited e block)) at.0
+          ≡ (if x then option_map (rules.edited e) (block_after rules.edited (inner (opening_of start)) (Buffer at) (buffer_sections past))
+          else block_after rules.edited (inner (opening_of start)) (Buffer at) (buffer_sections past))
+      go true same =
+          let one : b.0 ≡ at.0 = sym (eqb-true at.0 b.0 same) in
+          subst (λ n. slice_get (slice_set lists.buffers.items b.0 (rules.edited e block)) n ≡ option_map (rules.edited e) (slice_get lists.buffers.items n)) one
+          (get_set lists.buffers.items b.0 (rules.edited e block) (slice_get_within lists.buffers.items b.0 block was) ∙ sym (ap (option_map (rules.edited e)) was))
+          ∙ ap (option_map (rules.edited e)) (sound.blocks at)
+      go false other = get_other lists.buffers.items b.0 at.0 (rules.edited e block) (not_equal at.0 b.0 other) ∙ sound.blocks at
+
+  -- what was done at a block that is there
+  done_block : (b : BufId) (e : E) (new : Lists B) (answer : QueueAnswer O) → IsSome (opening_of start (Buffer b)) → IsDone rules (OnBuffer b e) lists new answer
+      → (block : B) × (slice_get lists.buffers.items b.0 ≡ Some block) × SetsBlock b (rules.edited e block) lists new × (answer ≡ Answer (rules.answer e block))
+  done_block b e new answer there done = go (slice_get lists.buffers.items b.0) refl (subst (λ x. IsSome x) (sym (sound.blocks b)) (block_some b there)) done
+    where
+      go : (o : Option B) → slice_get lists.buffers.items b.0 ≡ o → IsSome o
+          → IfSome o (λ block. SetsBlock b (rules.edited e block) lists new × (answer ≡ Answer (rules.answer e block)))
+          → (block : B) × (slice_get lists.buffers.items b.0 ≡ Some block) × SetsBlock b (rules.edited e block) lists new
+          × (answer ≡ Answer (rules.answer e block))
+      go None is some sets = absurd cc
+      go (Some block) is some sets = (block, is, sets.0, sets.1)
+
+  -- a call that was done keeps the lists in agreement
+  pub kernel_after : (c : CpuId) (call : QueueCall E) (new : Lists B) (answer : QueueAnswer O) → c.0 < CPUS → IsSome (opening_of start (lock_of call))
+      → CallAllowed K past c call → IsDone rules call lists new answer → IsKernel rules mv start (event c call ∷ past) new
+  kernel_after c (Push d t) new answer known there allowed done = record {
+    starts = sound.starts;
+    lawful = (allowed, sound.lawful);
+    known = (known, sound.known);
+    queues = queues_set d (pending_in lists d ++ t ∷ []) (λ e. pending_by (moves_in K past) e ++ t ∷ []) new there done.0
+        (ap (λ queue. queue ++ t ∷ []) (pending_is d there));
+    blocks = λ b. ap (λ l. slice_get l b.0) done.0.1 ∙ sound.blocks b;
+  }
+  kernel_after c (TakeAll d) new answer known there allowed done = record {
+    starts = sound.starts;
+    lawful = (allowed, sound.lawful);
+    known = (known, sound.known);
+    queues = queues_set d [] (λ e. []) new there done.0 refl;
+    blocks = λ b. ap (λ l. slice_get l b.0) done.0.1 ∙ sound.blocks b;
+  }
+  kernel_after c (OnBuffer b e) new answer known there allowed done =
+      let was = done_block b e new answer there done in
+      record {
+        starts = sound.starts;
+        lawful = (allowed, sound.lawful);
+        known = (known, sound.known);
+        queues = λ d. ap (λ l. slice_get l d.0) was.2.1
+            ∙ (sound.queues d
+            ∙ sym (ap (λ queue. option_map (λ opened. queue) (slice_get start.lists.value.pending.items d.0))
+            (still b e (pending_by (moves_in K past) d) d (out_at K past b e))));
+        blocks = blocks_set b e was.0 c new was.1 was.2.0;
+      }
+
+  -- and its answer is that of the calls
+  pub kernel_answers : (call : QueueCall E) (new : Lists B) (answer : QueueAnswer O) → IsSome (opening_of start (lock_of call))
+      → IsDone rules call lists new answer → answer_of K past call ≡ Some answer
+  kernel_answers (Push d t) new answer there done = ap Some (sym done.1)
+  kernel_answers (TakeAll d) new answer there done = ap (λ queue. Some (Taken queue)) (sym (pending_is d there)) ∙ ap Some (sym done.1)
+  kernel_answers (OnBuffer b e) new answer there done =
+      let was = done_block b e new answer there done in
+      ap (λ o. option_map Answer (option_map (rules.answer e) o)) (sym (sound.blocks b) ∙ was.1) ∙ ap Some (sym was.3)
+
+module _ {E B O : Type 0} (rules : Rules E B O) (mv : MoveRules E O) (start : Opening B) (lists : Lists B) (cpus : ℕ) (homes : List CpuId) (buffers : ℕ)
+    (are : AreQueues cpus homes buffers) (opened : start.lists.value ≡ lists) (told : start.homes.value.items ≡ homes)
+    (empty : lists.pending.items ≡ replicate cpus []) where
+  queue_opens : (c : CpuId) → c.0 < cpus → opening_of start (Pending c) ≡ Some (Queue [] start.homes)
+  queue_opens c within = ap (λ l. option_map (λ queue. Queue queue start.homes) (slice_get l c.0)) (ap (λ x. x.pending.items) opened ∙ empty)
+      ∙ ap (option_map (λ queue. Queue queue start.homes)) (repeated cpus c.0 [] within)
+
+  pub queue_is_there : (c : CpuId) → c.0 < cpus → IsSome (opening_of start (Pending c))
+  queue_is_there c within = subst (λ x. IsSome x) (sym (queue_opens c within)) refl
+
+  pub homes_told : homes_in (opening_of start) ≡ homes
+  homes_told = ap homes_of (queue_opens (record { 0 = 0 }) are.some) ∙ told
+
+  abbrev nobody : List Tid
+  nobody = []
+
+  each_empty : (i : ℕ) (queue : List Tid) → slice_get start.lists.value.pending.items i ≡ Some queue → queue ≡ []
+  each_empty i queue is =
+      let all : start.lists.value.pending.items ≡ replicate cpus [] = ap (λ x. x.pending.items) opened ∙ empty in
+      let there : slice_get (replicate cpus []) i ≡ Some queue = ap (λ l. slice_get l i) (sym all) ∙ is in
+      let long = length-replicate cpus nobody in
+      let within = slice_get_within (replicate cpus []) i queue there in
+      let none : Some [] ≡ Some queue = sym (repeated cpus i [] (omega (arith, long, within))) ∙ there in
+      sym (ap (λ o. unwrap_or o []) none)
+
+  abbrev queue_of : List Tid → QueueBlock B
+  queue_of queue = Queue queue start.homes
+
+  kinds : (lock : LockId) → StartsAs lock (opening_of start lock)
+  kinds (Pending c) = go (slice_get start.lists.value.pending.items c.0) (each_empty c.0)
+    where
+      go : (o : Option (List Tid)) → ((queue : List Tid) → o ≡ Some queue → queue ≡ []) → StartsAs (Pending c) (option_map queue_of o)
+      go None all = tt
+      go (Some queue) all = all queue refl
+  kinds (Buffer b) = go (slice_get start.lists.value.buffers.items b.0)
+    where
+      go : (o : Option B) → StartsAs (Buffer b) (option_map Above o)
+      go None = tt
+      go (Some block) = tt
+
+  -- a machine opens sound
+  pub kernel_fresh : IsKernel rules mv start [] lists
+  kernel_fresh = record {
+    starts = record {
+      kinds = kinds;
+      queues = λ t home is.
+          let at : home_of homes t ≡ Some home = ap (λ l. home_of l t) (sym homes_told) ∙ is in
+          let within = are.within t.0 home (slice_get_within homes t.0 home at) in
+          let known : home.0 < cpus = subst (λ (c : CpuId). c.0 < cpus) (get_or_from_slice_get homes t.0 home home at) within in
+          queue_is_there home known;
+      room = subst (λ l. length l ≤ THREADS) (sym homes_told) are.threads;
+    };
+    lawful = tt;
+    known = tt;
+    queues = λ d.
+        ap (λ (x : Lists B). slice_get x.pending.items d.0) (sym opened)
+        ∙ go (slice_get start.lists.value.pending.items d.0) (each_empty d.0);
+    blocks = λ b. ap (λ (x : Lists B). slice_get x.buffers.items b.0) (sym opened) ∙ told_above (slice_get start.lists.value.buffers.items b.0);
+  }
+    where
+      go : (o : Option (List Tid)) → ((queue : List Tid) → o ≡ Some queue → queue ≡ []) → o ≡ option_map (λ (queue : List Tid). nobody) o
+      go None all = refl
+      go (Some queue) all = ap Some (all queue refl)
+
+      told_above : (o : Option B) → o ≡ above_of (option_map Above o)
+      told_above None = refl
+      told_above (Some block) = refl
+
+  -- each buffer opens with the block in its place
+  pub buffer_opens : (b : BufId) → inner (opening_of start) (Buffer b) ≡ slice_get lists.buffers.items b.0
+  buffer_opens b = sym (kernel_fresh.blocks b)

@@ -1,0 +1,124 @@
+-- The list of blocks: the place of a lock in it, what an edit at that place leaves, and that a section keeps the list in agreement.
+use Rattle.std.proofs.Common.{◌≡◌, ℕ, zero, suc, ◌+◌, ◌<◌, Bool, true, false, List, [], ◌∷◌, ◌++◌, length, get_or, drop, slice_set, add-one, drop-cons}
+use Rattle.std.proofs.Common.{if◌then◌else◌, Option, Some, None, IsSome, option_map, refl, ap, sym, ◌∙◌, subst, arith}
+use Rattle.event_log.specs.declared.ids.CpuId.{CpuId}
+use Rattle.event_log.specs.declared.ids.LockId.{LockId}
+use Rattle.event_log.specs.declared.ids.TheConstants.{CPUS}
+use Rattle.event_log.specs.History.{IsLawful, same_lock}
+use Rattle.event_log.specs.Sections.{Section, block_after}
+use Rattle.event_log.proofs.Same.{same_lock_self, same_lock_true}
+use Rattle.layer_traits.proofs.Alone.{block_there}
+use Rattle.layer_traits.specs.OneLock.{opened}
+use Rattle.layer_traits.specs.Protocol.{IsKnown, Rules, section}
+use Rattle.layer_traits.specs.Turns.{Answers}
+use Rattle.plain_layers.specs.Tables.{IsPlace, IsTable}
+
+-- the list from an index on
+pub from_index : {X : Type 0} (xs : List X) (i : ℕ) (x : X) → i < length xs → x ≡ get_or xs i x → drop i xs ≡ x ∷ drop (i + 1) xs
+from_index xs i x within is = drop-cons xs i x within ∙ (ap (λ y. y ∷ drop (suc i) xs) (sym is) ∙ ap (λ n. x ∷ drop n xs) (sym (add-one i)))
+
+-- whether an entry that names the lock names another one too
+names : (lock m l : LockId) → same_lock m lock ≡ true → (b : Bool) → same_lock l lock ≡ b → same_lock m l ≡ b
+names lock m l named true is = subst (λ x. same_lock m x ≡ true) (same_lock_true m lock named ∙ sym (same_lock_true l lock is)) (same_lock_self m)
+names lock m l named false is = go (same_lock m l) refl
+  where
+    go : (b : Bool) → same_lock m l ≡ b → b ≡ false
+    go false other = refl
+    go true same = let one : same_lock l lock ≡ true = subst (λ x. same_lock x lock ≡ true) (same_lock_true m l same) named in absurd (cc (one, is))
+
+module _ {B : Type 0} (lock : LockId) where
+  -- the first entry names the lock
+  pub place_here : (blocks : List (LockId × B)) (i : ℕ) (o : LockId × B) → i < length blocks → o ≡ get_or blocks i o → same_lock o.0 lock ≡ true
+      → ((n : ℕ) → IsPlace lock n (drop i blocks) → IsPlace lock (i + n) blocks) → IsPlace lock i blocks
+  place_here blocks i o within is same place =
+      let at : IsPlace lock 0 (drop i blocks) = subst (IsPlace lock 0) (sym (from_index blocks i o within is)) same in
+      let same_place : i + 0 ≡ i = omega arith in
+      subst (λ n. IsPlace lock n blocks) same_place (place 0 at)
+
+  -- the first entry names another lock
+  pub place_later : (blocks : List (LockId × B)) (i : ℕ) (o : LockId × B) → i < length blocks → o ≡ get_or blocks i o → same_lock o.0 lock ≡ false
+      → ((n : ℕ) → IsPlace lock n (drop i blocks) → IsPlace lock (i + n) blocks) → (n : ℕ) → IsPlace lock n (drop (i + 1) blocks)
+      → IsPlace lock (i + 1 + n) blocks
+  place_later blocks i o within is other place n at =
+      let here : IsPlace lock (suc n) (drop i blocks) = subst (IsPlace lock (suc n)) (sym (from_index blocks i o within is)) (other, at) in
+      let same_place : i + suc n ≡ i + 1 + n = omega arith in
+      subst (λ n. IsPlace lock n blocks) same_place (place (suc n) here)
+
+  pub there_later : (blocks : List (LockId × B)) (i : ℕ) (o : LockId × B) → i < length blocks → o ≡ get_or blocks i o → same_lock o.0 lock ≡ false
+      → IsSome (opened (drop i blocks) lock) → IsSome (opened (drop (i + 1) blocks) lock)
+  there_later blocks i o within is other there =
+      let skips : opened (drop i blocks) lock ≡ opened (drop (i + 1) blocks) lock =
+      ap (λ l. opened l lock) (from_index blocks i o within is) ∙ ap (λ b. if b then Some o.1 else opened (drop (i + 1) blocks) lock) other in
+      subst (λ x. IsSome x) skips there
+
+  pub place_within : (n : ℕ) (blocks : List (LockId × B)) → IsPlace lock n blocks → n < length blocks
+  place_within n [] at = absurd at
+  place_within zero (x ∷ rest) at = omega arith
+  place_within (suc n) (x ∷ rest) at = let below = place_within n rest at.1 in omega (arith, below)
+
+  -- the entry at the place has the block of the lock
+  pub place_tells : (n : ℕ) (blocks : List (LockId × B)) (o : LockId × B) → IsPlace lock n blocks → o ≡ get_or blocks n o
+      → (same_lock o.0 lock ≡ true) × (opened blocks lock ≡ Some o.1)
+  place_tells n [] o at is = absurd at
+  place_tells zero (x ∷ rest) o at is = (
+    ap (λ (p : LockId × B). same_lock p.0 lock) is ∙ at,
+    ap (λ b. if b then Some x.1 else opened rest lock) at ∙ ap (λ (p : LockId × B). Some p.1) (sym is),
+  )
+  place_tells (suc n) (x ∷ rest) o at is =
+      let tells = place_tells n rest o at.1 is in
+      (tells.0, ap (λ b. if b then Some x.1 else opened rest lock) at.0 ∙ tells.1)
+
+  -- with another block at the place the lock has that one, and each other lock the one that it had
+  place_set : (n : ℕ) (blocks : List (LockId × B)) (o : LockId × B) → IsPlace lock n blocks → same_lock o.0 lock ≡ true → (l : LockId)
+      → opened (slice_set blocks n o) l ≡ (if same_lock l lock then Some o.1 else opened blocks l)
+  place_set n [] o at same l = absurd at
+  place_set zero (x ∷ rest) o at same l = go (same_lock l lock) refl
+    where
+      go : (b : Bool) → same_lock l lock ≡ b
+          → (if same_lock o.0 l then Some o.1 else opened rest l) ≡ (if b then Some o.1 else (if same_lock x.0 l then Some x.1 else opened rest l))
+      go true is = ap (λ b. if b then Some o.1 else opened rest l) (names lock o.0 l same true is)
+      go false is = ap (λ b. if b then Some o.1 else opened rest l) (names lock o.0 l same false is)
+          ∙ sym (ap (λ b. if b then Some x.1 else opened rest l) (names lock x.0 l at false is))
+  place_set (suc n) (x ∷ rest) o at same l = go (place_set n rest o at.1 same l) (same_lock x.0 l) refl
+    where
+      go : opened (slice_set rest n o) l ≡ (if same_lock l lock then Some o.1 else opened rest l) → (b : Bool) → same_lock x.0 l ≡ b
+          → (if b then Some x.1 else opened (slice_set rest n o) l)
+          ≡ (if same_lock l lock then Some o.1 else (if b then Some x.1 else opened rest l))
+      go later true is = sym (ap (λ b. if b then Some o.1 else Some x.1) (subst (λ m. same_lock m lock ≡ false) (same_lock_true x.0 l is) at.0))
+      go later false is = later
+
+  -- so with the edited block there
+  pub place_edited : (f : B → B) (n : ℕ) (blocks : List (LockId × B)) (o : LockId × B) (block : B) → IsPlace lock n blocks → o ≡ get_or blocks n o
+      → block ≡ f o.1 → (l : LockId)
+      → opened (slice_set blocks n (o.0, block)) l ≡ (if same_lock l lock then option_map f (opened blocks l) else opened blocks l)
+  place_edited f n blocks o block at is edits l =
+      let tells = place_tells n blocks o at is in
+      place_set n blocks (o.0, block) at tells.0 l ∙ go tells.1 (same_lock l lock) refl
+    where
+      go : opened blocks lock ≡ Some o.1 → (b : Bool) → same_lock l lock ≡ b
+          → (if b then Some block else opened blocks l) ≡ (if b then option_map f (opened blocks l) else opened blocks l)
+      go has true same =
+          let had : opened blocks l ≡ Some o.1 = subst (λ x. opened blocks x ≡ Some o.1) (sym (same_lock_true l lock same)) has in
+          ap Some edits ∙ sym (ap (option_map f) had)
+      go has false other = refl
+
+module _ {E B O : Type 0} (rules : Rules E B O) (opening : LockId → Option B) (past : List (Section E)) (list : List (LockId × B))
+    (table : IsTable rules opening past list) (lock : LockId) where
+  -- a lock that opened with a block has one in the list
+  pub block_is_there : IsSome (opening lock) → IsSome (opened list lock)
+  block_is_there there = subst (λ x. IsSome x) (sym (table.blocks lock)) (block_there rules.edited opening lock past there)
+
+  -- a section keeps the list in agreement
+  pub table_after : (cpu : CpuId) (edit : E) (new : List (LockId × B)) → cpu.0 < CPUS → rules.allowed opening past (section cpu lock edit)
+      → ((l : LockId) → opened new l ≡ (if same_lock l lock then option_map (rules.edited edit) (opened list l) else opened list l))
+      → IsTable rules opening (section cpu lock edit ∷ past) new
+  table_after cpu edit new known allowed edited = record {
+    lawful = (allowed, table.lawful);
+    known = (known, table.known);
+    blocks = λ l. edited l ∙ ap (λ o. if same_lock l lock then option_map (rules.edited edit) o else o) (table.blocks l);
+  }
+
+  -- and answers as its edit does
+  pub table_answers : (cpu : CpuId) (edit : E) (out : O) → option_map (rules.answer edit) (opened list lock) ≡ Some out
+      → Answers rules opening past (section cpu lock edit) out
+  table_answers cpu edit out is = ap (option_map (rules.answer edit)) (sym (table.blocks lock)) ∙ is

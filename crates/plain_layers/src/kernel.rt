@@ -1,0 +1,124 @@
+//! The machine beneath one-step queues and schedulers: lists of threads and of blocks.
+
+ghost use Rattle.std.specs.Prelude.{◌≡◌, ◌+◌, ◌<◌, ◌∷◌, [], Some, IsSome, IfOk, length, replicate, slice_get};
+ghost use Rattle.event_log.specs.declared.ids.LockId.TheVariants.{Buffer, Pending};
+ghost use Rattle.event_log.specs.declared.ids.TheConstants.{CPUS};
+ghost use Rattle.layer_traits.specs.QueueBlocks.{homes_in, inner};
+ghost use Rattle.layer_traits.specs.Queues.{CallAllowed, answer_of, event, kernel, lock_of};
+ghost use Rattle.plain_layers.specs.Kernels.{CanDo, IsDone, IsKernel, calls_in, call_room, opening_of};
+ghost use Rattle.shared_queue.specs.Opening.{AreQueues};
+
+use arrayvec::ArrayVec;
+use event_log::{CpuId, EventLog, NoMemory, THREADS};
+use layer_traits::{Moves, QueueAnswer, QueueCall, QueueEvent};
+use scheduler::kept;
+use std::alloc::Global;
+use std::snapshot::Snapshot;
+use thread_blocks::ThreadQueue;
+
+/// What all CPUs share: the pending threads of each CPU, front first, and the block of each buffer.
+#[derive(Drop)]
+pub struct Lists<B> {
+    pending: Vec<ThreadQueue>,
+    buffers: Vec<B>,
+}
+
+/// What a machine opened with, for clauses alone: its lists, and the home of each thread.
+#[derive(Drop)]
+pub struct Opening<B> {
+    lists: Snapshot<Lists<B>>,
+    homes: Snapshot<ArrayVec<CpuId, THREADS>>,
+}
+
+/// The lists that all CPUs share, and the list of the calls that were done, with room for a number
+/// of them that is fixed when it is opened. No call after [`PlainKernel::open`] takes memory.
+#[derive(Drop)]
+pub struct PlainKernel<E: Moves> {
+    log: EventLog<QueueEvent<E>>,
+    lists: Lists<E::Block>,
+    opening: Opening<E::Block>,
+}
+
+impl<E: Moves> PlainKernel<E> {
+    /// A machine of so many CPUs, on which nobody is pending, with the block of each buffer in its
+    /// place. `homes` holds the home of each thread; there is room for `room` calls.
+    ///
+    /// Errors: `NoMemory` where an allocation was refused; then the blocks are gone.
+    pub fn open(
+        alloc: Global,
+        buffers: Vec<E::Block>,
+        cpus: u8,
+        homes: &[CpuId],
+        room: usize,
+    ) -> Result<PlainKernel<E>, NoMemory>
+        requires { AreQueues cpus homes.now (length buffers.items) }
+        ensures sound { IfOk result (λ m. IsKernel E.rules E.moves m.opening (calls_in m) m.lists) }
+        ensures seen { IfOk result (λ m. calls_in m ≡ []) }
+        ensures room { IfOk result (λ m. call_room m ≡ room) }
+        ensures homes { IfOk result (λ m. homes_in (opening_of m.opening) ≡ homes.now) }
+        ensures queues { IfOk result (λ m. (c : _) → c.0 < cpus → IsSome (opening_of m.opening (Pending c))) }
+        ensures blocks { IfOk result (λ m. (b : _) → inner (opening_of m.opening) (Buffer b) ≡ slice_get buffers.items b.0) }
+    {
+        let log = EventLog::with_room(alloc, room)?;
+        let pending = empty_queues(alloc, cpus)?;
+        let lists = Lists { pending, buffers };
+        let told = kept(homes);
+        let opened = Snapshot::of(&lists);
+        let homes = Snapshot::of(&told);
+        Ok(PlainKernel {
+            log,
+            lists,
+            opening: Opening {
+                lists: opened,
+                homes,
+            },
+        })
+    }
+
+    /// Does a whole call: notes it, does it on the lists and gives its answer.
+    pub fn done(&mut self, cpu: CpuId, call: QueueCall<E>) -> QueueAnswer<E::Out>
+        requires sound { IsKernel E.rules E.moves self.old.opening (calls_in self.old) self.old.lists }
+        requires room { 0 < call_room self.old }
+        requires cpu { cpu.0 < CPUS }
+        requires lock { IsSome (opening_of self.old.opening (lock_of call)) }
+        requires call { CallAllowed (kernel E.rules E.moves (opening_of self.old.opening)) (calls_in self.old) cpu call }
+        ensures sound { IsKernel E.rules E.moves self.new.opening (calls_in self.new) self.new.lists }
+        ensures opening { self.new.opening ≡ self.old.opening }
+        ensures seen { calls_in self.new ≡ event cpu call ∷ calls_in self.old }
+        ensures room { call_room self.old ≡ call_room self.new + 1 }
+        ensures answer { answer_of (kernel E.rules E.moves (opening_of self.old.opening)) (calls_in self.old) call ≡ Some result }
+    {
+        self.log.push(QueueEvent { cpu, call }).unwrap();
+        do_call(&mut self.lists, call)
+    }
+}
+
+/// Does a call on the lists.
+fn do_call<E: Moves>(lists: &mut Lists<E::Block>, call: QueueCall<E>) -> QueueAnswer<E::Out>
+    requires { CanDo call lists.old }
+    ensures { IsDone E.rules call lists.old lists.new result }
+{
+    match call {
+        QueueCall::Push(queue, t) => {
+            lists.pending[usize::from(queue.0)].push(t);
+            QueueAnswer::Done
+        }
+        QueueCall::TakeAll(queue) => QueueAnswer::Taken(lists.pending[usize::from(queue.0)].take()),
+        QueueCall::OnBuffer(buffer, edit) => {
+            QueueAnswer::Answer(edit.apply(&mut lists.buffers[usize::from(buffer.0)]))
+        }
+    }
+}
+
+/// An empty queue for each of so many CPUs.
+fn empty_queues(alloc: Global, cpus: u8) -> Result<Vec<ThreadQueue>, NoMemory>
+    ensures { IfOk result (λ queues. queues.items ≡ replicate cpus []) }
+{
+    let Ok(mut queues) = Vec::with_capacity(alloc, usize::from(cpus)) else {
+        return Err(NoMemory);
+    };
+    for _ in 0..cpus {
+        queues.push(ThreadQueue::new()).unwrap();
+    }
+    Ok(queues)
+}

@@ -1,0 +1,101 @@
+//! The machine beneath one-step critical sections: a list of blocks.
+
+ghost use Rattle.std.specs.Prelude.{◌≡◌, ◌+◌, ◌<◌, ◌∷◌, [], IsSome, IfOk, option_map, if◌then◌else◌};
+ghost use Rattle.event_log.specs.declared.ids.TheConstants.{CPUS};
+ghost use Rattle.event_log.specs.declared.ids.LockId.{LockId};
+ghost use Rattle.event_log.specs.History.{same_lock};
+ghost use Rattle.layer_traits.specs.OneLock.{opened};
+ghost use Rattle.layer_traits.specs.Protocol.{section};
+ghost use Rattle.layer_traits.specs.Turns.{Answers};
+ghost use Rattle.plain_layers.specs.Tables.{IsPlace, IsTable, opening_in, room_in, sections_noted};
+
+use event_log::{CpuId, EventLog, LockId, NoMemory};
+use layer_traits::Edit;
+use std::alloc::Global;
+use std::snapshot::Snapshot;
+
+/// A section as the list of events has it: who edited the block of which lock, and how.
+#[derive(Clone, Copy)]
+pub struct Noted<E> {
+    /// The CPU whose section it was.
+    pub cpu: CpuId,
+    /// The lock.
+    pub lock: LockId,
+    /// The edit.
+    pub edit: E,
+}
+
+/// The block of each lock as a list, and the list of the sections that were done, with room for a
+/// number of them that is fixed when it is opened. No call after [`LockTable::open`] takes memory.
+#[derive(Drop)]
+pub struct LockTable<E: Edit> {
+    log: EventLog<Noted<E>>,
+    blocks: Vec<(LockId, E::Block)>,
+    // The blocks that the locks opened with, for clauses alone.
+    opening: Snapshot<Vec<(LockId, E::Block)>>,
+}
+
+impl<E: Edit> LockTable<E> {
+    /// A machine with these locks, each with its block, and with room for `room` sections.
+    ///
+    /// Errors: `NoMemory` where the room could not be had; then the blocks are gone.
+    pub fn open(
+        alloc: Global,
+        blocks: Vec<(LockId, E::Block)>,
+        room: usize,
+    ) -> Result<LockTable<E>, NoMemory>
+        ensures sound { IfOk result (λ m. IsTable E.rules (opening_in m) (sections_noted m) m.blocks.items) }
+        ensures opening { IfOk result (λ m. opening_in m ≡ opened blocks.items) }
+        ensures seen { IfOk result (λ m. sections_noted m ≡ []) }
+        ensures room { IfOk result (λ m. room_in m ≡ room) }
+    {
+        let log = EventLog::with_room(alloc, room)?;
+        let opening = Snapshot::of(&blocks);
+        Ok(LockTable {
+            log,
+            blocks,
+            opening,
+        })
+    }
+
+    /// Does a whole section: notes it, edits the block of `lock` and gives the edit's answer.
+    pub fn done(&mut self, cpu: CpuId, lock: LockId, edit: E) -> E::Out
+        requires sound { IsTable E.rules (opening_in self.old) (sections_noted self.old) self.old.blocks.items }
+        requires room { 0 < room_in self.old }
+        requires cpu { cpu.0 < CPUS }
+        requires lock { IsSome (opening_in self.old lock) }
+        requires allowed { E.rules.allowed (opening_in self.old) (sections_noted self.old) (section cpu lock edit) }
+        ensures sound { IsTable E.rules (opening_in self.new) (sections_noted self.new) self.new.blocks.items }
+        ensures opening { opening_in self.new ≡ opening_in self.old }
+        ensures seen { sections_noted self.new ≡ section cpu lock edit ∷ sections_noted self.old }
+        ensures room { room_in self.old ≡ room_in self.new + 1 }
+        ensures answer { Answers E.rules (opening_in self.old) (sections_noted self.old) (section cpu lock edit) result }
+    {
+        self.log.push(Noted { cpu, lock, edit }).unwrap();
+        edit_at(&mut self.blocks, lock, edit)
+    }
+}
+
+/// Edits the block of `lock` in the list, and gives the edit's answer.
+fn edit_at<E: Edit>(blocks: &mut Vec<(LockId, E::Block)>, lock: LockId, edit: E) -> E::Out
+    requires { IsSome (opened blocks.old.items lock) }
+    ensures block { (l : LockId) → opened blocks.new.items l
+        ≡ (if same_lock l lock then option_map (E.rules.edited edit) (opened blocks.old.items l) else opened blocks.old.items l) }
+    ensures answer { option_map (E.rules.answer edit) (opened blocks.old.items lock) ≡ Some result }
+{
+    let place = place_of(blocks, lock);
+    edit.apply(&mut blocks[place].1)
+}
+
+/// The place of `lock` in the list: the first entry that names it.
+fn place_of<B>(blocks: &[(LockId, B)], lock: LockId) -> usize
+    requires { IsSome (opened blocks.now lock) }
+    ensures { IsPlace lock result blocks.now }
+{
+    for (i, entry) in blocks.iter().enumerate() {
+        if entry.0 == lock {
+            return i;
+        }
+    }
+    unreachable!()
+}

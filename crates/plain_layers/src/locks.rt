@@ -1,0 +1,75 @@
+//! Critical sections in one step.
+
+ghost use Rattle.std.specs.Prelude.{◌≡◌, [], None};
+
+use crate::lock_table::LockTable;
+use event_log::{CpuId, LockId};
+use layer_traits::{Edit, LockLayer};
+use std::marker::PhantomData;
+
+/// One CPU's part of critical sections as they are meant: a section edits its block in one step,
+/// and nobody ever waits.
+#[derive(Drop)]
+pub struct PlainLock<E> {
+    cpu: CpuId,
+    edits: PhantomData<E>,
+}
+
+impl<E: Edit> LockLayer<E> for PlainLock<E> {
+    ghost use Rattle.std.specs.Prelude.{◌<◌};
+    ghost use Rattle.event_log.specs.declared.ids.TheConstants.{CPUS};
+    ghost use Rattle.plain_layers.specs.Tables.{IsTable, opening_in, room_in, sections_noted};
+
+    type Machine = LockTable<E>;
+
+    ghost opening = { λ m. opening_in m };
+
+    ghost seen = { λ m. sections_noted m };
+
+    ghost ActsFor = { λ m c. (c.0 < CPUS) × IsTable E.rules (opening_in m) (sections_noted m) m.blocks.items };
+
+    ghost room = { λ m. room_in m };
+
+    ghost IsOutside = { λ m c. Unit {0} };
+
+    ghost cpu_of = { λ p. p.cpu };
+
+    ghost under_way = { λ p. None };
+
+    ghost Fits = { λ p m. (p.cpu.0 < CPUS) × IsTable E.rules (opening_in m) (sections_noted m) m.blocks.items };
+
+    ghost IsStepwise = { ⊥ };
+
+    ghost acts = { λ m. [] };
+
+    fn part(cpu: CpuId, _homes: &[CpuId], _buffers: u8) -> Self {
+        PlainLock {
+            cpu,
+            edits: PhantomData,
+        }
+    }
+
+    fn is_busy(&self) -> bool {
+        false
+    }
+
+    fn look(&mut self, _m: &mut LockTable<E>) -> bool {
+        false
+    }
+
+    fn poll(&mut self, m: &mut LockTable<E>, lock: LockId, edit: E) -> Option<E::Out> {
+        Some(m.done(self.cpu, lock, edit))
+    }
+
+    ghost own = { λ p m fits. fits };
+
+    ghost lawful = { λ m c acts. acts.1.lawful };
+
+    ghost known = { λ m c acts. acts.1.known };
+
+    ghost legal = { λ m c acts. tt };
+
+    ghost seen_is = { λ step m. absurd step };
+
+    ghost busy = { λ p m fits step. absurd step };
+}

@@ -1,0 +1,77 @@
+//! Shared queues in one step.
+
+ghost use Rattle.std.specs.Prelude.{◌≡◌, [], None};
+
+use crate::kernel::PlainKernel;
+use event_log::CpuId;
+use layer_traits::{Moves, QueueAnswer, QueueCall, QueueLayer};
+use std::marker::PhantomData;
+
+/// One CPU's part of shared queues as they are meant: a push, a taking or an edit is done in one
+/// step, and nobody ever waits.
+#[derive(Drop)]
+pub struct PlainQueues<E> {
+    cpu: CpuId,
+    edits: PhantomData<E>,
+}
+
+impl<E: Moves> QueueLayer<E> for PlainQueues<E> {
+    ghost use Rattle.std.specs.Prelude.{◌<◌};
+    ghost use Rattle.event_log.specs.declared.ids.TheConstants.{CPUS};
+    ghost use Rattle.plain_layers.specs.Kernels.{IsKernel, calls_in, call_room, opening_of};
+
+    type Machine = PlainKernel<E>;
+
+    ghost opening = { λ m. opening_of m.opening };
+
+    ghost seen = { λ m. calls_in m };
+
+    ghost ActsFor = { λ m c. (c.0 < CPUS) × IsKernel E.rules E.moves m.opening (calls_in m) m.lists };
+
+    ghost room = { λ m. call_room m };
+
+    ghost IsOutside = { λ m c. Unit {0} };
+
+    ghost cpu_of = { λ p. p.cpu };
+
+    ghost under_way = { λ p. None };
+
+    ghost Fits = { λ p m. (p.cpu.0 < CPUS) × IsKernel E.rules E.moves m.opening (calls_in m) m.lists };
+
+    ghost IsStepwise = { ⊥ };
+
+    ghost acts = { λ m. [] };
+
+    fn part(cpu: CpuId, _homes: &[CpuId], _buffers: u8) -> Self {
+        PlainQueues {
+            cpu,
+            edits: PhantomData,
+        }
+    }
+
+    fn is_busy(&self) -> bool {
+        false
+    }
+
+    fn look(&mut self, _m: &mut PlainKernel<E>) -> bool {
+        false
+    }
+
+    fn poll(&mut self, m: &mut PlainKernel<E>, call: &QueueCall<E>) -> Option<QueueAnswer<E::Out>> {
+        Some(m.done(self.cpu, *call))
+    }
+
+    ghost own = { λ p m fits. fits };
+
+    ghost opens = { λ m c acts. acts.1.starts };
+
+    ghost lawful = { λ m c acts. acts.1.lawful };
+
+    ghost known = { λ m c acts. acts.1.known };
+
+    ghost legal = { λ m c acts. tt };
+
+    ghost seen_is = { λ step m. absurd step };
+
+    ghost busy = { λ p m fits step. absurd step };
+}

@@ -1,0 +1,119 @@
+//! Schedulers in one step.
+
+ghost use Rattle.std.specs.Prelude.{◌≡◌, [], None};
+
+use crate::kernel::PlainKernel;
+use arrayvec::ArrayVec;
+use event_log::{CpuId, THREADS, Tid};
+use layer_traits::{Moves, SchedAnswer, SchedCall, SchedLayer};
+use scheduler::{OwnThreads, call_beneath, kept};
+use std::marker::PhantomData;
+
+/// One CPU's part of schedulers as they are meant: each call is done in one step, and nobody ever
+/// waits.
+#[derive(Drop)]
+pub struct PlainSched<E> {
+    cpu: CpuId,
+    homes: ArrayVec<CpuId, THREADS>,
+    own: OwnThreads,
+    edits: PhantomData<E>,
+}
+
+impl<E: Moves> SchedLayer<E> for PlainSched<E> {
+    ghost use Rattle.std.specs.Prelude.{◌<◌};
+    ghost use Rattle.event_log.specs.declared.ids.TheConstants.{CPUS};
+    ghost use Rattle.plain_layers.specs.Kernels.{IsKernel, calls_in, call_room, opening_of};
+    ghost use Rattle.scheduler.specs.Parts.{PartFits};
+
+    type Machine = PlainKernel<E>;
+
+    ghost opening = { λ m. opening_of m.opening };
+
+    ghost seen = { λ m. calls_in m };
+
+    ghost ActsFor = { λ m c. (c.0 < CPUS) × IsKernel E.rules E.moves m.opening (calls_in m) m.lists };
+
+    ghost room = { λ m. call_room m };
+
+    ghost IsOutside = { λ m c. Unit {0} };
+
+    ghost cpu_of = { λ p. p.cpu };
+
+    ghost threads = { λ p. p.own };
+
+    ghost under_way = { λ p. None };
+
+    ghost Fits = { λ p m. (p.cpu.0 < CPUS) × IsKernel E.rules E.moves m.opening (calls_in m) m.lists
+        × PartFits E.rules E.moves (opening_of m.opening) p.cpu p.cpu p.homes.items None (calls_in m) p.own };
+
+    ghost IsStepwise = { ⊥ };
+
+    ghost acts = { λ m. [] };
+
+    fn part(cpu: CpuId, homes: &[CpuId], _buffers: u8) -> Self {
+        PlainSched {
+            cpu,
+            homes: kept(homes),
+            own: OwnThreads::at_boot(homes, cpu),
+            edits: PhantomData,
+        }
+    }
+
+    fn is_busy(&self) -> bool {
+        false
+    }
+
+    fn current(&self) -> Option<Tid> {
+        self.own.current()
+    }
+
+    fn hand(&self) -> Option<Tid> {
+        self.own.hand()
+    }
+
+    fn has_ready(&self) -> bool {
+        self.own.has_ready()
+    }
+
+    fn is_ready(&self, t: Tid) -> bool {
+        self.own.is_ready(t)
+    }
+
+    fn has_ended(&self, t: Tid) -> bool {
+        self.own.has_ended(t)
+    }
+
+    fn look(&mut self, _m: &mut PlainKernel<E>) -> bool {
+        false
+    }
+
+    fn poll(&mut self, m: &mut PlainKernel<E>, call: &SchedCall<E>) -> Option<SchedAnswer<E::Out>> {
+        let homes = self.homes.as_slice();
+        match call_beneath(homes, self.cpu, call) {
+            None => {
+                self.own.local(call);
+                Some(SchedAnswer::Done)
+            }
+            Some(step) => {
+                let answer = m.done(self.cpu, step);
+                Some(self.own.answered::<E>(homes, self.cpu, answer))
+            }
+        }
+    }
+
+    ghost own = { λ p m fits. (fits.0, fits.1) };
+
+    ghost opens = { λ m c acts. acts.1.starts };
+
+    ghost lawful = { λ m c acts. acts.1.lawful };
+
+    ghost known = { λ m c acts. acts.1.known };
+
+    ghost legal = { λ m c acts. tt };
+
+    ghost seen_is = { λ step m. absurd step };
+
+    ghost busy = { λ p m fits step. absurd step };
+
+    ghost stands = { λ p m fits. fits.2.stands };
+}
