@@ -5,3 +5,8 @@ pub mod Steps
 pub mod Passing
 pub mod Schedules
 pub mod Tower
+pub mod ListReads
+pub mod Orders
+pub mod Onces
+pub mod Advances
+pub mod Tellers

@@ -6,6 +6,7 @@
 mod cpus;
 mod guests;
 mod laws;
+mod systems;
 
 pub use cpus::{Choice, Cpu};
 pub use guests::{Guest, Stage, Todo};
@@ -15,6 +16,7 @@ pub use laws::{
     runs_of_three, runs_of_two, stand_in_one_place, systems_keep_order, systems_lose_no_wake_up,
     tables_agree, workers_lose_no_wake_up,
 };
+pub use systems::{BadCpu, System};
 
 #[cfg(test)]
 mod tests;

@@ -1,0 +1,115 @@
+-- Reads and writes of lists by their index.
+use Rattle.std.proofs.Common.{◌≡◌, ◌≢◌, ℕ, zero, suc, ◌+◌, ◌<◌, List, [], ◌∷◌, ◌++◌, length, map, reverse, Some, option_map, refl, ap, sym, ◌∙◌, subst, arith, slice_set}
+use Rattle.std.specs.Prelude.{slice_get, slice_index_or}
+use Rattle.std.specs.List.{AllByRecursion}
+use Rattle.std.proofs.lemmas.List.{reverse-append, length-map, length-set}
+use Rattle.std.proofs.lemmas.Option.{slice_get-map, slice_get_read}
+use Rattle.cpu.specs.Claims.{listed}
+
+-- what was written is read
+pub set_there : {X : Type 0} (xs : List X) (i : ℕ) (x : X) → i < length xs → slice_get (slice_set xs i x) i ≡ Some x
+set_there [] i x within = absurd (omega arith)
+set_there (z ∷ zs) zero x within = refl
+set_there (z ∷ zs) (suc i) x within = set_there zs i x (omega arith)
+
+-- a write elsewhere changes nothing
+pub set_else : {X : Type 0} (xs : List X) (i j : ℕ) (x : X) → j ≢ i → slice_get (slice_set xs i x) j ≡ slice_get xs j
+set_else [] i j x other = refl
+set_else (z ∷ zs) zero zero x other = absurd (other refl)
+set_else (z ∷ zs) zero (suc j) x other = refl
+set_else (z ∷ zs) (suc i) zero x other = refl
+set_else (z ∷ zs) (suc i) (suc j) x other = set_else zs i j x (λ same. other (ap suc same))
+
+-- a write of what stands there changes nothing
+pub set_again : {X : Type 0} (xs : List X) (i : ℕ) (x : X) → slice_get xs i ≡ Some x → slice_set xs i x ≡ xs
+set_again [] i x at = refl
+set_again (z ∷ zs) zero x at = let same : z ≡ x = cc in ap (λ v. v ∷ zs) (sym same)
+set_again (z ∷ zs) (suc i) x at = ap (λ v. z ∷ v) (set_again zs i x at)
+
+-- a write of an element that shows the same leaves what the list shows
+pub shows_same : {X Z : Type 0} (f : X → Z) (xs : List X) (i : ℕ) (x y : X) → slice_get xs i ≡ Some x → f y ≡ f x → map f (slice_set xs i y) ≡ map f xs
+shows_same f [] i x y at same = refl
+shows_same f (z ∷ zs) zero x y at same = let there : z ≡ x = cc in ap (λ v. v ∷ map f zs) (same ∙ ap f (sym there))
+shows_same f (z ∷ zs) (suc i) x y at same = ap (λ v. f z ∷ v) (shows_same f zs i x y at same)
+
+pub map_twice : {X Y Z : Type 0} (f : X → Y) (h : Y → Z) (xs : List X) → map h (map f xs) ≡ map (λ x. h (f x)) xs
+map_twice f h [] = refl
+map_twice f h (x ∷ xs) = ap (λ v. h (f x) ∷ v) (map_twice f h xs)
+
+-- what holds of what each element shows holds of each element that is shown
+pub shown_at : {X Y : Type 0} (f : X → Y) (P : ℕ → Y → Type 0) (xs : List X) → ((k : ℕ) (x : X) → slice_get xs k ≡ Some x → P k (f x)) → (k : ℕ) (y : Y)
+    → slice_get (map f xs) k ≡ Some y → P k y
+shown_at f P [] each k y at = absurd cc
+shown_at f P (x ∷ xs) each zero y at = let same : f x ≡ y = cc in subst (λ z. P 0 z) same (each 0 x refl)
+shown_at f P (x ∷ xs) each (suc k) y at = shown_at f (λ j z. P (suc j) z) xs (λ j z there. each (suc j) z there) k y at
+
+-- an index within the list has its element
+pub there_is : {X : Type 0} (xs : List X) (i : ℕ) → i < length xs → (x : X) × (slice_get xs i ≡ Some x)
+there_is [] i within = absurd (omega arith)
+there_is (z ∷ zs) zero within = (z, refl)
+there_is (z ∷ zs) (suc i) within = there_is zs i (omega arith)
+
+-- what holds of each element of two lists holds of each of both
+pub all_both : {X : Type 0} (P : X → Type 0) (xs ys : List X) → AllByRecursion P xs → AllByRecursion P ys → AllByRecursion P (xs ++ ys)
+all_both P [] ys first second = second
+all_both P (x ∷ xs) ys first second = (first.0, all_both P xs ys first.1 second)
+
+pub all_left : {X : Type 0} (P : X → Type 0) (xs ys : List X) → AllByRecursion P (xs ++ ys) → AllByRecursion P xs
+all_left P [] ys all = tt
+all_left P (x ∷ xs) ys all = (all.0, all_left P xs ys all.1)
+
+pub all_right : {X : Type 0} (P : X → Type 0) (xs ys : List X) → AllByRecursion P (xs ++ ys) → AllByRecursion P ys
+all_right P [] ys all = all
+all_right P (x ∷ xs) ys all = all_right P xs ys all.1
+
+pub all_reversed : {X : Type 0} (P : X → Type 0) (xs : List X) → AllByRecursion P xs → AllByRecursion P (reverse xs)
+all_reversed P [] all = tt
+all_reversed P (x ∷ xs) all =
+    subst (λ l. AllByRecursion P l) (sym (reverse-append (x ∷ []) xs)) (all_both P (reverse xs) (x ∷ []) (all_reversed P xs all.1) (all.0, tt))
+
+pub all_by : {X : Type 0} (P Q : X → Type 0) (xs : List X) → ((x : X) → P x → Q x) → AllByRecursion P xs → AllByRecursion Q xs
+all_by P Q [] goes all = tt
+all_by P Q (x ∷ xs) goes all = (goes x all.0, all_by P Q xs goes all.1)
+
+-- a listed value, by its number
+pub listed_at : {X : Type 0} (f : ℕ → X) (n k i : ℕ) (d : X) → i < n → slice_index_or (listed f k n) i d ≡ f (k + i)
+listed_at f zero k i d within = absurd (omega arith)
+listed_at f (suc n) k zero d within = let same : k ≡ k + 0 = omega arith in ap f same
+listed_at f (suc n) k (suc i) d within =
+    let same : (k + 1) + i ≡ k + suc i = omega arith in
+    listed_at f n (k + 1) i d (omega arith) ∙ ap f same
+
+pub listed_length : {X : Type 0} (f : ℕ → X) (n k : ℕ) → length (listed f k n) ≡ n
+listed_length f zero k = refl
+listed_length f (suc n) k = ap suc (listed_length f n (k + 1))
+
+-- a CPU of a system that shows so many is read
+pub read_at : {X Y : Type 0} (f : X → Y) (xs : List X) (ys : List Y) (j k : ℕ) (x : X) → map f xs ≡ ys → j ≡ k → k < length ys → x ≡ slice_index_or xs j x
+    → slice_get xs j ≡ Some x
+read_at f xs ys j k x shown is within reads =
+    let count = length-map xs f in
+    let same : length (map f xs) ≡ length ys = ap (λ l. length l) shown in
+    slice_get_read xs (length xs) j x refl (omega (arith, count, same, is, within)) reads
+
+-- and is shown
+pub shows_at : {X Y : Type 0} (f : X → Y) (xs : List X) (k : ℕ) (x : X) → slice_get xs k ≡ Some x → slice_get (map f xs) k ≡ Some (f x)
+shows_at f xs k x at = slice_get-map f xs k ∙ ap (λ o. option_map f o) at
+
+-- what the elements show of what they are shown as stays where one is written that shows the same
+pub shown_same : {X Y Z : Type 0} (f : X → Y) (h : Y → Z) (xs : List X) (k : ℕ) (x y : X) → slice_get xs k ≡ Some x → h (f y) ≡ h (f x)
+    → map h (map f (slice_set xs k y)) ≡ map h (map f xs)
+shown_same f h xs k x y at same = map_twice f h (slice_set xs k y) ∙ shows_same (λ z. h (f z)) xs k x y at same ∙ sym (map_twice f h xs)
+
+pub shown_length : {X Y : Type 0} (f : X → Y) (xs : List X) (k : ℕ) (y : X) → length (map f (slice_set xs k y)) ≡ length (map f xs)
+shown_length f xs k y = length-map (slice_set xs k y) f ∙ length-set xs k y ∙ sym (length-map xs f)
+
+-- what the element at an index shows
+pub shown_index : {X Y Z : Type 0} (f : X → Y) (h : Y → Z) (xs : List X) (k : ℕ) (x : X) (d : Z) → slice_get xs k ≡ Some x
+    → slice_index_or (map h (map f xs)) k d ≡ h (f x)
+shown_index f h [] k x d at = absurd cc
+shown_index f h (y ∷ xs) zero x d at = let same : y ≡ x = cc in ap (λ z. h (f z)) same
+shown_index f h (y ∷ xs) (suc k) x d at = shown_index f h xs k x d at
+
+-- in a list from 0 on
+pub listed_there : {X : Type 0} (f : ℕ → X) (n i : ℕ) (d : X) → i < n → slice_index_or (listed f 0 n) i d ≡ f i
+listed_there f n i d within = let same : 0 + i ≡ i = omega arith in listed_at f n 0 i d within ∙ ap f same

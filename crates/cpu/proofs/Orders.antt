@@ -1,0 +1,157 @@
+-- What always holds of a system says that its calls have one order, that each thread follows its program, and that entries stay at home.
+use Rattle.std.proofs.Common.{◌≡◌, ◌≢◌, ◌⊎◌, inl, inr, ℕ, zero, suc, ◌<◌, ◌≤◌, ◌==◌, Bool, true, false, List, [], ◌∷◌, ◌++◌, length, map, reverse, Option, Some, refl, ap, sym, ◌∙◌, subst, arith, slice_set}
+use Rattle.std.specs.Prelude.{filter, slice_get, slice_index_or}
+use Rattle.std.specs.List.{AllByRecursion}
+use Rattle.std.proofs.lemmas.Bool.{cases_eq, cases_lt, eq-eqb, ne_eqb}
+use Rattle.std.proofs.lemmas.List.{append-nil, reverse-append, reverse-reverse, length-map, length-set, get_or_past, get_or-set_same, get_or-set_other}
+use Rattle.std.proofs.lemmas.List.Elements.{filter-append}
+use Rattle.std.proofs.lemmas.Option.{slice_get-get_or}
+use Rattle.event_log.specs.declared.entries.Entry.{Entry}
+use Rattle.event_log.specs.declared.ids.CpuId.{CpuId}
+use Rattle.event_log.specs.declared.ids.Tid.{Tid}
+use Rattle.event_log.specs.Traces.{IsInterleaving}
+use Rattle.guest.specs.Calls.{IsProgramsCalls, HasEnded}
+use Rattle.guest.specs.State.{State}
+use Rattle.layer_traits.specs.declared.calls.Call.{Call}
+use Rattle.layer_traits.specs.declared.calls.Effect.{Effect}
+use Rattle.layer_traits.specs.declared.talks.Talk.{Talk}
+use Rattle.layer_traits.specs.BufferLaw.{Doing, begun_of, talk_of}
+use Rattle.layer_traits.specs.OnePlace.{cpu_at}
+use Rattle.layer_traits.specs.Places.{Stands, Step, Threads}
+use Rattle.cpu.specs.declared.guests.Guest.{Guest}
+use Rattle.cpu.specs.declared.guests.Stage.{Stage}
+use Rattle.cpu.specs.declared.guests.Stage.TheVariants.{Between, Begun, Done, Ended}
+use Rattle.cpu.specs.Guests.{FollowsIn, is_ended}
+use Rattle.cpu.specs.Cpus.{IsCpu, IsOfHome, guest_at, of_cpu, of_thread}
+use Rattle.cpu.specs.Claims.{CpuShown, Keeps, cpu_shown}
+use Rattle.cpu.specs.Systems.{IsAt}
+use Rattle.cpu.proofs.ListReads.{all_reversed, shown_at, there_is}
+
+-- what a test picks of a list turned round
+pub filter_reversed : {X : Type 0} (p : X → Bool) (xs : List X) → filter p (reverse xs) ≡ reverse (filter p xs)
+filter_reversed p [] = refl
+filter_reversed p (x ∷ xs) =
+    ap (λ l. filter p l) (reverse-append (x ∷ []) xs) ∙ filter-append p (reverse xs) (x ∷ []) ∙ ap (λ l. l ++ filter p (x ∷ [])) (filter_reversed p xs)
+    ∙ go (p x) refl
+  where
+    go : (b : Bool) → p x ≡ b → reverse (filter p xs) ++ filter p (x ∷ []) ≡ reverse (filter p (x ∷ xs))
+    go true is = rw is (sym (reverse-append (x ∷ []) (filter p xs)))
+    go false is = rw is (append-nil (reverse (filter p xs)))
+
+-- The interleaving.
+
+-- a CPU's entries after one more
+cpu_first : (e : Entry) (es : List Entry) → of_cpu (cpu_at e.cpu.0) (e ∷ es) ≡ e ∷ of_cpu (cpu_at e.cpu.0) es
+cpu_first e es = let same : (e.cpu.0 == e.cpu.0) ≡ true = eq-eqb e.cpu.0 e.cpu.0 refl in rw same refl
+
+cpu_other : (e : Entry) (es : List Entry) (k : ℕ) → k ≢ e.cpu.0 → of_cpu (cpu_at k) (e ∷ es) ≡ of_cpu (cpu_at k) es
+cpu_other e es k other = let differ : (e.cpu.0 == k) ≡ false = ne_eqb e.cpu.0 k (λ same. other (sym same)) in rw differ refl
+
+-- entries of which each CPU's trace has its own, in their order, are an order of the traces
+pub interleaved : (es : List Entry) (traces : List (List Entry)) → ((k : ℕ) → k < length traces → slice_index_or traces k [] ≡ of_cpu (cpu_at k) es)
+    → AllByRecursion (λ e. e.cpu.0 < length traces) es → IsInterleaving traces es
+interleaved [] traces each known = λ k. go k (cases_lt k (length traces))
+  where
+    go : (k : ℕ) → (k < length traces) ⊎ (length traces ≤ k) → slice_index_or traces k [] ≡ []
+    go k (inl within) = each k within
+    go k (inr past) = get_or_past traces k [] past
+interleaved (e ∷ es) traces each known = (
+  e.cpu.0,
+  of_cpu (cpu_at e.cpu.0) es,
+  slice_get-get_or traces e.cpu.0 [] known.0 ∙ ap (λ (l : List Entry). Some l) (each e.cpu.0 known.0 ∙ cpu_first e es),
+  interleaved es (slice_set traces e.cpu.0 (of_cpu (cpu_at e.cpu.0) es)) (λ k within. go k (omega (arith, within, same)) (cases_eq k e.cpu.0))
+      (subst (λ (n : ℕ). AllByRecursion (λ x. x.cpu.0 < n) es) (sym same) known.1),
+)
+  where
+    same : length (slice_set traces e.cpu.0 (of_cpu (cpu_at e.cpu.0) es)) ≡ length traces
+    same = length-set traces e.cpu.0 (of_cpu (cpu_at e.cpu.0) es)
+
+    go : (k : ℕ) → k < length traces → (k ≡ e.cpu.0) ⊎ (k ≡ e.cpu.0 → ⊥)
+        → slice_index_or (slice_set traces e.cpu.0 (of_cpu (cpu_at e.cpu.0) es)) k [] ≡ of_cpu (cpu_at k) es
+    go k within (inl is) =
+        subst (λ (j : ℕ). slice_index_or (slice_set traces e.cpu.0 (of_cpu (cpu_at e.cpu.0) es)) j [] ≡ of_cpu (cpu_at j) es) (sym is)
+        (get_or-set_same traces e.cpu.0 (of_cpu (cpu_at e.cpu.0) es) [] known.0)
+    go k within (inr other) =
+        get_or-set_other traces e.cpu.0 k (of_cpu (cpu_at e.cpu.0) es) [] other ∙ each k within ∙ cpu_other e es k other
+
+-- What is shown of each CPU.
+
+-- a CPU that is shown so is one of which what always holds is true
+pub record Has (homes : List CpuId) (buffers : ℕ) (seen : List Entry) (moves : List Step) (k : ℕ) (p : CpuShown) : Type 0 where
+  pub talks : List Talk
+  pub doing : Option Doing
+  pub capacity : ℕ
+  pub is : IsCpu homes buffers seen p.own talks doing (cpu_at k) p.guests p.trace p.limit capacity
+  pub stands : Stands homes (cpu_at k) moves p.own
+
+-- a guest keeps to its program
+keeps_by : (g : Guest) (es : List Entry) (begun : Option Call) (effect : Option Effect) → FollowsIn g.stage g.program g.thread es begun effect → Keeps g (reverse es)
+keeps_by g es begun effect follows = go g.stage refl follows
+  where
+    turned : (s : State) → IsProgramsCalls g.program es s → IsProgramsCalls g.program (reverse (reverse es)) s
+    turned s calls = subst (λ (l : List Entry). IsProgramsCalls g.program l s) (sym (reverse-reverse es)) calls
+
+    runs_on : (stage : Stage) → g.stage ≡ stage → is_ended stage ≡ false → is_ended g.stage ≡ true → HasEnded g.program g.thread
+    runs_on stage at lives over = let same : is_ended g.stage ≡ is_ended stage = ap is_ended at in absurd (cc (same, lives, over))
+
+    go : (stage : Stage) → g.stage ≡ stage → FollowsIn stage g.program g.thread es begun effect → Keeps g (reverse es)
+    go Between at f = record { calls = (g.thread, turned g.thread f.1); ends = runs_on Between at refl }
+    go Begun at f = record { calls = (g.thread, turned g.thread f.4); ends = runs_on Begun at refl }
+    go Done at f = record { calls = (_, turned _ f.6); ends = runs_on Done at refl }
+    go Ended at f = record { calls = (g.thread, turned g.thread f.1); ends = λ over. f.2 }
+
+module _ (homes : List CpuId) (buffers : ℕ) (seen : List Entry) (moves : List Step) where
+  pub follow_programs : (k : ℕ) (p : CpuShown) → Has homes buffers seen moves k p → (t : Tid) (g : Guest) → guest_at p.guests t.0 ≡ Some g
+      → Keeps g (of_thread t.0 p.trace)
+  follow_programs k p has t g at =
+      let follows = has.is.follow t g at in
+      let same : of_thread t.0 p.trace ≡ reverse (of_thread t.0 (of_cpu (cpu_at k) seen)) =
+      ap (λ (l : List Entry). of_thread t.0 l) has.is.kept ∙ filter_reversed (λ (e : Entry). e.thread.0 == t.0) (of_cpu (cpu_at k) seen) in
+      subst (λ (l : List Entry). Keeps g l) (sym same)
+      (keeps_by g (of_thread t.0 (of_cpu (cpu_at k) seen)) (begun_of (talk_of has.talks t)) (talk_of has.talks t).effect follows.1)
+
+  pub stay_home : (k : ℕ) (p : CpuShown) → Has homes buffers seen moves k p → AllByRecursion (IsOfHome homes (cpu_at k)) p.trace
+  stay_home k p has =
+      subst (λ (l : List Entry). AllByRecursion (IsOfHome homes (cpu_at k)) l) (sym has.is.kept)
+      (all_reversed (IsOfHome homes (cpu_at k)) (of_cpu (cpu_at k) seen) has.is.stays)
+
+  -- the effects, oldest first, are an order of the traces
+  pub traces_interleaved : (cpus : List CpuShown) → ((k : ℕ) (p : CpuShown) → slice_get cpus k ≡ Some p → Has homes buffers seen moves k p)
+      → AllByRecursion (λ e. e.cpu.0 < length cpus) seen → IsInterleaving (map (λ p. p.trace) cpus) (reverse seen)
+  traces_interleaved cpus each known =
+      let count : length (map (λ (p : CpuShown). p.trace) cpus) ≡ length cpus = length-map cpus (λ (p : CpuShown). p.trace) in
+      interleaved (reverse seen) (map (λ (p : CpuShown). p.trace) cpus) (λ k within. trace_at k (omega (arith, count, within)))
+      (subst (λ (n : ℕ). AllByRecursion (λ x. x.cpu.0 < n) (reverse seen)) (sym count) (all_reversed (λ (x : Entry). x.cpu.0 < length cpus) seen known))
+    where
+      trace_at : (k : ℕ) → k < length cpus → slice_index_or (map (λ (p : CpuShown). p.trace) cpus) k [] ≡ of_cpu (cpu_at k) (reverse seen)
+      trace_at k within =
+          let there = there_is cpus k within in
+          trace_of cpus k there.0 there.1 ∙ (each k there.0 there.1).is.kept ∙ sym (filter_reversed (λ (e : Entry). e.cpu.0 == k) seen)
+        where
+          trace_of : (ps : List CpuShown) (j : ℕ) (p : CpuShown) → slice_get ps j ≡ Some p → slice_index_or (map (λ (q : CpuShown). q.trace) ps) j [] ≡ p.trace
+          trace_of [] j p at = absurd cc
+          trace_of (q ∷ ps) zero p at = let same : q ≡ p = cc in ap (λ (x : CpuShown). x.trace) same
+          trace_of (q ∷ ps) (suc j) p at = trace_of ps j p at
+
+-- from what always holds of each CPU to what is shown of it
+pub each_has : {X : Type 0} (IsFit : X → Type 0) (number cpu : X → CpuId) (own : X → Threads) (talks : X → List Talk) (doing : X → Option Doing)
+    (guests : X → List (Option Guest)) (trace : X → List Entry) (limit capacity : X → ℕ) (busy : X → Bool) (homes : List CpuId) (buffers : ℕ) (seen : List Entry)
+    (moves : List Step) (cpus : List X)
+    → ((k : ℕ) (x : X) → slice_get cpus k ≡ Some x
+    → IsAt (λ y. IsFit y × (cpu y ≡ number y) × IsCpu homes buffers seen (own y) (talks y) (doing y) (number y) (guests y) (trace y) (limit y) (capacity y)) number k x)
+    → ((x : X) → IsFit x → Stands homes (cpu x) moves (own x)) → (k : ℕ) (p : CpuShown)
+    → slice_get (map (λ x. cpu_shown (own x) (guests x) (trace x) (limit x) (busy x)) cpus) k ≡ Some p → Has homes buffers seen moves k p
+each_has {X = X} IsFit number cpu own talks doing guests trace limit capacity busy homes buffers seen moves cpus each stand =
+    shown_at (λ x. cpu_shown (own x) (guests x) (trace x) (limit x) (busy x)) (λ k p. Has homes buffers seen moves k p) cpus
+    (λ k x at. has_of k x (each k x at).number_is (each k x at).holds)
+  where
+    has_of : (k : ℕ) (x : X) → number x ≡ cpu_at k
+        → IsFit x × (cpu x ≡ number x) × IsCpu homes buffers seen (own x) (talks x) (doing x) (number x) (guests x) (trace x) (limit x) (capacity x)
+        → Has homes buffers seen moves k (cpu_shown (own x) (guests x) (trace x) (limit x) (busy x))
+    has_of k x at holds = record {
+      talks = talks x;
+      doing = doing x;
+      capacity = capacity x;
+      is = subst (λ (c : CpuId). IsCpu homes buffers seen (own x) (talks x) (doing x) c (guests x) (trace x) (limit x) (capacity x)) at holds.2;
+      stands = subst (λ (c : CpuId). Stands homes c moves (own x)) (holds.1 ∙ at) (stand x holds.0);
+    }

@@ -1,0 +1,90 @@
+use Rattle.std.proofs.Common.{rules, ◌≡◌, ◌<◌, ℕ, map, Some, None, refl, ap, subst, arith, vec_capacity}
+use Rattle.std.specs.Prelude.{slice_get}
+use Rattle.cpu.specs.declared.cpus.Cpu.{Cpu}
+use Rattle.cpu.specs.Cpus.{programs_of}
+use Rattle.cpu.specs.Claims.{CpuShown, Shown, cpu_shown}
+use Rattle.cpu.specs.Systems.{reason_of}
+use Rattle.cpu.proofs.Advances.{again, live_of, stepped}
+use Rattle.cpu.proofs.ListReads.{read_at, shown_length, shown_same, shows_at}
+use Rattle.cpu.proofs.systems.System.looks.Goals as goal
+
+pub look-requires-clause-number : goal.look-requires-clause-number
+look-requires-clause-number g c =
+    let I = g.I.IpcLayer in
+    let items = c.self.inside.cpus.items in
+    let shown = λ (x : Cpu g.row.I.Denot g.row.I-Machine.Denot). cpu_shown (I.threads x.part) x.guests.items x.trace.items x.limit (I.is_inside x.part) in
+    let at = read_at shown items c.args.self.now.cpus c.from.result c.args.cpu.0 c.index_mut-at.result.now (ap (λ (s : Shown). s.cpus) c.self.view_is)
+    c.from.ensures c.requires c.index_mut-at.ensures.value in
+    (c.self.invariant.each c.from.result c.index_mut-at.result.now at).holds.1
+
+pub look-requires-clause-is : goal.look-requires-clause-is
+look-requires-clause-is g c =
+    let I = g.I.IpcLayer in
+    let items = c.self.inside.cpus.items in
+    let shown = λ (x : Cpu g.row.I.Denot g.row.I-Machine.Denot). cpu_shown (I.threads x.part) x.guests.items x.trace.items x.limit (I.is_inside x.part) in
+    let at = read_at shown items c.args.self.now.cpus c.from.result c.args.cpu.0 c.index_mut-at.result.now (ap (λ (s : Shown). s.cpus) c.self.view_is)
+    c.from.ensures c.requires c.index_mut-at.ensures.value in
+    (c.self.invariant.each c.from.result c.index_mut-at.result.now at).holds.2
+
+pub invariant_of-self : goal.invariant_of-self
+invariant_of-self g c =
+    let I = g.I.IpcLayer in
+    let m = c.self.inside.machine in
+    let items = c.self.inside.cpus.items in
+    let shown = λ (x : Cpu g.row.I.Denot g.row.I-Machine.Denot). cpu_shown (I.threads x.part) x.guests.items x.trace.items x.limit (I.is_inside x.part) in
+    let at = read_at shown items c.args.self.now.cpus c.from.result c.args.cpu.0 c.index_mut-at.result.now (ap (λ (s : Shown). s.cpus) c.self.view_is)
+    c.from.ensures c.requires c.index_mut-at.ensures.value in
+    let still = c.look.ensures.still c.if-not-look.true in
+    again (λ x n. I.Fits x.part n) (λ x. x.number) (λ x. I.cpu_of x.part) (λ x. I.threads x.part) (λ x. I.talks x.part) (λ x. I.doing x.part)
+    (λ x. x.guests.items) (λ x. x.trace.items) (λ x. x.limit) (λ x. vec_capacity x.trace) (λ n d. I.ActsFor n d) I.IsStepwise
+    (λ n. I.acts n) (λ n. I.homes_of n) (λ n. I.caps n) (λ n. I.seen n) (λ n. I.room n) m c.look.new.m items c.self.inside.room c.self.inside.taken
+    c.from.result c.index_mut-at.result.now c.look.new.self c.self.invariant at still.1 still.0
+
+pub invariant_of-self-2 : goal.invariant_of-self-2
+invariant_of-self-2 g c =
+    let I = g.I.IpcLayer in
+    let m = c.self.inside.machine in
+    let is = c.self.invariant in
+    let items = c.self.inside.cpus.items in
+    let shown = λ (x : Cpu g.row.I.Denot g.row.I-Machine.Denot). cpu_shown (I.threads x.part) x.guests.items x.trace.items x.limit (I.is_inside x.part) in
+    let at = read_at shown items c.args.self.now.cpus c.from.result c.args.cpu.0 c.index_mut-at.result.now (ap (λ (s : Shown). s.cpus) c.self.view_is)
+    c.from.ensures c.requires c.index_mut-at.ensures.value in
+    let e = c.look.ensures in
+    let known = g.met.I.Owned.known c.look.new.m (I.cpu_of c.look.new.self.part) (g.met.I.IpcLayer.own_cpu c.look.new.self.part c.look.new.m e.fits) in
+    let live : c.self.inside.taken < c.self.inside.room = let used = is.used in let other = c.if-self.false in grind (arith, used, other) in
+    stepped (λ x n. I.Fits x.part n) (λ x. x.number) (λ x. I.cpu_of x.part) (λ x. I.threads x.part) (λ x. I.talks x.part) (λ x. I.doing x.part)
+    (λ x. x.guests.items) (λ x. x.trace.items) (λ x. x.limit) (λ x. vec_capacity x.trace) (λ n d. I.ActsFor n d) I.IsStepwise
+    (λ n. I.acts n) (λ n. I.homes_of n) (λ n. I.caps n) (λ n. I.seen n) (λ n. I.room n) m c.look.new.m items c.self.inside.room c.self.inside.taken
+    c.from.result c.index_mut-at.result.now c.look.new.self is at e.number e.cpu e.fits e.is (λ z other fits. e.others z.part other fits) e.acts e.seen e.grows
+    known e.homes e.caps e.room live
+
+pub returns-clause-live : goal.returns-clause-live
+returns-clause-live g c = λ looked.
+    let I = g.I.IpcLayer in
+    let items = c.self.inside.cpus.items in
+    let shown = λ (x : Cpu g.row.I.Denot g.row.I-Machine.Denot). cpu_shown (I.threads x.part) x.guests.items x.trace.items x.limit (I.is_inside x.part) in
+    let at = read_at shown items c.args.self.now.cpus c.from.result c.args.cpu.0 c.index_mut-at.result.now (ap (λ (s : Shown). s.cpus) c.self.view_is)
+    c.from.ensures c.requires c.index_mut-at.ensures.value in
+    let there = subst (λ (k : ℕ). slice_get (map shown items) k ≡ Some (shown c.index_mut-at.result.now)) c.from.ensures
+    (shows_at shown items c.from.result c.index_mut-at.result.now at) in
+    subst (λ (s : Shown). reason_of c.args.cpu s ≡ None) c.self.view_is
+    (live_of _ c.args.cpu (shown c.index_mut-at.result.now) there (c.look.ensures.live (search rules)) c.if-self.false)
+
+pub returns-clause-plan : goal.returns-clause-plan
+returns-clause-plan g c =
+    let I = g.I.IpcLayer in
+    let items = c.self.inside.cpus.items in
+    let shown = λ (x : Cpu g.row.I.Denot g.row.I-Machine.Denot). cpu_shown (I.threads x.part) x.guests.items x.trace.items x.limit (I.is_inside x.part) in
+    let at = read_at shown items c.args.self.now.cpus c.from.result c.args.cpu.0 c.index_mut-at.result.now (ap (λ (s : Shown). s.cpus) c.self.view_is)
+    c.from.ensures c.requires c.index_mut-at.ensures.value in
+    let k = c.from.result in
+    let x = c.index_mut-at.result.now in
+    let y = c.look.new.self in
+    rw (← c.self.view_is) (record {
+      caps = c.look.ensures.caps;
+      homes = c.look.ensures.homes;
+      programs = shown_same shown (λ (p : CpuShown). programs_of p.guests) items k x y at c.look.ensures.programs;
+      count = shown_length shown items k y;
+      limits = shown_same shown (λ (p : CpuShown). p.limit) items k x y at c.look.ensures.limit;
+      room = refl;
+    })

@@ -1,0 +1,46 @@
+-- CPUs and systems at boot: their guests, and that nothing has happened.
+use Rattle.std.specs.Prelude.{◌≡◌, ℕ, ◌≤◌, List, [], length, replicate, Option, Some, None, slice_get}
+use Rattle.event_log.specs.declared.entries.Entry.{Entry}
+use Rattle.event_log.specs.declared.ids.CpuId.{CpuId}
+use Rattle.event_log.specs.declared.ids.Tid.{Tid}
+use Rattle.event_log.specs.declared.ids.TheConstants.{THREADS}
+use Rattle.layer_traits.specs.declared.talks.Talk.{Talk}
+use Rattle.layer_traits.specs.Places.{Threads, at_boot, home_of}
+use Rattle.layer_traits.specs.BufferLaw.{Buffering, Doing, buffering_at_start, quiet}
+use Rattle.cpu.specs.declared.guests.Guest.{Guest}
+use Rattle.cpu.specs.Guests.{new_guest}
+use Rattle.cpu.specs.Cpus.{NamesBelow, guest_at}
+
+-- a CPU's guests at boot: a place for each thread; at the number of each thread at home with it, and there alone, a new guest, whose
+-- program names the machine's buffers alone
+pub record AreGuests (homes : List CpuId) (buffers : ℕ) (number : CpuId) (guests : List (Option Guest)) : Type 0 where
+  pub homed : (t : Tid) → home_of homes t ≡ Some number → (g : Guest) × (guest_at guests t.0 ≡ Some g)
+  pub only : (t : Tid) (g : Guest) → guest_at guests t.0 ≡ Some g → home_of homes t ≡ Some number
+  pub fresh : (t : Tid) (g : Guest) → guest_at guests t.0 ≡ Some g → g ≡ new_guest g.program
+  pub named : (t : Tid) (g : Guest) → guest_at guests t.0 ≡ Some g → NamesBelow buffers g.program
+  pub size : length guests ≡ length homes
+
+-- the tables of the guests of all CPUs
+abbrev pub AreTables : List CpuId → ℕ → List (List (Option Guest)) → Type 0
+AreTables homes buffers tables = (k : ℕ) (guests : List (Option Guest)) → slice_get tables k ≡ Some guests → AreGuests homes buffers (record { 0 = k }) guests
+
+-- a CPU of this number was made with these guests and with room for so many entries
+pub record IsBooted (number : CpuId) (guests : List (Option Guest)) (most : ℕ) (its : CpuId) (table : List (Option Guest)) (trace : List Entry)
+    (limit capacity : ℕ) : Type 0 where
+  pub number_is : its ≡ number
+  pub guests_are : table ≡ guests
+  pub nothing : trace ≡ []
+  pub limit_is : limit ≡ most
+  pub reserved : most ≤ capacity
+
+-- and its part of the layer is as at boot, and fits each machine that is fresh
+pub record IsBootedAs {P M : Type 0} (Fits : P → M → Type 0) (IsFresh : M → CpuId → Type 0) (count : M → ℕ) (IsStepwise : Type 0) (buffers : ℕ) (homes : List CpuId)
+    (k : ℕ) (guests : List (Option Guest)) (most : ℕ) (part : P) (cpu : CpuId) (own : Buffering) (threads : Threads) (talks : List Talk) (doing : Option Doing)
+    (its : CpuId) (table : List (Option Guest)) (trace : List Entry) (limit capacity : ℕ) : Type 0 where
+  pub booted : IsBooted (record { 0 = k }) guests most its table trace limit capacity
+  pub cpu_is : cpu ≡ record { 0 = k }
+  pub threads_are : threads ≡ at_boot homes (record { 0 = k })
+  pub nobody_talks : talks ≡ replicate THREADS quiet
+  pub nothing_done : doing ≡ None
+  pub own_is : IsStepwise → own ≡ buffering_at_start homes (record { 0 = k })
+  pub fits : (m : M) → IsFresh m (record { 0 = k }) → count m ≡ buffers → Fits part m

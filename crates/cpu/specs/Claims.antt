@@ -1,0 +1,138 @@
+-- What a system shows, and what holds of it after every list of steps.
+use Rattle.std.specs.Prelude.{◌≡◌, ◌⊎◌, ℕ, zero, suc, ◌+◌, Bool, true, List, [], ◌∷◌, map, length, Option, Some, None, slice_get, slice_index_or}
+use Rattle.std.specs.List.{AllByRecursion}
+use Rattle.event_log.specs.declared.entries.Entry.{Entry}
+use Rattle.event_log.specs.declared.ids.BufId.{BufId}
+use Rattle.event_log.specs.declared.ids.CpuId.{CpuId}
+use Rattle.event_log.specs.declared.ids.Tid.{Tid}
+use Rattle.event_log.specs.Messages.{Message}
+use Rattle.event_log.specs.Runs.{IsRun}
+use Rattle.event_log.specs.Traces.{IsInterleaving}
+use Rattle.guest.specs.declared.instructions.Instruction.{Instruction}
+use Rattle.guest.specs.Calls.{AreProgramsCalls, HasEnded}
+use Rattle.layer_traits.specs.declared.calls.Place.{Place}
+use Rattle.layer_traits.specs.declared.moves.Line.{Line}
+use Rattle.layer_traits.specs.declared.moves.Line.TheVariants.{Sleepers, Receivers, Senders}
+use Rattle.layer_traits.specs.BufferEffects.{contents_of}
+use Rattle.layer_traits.specs.OnePlace.{StandsOnce as InOnePlace, total}
+use Rattle.layer_traits.specs.Places.{Step, Threads, count_in, where_is}
+use Rattle.layer_traits.specs.Told.{IsOwnPlace, queue_place}
+use Rattle.cpu.specs.declared.guests.Guest.{Guest}
+use Rattle.cpu.specs.Guests.{is_ended}
+use Rattle.cpu.specs.Cpus.{IsOfHome, guest_at, of_thread, programs_of}
+
+-- who sleeps at a buffer: for its lock, for a message, for room
+pub record Beds : Type 0 where
+  pub sleepers : List Tid
+  pub receivers : List Tid
+  pub senders : List Tid
+
+-- one CPU: the threads that it has of its own, the guests of its home threads by their numbers, its trace, oldest first, for how many
+-- entries it has room, and whether it has a section under way
+pub record CpuShown : Type 0 where
+  pub own : Threads
+  pub guests : List (Option Guest)
+  pub trace : List Entry
+  pub limit : ℕ
+  pub busy : Bool
+
+-- a system as plain data: the capacity of each buffer, the home of each thread, what each buffer holds, who sleeps at it and who owns its
+-- lock, as its last section left it, how threads came to where they stand, newest first, the CPUs, for how many steps there is room, and
+-- how many were taken
+pub record Shown : Type 0 where
+  pub caps : List ℕ
+  pub homes : List CpuId
+  pub contents : List (List Message)
+  pub beds : List Beds
+  pub owners : List (Option Tid)
+  pub moves : List Step
+  pub cpus : List CpuShown
+  pub room : ℕ
+  pub taken : ℕ
+
+-- the values of f at so many numbers from k on
+abbrev pub listed : {X : Type 0} → (ℕ → X) → ℕ → ℕ → List X
+listed f k zero = []
+listed f k (suc n) = f k ∷ listed f (k + 1) n
+
+abbrev pub buffer_at : ℕ → BufId
+buffer_at b = record { 0 = b }
+
+-- who sleeps at a buffer, by the lists of each line
+abbrev pub beds_by : (BufId → Line → List Tid) → ℕ → Beds
+beds_by lines b = record { sleepers = lines (buffer_at b) Sleepers; receivers = lines (buffer_at b) Receivers; senders = lines (buffer_at b) Senders }
+
+abbrev pub cpu_shown : Threads → List (Option Guest) → List Entry → ℕ → Bool → CpuShown
+cpu_shown own guests trace limit busy = record { own = own; guests = guests; trace = trace; limit = limit; busy = busy }
+
+-- what a machine shows with its CPUs
+abbrev pub shown_of : List ℕ → List CpuId → List Entry → (BufId → Line → List Tid) → (BufId → Option Tid) → List Step → List CpuShown → ℕ → ℕ → Shown
+shown_of caps homes seen lines owner moves cpus room taken = record {
+  caps = caps;
+  homes = homes;
+  contents = contents_of caps seen;
+  beds = listed (beds_by lines) 0 (length caps);
+  owners = listed (λ b. owner (buffer_at b)) 0 (length caps);
+  moves = moves;
+  cpus = cpus;
+  room = room;
+  taken = taken;
+}
+
+-- the traces of the CPUs, and the programs of each one's home threads
+abbrev pub traces_of : Shown → List (List Entry)
+traces_of s = map (λ p. p.trace) s.cpus
+
+abbrev pub programs_in : Shown → List (List (Option (List Instruction)))
+programs_in s = map (λ p. programs_of p.guests) s.cpus
+
+-- the calls that took effect have one order that keeps every trace, is a run, and ends in the buffers' contents
+pub record HasOneOrder (s : Shown) : Type 0 where
+  pub order : List Entry
+  pub keeps : IsInterleaving (traces_of s) order
+  pub run : IsRun s.caps order s.contents
+
+-- a thread's entries, oldest first, are its program's calls; it has ended only where its program ends
+pub record Keeps (g : Guest) (entries : List Entry) : Type 0 where
+  pub calls : AreProgramsCalls g.program entries
+  pub ends : is_ended g.stage ≡ true → HasEnded g.program g.thread
+
+-- each thread follows its program
+abbrev pub FollowPrograms : Shown → Type 0
+FollowPrograms s = (c : ℕ) (p : CpuShown) (t : Tid) (g : Guest) → slice_get s.cpus c ≡ Some p → guest_at p.guests t.0 ≡ Some g → Keeps g (of_thread t.0 p.trace)
+
+-- each entry in a CPU's trace is of that CPU, and of a thread at home with it
+abbrev pub StayHome : Shown → Type 0
+StayHome s = (c : ℕ) (p : CpuShown) → slice_get s.cpus c ≡ Some p → AllByRecursion (IsOfHome s.homes (record { 0 = c })) p.trace
+
+-- how often a thread stands among those that sleep at a buffer
+abbrev pub in_beds : Tid → Beds → ℕ
+in_beds t b = count_in t b.sleepers + count_in t b.receivers + count_in t b.senders
+
+abbrev pub no_threads : Threads
+no_threads = record { current = None; hand = None; ready = []; ended = [] }
+
+abbrev pub no_beds : Beds
+no_beds = record { sleepers = []; receivers = []; senders = [] }
+
+abbrev pub own_in : Option CpuShown → Threads
+own_in None = no_threads
+own_in (Some p) = p.own
+
+-- the threads that CPU k has of its own
+abbrev pub own_at : Shown → ℕ → Threads
+own_at s k = own_in (slice_get s.cpus k)
+
+-- who sleeps at buffer b
+abbrev pub beds_at : Shown → ℕ → Beds
+beds_at s b = slice_index_or s.beds b no_beds
+
+-- each thread stands in exactly one place of the whole system: it runs or is ready with a CPU, is in one CPU's hand, in one pending queue,
+-- asleep in one line, or has ended; a number that is no thread's stands nowhere
+abbrev pub StandsOnce : Shown → Type 0
+StandsOnce s = (t : Tid) → InOnePlace s.homes (length s.cpus) s.moves (own_at s) (λ u. total (λ b. in_beds u (beds_at s b)) (length s.beds)) t
+
+-- a thread's place: one CPU has it so of its own, or it stands in this queue
+abbrev pub IsPlaceOf : Shown → Tid → Place → Type 0
+IsPlaceOf s t place = ((c : ℕ) × (p : CpuShown) × (slice_get s.cpus c ≡ Some p) × IsOwnPlace (record { 0 = c }) p.own t place)
+    ⊎ (queue_place (where_is s.homes s.moves t) ≡ Some place)

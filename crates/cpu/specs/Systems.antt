@@ -1,0 +1,66 @@
+-- What always holds of a system, what its steps leave as it was, and why a CPU of it takes no step.
+use Rattle.std.specs.Prelude.{◌≡◌, ℕ, ◌+◌, ◌^◌, ◌<◌, ◌≤◌, ◌==◌, List, length, map, Option, Some, None, slice_get, if◌then◌else◌}
+use Rattle.std.specs.List.{AllByRecursion}
+use Rattle.event_log.specs.declared.entries.Entry.{Entry}
+use Rattle.event_log.specs.declared.ids.CpuId.{CpuId}
+use Rattle.event_log.specs.declared.ids.Tid.{Tid}
+use Rattle.event_log.specs.declared.ids.TheConstants.{CPUS}
+use Rattle.event_log.specs.Actions.{Action, Rests, phase}
+use Rattle.layer_traits.specs.declared.steps.Reason.{Reason}
+use Rattle.layer_traits.specs.declared.steps.Reason.TheVariants.{StepsUsed}
+use Rattle.layer_traits.specs.Places.{home_of}
+use Rattle.cpu.specs.Cpus.{halted_at, reason_in}
+use Rattle.cpu.specs.Claims.{CpuShown, Shown, programs_in}
+
+-- what no step changes: capacities, homes, programs, the number of CPUs, the room of each trace, and the room for steps
+pub record SamePlan (s r : Shown) : Type 0 where
+  pub caps : r.caps ≡ s.caps
+  pub homes : r.homes ≡ s.homes
+  pub programs : programs_in r ≡ programs_in s
+  pub count : length r.cpus ≡ length s.cpus
+  pub limits : map (λ p. p.limit) r.cpus ≡ map (λ p. p.limit) s.cpus
+  pub room : r.room ≡ s.room
+
+-- a CPU's own reason to take no step: none while it has a section under way
+abbrev pub own_reason : CpuShown → Option Reason
+own_reason p = reason_in p.busy (halted_at p.own p.guests p.trace p.limit)
+
+abbrev pub own_reason_in : Option CpuShown → Option Reason
+own_reason_in None = None
+own_reason_in (Some p) = own_reason p
+
+-- the own reason of CPU c
+abbrev pub halted_in : CpuId → Shown → Option Reason
+halted_in c s = own_reason_in (slice_get s.cpus c.0)
+
+-- a CPU with no reason of its own takes no step where the room for steps is used
+abbrev pub reason_or : Option Reason → Shown → Option Reason
+reason_or None s = if s.taken == s.room then Some StepsUsed else None
+reason_or (Some reason) s = Some reason
+
+-- why CPU c takes no step
+abbrev pub reason_of : CpuId → Shown → Option Reason
+reason_of c s = reason_or (halted_in c s) s
+
+-- x has the number k, and is as it is to be
+pub record IsAt {X : Type 0} (IsOne : X → Type 0) (number : X → CpuId) (k : ℕ) (x : X) : Type 0 where
+  pub number_is : number x ≡ record { 0 = k }
+  pub holds : IsOne x
+
+-- what always holds of a machine and its CPUs
+pub record IsSystem {X N : Type 0} (IsOne : X → Type 0) (number : X → CpuId) (ActsFor : CpuId → Type 0) (IsStepwise : Type 0) (acts : List (Action N))
+    (cpus : List X) (homes : List CpuId) (seen : List Entry) (room taken left : ℕ) : Type 0 where
+  -- each CPU is numbered by its place, and is as it is to be; there is one, and no more than a machine may have
+  pub each : (k : ℕ) (x : X) → slice_get cpus k ≡ Some x → IsAt IsOne number k x
+  pub some : 0 < length cpus
+  pub most : length cpus ≤ CPUS
+  -- the machine is this system's alone: nobody else acts in it; each effect is of one of its CPUs, and each thread at home with one
+  pub acts_for : (c : CpuId) → c.0 < CPUS → ActsFor c
+  pub known : AllByRecursion (λ e. e.cpu.0 < length cpus) seen
+  pub within : (t : Tid) (home : CpuId) → home_of homes t ≡ Some home → home.0 < length cpus
+  pub rest : IsStepwise → (c : CpuId) → length cpus ≤ c.0 → c.0 < CPUS → phase c acts ≡ Rests
+  -- there are no more effects than steps, no more steps than there is room for, and the machine has room for those that are left
+  pub short : length seen ≤ taken
+  pub used : taken ≤ room
+  pub small : room < 2 ^ 64
+  pub enough : room ≤ taken + left

@@ -1,0 +1,241 @@
+//! The whole system: a machine of message calls and its CPUs.
+
+ghost use Rattle.std.specs.Prelude.{◌≡◌, ◌<◌, ◌↔◌, true, false, All, IsOk, OnErr, Some, None, [], length, map, slice_index_or};
+
+use crate::cpus::Cpu;
+use arrayvec::ArrayVec;
+use event_log::{BufId, CAPACITY, CpuId, Entry, Msg, Tid};
+use layer_traits::{Owned, Place, Reason, Step};
+use std::marker::Model;
+use thiserror::Error;
+
+/// The schedule names a CPU that the system has not. Nothing changed.
+#[derive(Clone, Copy, Debug, PartialEq, Eq, Error)]
+#[error("BadCpu(4)")]
+pub struct BadCpu;
+
+/// A machine and its CPUs, after the steps that were taken. No call after it is opened takes memory.
+#[derive(Drop)]
+pub struct System<I: Owned + Drop>
+where
+    I::Machine: Drop,
+{
+    machine: I::Machine,
+    cpus: Vec<Cpu<I>>,
+    room: u64,
+    taken: u64,
+}
+
+impl<I: Owned + Drop> Model for System<I>
+where
+    I::Machine: Drop,
+{
+    ghost use Rattle.std.specs.Prelude.{◌≡◌, length, map, vec_capacity};
+    ghost use Rattle.cpu.specs.Cpus.{IsCpu};
+    ghost use Rattle.cpu.specs.Claims.{Shown, cpu_shown, shown_of};
+    ghost use Rattle.cpu.specs.Systems.{IsSystem};
+
+    ghost Value = { Shown };
+
+    ghost view = { λ s. shown_of (I.caps s.machine) (I.homes_of s.machine) (I.seen s.machine) (I.lines s.machine) (I.owner s.machine) (I.moves s.machine)
+        (map (λ c. cpu_shown (I.threads c.part) c.guests.items c.trace.items c.limit (I.is_inside c.part)) s.cpus.items) s.room s.taken };
+
+    ghost invariant = { λ s. IsSystem (λ c. I.Fits c.part s.machine × (I.cpu_of c.part ≡ c.number)
+        × IsCpu (I.homes_of s.machine) (length (I.caps s.machine)) (I.seen s.machine) (I.threads c.part) (I.talks c.part) (I.doing c.part) c.number c.guests.items c.trace.items c.limit (vec_capacity c.trace))
+        (λ c. c.number) (λ c. I.ActsFor s.machine c) I.IsStepwise (I.acts s.machine) s.cpus.items (I.homes_of s.machine) (I.seen s.machine) s.room s.taken (I.room s.machine) };
+}
+
+impl<I: Owned + Drop> System<I>
+where
+    I::Machine: Drop,
+{
+    ghost use Rattle.layer_traits.specs.declared.steps.Reason.{Reason};
+    ghost use Rattle.layer_traits.specs.declared.steps.Step.TheVariants.{Halted};
+    ghost use Rattle.event_log.specs.Buffers.{items_of};
+    ghost use Rattle.cpu.specs.Cpus.{step_answer};
+    ghost use Rattle.cpu.specs.Claims.{FollowPrograms, HasOneOrder, IsPlaceOf, StandsOnce, StayHome, traces_of};
+    ghost use Rattle.cpu.specs.Systems.{SamePlan, halted_in, reason_of};
+
+    /// Takes one step of `cpu`, which must exist: one local action or one atomic action.
+    ///
+    /// `Halted` where it took none, and then nothing changed: `AllEnded` where each home thread of
+    /// the CPU has ended, `TraceFull` where its thread is about to begin a call that its trace has
+    /// no room for, and otherwise `StepsUsed` where the system's room is used. Neither of the first
+    /// two comes while the CPU has a section under way.
+    pub fn step(&mut self, cpu: CpuId) -> Step
+        requires { cpu.0 < length self.old.cpus }
+        ensures answer { result ≡ step_answer (reason_of cpu self.old) }
+        ensures still { (r : Reason) → result ≡ Halted r → self.new ≡ self.old }
+        ensures plan { SamePlan self.old self.new }
+
+        // What holds after every list of steps.
+        ensures one_order { HasOneOrder self.new }
+        ensures follow { FollowPrograms self.new }
+        ensures stay { StayHome self.new }
+        ensures once { StandsOnce self.new }
+    {
+        if self.looks(cpu) {
+            self.holds();
+            return Step::Stepped;
+        }
+        if let Some(reason) = self.reason(cpu) {
+            self.holds();
+            return Step::Halted(reason);
+        }
+        self.advance(cpu);
+        self.holds();
+        Step::Stepped
+    }
+
+    /// Takes a step of `cpu` where it waits at a lock, and tells whether it did: it looks again.
+    fn looks(&mut self, cpu: CpuId) -> bool
+        requires { cpu.0 < length self.old.cpus }
+        ensures still { result ≡ false → self.new ≡ self.old }
+        ensures live { result ≡ true → reason_of cpu self.old ≡ None }
+        ensures plan { SamePlan self.old self.new }
+    {
+        if self.taken == self.room {
+            return false;
+        }
+        let at = &mut self.cpus[usize::from(cpu.0)];
+        if !at.look(&mut self.machine) {
+            return false;
+        }
+        self.taken += 1;
+        true
+    }
+
+    /// Why `cpu` takes no step.
+    fn reason(&self, cpu: CpuId) -> Option<Reason>
+        requires { cpu.0 < length self.now.cpus }
+        ensures is { result ≡ reason_of cpu self.now }
+    {
+        if let Some(reason) = self.halted(cpu) {
+            return Some(reason);
+        }
+        if self.taken == self.room {
+            return Some(Reason::StepsUsed);
+        }
+        None
+    }
+
+    /// Why `cpu`, which must exist, takes no step whatever room the system has: `AllEnded` or
+    /// `TraceFull`, and neither while it has a section under way.
+    pub fn halted(&self, cpu: CpuId) -> Option<Reason>
+        requires { cpu.0 < length self.now.cpus }
+        ensures { result ≡ halted_in cpu self.now }
+    {
+        let at = &self.cpus[usize::from(cpu.0)];
+        at.reason()
+    }
+
+    /// Takes one step of `cpu`, which is not halted, where it did not look again.
+    fn advance(&mut self, cpu: CpuId)
+        requires exists { cpu.0 < length self.old.cpus }
+        requires live { reason_of cpu self.old ≡ None }
+        ensures plan { SamePlan self.old self.new }
+    {
+        self.taken += 1;
+        let at = &mut self.cpus[usize::from(cpu.0)];
+        let _ = at.act(&mut self.machine);
+    }
+
+    /// Takes one step of each CPU in `steps`, in their order. The steps of halted CPUs do nothing.
+    ///
+    /// Errors: `BadCpu` where a number is no CPU of the system; then nothing changed.
+    pub fn run(&mut self, steps: &[CpuId]) -> Result<(), BadCpu>
+        ensures kept { OnErr result (self.new ≡ self.old) }
+        ensures known { IsOk result ↔ All (λ c. c.0 < length self.old.cpus) steps.now }
+        ensures plan { SamePlan self.old self.new }
+
+        // What holds after every list of steps.
+        ensures one_order { HasOneOrder self.new }
+        ensures follow { FollowPrograms self.new }
+        ensures stay { StayHome self.new }
+        ensures once { StandsOnce self.new }
+    {
+        let count = self.cpus.len();
+        if !steps.iter().all(|cpu| usize::from(cpu.0) < count) {
+            self.holds();
+            return Err(BadCpu);
+        }
+        for cpu in steps {
+            let _ = self.step(*cpu);
+        }
+        self.holds();
+        Ok(())
+    }
+
+    /// What `buffer`, which must exist, holds, front first. A block that a CPU has in its hands
+    /// counts as it was when its lock was freed last.
+    pub fn buffer(&self, buffer: BufId) -> ArrayVec<Msg, CAPACITY>
+        requires { buffer.0 < length self.now.caps }
+        ensures { result.items ≡ items_of self.now.contents buffer.0 }
+    {
+        if let Some(items) = I::buffer_in(&self.machine, buffer) {
+            return items;
+        }
+        for at in &self.cpus {
+            if let Some(items) = at.part.buffer_here(buffer) {
+                return items;
+            }
+        }
+        ArrayVec::new()
+    }
+
+    /// The thread that owns the lock of `buffer`, which must exist. A block that a CPU has in its
+    /// hands counts as it was when its lock was freed last.
+    pub fn busy(&self, buffer: BufId) -> Option<Tid>
+        requires { buffer.0 < length self.now.caps }
+        ensures { result ≡ slice_index_or self.now.owners buffer.0 None }
+    {
+        if let Some(owner) = I::busy_in(&self.machine, buffer) {
+            return owner;
+        }
+        for at in &self.cpus {
+            if let Some(owner) = at.part.busy_here(buffer) {
+                return owner;
+            }
+        }
+        None
+    }
+
+    /// Where `thread`, which must exist, stands. A block that a CPU has in its hands counts as it
+    /// was when its lock was freed last.
+    pub fn place(&self, thread: Tid) -> Place
+        requires { thread.0 < length self.now.homes }
+        ensures { IsPlaceOf self.now thread result }
+    {
+        let machine = &self.machine;
+        for at in &self.cpus {
+            if let Some(place) = at.part.place_at(machine, thread) {
+                return place;
+            }
+        }
+        Place::Ended
+    }
+
+    /// The entries of the calls that took effect on `cpu`, which must exist, oldest first.
+    pub fn trace(&self, cpu: CpuId) -> &[Entry]
+        requires { cpu.0 < length self.now.cpus }
+        ensures { result.now ≡ slice_index_or (traces_of self.now) cpu.0 [] }
+    {
+        let at = &self.cpus[usize::from(cpu.0)];
+        at.trace()
+    }
+
+    /// The machine beneath.
+    pub fn machine(&self) -> &I::Machine {
+        &self.machine
+    }
+
+    /// What holds of every system, whatever steps were taken.
+    pub fn holds(&self)
+        ensures one_order { HasOneOrder self.now }
+        ensures follow { FollowPrograms self.now }
+        ensures stay { StayHome self.now }
+        ensures once { StandsOnce self.now }
+    {
+        let _ = &self.room;
+    }
+}
