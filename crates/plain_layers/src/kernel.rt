@@ -10,8 +10,7 @@ ghost use Rattle.shared_queue.specs.Opening.{AreQueues};
 
 use arrayvec::ArrayVec;
 use event_log::{CpuId, EventLog, NoMemory, THREADS};
-use layer_traits::{Moves, QueueAnswer, QueueCall, QueueEvent};
-use scheduler::kept;
+use layer_traits::{Moves, QueueAnswer, QueueCall, QueueEvent, kept_homes};
 use std::alloc::Global;
 use std::snapshot::Snapshot;
 use thread_blocks::ThreadQueue;
@@ -62,7 +61,7 @@ impl<E: Moves> PlainKernel<E> {
         let log = EventLog::with_room(alloc, room)?;
         let pending = empty_queues(alloc, cpus)?;
         let lists = Lists { pending, buffers };
-        let told = kept(homes);
+        let told = kept_homes(homes);
         let opened = Snapshot::of(&lists);
         let homes = Snapshot::of(&told);
         Ok(PlainKernel {

@@ -5,8 +5,8 @@ ghost use Rattle.std.specs.Prelude.{◌≡◌, [], None};
 use crate::kernel::PlainKernel;
 use arrayvec::ArrayVec;
 use event_log::{CpuId, THREADS, Tid};
-use layer_traits::{Moves, SchedAnswer, SchedCall, SchedLayer};
-use scheduler::{OwnThreads, call_beneath, kept};
+use layer_traits::{Moves, SchedAnswer, SchedCall, SchedLayer, kept_homes};
+use scheduler::{OwnThreads, call_beneath};
 use std::marker::PhantomData;
 
 /// One CPU's part of schedulers as they are meant: each call is done in one step, and nobody ever
@@ -53,7 +53,7 @@ impl<E: Moves> SchedLayer<E> for PlainSched<E> {
     fn part(cpu: CpuId, homes: &[CpuId], _buffers: u8) -> Self {
         PlainSched {
             cpu,
-            homes: kept(homes),
+            homes: kept_homes(homes),
             own: OwnThreads::at_boot(homes, cpu),
             edits: PhantomData,
         }

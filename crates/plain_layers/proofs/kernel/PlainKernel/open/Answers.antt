@@ -11,7 +11,7 @@ returns-clause-sound g c =
     let mv = g.E.Moves.moves in
     let start : Opening g.row.E-Block.Denot = record { lists = c.of-opened.result; homes = c.of-homes.result } in
     let lists : Lists g.row.E-Block.Denot = record { pending = c.in_ok-pending.pending; buffers = c.args.buffers } in
-    let told : c.of-homes.result.value.items ≡ c.args.homes.now = ap (λ v. v.items) c.of-homes.ensures ∙ c.kept-told.ensures in
+    let told : c.of-homes.result.value.items ≡ c.args.homes.now = ap (λ v. v.items) c.of-homes.ensures ∙ c.kept_homes-told.ensures in
     subst (λ past. IsKernel rules mv start past lists) (sym (ap reverse c.in_ok-log.ensures.empty))
     (kernel_fresh rules mv start lists c.args.cpus c.args.homes.now (length c.args.buffers.items) c.requires c.of-opened.ensures told
     c.in_ok-pending.ensures)
@@ -22,7 +22,7 @@ returns-clause-homes g c =
     let mv = g.E.Moves.moves in
     let start : Opening g.row.E-Block.Denot = record { lists = c.of-opened.result; homes = c.of-homes.result } in
     let lists : Lists g.row.E-Block.Denot = record { pending = c.in_ok-pending.pending; buffers = c.args.buffers } in
-    let told : c.of-homes.result.value.items ≡ c.args.homes.now = ap (λ v. v.items) c.of-homes.ensures ∙ c.kept-told.ensures in
+    let told : c.of-homes.result.value.items ≡ c.args.homes.now = ap (λ v. v.items) c.of-homes.ensures ∙ c.kept_homes-told.ensures in
     homes_told rules mv start lists c.args.cpus c.args.homes.now (length c.args.buffers.items) c.requires c.of-opened.ensures told
     c.in_ok-pending.ensures
 
@@ -32,7 +32,7 @@ returns-clause-queues g c =
     let mv = g.E.Moves.moves in
     let start : Opening g.row.E-Block.Denot = record { lists = c.of-opened.result; homes = c.of-homes.result } in
     let lists : Lists g.row.E-Block.Denot = record { pending = c.in_ok-pending.pending; buffers = c.args.buffers } in
-    let told : c.of-homes.result.value.items ≡ c.args.homes.now = ap (λ v. v.items) c.of-homes.ensures ∙ c.kept-told.ensures in
+    let told : c.of-homes.result.value.items ≡ c.args.homes.now = ap (λ v. v.items) c.of-homes.ensures ∙ c.kept_homes-told.ensures in
     queue_is_there rules mv start lists c.args.cpus c.args.homes.now (length c.args.buffers.items) c.requires c.of-opened.ensures told
     c.in_ok-pending.ensures
 
@@ -42,6 +42,6 @@ returns-clause-blocks g c =
     let mv = g.E.Moves.moves in
     let start : Opening g.row.E-Block.Denot = record { lists = c.of-opened.result; homes = c.of-homes.result } in
     let lists : Lists g.row.E-Block.Denot = record { pending = c.in_ok-pending.pending; buffers = c.args.buffers } in
-    let told : c.of-homes.result.value.items ≡ c.args.homes.now = ap (λ v. v.items) c.of-homes.ensures ∙ c.kept-told.ensures in
+    let told : c.of-homes.result.value.items ≡ c.args.homes.now = ap (λ v. v.items) c.of-homes.ensures ∙ c.kept_homes-told.ensures in
     buffer_opens rules mv start lists c.args.cpus c.args.homes.now (length c.args.buffers.items) c.requires c.of-opened.ensures told
     c.in_ok-pending.ensures

@@ -14,7 +14,7 @@ returns-clause-fits g c = λ m acts outside none homes queue.
       acts.1,
       record {
         cpu = refl;
-        homes = homes ∙ sym c.kept.ensures;
+        homes = homes ∙ sym c.kept_homes.ensures;
         queue = queue;
         stands = subst₂ (λ own past. Stands H c.args.cpu (moves_in K past) own) (sym (c.at_boot.ensures ∙ ap (λ h. at_boot h c.args.cpu) (sym homes)))
             (sym none) (stands_boot H c.args.cpu);
