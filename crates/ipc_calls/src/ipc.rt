@@ -14,7 +14,7 @@ use crate::opening::OpensBuffers;
 use arrayvec::ArrayVec;
 use event_log::{BufId, CAPACITY, CpuId, Msg, NoMemory, THREADS, Tid};
 use layer_traits::{
-    BufferLayer, Call, Effect, IpcLayer, Line, Owned, OwnedBuffers, Pass, Place, Reply,
+    BufferLayer, Call, Effect, IpcLayer, Line, Owned, OwnedBuffers, Pass, Place, Reply, kept_homes,
 };
 use std::alloc::Global;
 
@@ -25,18 +25,6 @@ fn buffer_in(call: &Call) -> BufId
     match *call {
         Call::Send(buffer, _) | Call::Recv(buffer) => buffer,
     }
-}
-
-/// A list of the homes to keep: at most `THREADS` of them.
-fn kept(homes: &[CpuId]) -> ArrayVec<CpuId, THREADS>
-    requires { length homes.now ≤ THREADS }
-    ensures { result.items ≡ homes.now }
-{
-    let mut kept = ArrayVec::new();
-    for home in homes {
-        kept.push(*home);
-    }
-    kept
 }
 
 /// Whether it is this thread.
@@ -135,7 +123,7 @@ impl<B: BufferLayer> IpcLayer for Ipc<B> {
         Ipc {
             lower: B::part(cpu, homes, buffers),
             cpu,
-            homes: kept(homes),
+            homes: kept_homes(homes),
             buffers,
         }
     }

@@ -4,6 +4,8 @@
 
 mod ipc;
 mod opening;
+mod tower;
 
 pub use ipc::Ipc;
 pub use opening::OpensBuffers;
+pub use tower::{LockEdit, Over, TowerBlock, TowerEdit, tower_blocks};

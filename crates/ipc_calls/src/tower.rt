@@ -1,0 +1,71 @@
+//! The tower of layers, from buffers down to critical sections, over one machine.
+
+ghost use Rattle.std.specs.Prelude.{◌≡◌, ◌<◌, IsSome, IfOk};
+ghost use Rattle.event_log.specs.declared.ids.CpuId.{CpuId};
+ghost use Rattle.event_log.specs.declared.ids.LockId.TheVariants.{Pending};
+ghost use Rattle.layer_traits.specs.BufferEffects.{opening_locks};
+ghost use Rattle.layer_traits.specs.OneLock.{AreDistinct, opened};
+ghost use Rattle.layer_traits.specs.Openings.{AreOpenable};
+ghost use Rattle.layer_traits.specs.QueueBlocks.{StartsWell, homes_in, inner};
+ghost use Rattle.layer_traits.specs.Renaming.{viewed};
+ghost use Rattle.queuing_lock.specs.Nested.{lock_of};
+ghost use Rattle.sleep_wakeup.specs.Nested.{state_of};
+
+use crate::opening::OpensBuffers;
+use condvar::Cond;
+use event_log::{CpuId, LockId, NoMemory};
+use fifo_buffer::{Fifo, empty_blocks};
+use layer_traits::{BufferBlock, BufferEdit, CvEdit, CvLeave, OwnedLocks, QueueBlock, QueueEdit};
+use queuing_lock::{QBlock, QLock, QLockEdit, lock_blocks};
+use scheduler::Sched;
+use shared_queue::{SharedQueues, queue_blocks};
+use sleep_wakeup::{SleepBlock, SleepEdit, Sleeper, sleep_blocks};
+use std::alloc::Global;
+
+/// A call on the lock of a buffer.
+pub type LockEdit = QLockEdit<CvEdit<BufferEdit>, CvLeave>;
+
+/// What a section of the tower does to the block of its lock.
+pub type TowerEdit = QueueEdit<SleepEdit<LockEdit>>;
+
+/// What a lock of the tower guards: a pending queue, or a buffer under its lock and waiting lists.
+pub type TowerBlock = QueueBlock<SleepBlock<QBlock<BufferBlock>>>;
+
+/// One CPU's part of the layers from buffers down to shared queues, over a part `L` of critical
+/// sections.
+pub type Over<L> = Fifo<Cond<QLock<Sleeper<LockEdit, Sched<SharedQueues<L>>>>>>;
+
+/// The locks of the tower at boot, each with its block: an empty pending queue for each of so many
+/// CPUs, and an empty buffer under a free lock for each of these capacities. `homes` holds the home
+/// of each thread. All memory that the blocks need is taken here.
+///
+/// Errors: `NoMemory` where an allocation was refused.
+pub fn tower_blocks(
+    alloc: Global,
+    cpus: u8,
+    caps: &[u8],
+    homes: &[CpuId],
+) -> Result<Vec<(LockId, TowerBlock)>, NoMemory>
+    requires { AreOpenable cpus caps.now homes.now }
+    ensures distinct { IfOk result (λ locks. AreDistinct locks.items) }
+    ensures starts { IfOk result (λ locks. StartsWell (opened locks.items)) }
+    ensures homes { IfOk result (λ locks. homes_in (opened locks.items) ≡ homes.now) }
+    ensures queues { IfOk result (λ locks. (c : CpuId) → c.0 < cpus → IsSome (opened locks.items (Pending c))) }
+    ensures locks { IfOk result (λ locks. inner (viewed lock_of (viewed state_of (opened locks.items))) ≡ opening_locks caps.now) }
+{
+    let buffers = empty_blocks(alloc, caps)?;
+    let blocks = sleep_blocks(alloc, lock_blocks(alloc, buffers)?)?;
+    queue_blocks(alloc, blocks, cpus, homes)
+}
+
+impl<L: OwnedLocks<TowerEdit>> OpensBuffers for Over<L> {
+    fn open(
+        alloc: Global,
+        cpus: u8,
+        caps: &[u8],
+        homes: &[CpuId],
+        room: usize,
+    ) -> Result<L::Machine, NoMemory> {
+        L::open(alloc, tower_blocks(alloc, cpus, caps, homes)?, room)
+    }
+}
