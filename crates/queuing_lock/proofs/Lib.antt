@@ -3,3 +3,5 @@ pub mod SleptLemmas
 pub mod KeptLemmas
 pub mod PollLemmas
 pub mod PartLemmas
+pub mod TurnLemmas
+pub mod BootLemmas
