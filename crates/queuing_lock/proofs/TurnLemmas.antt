@@ -107,6 +107,20 @@ module _ {F R B O : Type 0} (rules : LockRules F R B O) where
   asker_told (Inside f) (Some state) outcome is asks = absurd asks
   asker_told (Release r) (Some state) outcome is asks = absurd asks
 
+  -- nobody but an asker is queued
+  queued_asks : (e : QEdit F R) (o : Option (LockState B)) (outcome : Outcome (QOut O)) → option_map (lock_answer rules e) o ≡ Some outcome
+      → outcome.out ≡ Queued → IsAcquire e
+  queued_asks e None outcome is queued = absurd cc
+  queued_asks (Acquire t) (Some state) outcome is queued = tt
+  queued_asks (Inside f) (Some state) outcome is queued =
+      let one : lock_answer rules (Inside f) state ≡ outcome = cc in
+      let clash : Did (rules.answer f state.above) ≡ Queued = ap (λ o. o.out) one ∙ queued in
+      absurd cc
+  queued_asks (Release r) (Some state) outcome is queued =
+      let one : lock_answer rules (Release r) state ≡ outcome = cc in
+      let clash : Released (rules.last_answer r state.above) ≡ Queued = ap (λ o. o.out) one ∙ queued in
+      absurd cc
+
 module _ {F R B O : Type 0} (rules : LockRules F R B O) (opening : LockId → Option (QueueBlock (LockState B))) (ActsFor : CpuId → Type 0) (c : CpuId)
     (b : BufId) (e : QEdit F R) where
   -- how the caller stands after a poll that left this, by its answer: it goes on or sleeps where there is none; where there is one its call has
@@ -114,7 +128,7 @@ module _ {F R B O : Type 0} (rules : LockRules F R B O) (opening : LockId → Op
   abbrev pub After : List (QueueEvent (QEdit F R)) → Locking O → Option (SchedCall (QEdit F R)) → Option (Outcome (QOut O)) → Type 0
   After past own under None =
       MayTurn rules (lock_kernel rules opening) c past own under b e
-      ⊎ ((own.sleep.threads.current ≡ None) × SleepsFor rules own under (lock_caller rules e) b)
+      ⊎ ((own.sleep.threads.current ≡ None) × IsAcquire e × SleepsFor rules own under (lock_caller rules e) b)
   After past own under (Some outcome) =
       HasEnded rules own under (lock_caller rules e)
       × (IsAcquire e → owner_of rules (inner opening) (buffer_sections past) (Buffer b) ≡ Some (lock_caller rules e))
@@ -174,7 +188,7 @@ module _ {F R B O : Type 0} (rules : LockRules F R B O) (opening : LockId → Op
     told_here : (past : List (QueueEvent (QEdit F R))) (outcome : Outcome (QOut O)) (threads : Threads) (out : QOut O) → outcome.out ≡ out
         → ((l : Line) → line_slept rules outcome.out ≡ Some l → threads.current ≡ None)
         → (IsAcquire e → outcome.out ≡ Acquired → owner_of rules (inner opening) (buffer_sections past) (Buffer b) ≡ Some (lock_caller rules e))
-        → (IsAcquire e → (outcome.out ≡ Acquired) ⊎ (outcome.out ≡ Queued))
+        → (IsAcquire e → (outcome.out ≡ Acquired) ⊎ (outcome.out ≡ Queued)) → (outcome.out ≡ Queued → IsAcquire e)
         → AfterLeft past None (left_locked (lock_caller rules e) b own.slept (record { threads = threads; kept = None }) out outcome)
     told_here past outcome threads Queued is sleeps owns told =
         inr (
@@ -188,13 +202,13 @@ module _ {F R B O : Type 0} (rules : LockRules F R B O) (opening : LockId → Op
             };
           },
         )
-    told_here past outcome threads Acquired is sleeps owns told = ended_here past outcome threads (λ asks. owns asks is) sleeps
-    told_here past outcome threads (Did out) is sleeps owns told = ended_here past outcome threads (λ asks. absurd (neither (told asks))) sleeps
+    told_here past outcome threads Acquired is sleeps owns told asked = ended_here past outcome threads (λ asks. owns asks is) sleeps
+    told_here past outcome threads (Did out) is sleeps owns told asked = ended_here past outcome threads (λ asks. absurd (neither (told asks))) sleeps
       where
         neither : (outcome.out ≡ Acquired) ⊎ (outcome.out ≡ Queued) → ⊥
         neither (inl one) = let clash : Did out ≡ Acquired = sym is ∙ one in cc
         neither (inr one) = let clash : Did out ≡ Queued = sym is ∙ one in cc
-    told_here past outcome threads (Released out) is sleeps owns told = ended_here past outcome threads (λ asks. absurd (neither (told asks))) sleeps
+    told_here past outcome threads (Released out) is sleeps owns told asked = ended_here past outcome threads (λ asks. absurd (neither (told asks))) sleeps
       where
         neither : (outcome.out ≡ Acquired) ⊎ (outcome.out ≡ Queued) → ⊥
         neither (inl one) = let clash : Released out ≡ Acquired = sym is ∙ one in cc
@@ -234,7 +248,7 @@ module _ {F R B O : Type 0} (rules : LockRules F R B O) (opening : LockId → Op
           by_send false sends =
               told_here (event c (OnBuffer b e) ∷ past) outcome after outcome.out refl
               (λ l slept. current ∙ asleep_current (line_slept rules outcome.out) l own.sleep.threads slept)
-              (λ asks out. owner_after past outcome may.1 out) (asker_told rules e before outcome may.1)
+              (λ asks out. owner_after past outcome may.1 out) (asker_told rules e before outcome may.1) (queued_asks rules e before outcome may.1)
 
       sends_here : (past : List (QueueEvent (QEdit F R))) (u : Tid) → MayDo (lock_kernel rules opening) c b e (Sends u) past own.sleep
           → (IsAcquire e → own.sleep.kept ≡ None)
@@ -249,6 +263,7 @@ module _ {F R B O : Type 0} (rules : LockRules F R B O) (opening : LockId → Op
               (λ l slept. let clash : None ≡ Some l = sym (steady.awake outcome is) ∙ slept in absurd cc)
               (λ asks out. let clash : None ≡ Some outcome = sym (asks_none asks) ∙ is in absurd cc)
               (λ asks. let clash : None ≡ Some outcome = sym (asks_none asks) ∙ is in absurd cc)
+              (λ queued. let clash : None ≡ Some Sleepers = sym (steady.awake outcome is) ∙ ap (line_slept rules) queued in absurd cc)
 
       deed_here : (deed : Deed (QOut O)) (past : List (QueueEvent (QEdit F R))) → MayDo (lock_kernel rules opening) c b e deed past own.sleep
           → (IsAcquire e → own.sleep.kept ≡ None)
@@ -300,7 +315,7 @@ module _ {F R B O : Type 0} (rules : LockRules F R B O) (opening : LockId → Op
   sleeps_after past own under None current (inl may) none is missing =
       let clash : true ≡ false = ap is_some (sym (is ∙ may.runs)) ∙ missing in
       absurd cc
-  sleeps_after past own under None current (inr sleeps) none is missing = sleeps.1
+  sleeps_after past own under None current (inr sleeps) none is missing = sleeps.2
 
   -- where there is an answer the call has ended, and an asker owns the lock
   pub ended_after : (past : List (QueueEvent (QEdit F R))) (own : Locking O) (under : Option (SchedCall (QEdit F R))) (answer : Option (Outcome (QOut O)))
