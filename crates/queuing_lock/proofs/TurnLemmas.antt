@@ -190,9 +190,10 @@ module _ {F R B O : Type 0} (rules : LockRules F R B O) (opening : LockId → Op
         → (IsAcquire e → outcome.out ≡ Acquired → owner_of rules (inner opening) (buffer_sections past) (Buffer b) ≡ Some (lock_caller rules e))
         → (IsAcquire e → (outcome.out ≡ Acquired) ⊎ (outcome.out ≡ Queued)) → (outcome.out ≡ Queued → IsAcquire e)
         → AfterLeft past None (left_locked (lock_caller rules e) b own.slept (record { threads = threads; kept = None }) out outcome)
-    told_here past outcome threads Queued is sleeps owns told =
+    told_here past outcome threads Queued is sleeps owns told asker =
         inr (
           sleeps Sleepers (ap (line_slept rules) is),
+          asker is,
           record {
             none = refl;
             sleeps = get_or-set_same own.slept (lock_caller rules e).0 (Some b) None steady.small;
@@ -202,13 +203,13 @@ module _ {F R B O : Type 0} (rules : LockRules F R B O) (opening : LockId → Op
             };
           },
         )
-    told_here past outcome threads Acquired is sleeps owns told asked = ended_here past outcome threads (λ asks. owns asks is) sleeps
-    told_here past outcome threads (Did out) is sleeps owns told asked = ended_here past outcome threads (λ asks. absurd (neither (told asks))) sleeps
+    told_here past outcome threads Acquired is sleeps owns told asker = ended_here past outcome threads (λ asks. owns asks is) sleeps
+    told_here past outcome threads (Did out) is sleeps owns told asker = ended_here past outcome threads (λ asks. absurd (neither (told asks))) sleeps
       where
         neither : (outcome.out ≡ Acquired) ⊎ (outcome.out ≡ Queued) → ⊥
         neither (inl one) = let clash : Did out ≡ Acquired = sym is ∙ one in cc
         neither (inr one) = let clash : Did out ≡ Queued = sym is ∙ one in cc
-    told_here past outcome threads (Released out) is sleeps owns told asked = ended_here past outcome threads (λ asks. absurd (neither (told asks))) sleeps
+    told_here past outcome threads (Released out) is sleeps owns told asker = ended_here past outcome threads (λ asks. absurd (neither (told asks))) sleeps
       where
         neither : (outcome.out ≡ Acquired) ⊎ (outcome.out ≡ Queued) → ⊥
         neither (inl one) = let clash : Released out ≡ Acquired = sym is ∙ one in cc
