@@ -1,22 +1,16 @@
 -- The locks of the tower at boot, as its layers read them.
-use Rattle.std.proofs.Common.{◌≡◌, ℕ, ◌≤◌, List, length, map, Option, Some, None, option_map, slice_get, refl, ap, sym, ◌∙◌, subst}
+use Rattle.std.proofs.Common.{◌≡◌, ℕ, List, map, Option, Some, None, option_map, slice_get, refl, ap, ◌∙◌}
 use Rattle.std.proofs.lemmas.Option.{slice_get-map}
-use Rattle.std.proofs.lemmas.Result.{IfOk-weaker}
-use Rattle.std.specs.Prelude.{Result, IfOk}
 use Rattle.event_log.specs.declared.ids.BufId.{BufId}
-use Rattle.event_log.specs.declared.ids.CpuId.{CpuId}
 use Rattle.event_log.specs.declared.ids.LockId.{LockId}
 use Rattle.event_log.specs.declared.ids.LockId.TheVariants.{Buffer}
-use Rattle.fifo_buffer.specs.FifoFits.{BootsSo, caps_in}
-use Rattle.fifo_buffer.proofs.Opening.{boots_at, boots_well, caps_are, resting}
+use Rattle.fifo_buffer.proofs.Opening.{boots_at, resting}
 use Rattle.layer_traits.specs.declared.queue_edits.QueueBlock.{QueueBlock}
 use Rattle.layer_traits.specs.BufferBlocks.{BufferState, empty_block}
 use Rattle.layer_traits.specs.BufferEffects.{opening_locks}
-use Rattle.layer_traits.specs.BufferProtocol.{BufferLock}
-use Rattle.layer_traits.specs.OneLock.{opened}
-use Rattle.layer_traits.specs.QueueBlocks.{StartsWell, homes_in, inner}
+use Rattle.layer_traits.specs.QueueBlocks.{StartsWell, inner}
 use Rattle.layer_traits.specs.Renaming.{viewed}
-use Rattle.layer_traits.proofs.KernelRenaming.{homes_viewed, inner_viewed, starts_viewed}
+use Rattle.layer_traits.proofs.KernelRenaming.{inner_viewed, starts_viewed}
 use Rattle.queuing_lock.specs.declared.edits.QBlock.{QBlock}
 use Rattle.queuing_lock.specs.Nested.{lock_of, unowned}
 use Rattle.sleep_wakeup.specs.declared.edits.SleepBlock.{SleepBlock}
@@ -44,30 +38,3 @@ module _ (opening : LockId → Option (QueueBlock (SleepBlock (QBlock BufferStat
   pub tower_locks : inner (viewed lock_of (viewed state_of opening)) ≡ opening_locks caps
   tower_locks = boots_at (viewed lock_of (viewed state_of opening)) caps buffers
       (starts_viewed lock_of (viewed state_of opening) (starts_viewed state_of opening starts)).kinds at_rest buffers_are
-
--- the locks as the layer of buffers reads them
-abbrev pub read : (LockId → Option (QueueBlock (SleepBlock (QBlock BufferState)))) → LockId → Option (QueueBlock BufferLock)
-read opening = viewed lock_of (viewed state_of opening)
-
--- a machine that was opened with such locks
-module _ {M E : Type 0} (r : Result M E) (opening : M → LockId → Option (QueueBlock (SleepBlock (QBlock BufferState))))
-    (made : List (LockId × QueueBlock (SleepBlock (QBlock BufferState)))) (caps : List ℕ) (homes : List CpuId)
-    (opens : IfOk r (λ m. opening m ≡ opened made)) (starts : StartsWell (opened made)) (homes_are : homes_in (opened made) ≡ homes)
-    (locks : inner (read (opened made)) ≡ opening_locks caps) (few : length caps ≤ 256) where
-  boots : (m : M) → opening m ≡ opened made → inner (read (opening m)) ≡ opening_locks caps
-  boots m is = ap (λ at. inner (read at)) is ∙ locks
-
-  -- has these capacities
-  pub opened_caps : IfOk r (λ m. caps_in (read (opening m)) ≡ caps)
-  opened_caps = IfOk-weaker r (λ m. opening m ≡ opened made) (λ m. caps_in (read (opening m)) ≡ caps)
-      (λ m is. caps_are (read (opening m)) caps (boots m is) few) opens
-
-  -- these homes
-  pub opened_homes : IfOk r (λ m. homes_in (read (opening m)) ≡ homes)
-  opened_homes = IfOk-weaker r (λ m. opening m ≡ opened made) (λ m. homes_in (read (opening m)) ≡ homes)
-      (λ m is. homes_viewed lock_of (viewed state_of (opening m)) ∙ homes_viewed state_of (opening m) ∙ ap homes_in is ∙ homes_are) opens
-
-  -- and boots as its layers want it
-  pub opened_boots : IfOk r (λ m. StartsWell (opening m) × BootsSo (read (opening m)))
-  opened_boots = IfOk-weaker r (λ m. opening m ≡ opened made) (λ m. StartsWell (opening m) × BootsSo (read (opening m)))
-      (λ m is. (subst StartsWell (sym is) starts, boots_well (read (opening m)) caps (boots m is) few)) opens

@@ -7,5 +7,5 @@ mod opening;
 mod tower;
 
 pub use ipc::Ipc;
-pub use opening::OpensBuffers;
+pub use opening::{OpensBuffers, OpensLocks};
 pub use tower::{LockEdit, Over, TowerBlock, TowerEdit, tower_blocks};

@@ -1,9 +1,10 @@
 //! A layer of buffers that opens a machine.
 
-ghost use Rattle.std.specs.Prelude.{◌≡◌, ◌<◌, [], IsSome, IfOk};
+ghost use Rattle.std.specs.Prelude.{◌≡◌, ◌<◌, ◌≤◌, [], IsSome, IfOk};
 
+use crate::tower::LockEdit;
 use event_log::{CpuId, NoMemory};
-use layer_traits::OwnedBuffers;
+use layer_traits::{OwnedBuffers, OwnedSleeps};
 use std::alloc::Global;
 
 /// A layer of buffers whose machine is opened with its buffers, and tells of its blocks.
@@ -33,5 +34,39 @@ pub trait OpensBuffers: OwnedBuffers {
         ensures queues { IfOk result (λ m. (c : CpuId) → c.0 < cpus → IsSome (Self.opening m (Pending c))) }
         ensures acts { IfOk result (λ m. (c : CpuId) → c.0 < CPUS → Self.ActsFor m c) }
         ensures outside { IfOk result (λ m. (c : CpuId) → c.0 < CPUS → Self.IsOutside m c) }
+        ensures none { IfOk result (λ m. Self.acts m ≡ []) };
+}
+
+/// A layer of sections that put threads to sleep, whose machine is opened with the locks of buffers,
+/// and tells of its blocks.
+pub trait OpensLocks: OwnedSleeps<LockEdit> {
+    ghost use Rattle.event_log.specs.declared.ids.CpuId.{CpuId};
+    ghost use Rattle.event_log.specs.declared.ids.LockId.TheVariants.{Pending};
+    ghost use Rattle.event_log.specs.declared.ids.TheConstants.{CPUS};
+    ghost use Rattle.layer_traits.specs.BufferEffects.{opening_locks};
+    ghost use Rattle.layer_traits.specs.Openings.{AreOpenable};
+    ghost use Rattle.layer_traits.specs.QueueBlocks.{homes_in, inner};
+    ghost use Rattle.layer_traits.specs.Renaming.{viewed};
+    ghost use Rattle.queuing_lock.specs.Nested.{lock_of};
+
+    /// A machine of so many CPUs, with the lock of a buffer for each of these capacities and a
+    /// thread of each of these homes, and with room for `room` polls. All memory is taken here.
+    ///
+    /// Errors: `NoMemory` where an allocation was refused.
+    fn open(
+        alloc: Global,
+        cpus: u8,
+        caps: &[u8],
+        homes: &[CpuId],
+        room: usize,
+    ) -> Result<Self::Machine, NoMemory>
+        requires { AreOpenable cpus caps.now homes.now }
+        ensures seen { IfOk result (λ m. Self.seen m ≡ []) }
+        ensures room { IfOk result (λ m. room ≤ Self.room m) }
+        ensures homes { IfOk result (λ m. homes_in (Self.opening m) ≡ homes.now) }
+        ensures queues { IfOk result (λ m. (c : CpuId) → c.0 < cpus → IsSome (Self.opening m (Pending c))) }
+        ensures locks { IfOk result (λ m. inner (viewed lock_of (Self.opening m)) ≡ opening_locks caps.now) }
+        ensures acts { IfOk result (λ m. (c : CpuId) → c.0 < CPUS → Self.ActsFor m c) }
+        ensures outside { IfOk result (λ m. (c : CpuId) → Self.IsOutside m c) }
         ensures none { IfOk result (λ m. Self.acts m ≡ []) };
 }

@@ -11,10 +11,11 @@ ghost use Rattle.layer_traits.specs.Renaming.{viewed};
 ghost use Rattle.queuing_lock.specs.Nested.{lock_of};
 ghost use Rattle.sleep_wakeup.specs.Nested.{state_of};
 
+use crate::opening::{OpensBuffers, OpensLocks};
 use condvar::Cond;
 use event_log::{CpuId, LockId, NoMemory};
 use fifo_buffer::{Fifo, empty_blocks};
-use layer_traits::{BufferBlock, BufferEdit, CvEdit, CvLeave, QueueBlock, QueueEdit};
+use layer_traits::{BufferBlock, BufferEdit, CvEdit, CvLeave, OwnedLocks, QueueBlock, QueueEdit};
 use queuing_lock::{QBlock, QLock, QLockEdit, lock_blocks};
 use scheduler::Sched;
 use shared_queue::{SharedQueues, queue_blocks};
@@ -55,4 +56,28 @@ pub fn tower_blocks(
     let buffers = empty_blocks(alloc, caps)?;
     let blocks = sleep_blocks(alloc, lock_blocks(alloc, buffers)?)?;
     queue_blocks(alloc, blocks, cpus, homes)
+}
+
+impl<L: OwnedLocks<TowerEdit>> OpensLocks for Sleeper<LockEdit, Sched<SharedQueues<L>>> {
+    fn open(
+        alloc: Global,
+        cpus: u8,
+        caps: &[u8],
+        homes: &[CpuId],
+        room: usize,
+    ) -> Result<L::Machine, NoMemory> {
+        L::open(alloc, tower_blocks(alloc, cpus, caps, homes)?, room)
+    }
+}
+
+impl<S: OpensLocks> OpensBuffers for Fifo<Cond<QLock<S>>> {
+    fn open(
+        alloc: Global,
+        cpus: u8,
+        caps: &[u8],
+        homes: &[CpuId],
+        room: usize,
+    ) -> Result<S::Machine, NoMemory> {
+        S::open(alloc, cpus, caps, homes, room)
+    }
 }
