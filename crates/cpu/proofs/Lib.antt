@@ -10,3 +10,4 @@ pub mod Orders
 pub mod Onces
 pub mod Advances
 pub mod Tellers
+pub mod Booting

@@ -1,5 +1,7 @@
 //! The whole system: a machine of message calls and its CPUs.
 
+mod opening;
+
 ghost use Rattle.std.specs.Prelude.{◌≡◌, ◌<◌, ◌↔◌, true, false, All, IsOk, OnErr, Some, None, [], length, map, slice_index_or};
 
 use crate::cpus::Cpu;

@@ -1,0 +1,149 @@
+-- A CPU and a system before their first step are as they are always to be.
+use Rattle.std.proofs.Common.{◌≡◌, ◌⊎◌, inl, inr, ℕ, zero, suc, ◌+◌, ◌^◌, ◌<◌, ◌≤◌, false, List, [], ◌∷◌, ◌++◌, length, map, cond, drop, replicate, Option, Some, None, refl, ap, sym, ◌∙◌, subst, arith}
+use Rattle.std.specs.Prelude.{slice_get, slice_index_or}
+use Rattle.std.specs.List.{AllByRecursion}
+use Rattle.std.proofs.lemmas.Bool.{cases_lt}
+use Rattle.std.proofs.lemmas.List.{get_or-replicate, get_or_past, length-replicate}
+use Rattle.std.proofs.lemmas.List.Elements.{All-get_or}
+use Rattle.std.proofs.lemmas.List.Sums.{sum_by-cons}
+use Rattle.std.proofs.lemmas.Option.{get_or_from_slice_get, slice_get_within}
+use Rattle.event_log.specs.declared.entries.Entry.{Entry}
+use Rattle.event_log.specs.declared.ids.CpuId.{CpuId}
+use Rattle.event_log.specs.declared.ids.Tid.{Tid}
+use Rattle.event_log.specs.declared.ids.TheConstants.{CPUS, THREADS}
+use Rattle.event_log.specs.Actions.{Action}
+use Rattle.guest.specs.Calls.{starts}
+use Rattle.layer_traits.specs.declared.talks.Talk.{Talk}
+use Rattle.layer_traits.specs.BufferLaw.{Buffering, Doing, quiet, talk_of}
+use Rattle.layer_traits.specs.OnePlace.{cpu_at}
+use Rattle.layer_traits.specs.Openings.{AreOpenable}
+use Rattle.layer_traits.specs.Places.{Threads, at_boot}
+use Rattle.cpu.specs.declared.guests.Guest.{Guest}
+use Rattle.cpu.specs.Guests.{Follows, is_begun}
+use Rattle.cpu.specs.Boots.{AreGuests, IsBootedAs}
+use Rattle.cpu.specs.Cpus.{IsCpu, begun_count, guest_at, is_begun_guest}
+use Rattle.cpu.specs.Systems.{IsAt, IsSystem}
+
+-- a thread that never called
+quiet_at : (t : Tid) → talk_of (replicate THREADS quiet) t ≡ quiet
+quiet_at t = go (cases_lt t.0 THREADS)
+  where
+    go : (t.0 < THREADS) ⊎ (THREADS ≤ t.0) → talk_of (replicate THREADS quiet) t ≡ quiet
+    go (inl within) = get_or-replicate THREADS t.0 quiet quiet within
+    go (inr past) = get_or_past (replicate THREADS quiet) t.0 quiet (let long = length-replicate THREADS quiet in omega (arith, long, past))
+
+-- guests that are all new have begun no call
+none_begun : (guests : List (Option Guest)) → ((k : ℕ) (g : Guest) → guest_at guests k ≡ Some g → is_begun g.stage ≡ false) → begun_count guests ≡ 0
+none_begun [] none = refl
+none_begun (x ∷ guests) none =
+    let first : begun_count (x ∷ guests) ≡ cond (is_begun_guest x) 1 0 + begun_count guests =
+    sum_by-cons (λ (g : Option Guest). cond (is_begun_guest g) 1 0) x guests in
+    let others : begun_count guests ≡ 0 = none_begun guests (λ k g at. none (suc k) g at) in
+    let here : is_begun_guest x ≡ false = go x refl in
+    let one : cond {A = ℕ} (is_begun_guest x) 1 0 ≡ 0 = rw here refl in
+    omega (arith, first, others, one)
+  where
+    go : (o : Option Guest) → x ≡ o → is_begun_guest o ≡ false
+    go None at = refl
+    go (Some g) at = none 0 g at
+
+-- a CPU before its first step
+pub boots : (homes : List CpuId) (buffers : ℕ) (number : CpuId) (guests : List (Option Guest)) (limit capacity : ℕ) → AreGuests homes buffers number guests
+    → length homes ≤ THREADS → limit ≤ capacity
+    → IsCpu homes buffers [] (at_boot homes number) (replicate THREADS quiet) None number guests [] limit capacity
+boots homes buffers number guests limit capacity are few reserved = record {
+  kept = refl;
+  stays = tt;
+  follow = λ t g at. subst (λ (talk : Talk). Follows g [] talk) (sym (quiet_at t))
+      (subst (λ (x : Guest). Follows x [] quiet) (sym (are.fresh t g at)) ((λ none. refl), (refl, starts)));
+  over = λ t ended g at. absurd (cc ended);
+  homed = are.homed;
+  named = are.named;
+  few = let size = are.size in omega (arith, size, few);
+  agrees = λ d at. absurd (cc at);
+  calls = λ t g at there. absurd (cc at);
+  handed = λ t at none. refl;
+  room = let none = none_begun guests (λ k g at. ap (λ (x : Guest). is_begun x.stage) (are.fresh (record { 0 = k }) g at)) in omega (arith, none);
+  reserved = reserved;
+}
+
+-- a CPU that was made so, in a machine that is fresh
+module _ {P M : Type 0} (Fits : P → M → Type 0) (IsFresh : M → CpuId → Type 0) (count : M → ℕ) (IsStepwise : Type 0) (buffers : ℕ) (homes : List CpuId)
+    (k : ℕ) (guests : List (Option Guest)) (most : ℕ) (part : P) (cpu : CpuId) (own : Buffering) (threads : Threads) (talks : List Talk) (doing : Option Doing)
+    (its : CpuId) (table : List (Option Guest)) (trace : List Entry) (limit capacity : ℕ)
+    (is : IsBootedAs Fits IsFresh count IsStepwise buffers homes k guests most part cpu own threads talks doing its table trace limit capacity) where
+  pub boots_as : (m : M) (homes2 : List CpuId) (seen : List Entry) → IsFresh m (cpu_at k) → count m ≡ buffers → homes2 ≡ homes → seen ≡ []
+      → AreGuests homes buffers (cpu_at k) guests → length homes ≤ THREADS
+      → Fits part m × (cpu ≡ its) × IsCpu homes2 (count m) seen threads talks doing its table trace limit capacity
+  boots_as m homes2 seen fresh counted same none are few = (
+    is.fits m fresh counted,
+    is.cpu_is ∙ sym is.booted.number_is,
+    rw (counted, same, none, is.threads_are, is.nobody_talks, is.nothing_done, is.booted.number_is, is.booted.guests_are, is.booted.nothing, is.booted.limit_is)
+        (boots homes buffers (cpu_at k) guests most capacity are few is.booted.reserved),
+  )
+
+-- a system before its first step
+pub opens : {X N : Type 0} (IsOne : X → Type 0) (number : X → CpuId) (ActsFor : CpuId → Type 0) (IsStepwise : Type 0) (acts : List (Action N)) (cpus : List X)
+    (homes homes2 : List CpuId) (seen : List Entry) (caps : List ℕ) (room left n : ℕ) → AreOpenable n caps homes → length cpus ≡ n
+    → ((k : ℕ) (x : X) → slice_get cpus k ≡ Some x → IsAt IsOne number k x) → ((c : CpuId) → c.0 < CPUS → ActsFor c) → acts ≡ [] → homes2 ≡ homes → seen ≡ []
+    → room < 2 ^ 64 → room ≤ left → IsSystem IsOne number ActsFor IsStepwise acts cpus homes2 seen room 0 left
+opens IsOne number ActsFor IsStepwise acts cpus homes homes2 seen caps room left n openable count each acts_for nothing same none small enough = record {
+  each = each;
+  some = let some = openable.some_cpus in omega (arith, some, count);
+  most = let most = openable.most_cpus in omega (arith, most, count);
+  acts_for = acts_for;
+  known = subst (λ (l : List Entry). AllByRecursion (λ e. e.cpu.0 < length cpus) l) (sym none) tt;
+  within = λ t home at.
+      let there : slice_get homes t.0 ≡ Some home = ap (λ (h : List CpuId). slice_get h t.0) (sym same) ∙ at in
+      let exists = All-get_or (λ (h : CpuId). h.0 < n) homes t.0 home (slice_get_within homes t.0 home there) openable.homes_exist in
+      let below : home.0 < n = subst (λ (h : CpuId). h.0 < n) (get_or_from_slice_get homes t.0 home home there) exists in
+      omega (arith, below, count);
+  rest = λ step c past exists. rw nothing refl;
+  short = rw none (omega arith);
+  used = omega arith;
+  small = small;
+  enough = omega (arith, enough);
+}
+
+-- the elements behind the first n, and the one in front of them
+drop_next : {X : Type 0} (xs : List X) (n : ℕ) → n < length xs → drop 1 (drop n xs) ≡ drop (suc n) xs
+drop_next [] n within = absurd (omega arith)
+drop_next (x ∷ xs) zero within = refl
+drop_next (x ∷ xs) (suc n) within = drop_next xs n (omega arith)
+
+pub drop_more : {X : Type 0} (xs : List X) (n : ℕ) → n < length xs → drop 1 (drop n xs) ≡ drop (n + 1) xs
+drop_more xs n within = let same : suc n ≡ n + 1 = omega arith in drop_next xs n within ∙ ap (λ (k : ℕ). drop k xs) same
+
+pub drop_first : {X Y : Type 0} (f : X → Y) (xs : List X) (n : ℕ) (d : X) (e : Y) → n < length xs → f (slice_index_or (drop n xs) 0 d) ≡ slice_index_or (map f xs) n e
+drop_first f [] n d e within = absurd (omega arith)
+drop_first f (x ∷ xs) zero d e within = refl
+drop_first f (x ∷ xs) (suc n) d e within = drop_first f xs n d e (omega arith)
+
+-- what stands in a list that grew by one stood there before, or is the last
+pub at_end : {X : Type 0} (P : ℕ → X → Type 0) (xs : List X) (y : X) → ((k : ℕ) (x : X) → slice_get xs k ≡ Some x → P k x) → P (length xs) y
+    → (k : ℕ) (x : X) → slice_get (xs ++ y ∷ []) k ≡ Some x → P k x
+at_end P [] y before here zero x at = let same : y ≡ x = cc in subst (λ z. P 0 z) same here
+at_end P [] y before here (suc k) x at = absurd cc
+at_end P (z ∷ xs) y before here zero x at = before 0 x at
+at_end P (z ∷ xs) y before here (suc k) x at = at_end (λ j w. P (suc j) w) xs y (λ j w there. before (suc j) w there) here k x at
+
+-- where each element shows what stands at its number, the list shows that list
+pub shows_all : {X Z : Type 0} (f : X → Z) (xs : List X) (zs : List Z) (d : Z) → length xs ≡ length zs
+    → ((k : ℕ) (x : X) → slice_get xs k ≡ Some x → f x ≡ slice_index_or zs k d) → map f xs ≡ zs
+shows_all f [] [] d count each = refl
+shows_all f [] (z ∷ zs) d count each = absurd (omega (arith, count))
+shows_all f (x ∷ xs) [] d count each = absurd (omega (arith, count))
+shows_all f (x ∷ xs) (z ∷ zs) d count each =
+    ap (λ y. y ∷ map f xs) (each 0 x refl) ∙ ap (λ ys. z ∷ ys) (shows_all f xs zs d (omega (arith, count)) (λ k y at. each (suc k) y at))
+
+-- a list that shows one value shows it at each number
+pub all_one : {X Z : Type 0} (z : Z) (xs : List X) (k : ℕ) → slice_index_or (map (λ x. z) xs) k z ≡ z
+all_one z [] k = refl
+all_one z (x ∷ xs) zero = refl
+all_one z (x ∷ xs) (suc k) = all_one z xs k
+
+-- the table in front of those that are left
+pub first_left : {X Y : Type 0} (f : X → Y) (left xs : List X) (n : ℕ) (r : X) (e : Y) → left ≡ drop n xs → n < length xs → r ≡ slice_index_or left 0 r
+    → f r ≡ slice_index_or (map f xs) n e
+first_left f left xs n r e is within reads =
+    ap f reads ∙ ap (λ l. f (slice_index_or l 0 r)) is ∙ drop_first f xs n r e within

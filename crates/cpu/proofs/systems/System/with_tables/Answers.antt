@@ -1,0 +1,52 @@
+use Rattle.std.proofs.Common.{◌≡◌, ◌<◌, ◌^◌, ℕ, [], List, Option, length, map, ap, sym, ◌∙◌, arith}
+use Rattle.std.specs.Prelude.{slice_index_or}
+use Rattle.std.proofs.lemmas.List.{length-map}
+use Rattle.std.proofs.lemmas.Option.{slice_get-get_or, slice_get_within}
+use Rattle.layer_traits.specs.OnePlace.{cpu_at}
+use Rattle.cpu.specs.declared.cpus.Cpu.{Cpu}
+use Rattle.cpu.specs.declared.guests.Guest.{Guest}
+use Rattle.cpu.proofs.Booting.{all_one, boots_as, opens, shows_all}
+use Rattle.cpu.proofs.systems.System.with_tables.Goals as goal
+
+pub assembled-requires : goal.assembled-requires
+assembled-requires g c =
+    let I = g.I.IpcLayer in
+    let m = c.in_ok-machine.machine in
+    let cpus = c.in_ok-cpus.cpus.items in
+    let homes = c.args.homes.now in
+    let e = c.in_ok-machine.ensures in
+    let openable = c.requires.openable in
+    let tables : List (List (Option Guest)) = map (λ t. t.items) c.args.tables.items in
+    let so_many : length tables ≡ length c.args.tables.items = length-map c.args.tables.items (λ t. t.items) in
+    let small : c.args.room < 2 ^ 64 = c.ranges.room.fits in
+    opens _ (λ x. x.number) (λ d. I.ActsFor m d) I.IsStepwise (I.acts m) cpus homes (I.homes_of m) (I.seen m) c.args.caps.now c.args.room (I.room m)
+    (length c.args.tables.items)
+    openable c.in_ok-cpus.ensures.count (λ k x at.
+    let b = c.in_ok-cpus.ensures.booted k x at in
+    let within : k < length c.args.tables.items =
+    let inside = slice_get_within cpus k x at in let count = c.in_ok-cpus.ensures.count in omega (arith, inside, count) in
+    let below : k < c.len.result = let len = c.len.ensures in let ok = c.args.tables.ok.0 in omega (arith, within, len, ok) in
+    record {
+      number_is = b.booted.number_is;
+      holds = boots_as _ _ _ _ _ _ _ _ _ _ _ _ _ _ _ _ _ _ _ _ b m (I.homes_of m) (I.seen m) (e.fresh (cpu_at k) below)
+          (ap (λ (l : List ℕ). length l) e.opened.caps_are)
+          e.opened.homes_are e.opened.none_seen (c.requires.tables k (slice_index_or tables k []) (slice_get-get_or tables k [] (omega (arith, so_many, within))))
+          openable.threads;
+    })
+    e.acts e.none e.opened.homes_are e.opened.none_seen small e.opened.room_is
+
+pub returns-clause-guests : goal.returns-clause-guests
+returns-clause-guests g c =
+    let tables : List (List (Option Guest)) = map (λ t. t.items) c.args.tables.items in
+    let so_many : length tables ≡ length c.args.tables.items = length-map c.args.tables.items (λ t. t.items) in
+    c.assembled.ensures.guests
+    ∙ shows_all (λ (x : Cpu g.row.I.Denot g.row.I-Machine.Denot). x.guests.items) c.in_ok-cpus.cpus.items tables [] (c.in_ok-cpus.ensures.count ∙ sym so_many)
+    (λ k x at. (c.in_ok-cpus.ensures.booted k x at).booted.guests_are)
+
+pub returns-clause-limits : goal.returns-clause-limits
+returns-clause-limits g c =
+    let so_many : length (map (λ t. c.args.limit) c.args.tables.items) ≡ length c.args.tables.items = length-map c.args.tables.items (λ t. c.args.limit) in
+    c.assembled.ensures.limits
+    ∙ shows_all (λ (x : Cpu g.row.I.Denot g.row.I-Machine.Denot). x.limit) c.in_ok-cpus.cpus.items (map (λ t. c.args.limit) c.args.tables.items) c.args.limit
+    (c.in_ok-cpus.ensures.count ∙ sym so_many)
+    (λ k x at. (c.in_ok-cpus.ensures.booted k x at).booted.limit_is ∙ sym (all_one c.args.limit c.args.tables.items k))

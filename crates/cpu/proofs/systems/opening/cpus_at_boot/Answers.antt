@@ -1,0 +1,43 @@
+use Rattle.std.proofs.Common.{◌≡◌, ◌∷◌, ◌<◌, [], List, Option, Some, drop, length, map, ap, ◌∙◌, subst, arith, vec_capacity}
+use Rattle.std.specs.Prelude.{slice_get, slice_index_or}
+use Rattle.std.proofs.lemmas.List.{length-append}
+use Rattle.cpu.specs.declared.cpus.Cpu.{Cpu}
+use Rattle.cpu.specs.declared.guests.Guest.{Guest}
+use Rattle.cpu.specs.Boots.{IsBooted, IsBootedAs}
+use Rattle.cpu.proofs.Booting.{at_end, drop_more, first_left}
+use Rattle.cpu.proofs.systems.opening.cpus_at_boot.Goals as goal
+
+pub loop-number-preserved : goal.loop-number-preserved
+loop-number-preserved g c =
+    let I = g.I.IpcLayer in
+    let inv = c.loop-number.invariant in
+    let tables = c.args.tables.items in
+    let n = c.loop-number.number in
+    let x = c.in_ok-cpu.cpu in
+    let e = c.in_ok-cpu.ensures in
+    let within : n < length tables = let test = c.loop-number-test.true in let count = c.len-count.ensures in let ok = c.args.tables.ok.0 in omega (arith, test, count, ok) in
+    let grown = c.put_cpu.ensures.items in
+    let guests = first_left (λ t. t.items) c.loop-number.tables.items tables n c.remove-guests.result [] inv.tables_left within c.remove-guests.ensures.value in
+    record {
+      tables_left = c.remove-guests.ensures.items ∙ ap (λ l. drop 1 l) inv.tables_left ∙ drop_more tables n within;
+      so_many =
+          let long = ap (λ l. length l) grown ∙ length-append c.loop-number.cpus.items (x ∷ []) in
+          let before = inv.so_many in
+          omega (arith, long, before);
+      has_room = let room = inv.has_room in let more = c.put_cpu.ensures.capacity in omega (arith, room, more);
+      booted = λ k z at. at_end (λ j (y : Cpu g.row.I.Denot g.row.I-Machine.Denot). IsBootedAs (λ p m. I.Fits p m) (λ m d. I.IsFresh m c.args.homes.now d)
+          (λ m. length (I.caps m)) I.IsStepwise c.args.buffers c.args.homes.now j (slice_index_or (map (λ t. t.items) tables) j []) c.args.limit y.part (I.cpu_of y.part)
+          (I.own y.part) (I.threads y.part) (I.talks y.part) (I.doing y.part) y.number y.guests.items y.trace.items y.limit (vec_capacity y.trace))
+          c.loop-number.cpus.items x inv.booted
+          (rw inv.so_many (record {
+            booted = subst (λ (l : List (Option Guest)). IsBooted (record { 0 = n }) l c.args.limit x.number x.guests.items x.trace.items x.limit (vec_capacity x.trace))
+                guests e.booted;
+            cpu_is = e.cpu;
+            threads_are = e.threads;
+            nobody_talks = e.talks;
+            nothing_done = e.doing;
+            own_is = e.own;
+            fits = e.fits;
+          }))
+          k z (subst (λ l. slice_get l k ≡ Some z) grown at);
+    }

@@ -1,0 +1,160 @@
+//! Systems at boot.
+
+ghost use Rattle.std.specs.Prelude.{◌≡◌, ℕ, ◌+◌, ◌≤◌, ◌∷◌, ◌++◌, IfOk, Some, None, [], length, map, replicate, slice_get, slice_index_or, vec_capacity};
+ghost use Rattle.event_log.specs.declared.ids.TheConstants.{CPUS, THREADS};
+ghost use Rattle.layer_traits.specs.BufferLaw.{buffering_at_start, quiet};
+ghost use Rattle.layer_traits.specs.Places.{at_boot};
+ghost use Rattle.cpu.specs.Boots.{IsBooted, IsBootedAs};
+
+use crate::cpus::Cpu;
+use crate::guests::Guest;
+use crate::systems::System;
+use event_log::{CpuId, NoMemory};
+use layer_traits::{IpcLayer, Owned};
+use std::alloc::Global;
+
+impl<I: IpcLayer> Cpu<I> {
+    /// A CPU before its first step, with the guests of its home threads, in a machine of threads of
+    /// these homes and of so many buffers. Its trace has room for `limit` entries.
+    ///
+    /// Errors: `NoMemory` where an allocation was refused.
+    pub fn at_boot(
+        alloc: Global,
+        number: CpuId,
+        homes: &[CpuId],
+        buffers: u8,
+        guests: Vec<Option<Guest>>,
+        limit: usize,
+    ) -> Result<Cpu<I>, NoMemory>
+        requires { length homes.now ≤ THREADS }
+        ensures booted { IfOk result (λ c. IsBooted number guests.items limit c.number c.guests.items c.trace.items c.limit (vec_capacity c.trace)) }
+        ensures cpu { IfOk result (λ c. I.cpu_of c.part ≡ number) }
+        ensures threads { IfOk result (λ c. I.threads c.part ≡ at_boot homes.now number) }
+        ensures talks { IfOk result (λ c. I.talks c.part ≡ replicate THREADS quiet) }
+        ensures doing { IfOk result (λ c. I.doing c.part ≡ None) }
+        ensures own { IfOk result (λ c. I.IsStepwise → I.own c.part ≡ buffering_at_start homes.now number) }
+        ensures fits { IfOk result (λ c. (m : I.Machine) → I.IsFresh m homes.now number → length (I.caps m) ≡ buffers → I.Fits c.part m) }
+    {
+        let Ok(trace) = Vec::with_capacity(alloc, limit) else {
+            return Err(NoMemory);
+        };
+        Ok(Cpu {
+            part: I::part(number, homes, buffers),
+            number,
+            guests,
+            trace,
+            limit,
+        })
+    }
+}
+
+/// Puts one CPU more behind the others, for which there is room.
+fn put_cpu<I: IpcLayer + Drop>(cpus: &mut Vec<Cpu<I>>, cpu: Cpu<I>)
+    requires { length cpus.old.items + 1 ≤ vec_capacity cpus.old }
+    ensures items { cpus.new.items ≡ cpus.old.items ++ cpu ∷ [] }
+    ensures capacity { vec_capacity cpus.old ≤ vec_capacity cpus.new }
+{
+    cpus.push(cpu).unwrap();
+}
+
+/// The CPUs of a machine before their first step, one for each table of guests.
+fn cpus_at_boot<I: IpcLayer + Drop>(
+    alloc: Global,
+    homes: &[CpuId],
+    buffers: u8,
+    tables: Vec<Vec<Option<Guest>>>,
+    limit: usize,
+) -> Result<Vec<Cpu<I>>, NoMemory>
+    requires homes { length homes.now ≤ THREADS }
+    requires few { length tables.items ≤ CPUS }
+    ensures count { IfOk result (λ cpus. length cpus.items ≡ length tables.items) }
+    ensures booted { IfOk result (λ cpus. (k : ℕ) (x : _) → slice_get cpus.items k ≡ Some x
+        → IsBootedAs (λ p (m : I.Machine). I.Fits p m) (λ m number. I.IsFresh m homes.now number) (λ m. length (I.caps m)) I.IsStepwise buffers homes.now k
+        (slice_index_or (map (λ table. table.items) tables.items) k []) limit x.part (I.cpu_of x.part) (I.own x.part) (I.threads x.part) (I.talks x.part)
+        (I.doing x.part) x.number x.guests.items x.trace.items x.limit (vec_capacity x.trace)) }
+{
+    let mut tables = tables;
+    let count = tables.len();
+    let Ok(mut cpus) = Vec::with_capacity(alloc, count) else {
+        return Err(NoMemory);
+    };
+    for number in 0..count {
+        let guests = tables.remove(0);
+        let cpu = Cpu::at_boot(alloc, CpuId(number as u8), homes, buffers, guests, limit)?;
+        put_cpu(&mut cpus, cpu);
+    }
+    Ok(cpus)
+}
+
+impl<I: Owned + Drop> System<I>
+where
+    I::Machine: Drop,
+{
+    ghost use Rattle.cpu.specs.Boots.{AreTables};
+    ghost use Rattle.cpu.specs.Claims.{FollowPrograms, HasOneOrder, StandsOnce, StayHome};
+    ghost use Rattle.cpu.specs.Cpus.{IsCpu};
+    ghost use Rattle.cpu.specs.Systems.{IsSystem};
+    ghost use Rattle.layer_traits.specs.Openings.{AreOpenable};
+
+    /// A system before its first step: buffers of these capacities, threads of these homes, and one
+    /// CPU for each table of guests, each with room for `limit` entries; with room for `room` steps.
+    /// Each CPU's threads are ready by rising number, and every buffer is empty. All memory is taken
+    /// here.
+    ///
+    /// Errors: `NoMemory` where an allocation was refused.
+    pub fn with_tables(
+        alloc: Global,
+        caps: &[u8],
+        homes: &[CpuId],
+        tables: Vec<Vec<Option<Guest>>>,
+        limit: usize,
+        room: usize,
+    ) -> Result<System<I>, NoMemory>
+        requires openable { AreOpenable (length tables.items) caps.now homes.now }
+        requires tables { AreTables homes.now (length caps.now) (map (λ table. table.items) tables.items) }
+        ensures caps { IfOk result (λ s. s.caps ≡ caps.now) }
+        ensures homes { IfOk result (λ s. s.homes ≡ homes.now) }
+        ensures room { IfOk result (λ s. s.room ≡ room) }
+        ensures taken { IfOk result (λ s. s.taken ≡ 0) }
+        ensures guests { IfOk result (λ s. map (λ p. p.guests) s.cpus ≡ map (λ table. table.items) tables.items) }
+        ensures limits { IfOk result (λ s. map (λ p. p.limit) s.cpus ≡ map (λ table. limit) tables.items) }
+
+        // What holds after every list of steps.
+        ensures one_order { IfOk result HasOneOrder }
+        ensures follow { IfOk result FollowPrograms }
+        ensures stay { IfOk result StayHome }
+        ensures once { IfOk result StandsOnce }
+    {
+        let machine = I::open(alloc, tables.len() as u8, caps, homes, room)?;
+        let cpus = cpus_at_boot(alloc, homes, caps.len() as u8, tables, limit)?;
+        Ok(System::assembled(machine, cpus, room as u64))
+    }
+
+    /// The system of a machine and its CPUs, before its first step.
+    fn assembled(machine: I::Machine, cpus: Vec<Cpu<I>>, room: u64) -> System<I>
+        requires { IsSystem (λ c. I.Fits c.part machine × (I.cpu_of c.part ≡ c.number)
+            × IsCpu (I.homes_of machine) (length (I.caps machine)) (I.seen machine) (I.threads c.part) (I.talks c.part) (I.doing c.part) c.number c.guests.items c.trace.items c.limit (vec_capacity c.trace))
+            (λ c. c.number) (λ c. I.ActsFor machine c) I.IsStepwise (I.acts machine) cpus.items (I.homes_of machine) (I.seen machine) room 0 (I.room machine) }
+        ensures caps { result.caps ≡ I.caps machine }
+        ensures homes { result.homes ≡ I.homes_of machine }
+        ensures room { result.room ≡ room }
+        ensures taken { result.taken ≡ 0 }
+        ensures guests { map (λ p. p.guests) result.cpus ≡ map (λ c. c.guests.items) cpus.items }
+        ensures limits { map (λ p. p.limit) result.cpus ≡ map (λ c. c.limit) cpus.items }
+
+        // What holds after every list of steps.
+        ensures one_order { HasOneOrder result }
+        ensures follow { FollowPrograms result }
+        ensures stay { StayHome result }
+        ensures once { StandsOnce result }
+    {
+        let system = System {
+            machine,
+            cpus,
+            room,
+            taken: 0,
+        };
+        system.holds();
+        system
+    }
+}
