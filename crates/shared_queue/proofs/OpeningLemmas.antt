@@ -1,6 +1,6 @@
 -- The locks with which shared queues open are distinct, and each opens with its block.
 use Rattle.std.proofs.Common.{◌≡◌, ◌≢◌, ◌≤◌, ◌<◌, ℕ, zero, suc, ◌+◌, Bool, true, false, All, List, [], ◌∷◌, ◌++◌, length, Option, Some, None, IsSome}
-use Rattle.std.proofs.Common.{if◌then◌else◌, refl, ap, sym, ◌∙◌, subst, arith, append-nil, slice_get, ◌==◌}
+use Rattle.std.proofs.Common.{Result, Ok, Err, IfOk, if◌then◌else◌, refl, ap, sym, ◌∙◌, subst, arith, append-nil, slice_get, ◌==◌}
 use Rattle.std.proofs.lemmas.Bool.{eq-eqb, eqb-false, ne_eqb}
 use Rattle.std.proofs.lemmas.Option.{get_or_from_slice_get, slice_get_within}
 use Rattle.event_log.specs.declared.ids.BufId.{BufId}
@@ -164,3 +164,9 @@ module _ {B : Type 0} (homes : List CpuId) where
 
     pub blocks_there : (b : BufId) → inner (opened (locks ++ buffers_from 0 blocks)) (Buffer b) ≡ slice_get blocks b.0
     blocks_there b = ap above_of (past_queues 0 locks (buffers_from 0 blocks) are b) ∙ buffer_opens 0 blocks b b.0 (omega arith)
+
+-- what holds of the locks holds of the machine that opens with them
+pub opens_so : {W F B : Type 0} (r : Result W F) (opening : W → LockId → Option B) (locks : LockId → Option B) (P : (LockId → Option B) → Type 0)
+    → P locks → IfOk r (λ w. opening w ≡ locks) → IfOk r (λ w. P (opening w))
+opens_so (Ok w) opening locks P holds opens = subst P (sym opens) holds
+opens_so (Err e) opening locks P holds opens = tt

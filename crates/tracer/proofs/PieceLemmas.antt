@@ -11,9 +11,6 @@ use Rattle.tracer.specs.declared.pieces.Pieces.{Pieces}
 use Rattle.tracer.specs.Judging.{piece_at, pieces_of, are_values}
 use Rattle.tracer.specs.Lines.{left_of}
 
-pub piece_is : (ps : List (List ℕ)) (x : List ℕ × List (List ℕ)) → piece_at ps ≡ Ok x → ps ≡ x.0 ∷ x.1
-piece_is [] x e = absurd (cc)
-piece_is (p ∷ ps) x e = let same : (p, ps) ≡ x = cc in rw (← same) refl
 
 pub no_piece : (ps : List (List ℕ)) (reason : Reason) → piece_at ps ≡ Err reason → ps ≡ []
 no_piece [] reason e = refl

@@ -61,7 +61,7 @@ in_range_taken most digits n small e =
     let read = or_range_taken (number_to most digits) n e in
     record { spelled = number_to-spelling most digits n small read; within = (number_to-Some most digits n read).within }
 
-is_just_taken : (read : Option ℕ) (n : ℕ) → is_just read n ≡ true → read ≡ Some n
+pub is_just_taken : (read : Option ℕ) (n : ℕ) → is_just read n ≡ true → read ≡ Some n
 is_just_taken None n e = absurd (cc)
 is_just_taken (Some m) n e = ap Some (eqb-true m n e)
 

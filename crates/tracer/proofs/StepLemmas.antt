@@ -24,7 +24,7 @@ use Rattle.tracer.specs.TraceText.{kind_word, entry_pieces, left_pieces, IsEntry
 use Rattle.tracer.specs.Judging.{Digits, Seen, Progress, wanted, piece_at, word_at, is_just, is_value, is_within, are_values, is_left, entry_digits, entry_in}
 use Rattle.tracer.specs.Judging.{entry_among, entry_line, left_digits, left_line, entries_line, step}
 use Rattle.tracer.proofs.SplitLemmas.{Lacks, IsLine, decimal_lacks, pieces_again}
-use Rattle.tracer.proofs.ReadLemmas.{bind_ok, wanted_ok, same_ok, piece_taken, word_taken, is_value_taken, decimal_is_number, is_value_again}
+use Rattle.tracer.proofs.ReadLemmas.{bind_ok, wanted_ok, same_ok, piece_taken, word_taken, is_just_taken, is_value_taken, decimal_is_number, is_value_again}
 use Rattle.tracer.proofs.KnownLemmas.{seen_of, known_from, length-known_from, slice_get-known, among_again, among_taken}
 use Rattle.std.proofs.lemmas.Option.{slice_get_within}
 use Rattle.tracer.proofs.EntryLemmas.{progress, behind_e, shape_of, IsSmall, entry_digits_taken, entry_digits_again, entry_in_taken, entry_in_again}
@@ -199,12 +199,9 @@ left_line_again at b caps earlier contents lt fits small =
       length-known_from earlier contents 0 caps,
     ) refl
 
-just_some : (read : Option ℕ) (n : ℕ) → is_just read n ≡ true → read ≡ Some n
-just_some None n e = absurd (cc)
-just_some (Some m) n e = ap Some (eqb-true m n e)
 
 small_value : (p : List ℕ) (v : ℕ) → is_value p v ≡ true → v < 2 ^ 64
-small_value p v e = let h = (number_to-Some 18446744073709551615 p v (just_some (number_to 18446744073709551615 p) v e)).within in omega arith
+small_value p v e = let h = (number_to-Some 18446744073709551615 p v (is_just_taken (number_to 18446744073709551615 p) v e)).within in omega arith
 
 values_taken : (ps : List (List ℕ)) (items : List Message) → are_values ps items ≡ true → (ps ≡ map decimal items) × AreSmall items
 values_taken [] [] e = (refl, tt)

@@ -2,7 +2,7 @@
 
 ghost use Rattle.std.specs.Prelude.{◌≡◌, ◌<◌, length, take, is_err, Bool, true, false, if◌then◌else◌};
 ghost use Rattle.std.specs.Io.KnownBytes.{Keeps};
-ghost use Rattle.tracer.specs.Sinks.{has_failed, is_flushed, writer_of, Outs};
+ghost use Rattle.tracer.specs.Sinks.{has_failed, is_flushed, writer_of, WentOut};
 
 use std::io::Write;
 use thiserror::Error;
@@ -59,7 +59,7 @@ impl<W: Write> Sink<W> {
         requires { has_failed self.old ≡ false }
         ensures failed { is_err result ≡ has_failed self.new }
         ensures flushed { is_flushed self.new ≡ false }
-        ensures out { Outs (has_failed self.new) (W.contents (writer_of self.old)) (W.contents (writer_of self.new)) piece.now }
+        ensures out { WentOut W.contents self.old self.new piece.now }
     {
         self.flushed = false;
         let mut rest = piece;

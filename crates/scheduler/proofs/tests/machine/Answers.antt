@@ -5,14 +5,9 @@ use Rattle.event_log.specs.declared.ids.LockId.{LockId}
 use Rattle.event_log.specs.declared.ids.LockId.TheVariants.{Pending}
 use Rattle.layer_traits.specs.OneLock.{opened}
 use Rattle.layer_traits.specs.QueueBlocks.{StartsWell, homes_in, inner}
+use Rattle.shared_queue.proofs.OpeningLemmas.{opens_so}
 use Rattle.scheduler.specs.Naps.{bed}
 use Rattle.scheduler.proofs.tests.machine.Goals as goal
-
--- what holds of the locks holds of the machine that opens with them
-opens_so : {W F B : Type 0} (r : Result W F) (opening : W → LockId → Option B) (locks : LockId → Option B) (P : (LockId → Option B) → Type 0) → P locks
-    → IfOk r (λ w. opening w ≡ locks) → IfOk r (λ w. P (opening w))
-opens_so (Ok w) opening locks P holds opens = subst P (sym opens) holds
-opens_so (Err e) opening locks P holds opens = tt
 
 one_pushed : {A F X : Type 0} (r : Result A F) (items : List X) (x : X) → is_err r ≡ false → items ≡ (if is_ok r then [] ++ x ∷ [] else []) → items ≡ x ∷ []
 one_pushed (Ok a) items x went is = is

@@ -3,13 +3,8 @@ use Rattle.event_log.specs.declared.ids.LockId.{LockId}
 use Rattle.event_log.specs.declared.ids.LockId.TheVariants.{Pending}
 use Rattle.layer_traits.specs.OneLock.{opened}
 use Rattle.layer_traits.specs.QueueBlocks.{StartsWell}
+use Rattle.shared_queue.proofs.OpeningLemmas.{opens_so}
 use Rattle.shared_queue.proofs.tests.machine.Goals as goal
-
--- what holds of the locks holds of the machine that opens with them
-opens_so : {W F B : Type 0} (r : Result W F) (opening : W → LockId → Option B) (locks : LockId → Option B) (P : (LockId → Option B) → Type 0) → P locks
-    → IfOk r (λ w. opening w ≡ locks) → IfOk r (λ w. P (opening w))
-opens_so (Ok w) opening locks P holds opens = subst P (sym opens) holds
-opens_so (Err e) opening locks P holds opens = tt
 
 pub returns-clause-starts : goal.returns-clause-starts
 returns-clause-starts c =
