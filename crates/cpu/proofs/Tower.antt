@@ -6,3 +6,9 @@ pub mod Composition
 pub mod Chains
 pub mod Sends
 pub mod Plans
+pub mod Polls
+pub mod Begins
+pub mod Passing
+pub mod Keeping
+pub mod Kept
+pub mod Passed

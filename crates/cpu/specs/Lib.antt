@@ -6,3 +6,4 @@ pub mod Tower
 pub mod Claims
 pub mod Systems
 pub mod Boots
+pub mod Tables

@@ -9,7 +9,7 @@ ghost use Rattle.cpu.specs.Wakeups.Alone.{CallsReturnAlone};
 ghost use Rattle.cpu.specs.Wakeups.OnePlace.{StandInOnePlace};
 ghost use Rattle.cpu.specs.Wakeups.Met.{PremisesAreMet};
 ghost use Rattle.cpu.specs.Tower.Views.{TablesAgree};
-ghost use Rattle.cpu.specs.Tower.Composed.{PlansAreLines};
+ghost use Rattle.cpu.specs.Tower.Composed.{HaltsExactly, PlansAreLines};
 
 /// Worked runs of one thread on one CPU, by computation: what each leaves after its schedule.
 pub fn runs_alone()
@@ -97,4 +97,10 @@ pub fn tables_agree()
 /// and makes of each answer what the table makes of it.
 pub fn plans_are_lines()
     ensures { PlansAreLines }
+{}
+
+/// A step of the table answers that its CPU is halted exactly where the private state tells it and
+/// no section is under way.
+pub fn halts_exactly()
+    ensures { HaltsExactly }
 {}

@@ -11,7 +11,7 @@ mod systems;
 pub use cpus::{Choice, Cpu};
 pub use guests::{Guest, Stage, Todo};
 pub use laws::{
-    calls_return_alone, free_locks_have_no_sleepers, one_signal_loses_a_wake_up,
+    calls_return_alone, free_locks_have_no_sleepers, halts_exactly, one_signal_loses_a_wake_up,
     order_loses_no_wake_up, plans_are_lines, premises_are_met, quiet_is_stuck, runs_alone,
     runs_of_three, runs_of_two, stand_in_one_place, systems_keep_order, systems_lose_no_wake_up,
     tables_agree, workers_lose_no_wake_up,

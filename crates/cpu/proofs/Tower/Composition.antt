@@ -59,25 +59,25 @@ use Rattle.cpu.proofs.Tower.Lines.{own, g, e, threads, buf, talk, k, from, after
 use Rattle.cpu.proofs.Tower.Lines.{stands, by_table, stays_so, has_returned}
 
 -- what is answered to an Acquire, to an edit inside, to a signal, a leave and a wait
-abbrev asked_out : Option Tid → TowerOut
+abbrev pub asked_out : Option Tid → TowerOut
 asked_out o = record { out = told_asker o; slept = is_some (line_asked o); woke = None }
 
-abbrev did_out : BufferOut → TowerOut
+abbrev pub did_out : BufferOut → TowerOut
 did_out o = record { out = lock.Did (cv.Did o); slept = false; woke = None }
 
-abbrev signal_out : CvOut BufferOut → Option Tid → TowerOut
+abbrev pub signal_out : CvOut BufferOut → Option Tid → TowerOut
 signal_out v o = record { out = lock.Did v; slept = false; woke = o }
 
-abbrev left_out : Option Tid → TowerOut
+abbrev pub left_out : Option Tid → TowerOut
 left_out o = record { out = lock.Released cv.Left; slept = false; woke = o }
 
-abbrev wait_out : Side → Option Tid → TowerOut
+abbrev pub wait_out : Side → Option Tid → TowerOut
 wait_out side o = record { out = lock.Released (cv.Waited side); slept = true; woke = o }
 
 -- Before the effect.
 
 module _ (site : Site) (had : HasHad site None) where
-  abbrev plan : TowerStage → BufferPlan Reply
+  abbrev pub plan : TowerStage → BufferPlan Reply
   plan stage = plan_at site.setup.homes site.c site.t site.call stage (talk site None had stage) (own site None had)
 
   abbrev at_buf : TowerStage → (Buffering → BufferPlan Reply) → Plan TowerName TowerAnswer (Waiting BufferOut) TowerOut → BufferPlan Reply
@@ -94,11 +94,15 @@ module _ (site : Site) (had : HasHad site None) where
       sleeps_now site None had at.Acquires
       ∙ sym (by_table site None had Acquires (answer_view (told.Answer (asked_out (Some owner)))) (k site None had Enters) site.trace refl)
 
+  pub asks_plan : plan at.Acquires ≡ fresh site None had at.Acquires (Acquire site.t)
+  asks_plan =
+      ap (at_buf at.Acquires (λ l. plan_of site.setup.homes site.c site.t site.call at.Enters (talk_of l.talks site.t) l))
+      (beneath_is site None had (Acquire site.t) site.is_waits site.is_slept)
+
   pub asks_line : IsLine site.setup site.c (from site None had Acquires) (plan at.Acquires) (after site None had)
   asks_line =
       line site None had at.Acquires (Acquire site.t) Acquires (plan at.Acquires)
-      (ap (at_buf at.Acquires (λ l. plan_of site.setup.homes site.c site.t site.call at.Enters (talk_of l.talks site.t) l))
-      (beneath_is site None had (Acquire site.t) site.is_waits site.is_slept))
+      asks_plan
       refl (runs_on site None had None site.ready None (talk site None had at.Acquires) None) (λ x known. ask x.owner)
 
   ask_again : (o : Option Tid) → after site None had (react site None had at.AcquiresAgain (Acquire site.t) (Some (told.Answer (asked_out o))))
@@ -111,11 +115,15 @@ module _ (site : Site) (had : HasHad site None) where
       sleeps_now site None had at.AcquiresAgain
       ∙ sym (by_table site None had AcquiresAgain (answer_view (told.Answer (asked_out (Some owner)))) (k site None had Tries) site.trace refl)
 
+  pub asks_again_plan : plan at.AcquiresAgain ≡ fresh site None had at.AcquiresAgain (Acquire site.t)
+  asks_again_plan =
+      ap (at_buf at.AcquiresAgain (λ l. plan_of site.setup.homes site.c site.t site.call at.Tries (talk_of l.talks site.t) l))
+      (beneath_is site None had (Acquire site.t) site.is_waits site.is_slept)
+
   pub asks_again_line : IsLine site.setup site.c (from site None had AcquiresAgain) (plan at.AcquiresAgain) (after site None had)
   asks_again_line =
       line site None had at.AcquiresAgain (Acquire site.t) AcquiresAgain (plan at.AcquiresAgain)
-      (ap (at_buf at.AcquiresAgain (λ l. plan_of site.setup.homes site.c site.t site.call at.Tries (talk_of l.talks site.t) l))
-      (beneath_is site None had (Acquire site.t) site.is_waits site.is_slept))
+      asks_again_plan
       refl (runs_on site None had None site.ready None (talk site None had at.AcquiresAgain) None) (λ x known. ask_again x.owner)
 
   -- it enters its line
@@ -127,12 +135,16 @@ module _ (site : Site) (had : HasHad site None) where
       (entry_heard site.c (from site None had Enters) site.t (k site None had Enters) (asks_in site.call) (Position pos))
       ∙ stays_so site None had (call_from site.call pos None Tries) site.ready site.trace (λ p. refl))
 
+  pub enters_plan : plan at.Enters ≡ fresh site None had at.Enters (Inside (Edit (first_of site.t site.call)))
+  enters_plan =
+      ap (raised (left_heard site.t site.call (talk site None had at.Enters) site.talks at.Enters))
+      (beneath_is site None had (Inside (Edit (first_of site.t site.call)))
+      (ap (slept_for site.waits) (first_editor site.t site.call) ∙ site.is_waits) (ap (slept_for site.slept) (first_editor site.t site.call) ∙ site.is_slept))
+
   pub enters_line : IsLine site.setup site.c (from site None had Enters) (plan at.Enters) (after site None had)
   enters_line =
       line site None had at.Enters (Inside (Edit (first_of site.t site.call))) Enters (plan at.Enters)
-      (ap (raised (left_heard site.t site.call (talk site None had at.Enters) site.talks at.Enters))
-      (beneath_is site None had (Inside (Edit (first_of site.t site.call)))
-      (ap (slept_for site.waits) (first_editor site.t site.call) ∙ site.is_waits) (ap (slept_for site.slept) (first_editor site.t site.call) ∙ site.is_slept)))
+      enters_plan
       (first_name site.t site.call) (runs_on site None had None site.ready None (talk site None had at.Enters) None)
       (λ x known. let drawn = first_answer site.t site.call x.above in
       subst (λ o. after site None had (react site None had at.Enters (Inside (Edit (first_of site.t site.call))) (Some (told.Answer (did_out o))))
@@ -143,7 +155,7 @@ module _ (site : Site) (had : HasHad site None) where
   try_fits o = after site None had (react site None had at.Tries (Inside (Edit (try_of site.t site.call))) (Some (told.Answer (did_out o))))
       ≡ after_section site.setup site.c (from site None had Tries) (answer_view (told.Answer (did_out o)))
 
-  abbrev effect_is : ℕ → Message → Effect
+  abbrev pub effect_is : ℕ → Message → Effect
   effect_is op m = record { kind = effect_of (asks_in site.call); value = m; op = op; pos = site.position }
 
   tries_done : (op : ℕ) (m : Message) → try_fits (Done (effect_of (asks_in site.call)) op m)
@@ -166,17 +178,21 @@ module _ (site : Site) (had : HasHad site None) where
   tries_by x (inl vain) = subst try_fits (sym vain) tries_vain
   tries_by x (inr tried) = subst try_fits (sym tried.is) (tries_done tried.op tried.message)
 
+  pub tries_plan : plan at.Tries ≡ fresh site None had at.Tries (Inside (Edit (try_of site.t site.call)))
+  tries_plan =
+      ap (raised (left_heard site.t site.call (talk site None had at.Tries) site.talks at.Tries))
+      (beneath_is site None had (Inside (Edit (try_of site.t site.call)))
+      (ap (slept_for site.waits) (try_editor site.t site.call) ∙ site.is_waits) (ap (slept_for site.slept) (try_editor site.t site.call) ∙ site.is_slept))
+
   pub tries_line : IsLine site.setup site.c (from site None had Tries) (plan at.Tries) (after site None had)
   tries_line =
       line site None had at.Tries (Inside (Edit (try_of site.t site.call))) Tries (plan at.Tries)
-      (ap (raised (left_heard site.t site.call (talk site None had at.Tries) site.talks at.Tries))
-      (beneath_is site None had (Inside (Edit (try_of site.t site.call)))
-      (ap (slept_for site.waits) (try_editor site.t site.call) ∙ site.is_waits) (ap (slept_for site.slept) (try_editor site.t site.call) ∙ site.is_slept)))
+      tries_plan
       (try_name site.t site.call site.position) (runs_on site None had None site.ready None (talk site None had at.Tries) None)
       (λ x known. tries_by x.above (try_answer site.t site.call x.above))
 
   -- it waits
-  abbrev wait_react : Side → Option Tid → Left Buffering Reply
+  abbrev pub wait_react : Side → Option Tid → Left Buffering Reply
   wait_react side o = react site None had at.Waits (Release (Wait site.t side)) (Some (told.Answer (wait_out side o)))
 
   -- its caller gone, with the thread that it woke at home or in the hand
@@ -215,19 +231,23 @@ module _ (site : Site) (had : HasHad site None) where
   waits_at Receivers x known = wait_now Receivers (first x.sleepers) known
   waits_at Senders x known = wait_now Senders (first x.sleepers) known
 
+  pub waits_plan : plan at.Waits ≡ fresh site None had at.Waits (Release (Wait site.t (tower_side site.call)))
+  waits_plan =
+      ap (at_buf at.Waits (λ l. plan_on site.setup.homes site.c site.t site.call at.AcquiresAgain
+      (plan_of site.setup.homes site.c site.t site.call at.Tries) (talk_of l.talks site.t) l))
+      (beneath_is site None had (Release (Wait site.t (tower_side site.call))) site.is_waits site.is_slept)
+
   pub waits_line : IsLine site.setup site.c (from site None had Waits) (plan at.Waits) (after site None had)
   waits_line =
       line site None had at.Waits (Release (Wait site.t (tower_side site.call))) Waits (plan at.Waits)
-      (ap (at_buf at.Waits (λ l. plan_on site.setup.homes site.c site.t site.call at.AcquiresAgain
-      (plan_of site.setup.homes site.c site.t site.call at.Tries) (talk_of l.talks site.t) l))
-      (beneath_is site None had (Release (Wait site.t (tower_side site.call))) site.is_waits site.is_slept))
+      waits_plan
       (wait_name site.t site.call site.position) (runs_on site None had None site.ready None (talk site None had at.Waits) None)
       (λ x known. waits_at (tower_side site.call) x known)
 
 -- After the effect.
 
 module _ (site : Site) (f : Effect) (had : HasHad site (Some f)) where
-  abbrev plan_to : TowerStage → BufferPlan Reply
+  abbrev pub plan_to : TowerStage → BufferPlan Reply
   plan_to stage = plan_at site.setup.homes site.c site.t site.call stage (talk site (Some f) had stage) (own site (Some f) had)
 
   signal_by : (v : CvOut BufferOut) (u : Tid) (b : Bool)
@@ -254,11 +274,15 @@ module _ (site : Site) (f : Effect) (had : HasHad site (Some f)) where
       (signal_by v u) (λ hand. hand u refl) known
       ∙ sym (by_table site (Some f) had Signals (answer_view (told.Answer (signal_out v (Some u)))) (k site (Some f) had SignalsOwn) site.trace refl)
 
+  pub signals_plan : plan_to at.Signals ≡ fresh site (Some f) had at.Signals (Inside (SignalFront site.t (other_side site.call)))
+  signals_plan =
+      ap (raised (left_heard site.t site.call (talk site (Some f) had at.Signals) site.talks at.Signals))
+      (beneath_is site (Some f) had (Inside (SignalFront site.t (other_side site.call))) site.is_waits site.is_slept)
+
   pub signals_line : IsLine site.setup site.c (from site (Some f) had Signals) (plan_to at.Signals) (after site (Some f) had)
   signals_line =
       line site (Some f) had at.Signals (Inside (SignalFront site.t (other_side site.call))) Signals (plan_to at.Signals)
-      (ap (raised (left_heard site.t site.call (talk site (Some f) had at.Signals) site.talks at.Signals))
-      (beneath_is site (Some f) had (Inside (SignalFront site.t (other_side site.call))) site.is_waits site.is_slept))
+      signals_plan
       (signal_name site.t site.call site.position f) (runs_on site (Some f) had None site.ready None (talk site (Some f) had at.Signals) None)
       (λ x known. signal (other_side site.call) _ _ known)
 
@@ -286,16 +310,20 @@ module _ (site : Site) (f : Effect) (had : HasHad site (Some f)) where
       (own_signal_by v u) (λ hand. hand u refl) known
       ∙ sym (by_table site (Some f) had SignalsOwn (answer_view (told.Answer (signal_out v (Some u)))) (k site (Some f) had Releases) site.trace refl)
 
+  pub own_signals_plan : plan_to at.SignalsOwn ≡ fresh site (Some f) had at.SignalsOwn (Inside (SignalFront site.t (tower_side site.call)))
+  own_signals_plan =
+      ap (raised (left_heard site.t site.call (talk site (Some f) had at.SignalsOwn) site.talks at.SignalsOwn))
+      (beneath_is site (Some f) had (Inside (SignalFront site.t (tower_side site.call))) site.is_waits site.is_slept)
+
   pub own_signals_line : IsLine site.setup site.c (from site (Some f) had SignalsOwn) (plan_to at.SignalsOwn) (after site (Some f) had)
   own_signals_line =
       line site (Some f) had at.SignalsOwn (Inside (SignalFront site.t (tower_side site.call))) SignalsOwn (plan_to at.SignalsOwn)
-      (ap (raised (left_heard site.t site.call (talk site (Some f) had at.SignalsOwn) site.talks at.SignalsOwn))
-      (beneath_is site (Some f) had (Inside (SignalFront site.t (tower_side site.call))) site.is_waits site.is_slept))
+      own_signals_plan
       (own_signal_name site.t site.call site.position f) (runs_on site (Some f) had None site.ready None (talk site (Some f) had at.SignalsOwn) None)
       (λ x known. own_signal (tower_side site.call) _ _ known)
 
   -- it releases the lock, and its call returns
-  abbrev over : Talk
+  abbrev pub over : Talk
   over = record { stage = at.Between; call = None; position = site.position; effect = Some f }
 
   returned_so : (ready2 : List Tid)
@@ -331,10 +359,14 @@ module _ (site : Site) (f : Effect) (had : HasHad site (Some f)) where
       (release_by u) (λ hand. hand u refl) known
       ∙ sym (by_table site (Some f) had Releases (answer_view (told.Answer (left_out (Some u)))) (k site (Some f) had Returns) site.trace refl)
 
+  pub releases_plan : plan_to at.Releases ≡ fresh site (Some f) had at.Releases (Release (Leave site.t))
+  releases_plan =
+      ap (raised (left_heard site.t site.call (talk site (Some f) had at.Releases) site.talks at.Releases))
+      (beneath_is site (Some f) had (Release (Leave site.t)) site.is_waits site.is_slept)
+
   pub releases_line : IsLine site.setup site.c (from site (Some f) had Releases) (plan_to at.Releases) (after site (Some f) had)
   releases_line =
       line site (Some f) had at.Releases (Release (Leave site.t)) Releases (plan_to at.Releases)
-      (ap (raised (left_heard site.t site.call (talk site (Some f) had at.Releases) site.talks at.Releases))
-      (beneath_is site (Some f) had (Release (Leave site.t)) site.is_waits site.is_slept))
+      releases_plan
       refl (runs_on site (Some f) had None site.ready None (talk site (Some f) had at.Releases) None)
       (λ x known. release (first x.sleepers) known)

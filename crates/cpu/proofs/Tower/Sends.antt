@@ -63,21 +63,21 @@ use Rattle.cpu.specs.Tower.Privates.{stage_from}
 use Rattle.cpu.proofs.Tower.Lines.{react_in, reply_guest}
 use Rattle.cpu.proofs.Tower.Chains.{LineOf, fifo_at, private_here, put_same}
 
-queue_is : (c : CpuId) (o : Option CpuId) → IsSome o → or_else c o ≡ cpu_or (record { 0 = 0 }) o
+pub queue_is : (c : CpuId) (o : Option CpuId) → IsSome o → or_else c o ≡ cpu_or (record { 0 = 0 }) o
 queue_is c None there = absurd (cc there)
 queue_is c (Some d) there = refl
 
-home_there : (c : CpuId) (o : Option CpuId) → IsSome o → o ≡ Some (or_else c o)
+pub home_there : (c : CpuId) (o : Option CpuId) → IsSome o → o ≡ Some (or_else c o)
 home_there c None there = absurd (cc there)
 home_there c (Some d) there = refl
 
 module _ (setup : Setup) (c : CpuId) (t u : Tid) (ready ended : List Tid) (slept waits : List (Option BufId)) (talks : List Talk) (guests : List State)
     (trace : List Entry) (call : TowerCall) (position : ℕ) (f : Effect) (in_guests : t.0 < length guests) (in_talks : t.0 < length talks)
     (is_slept : slept_for slept t ≡ None) (is_waits : slept_for waits t ≡ None) (known : IsSome (slice_get setup.homes u.0)) where
-  abbrev own_with : TowerOut → Buffering
+  abbrev pub own_with : TowerOut → Buffering
   own_with outcome = own_at (Some t) (Some u) ready ended (Some outcome) slept waits talks
 
-  abbrev here : TowerStage → Talk
+  abbrev pub here : TowerStage → Talk
   here stage = record { stage = stage; call = Some call; position = position; effect = Some f }
 
   abbrev g : State
@@ -92,12 +92,12 @@ module _ (setup : Setup) (c : CpuId) (t u : Tid) (ready ended : List Tid) (slept
   long : (outcome : TowerOut) → t.0 < length (threads outcome)
   long outcome = subst (λ n. t.0 < n) (sym (numbered_long _ 0 guests)) in_guests
 
-  abbrev beneath : TowerOut → CvCall BufferEdit → Plan TowerName TowerAnswer (Waiting BufferOut) TowerOut
+  abbrev pub beneath : TowerOut → CvCall BufferEdit → Plan TowerName TowerAnswer (Waiting BufferOut) TowerOut
   beneath outcome s = raised (λ l. left_waiting ((lock_moves buffer_rules).caller s) (buffer_of call) waits l.own l.answer)
       (raised (λ l. left_after ((lock_moves buffer_rules).caller s) (buffer_of call) slept l.own l.answer)
       (sleep_plan (lock_moves buffer_rules) setup.homes c (buffer_of call) s (own_with outcome).cv.lock.sleep))
 
-  beneath_is : (outcome : TowerOut) (s : CvCall BufferEdit) → slept_for waits ((lock_moves buffer_rules).caller s) ≡ None
+  pub beneath_is : (outcome : TowerOut) (s : CvCall BufferEdit) → slept_for waits ((lock_moves buffer_rules).caller s) ≡ None
       → slept_for slept ((lock_moves buffer_rules).caller s) ≡ None
       → cv_plan (lock_moves buffer_rules) setup.homes c (buffer_of call) s (own_with outcome).cv ≡ beneath outcome s
   beneath_is outcome s w n =
@@ -105,7 +105,7 @@ module _ (setup : Setup) (c : CpuId) (t u : Tid) (ready ended : List Tid) (slept
       ∙ ap (λ o. raised (λ l. left_waiting ((lock_moves buffer_rules).caller s) (buffer_of call) waits l.own l.answer)
       (plan_for (lock_moves buffer_rules) setup.homes c (buffer_of call) s (own_with outcome).cv.lock o)) n
 
-  abbrev sends : TowerOut → TowerStage → CvCall BufferEdit → BufferPlan Reply
+  abbrev pub sends : TowerOut → TowerStage → CvCall BufferEdit → BufferPlan Reply
   sends outcome stage s = raised (left_heard t call (here stage) talks stage) (beneath outcome s)
 
   abbrev after : TowerOut → Left Buffering Reply → Private

@@ -1,0 +1,194 @@
+-- Each poll of a call is a step of the table: of one that goes on, and of one that begins, where the call begins and its caller takes its
+-- place at the lock in one step.
+use Rattle.std.proofs.Common.{◌≡◌, ◌≢◌, ℕ, ◌+◌, ◌<◌, ◌==◌, Bool, true, false, ◌&&◌, List, length, slice_set, Option, Some, None, IsSome, option_map, refl, ap, sym, ◌∙◌, subst, arith}
+use Rattle.event_log.specs.declared.entries.Entry.{Entry}
+use Rattle.event_log.specs.declared.ids.BufId.{BufId}
+use Rattle.event_log.specs.declared.ids.CpuId.{CpuId}
+use Rattle.event_log.specs.declared.ids.LockId.{LockId}
+use Rattle.event_log.specs.declared.ids.Tid.{Tid}
+use Rattle.event_log.specs.Actions.{Action, phase}
+use Rattle.event_log.specs.Messages.{no_message}
+use Rattle.guest.specs.declared.instructions.Instruction.{Instruction}
+use Rattle.guest.specs.declared.instructions.Instruction.TheVariants as instruction
+use Rattle.guest.specs.State.{State, at_start, next_of, sent_from}
+use Rattle.thread_blocks.specs.Queues.{is_in}
+use Rattle.layer_traits.specs.declared.calls.Call.{Call}
+use Rattle.layer_traits.specs.declared.calls.Effect.{Effect}
+use Rattle.layer_traits.specs.declared.calls.Reply.{Reply}
+use Rattle.layer_traits.specs.declared.steps.Step.TheVariants.{Stepped}
+use Rattle.layer_traits.specs.declared.talks.Stage.{Stage}
+use Rattle.layer_traits.specs.declared.talks.Stage.TheVariants as at
+use Rattle.layer_traits.specs.declared.talks.Talk.{Talk}
+use Rattle.layer_traits.specs.Along.{IsStep}
+use Rattle.layer_traits.specs.LockLaw.{slept_for}
+use Rattle.layer_traits.specs.Places.{is_thread}
+use Rattle.layer_traits.specs.Plans.{Left, Follows, is_in_section}
+use Rattle.layer_traits.specs.BufferLaw.{Buffering, begun_at, fifo_plan, going, going_at, plan_at, talk_of}
+use Rattle.cpu.specs.Table.Blocks.{Sends, Receives}
+use Rattle.cpu.specs.Table.Setups.{Setup, Acquires, Call as TableCall, Private, Thread, home_threads, new_thread, open_calls, program_of, stands_at, thread_at}
+use Rattle.cpu.specs.Table.Choice.{Choice, Goes, at_call, at_hand, at_instruction, begins, choice, new_call}
+use Rattle.cpu.specs.Table.Steps.{acting, cpu_step, halted_at, halted_by}
+use Rattle.cpu.specs.Tower.Views.{TowerBlock, TowerName, TowerOut, tower}
+use Rattle.cpu.specs.Tower.Privates.{call_from, guest_at, private_after, private_of, thread_from, thread_of, threads_in, tid}
+use Rattle.cpu.specs.Tower.Composed.{AsksFor, HandIsKnown, IsBeginning, IsGoing, IsLine, OpensAs, Stands, asks, was_handed, enters, tries, waits, was_woken, asks_again, was_handed_again, signals, signals_own, releases, has_signalled, has_signalled_own, has_released, named}
+use Rattle.cpu.proofs.Tower.Numbered.{numbered_at, own_at, parts, threads_at}
+use Rattle.cpu.proofs.Tower.Lines.{HasHad, Site, after, from, own, talk}
+use Rattle.cpu.proofs.Tower.Composition.{asks_line}
+use Rattle.cpu.proofs.Tower.Plans.{plans_are_lines}
+use Rattle.cpu.proofs.Tower.Polls.{begins_so, choice_current, choice_hand, line_is_step, step_goes}
+
+-- the table's thread of a number
+pub thread_here : (own : Buffering) (guests : List State) (trace : List Entry) (t : Tid) → t.0 < length guests
+    → thread_at (private_of own guests trace) t ≡ thread_of own t (guest_at guests t)
+thread_here own guests trace t within =
+    let zero_plus : 0 + t.0 ≡ t.0 = omega arith in
+    numbered_at (λ n. thread_of own (tid n)) 0 t.0 guests new_thread at_start within ∙ ap (λ n. thread_of own (tid n) (guest_at guests t)) zero_plus
+
+begun_stands : (stage : Stage) (hand : Option Tid) (kept : Option TowerOut) (s w : Option BufId) (effect : Option Effect) (call : Call)
+    → Stands stage hand kept s w effect → begun_at stage (Some call) ≡ Some call
+begun_stands stage hand kept s w effect call asks = refl
+begun_stands stage hand kept s w effect call (was_handed b) = refl
+begun_stands stage hand kept s w effect call enters = refl
+begun_stands stage hand kept s w effect call tries = refl
+begun_stands stage hand kept s w effect call waits = refl
+begun_stands stage hand kept s w effect call (was_woken b) = refl
+begun_stands stage hand kept s w effect call asks_again = refl
+begun_stands stage hand kept s w effect call (was_handed_again b) = refl
+begun_stands stage hand kept s w effect call (signals f) = refl
+begun_stands stage hand kept s w effect call (signals_own f) = refl
+begun_stands stage hand kept s w effect call (releases f) = refl
+begun_stands stage hand kept s w effect call (has_signalled u v f) = refl
+begun_stands stage hand kept s w effect call (has_signalled_own u v f) = refl
+begun_stands stage hand kept s w effect call (has_released u f) = refl
+
+-- a CPU whose thread is in a call goes on with it
+going_goes : (setup : Setup) (c : CpuId) (p : Private) (t : Tid) (call : TableCall) → p.current ≡ Some t → (thread_at p t).call ≡ Some call
+    → halted_at setup c p ≡ None → choice setup c p ≡ Goes p
+going_goes setup c p t call current is halted = go p.hand refl
+  where
+    go : (hand : Option Tid) → p.hand ≡ hand → choice setup c p ≡ Goes p
+    go None at = choice_current setup c p t (Some call) at current is halted
+    go (Some u) at = choice_hand setup c p u at
+
+pub polls_are_steps : (ActsFor : CpuId → Type 0) (setup : Setup) (opening : LockId → Option TowerBlock) (c : CpuId) (own own' : Buffering)
+    (guests : List State) (trace : List Entry) (t : Tid) (call : Call) (old new : List (Action TowerName)) (result : Option Reply) → ActsFor c
+    → OpensAs setup c opening → IsGoing own guests t call → HandIsKnown setup own → HandIsKnown setup own'
+    → (is_in_section (phase c old) ≡ false → halted_at setup c (private_of own guests trace) ≡ None)
+    → Follows ActsFor tower opening c (fifo_plan setup.homes c t call own) old new (record { own = own'; answer = result })
+    → IsStep ActsFor (cpu_step setup c) (private_of own guests trace)
+    (private_after setup c t call own guests trace (record { own = own'; answer = result })) (named old) (named new) Stepped
+polls_are_steps ActsFor setup opening c own own' guests trace t call old new result acts opens going known known' live follows =
+    let p : Private = private_of own guests trace in
+    let talk_now : Talk = talk_of own.talks t in
+    let begun : begun_at talk_now.stage talk_now.call ≡ Some call
+    = ap (begun_at talk_now.stage) going.begun
+    ∙ begun_stands talk_now.stage (threads_in own).hand own.cv.lock.sleep.kept (slept_for own.cv.lock.slept t) (slept_for own.cv.waits t) talk_now.effect call going.stands in
+    let is = ap (λ x. x.call) (thread_here own guests trace t going.in_guests) ∙ ap (option_map _) begun in
+    line_is_step ActsFor setup opening c own' p p (fifo_plan setup.homes c t call own) (private_after setup c t call own guests trace) old new result acts opens
+    (plans_are_lines setup c own guests trace t call going known) known'
+    (λ past same. step_goes setup c p p old past same (λ inside. refl) (λ outside. going_goes setup c p t _ going.current is (live outside))) follows
+
+-- A call that begins.
+
+module _ (site : Site) (had : HasHad site None) (first_position : site.position ≡ 0) where
+  abbrev p : Private
+  p = private_of (own site None had) site.guests site.trace
+
+  abbrev g : State
+  g = guest_at site.guests site.t
+
+  there : thread_at p site.t ≡ thread_of (own site None had) site.t g
+  there = thread_here (own site None had) site.guests site.trace site.t site.in_guests
+
+  -- the table's call that begins is the layers'
+  pub begins_at : (i : Instruction) → AsksFor i g site.call → halted_by (at_instruction site.setup site.c p site.t i) ≡ None
+      → at_instruction site.setup site.c p site.t i ≡ Goes (from site None had Acquires)
+  begins_at (instruction.Send b r) is halted =
+      begins_so _ _ halted
+      ∙ (ap (λ x. Goes (parts (Some site.t) site.ready None
+      (slice_set (threads_at (own site None had) site.guests) site.t.0 (record x { call = Some (new_call Sends b (sent_from x.guest r)) })) site.trace)) there
+      ∙ (λ i. Goes (parts (Some site.t) site.ready None (slice_set (threads_at (own site None had) site.guests) site.t.0 (record {
+        guest = g;
+        call = Some (call_from (sym is i) (sym first_position i) None Acquires);
+        ended = is_in site.t site.ended;
+      })) site.trace)))
+  begins_at (instruction.Recv b r) is halted =
+      begins_so _ _ halted
+      ∙ (ap (λ x. Goes (parts (Some site.t) site.ready None
+      (slice_set (threads_at (own site None had) site.guests) site.t.0 (record x { call = Some (new_call Receives b no_message) })) site.trace)) there
+      ∙ (λ i. Goes (parts (Some site.t) site.ready None (slice_set (threads_at (own site None had) site.guests) site.t.0 (record {
+        guest = g;
+        call = Some (call_from (sym is i) (sym first_position i) None Acquires);
+        ended = is_in site.t site.ended;
+      })) site.trace)))
+  begins_at instruction.Yield is halted = absurd is
+  begins_at instruction.Exit is halted = absurd is
+  begins_at (instruction.Set r n) is halted = absurd is
+  begins_at (instruction.Add r q) is halted = absurd is
+  begins_at (instruction.Sub r q) is halted = absurd is
+  begins_at (instruction.Jnz r k) is halted = absurd is
+
+  pub choice_begins : (talk_of site.talks site.t).stage ≡ at.Between → AsksFor (next_of (program_of site.setup site.t) g) g site.call
+      → halted_at site.setup site.c p ≡ None → choice site.setup site.c p ≡ Goes (from site None had Acquires)
+  choice_begins between begins_here halted =
+      let quiet : (thread_at p site.t).call ≡ None
+      = ap (λ x. x.call) there ∙ ap (λ s. (thread_from (record (talk_of site.talks site.t) { stage = s }) (slept_for site.slept site.t) (slept_for site.waits site.t)
+      (is_thread site.t (Some site.t) && false) (is_in site.t site.ended) g).call) between in
+      let way = choice_current site.setup site.c p site.t None refl refl quiet halted
+      ∙ ap (λ x. at_instruction site.setup site.c p site.t (next_of (program_of site.setup site.t) x.guest)) there in
+      way ∙ begins_at (next_of (program_of site.setup site.t) g) begins_here (ap halted_by (sym way) ∙ halted)
+
+module _ (ActsFor : CpuId → Type 0) (setup : Setup) (opening : LockId → Option TowerBlock) (c : CpuId) (own own2 : Buffering)
+    (guests : List State) (trace : List Entry) (t : Tid) (call : Call) (old new : List (Action TowerName)) (result : Option Reply) (acts : ActsFor c)
+    (opens : OpensAs setup c opening) (beginning : IsBeginning setup own guests t call) (known : HandIsKnown setup own2)
+    (outside : is_in_section (phase c old) ≡ false) where
+  abbrev First : Buffering → Type 0
+  First o = halted_at setup c (private_of o guests trace) ≡ None
+      → Follows ActsFor tower opening c (fifo_plan setup.homes c t call o) old new (record { own = own2; answer = result })
+      → IsStep ActsFor (cpu_step setup c) (private_of o guests trace)
+      (private_after setup c t call o guests trace (record { own = own2; answer = result })) (named old) (named new) Stepped
+
+  abbrev site : Site
+  site = record {
+    setup = setup;
+    c = c;
+    t = t;
+    ready = (threads_in own).ready;
+    ended = (threads_in own).ended;
+    slept = own.cv.lock.slept;
+    waits = own.cv.waits;
+    talks = own.talks;
+    guests = guests;
+    trace = trace;
+    call = call;
+    position = 0;
+    in_guests = beginning.in_guests;
+    in_talks = beginning.in_talks;
+    in_slept = beginning.in_slept;
+    in_waits = beginning.in_waits;
+    is_slept = beginning.slept;
+    is_waits = beginning.waits;
+  }
+
+  abbrev had : HasHad site None
+  had = ap (λ s. (going_at s (talk_of own.talks t) call).effect) beginning.between
+
+  abbrev pieces : Buffering
+  pieces = own_at (Some t) None (threads_in own).ready (threads_in own).ended None own.cv.lock.slept own.cv.waits own.talks
+
+  by_pieces : First pieces
+  by_pieces halted follow =
+      let p : Private = private_of pieces guests trace in
+      let q : Private = from site None had Acquires in
+      let plan : fifo_plan setup.homes c t call pieces ≡ plan_at setup.homes c t call at.Acquires (talk site None had at.Acquires) pieces
+      = ap (λ s. plan_at setup.homes c t call (going_at s (talk_of own.talks t) call).stage (going_at s (talk_of own.talks t) call) pieces) beginning.between in
+      let line = subst (λ x. IsLine setup c q x (private_after setup c t call pieces guests trace)) (sym plan) (asks_line site had) in
+      line_is_step ActsFor setup opening c own2 p q (fifo_plan setup.homes c t call pieces) (private_after setup c t call pieces guests trace) old new result acts opens
+      line known
+      (λ past same. step_goes setup c p q old past same (λ inside. absurd (cc (inside, outside)))
+      (λ out. choice_begins site had refl beginning.between beginning.at halted)) follow
+
+  pub first_polls_are_steps : First own
+  first_polls_are_steps =
+      subst First (λ i. own_at (sym beginning.current i) (sym beginning.hand i) (threads_in own).ready (threads_in own).ended (sym beginning.kept i)
+      own.cv.lock.slept own.cv.waits own.talks) by_pieces

@@ -1,0 +1,308 @@
+-- How all threads stand to a part is kept by each section of a call, where nobody is in the hand.
+use Rattle.std.proofs.Common.{◌≡◌, ◌≢◌, ◌⊎◌, inl, inr, ℕ, ◌<◌, Bool, true, false, List, [], ◌∷◌, ◌++◌, length, slice_get, slice_set, Option, Some, None, IsSome, is_some, if◌then◌else◌, refl, ap, sym, ◌∙◌, subst}
+use Rattle.std.proofs.lemmas.List.{get_or-set_same, get_or-set_other, set-get_or}
+use Rattle.event_log.specs.declared.entries.Entry.{Entry}
+use Rattle.event_log.specs.declared.ids.BufId.{BufId}
+use Rattle.event_log.specs.declared.ids.CpuId.{CpuId}
+use Rattle.event_log.specs.declared.ids.LockId.TheVariants.{Buffer}
+use Rattle.event_log.specs.declared.ids.Tid.{Tid}
+use Rattle.event_log.specs.History.{same_cpu}
+use Rattle.event_log.specs.Messages.{Message}
+use Rattle.guest.specs.declared.instructions.Instruction.{Instruction}
+use Rattle.guest.specs.State.{State, at_start, next_of}
+use Rattle.thread_blocks.specs.Queues.{first, is_in}
+use Rattle.layer_traits.proofs.CountLemmas.{same_cpu_sym}
+use Rattle.layer_traits.specs.declared.calls.Call.{Call as TowerCall}
+use Rattle.layer_traits.specs.declared.calls.Call.TheVariants.{Send, Recv}
+use Rattle.layer_traits.specs.declared.calls.Effect.{Effect}
+use Rattle.layer_traits.specs.declared.calls.Reply.{Reply}
+use Rattle.layer_traits.specs.declared.locked.QEdit.TheVariants.{Acquire, Inside, Release}
+use Rattle.layer_traits.specs.declared.locked.QOut.{QOut}
+use Rattle.layer_traits.specs.declared.locked.QOut.TheVariants as lock
+use Rattle.layer_traits.specs.declared.locked.Side.{Side}
+use Rattle.layer_traits.specs.declared.locked.Side.TheVariants.{Receivers, Senders}
+use Rattle.layer_traits.specs.declared.conditions.CvEdit.TheVariants.{Edit, SignalFront}
+use Rattle.layer_traits.specs.declared.conditions.CvLeave.TheVariants.{Leave, Wait}
+use Rattle.layer_traits.specs.declared.conditions.CvOut.{CvOut}
+use Rattle.layer_traits.specs.declared.conditions.CvOut.TheVariants as cv
+use Rattle.layer_traits.specs.declared.buffer_edits.BufferEdit.{BufferEdit}
+use Rattle.layer_traits.specs.declared.buffer_edits.BufferOut.{BufferOut}
+use Rattle.layer_traits.specs.declared.buffer_edits.BufferOut.TheVariants.{Entered, NotYet, Done}
+use Rattle.layer_traits.specs.declared.queue_edits.QueueBlock.TheVariants as block
+use Rattle.layer_traits.specs.declared.queue_edits.QueueEdit.TheVariants as queue
+use Rattle.layer_traits.specs.declared.queues.QueueAnswer.TheVariants as told
+use Rattle.layer_traits.specs.declared.sleeps.Outcome.{Outcome}
+use Rattle.layer_traits.specs.declared.talks.Stage.{Stage as TowerStage}
+use Rattle.layer_traits.specs.declared.talks.Stage.TheVariants as at
+use Rattle.layer_traits.specs.declared.talks.Talk.{Talk}
+use Rattle.layer_traits.specs.BufferBlocks.{BufferState, buffer_answer, editor, first_item, is_turn}
+use Rattle.layer_traits.specs.BufferProtocol.{buffer_rules}
+use Rattle.layer_traits.specs.BufferLaw.{BufferPlan, Buffering, at_stage, chained, buffer_of, entry_of, plan_on, first_of, going, left_heard, other_side, plan_at, plan_beneath, plan_of, quiet, reply_of, section_at as tower_section, side_of as tower_side, talk_of, try_of}
+use Rattle.layer_traits.specs.Conditions.{CvCall}
+use Rattle.layer_traits.specs.CvLaw.{Waiting, cv_plan, cv_plan_for, left_waiting}
+use Rattle.layer_traits.specs.LockLaw.{Locking, left_after, plan_for, slept_for}
+use Rattle.layer_traits.specs.Locking.{LockState, line_asked, lock_answer, lock_moves, told_asker}
+use Rattle.layer_traits.specs.Places.{Threads, is_cpu}
+use Rattle.layer_traits.specs.Plans.{Left, Plan, Now, Act, raised}
+use Rattle.layer_traits.specs.SleepLaw.{Sleeping, left_done, sleep_plan}
+use Rattle.cpu.specs.Guests.{after_answer}
+use Rattle.cpu.specs.Table.Blocks.{Answer, Asks, Sends, Receives, Told, Position, effect_of}
+use Rattle.cpu.specs.Table.Setups.{Setup, Acquires, Enters, Tries, Waits, AcquiresAgain, Signals, SignalsOwn, Releases, Returns, Stage, Call, Thread, Private, cpu_or, home_of, program_of, thread_at}
+use Rattle.cpu.specs.Table.Choice.{after_section, at_buffer, first_section, guest_after, heard, heard_entry, heard_position, returned_at, section_at, settled, slept_if, woken}
+use Rattle.cpu.specs.Tower.Views.{TowerAnswer, TowerBlock, TowerName, TowerOut, answer_view, name_of, tower}
+use Rattle.cpu.specs.Tower.Privates.{asks_in, call_from, guest_at, guests_after, private_after, private_of, thread_from, tid, trace_after}
+use Rattle.cpu.specs.Tower.Composed.{HandIsKnown, IsKind, IsLine}
+use Rattle.cpu.proofs.Tower.Numbered.{changed, goes, gone, numbered_long, own_at, parts, threads_at}
+use Rattle.cpu.proofs.Tower.Settled.{asks_for, calling, done_with, from_t, goes_on, heard_is, put, returns, with_t}
+use Rattle.cpu.proofs.Tower.Lines.{Site, HasHad, Tried, first_editor, first_name, first_answer, try_editor, try_name, try_answer, wait_name, signal_name, own_signal_name, reply_guest, entry_heard}
+use Rattle.cpu.proofs.Tower.Lines.{own, g, e, threads, buf, talk, k, from, after, runs_on, sleeps_now, waits_now, beneath_is, fresh, react, line, lift, waking, by_home}
+use Rattle.cpu.proofs.Tower.Lines.{stands, by_table, stays_so, has_returned}
+use Rattle.std.proofs.lemmas.Bool.{cases_eq, eqb-false, eqb-true}
+use Rattle.std.proofs.lemmas.List.{length-set}
+use Rattle.event_log.specs.declared.ids.LockId.{LockId}
+use Rattle.event_log.specs.declared.ids.TheConstants.{THREADS}
+use Rattle.layer_traits.specs.BufferLaw.{begun, fifo_plan}
+use Rattle.layer_traits.specs.Places.{is_thread}
+use Rattle.thread_blocks.proofs.Members.{same_tid_true}
+use Rattle.cpu.specs.Tower.Privates.{threads_in}
+use Rattle.cpu.specs.Tower.Composed.{IsUsed, Stands, asks, was_handed, enters, tries, waits as stands_waits, was_woken, asks_again, was_handed_again, signals, signals_own, releases, has_signalled, has_signalled_own, has_released}
+use Rattle.cpu.specs.Tower.Standing.{IsPart, MayStand, inside, outside}
+use Rattle.cpu.proofs.Tower.Composition.{asked_out, did_out, signal_out, left_out, wait_out, effect_is, over, plan, plan_to, asks_plan, asks_again_plan, enters_plan, tries_plan, waits_plan, signals_plan, own_signals_plan, releases_plan}
+
+-- the threads but this one stand as they may, and the tables have a place for each thread
+pub record Rest (t : Tid) (slept waits : List (Option BufId)) (talks : List Talk) : Type 0 where
+  pub others : (u : Tid) → u.0 ≢ t.0 → MayStand (talk_of talks u).stage None None (slept_for slept u) (slept_for waits u) (talk_of talks u).effect
+  pub long_talks : length talks ≡ THREADS
+  pub long_slept : length slept ≡ THREADS
+  pub long_waits : length waits ≡ THREADS
+
+-- a thread that stands as it may, by what its talk and its places are
+pub stand_is : (hand : Option Tid) (kept : Option TowerOut) (a b : Talk) (s s2 w w2 : Option BufId) → a ≡ b → s ≡ s2 → w ≡ w2
+    → MayStand b.stage hand kept s2 w2 b.effect → MayStand a.stage hand kept s w a.effect
+stand_is hand kept a b s s2 w w2 is is_s is_w may =
+    subst (λ x. x) (λ i. MayStand (sym is i).stage hand kept (sym is_s i) (sym is_w i) (sym is i).effect) may
+
+module _ (t : Tid) (ready ended : List Tid) (slept waits : List (Option BufId)) (talks : List Talk) (others : Rest t slept waits talks) where
+  -- thread t runs
+  pub runs_part : (hand : Option Tid) (kept : Option TowerOut)
+      → MayStand (talk_of talks t).stage hand kept (slept_for slept t) (slept_for waits t) (talk_of talks t).effect
+      → IsPart (own_at (Some t) hand ready ended kept slept waits talks)
+  runs_part hand kept may = record {
+    mine = λ u runs. let same : t ≡ u = cc runs in
+        subst (λ (x : Tid). MayStand (talk_of talks x).stage hand kept (slept_for slept x) (slept_for waits x) (talk_of talks x).effect) same may;
+    other = λ u off. others.others u (λ same. eqb-false t.0 u.0 off (sym same));
+    idle = λ nobody. absurd (cc nobody);
+    talks = others.long_talks;
+    slept = others.long_slept;
+    waits = others.long_waits;
+  }
+
+  -- nobody runs
+  pub gone_part : (hand : Option Tid) → MayStand (talk_of talks t).stage None None (slept_for slept t) (slept_for waits t) (talk_of talks t).effect
+      → IsPart (own_at None hand ready ended None slept waits talks)
+  gone_part hand may = record {
+    mine = λ u runs. absurd (cc runs);
+    other = λ u off. by_same u (cases_eq u.0 t.0);
+    idle = λ nobody. refl;
+    talks = others.long_talks;
+    slept = others.long_slept;
+    waits = others.long_waits;
+  }
+    where
+      by_same : (u : Tid) → (u.0 ≡ t.0) ⊎ (u.0 ≡ t.0 → ⊥)
+          → MayStand (talk_of talks u).stage None None (slept_for slept u) (slept_for waits u) (talk_of talks u).effect
+      by_same u (inl same) =
+          let is : t ≡ u = ap tid (sym same) in
+          subst (λ (x : Tid). MayStand (talk_of talks x).stage None None (slept_for slept x) (slept_for waits x) (talk_of talks x).effect) is may
+      by_same u (inr other) = others.others u other
+
+-- another talk of this thread, and another place
+pub rest_set : (t : Tid) (slept waits slept2 waits2 : List (Option BufId)) (talks : List Talk) (talk2 : Talk) → Rest t slept waits talks
+    → ((j : ℕ) → j ≢ t.0 → slept_for slept2 (tid j) ≡ slept_for slept (tid j)) → ((j : ℕ) → j ≢ t.0 → slept_for waits2 (tid j) ≡ slept_for waits (tid j))
+    → length slept2 ≡ length slept → length waits2 ≡ length waits → Rest t slept2 waits2 (slice_set talks t.0 talk2)
+rest_set t slept waits slept2 waits2 talks talk2 others same_s same_w long_s long_w = record {
+  others = λ u other. stand_is None None _ _ _ _ _ _ (get_or-set_other talks t.0 u.0 talk2 quiet other) (same_s u.0 other) (same_w u.0 other) (others.others u other);
+  long_talks = length-set talks t.0 talk2 ∙ others.long_talks;
+  long_slept = long_s ∙ others.long_slept;
+  long_waits = long_w ∙ others.long_waits;
+}
+
+-- a plan by which all threads go on standing as they may
+pub record IsKept {A : Type 0} (setup : Setup) (c : CpuId) (p : Plan TowerName TowerAnswer Buffering A) : Type 0 where
+  pub lock : LockId
+  pub name : TowerName
+  pub react : Option TowerAnswer → Left Buffering A
+  pub used : IsUsed setup c lock
+  pub is : p ≡ Act lock name react
+  pub stays : IsPart (react None).own
+  pub gives : (x : TowerBlock) → IsKind lock x → IsPart (react (Some (tower.answer name x))).own
+
+module _ (site : Site) (effect : Option Effect) (had : HasHad site effect) (others : Rest site.t site.slept site.waits site.talks) where
+  -- thread t runs on
+  pub on : (hand2 : Option Tid) (ready2 : List Tid) (kept2 : Option TowerOut) (talk2 : Talk) → MayStand talk2.stage hand2 kept2 None None talk2.effect
+      → IsPart (own_at (Some site.t) hand2 ready2 site.ended kept2 site.slept site.waits (slice_set site.talks site.t.0 talk2))
+  on hand2 ready2 kept2 talk2 may =
+      runs_part site.t ready2 site.ended site.slept site.waits (slice_set site.talks site.t.0 talk2)
+      (rest_set site.t site.slept site.waits site.slept site.waits site.talks talk2 others (λ j other. refl) (λ j other. refl) refl refl) hand2 kept2
+      (stand_is hand2 kept2 _ talk2 _ None _ None (get_or-set_same site.talks site.t.0 talk2 quiet site.in_talks) site.is_slept site.is_waits may)
+
+  -- it sleeps for the lock
+  pub asleep : (stage : TowerStage) → MayStand stage None None (Some (buffer_of site.call)) None effect
+      → IsPart (own_at None None site.ready site.ended None (slice_set site.slept site.t.0 (Some (buffer_of site.call))) site.waits (slice_set site.talks site.t.0 (talk site effect had stage)))
+  asleep stage may =
+      let slept2 : List (Option BufId) = slice_set site.slept site.t.0 (Some (buffer_of site.call)) in
+      gone_part site.t site.ready site.ended slept2 site.waits (slice_set site.talks site.t.0 (talk site effect had stage))
+      (rest_set site.t site.slept site.waits slept2 site.waits site.talks (talk site effect had stage) others
+      (λ j other. get_or-set_other site.slept site.t.0 j (Some (buffer_of site.call)) None other) (λ j other. refl)
+      (length-set site.slept site.t.0 (Some (buffer_of site.call))) refl) None
+      (stand_is None None _ (talk site effect had stage) _ (Some (buffer_of site.call)) _ None
+      (get_or-set_same site.talks site.t.0 (talk site effect had stage) quiet site.in_talks)
+      (get_or-set_same site.slept site.t.0 (Some (buffer_of site.call)) None site.in_slept) site.is_waits may)
+
+  -- it waits
+  pub waiting : (hand2 : Option Tid) (ready2 : List Tid) (stage : TowerStage) → MayStand stage None None None (Some (buffer_of site.call)) effect
+      → IsPart (own_at None hand2 ready2 site.ended None site.slept (slice_set site.waits site.t.0 (Some (buffer_of site.call))) (slice_set site.talks site.t.0 (talk site effect had stage)))
+  waiting hand2 ready2 stage may =
+      let waits2 : List (Option BufId) = slice_set site.waits site.t.0 (Some (buffer_of site.call)) in
+      gone_part site.t ready2 site.ended site.slept waits2 (slice_set site.talks site.t.0 (talk site effect had stage))
+      (rest_set site.t site.slept site.waits site.slept waits2 site.talks (talk site effect had stage) others (λ j other. refl)
+      (λ j other. get_or-set_other site.waits site.t.0 j (Some (buffer_of site.call)) None other) refl
+      (length-set site.waits site.t.0 (Some (buffer_of site.call)))) hand2
+      (stand_is None None _ (talk site effect had stage) _ None _ (Some (buffer_of site.call))
+      (get_or-set_same site.talks site.t.0 (talk site effect had stage) quiet site.in_talks) site.is_slept
+      (get_or-set_same site.waits site.t.0 (Some (buffer_of site.call)) None site.in_waits) may)
+
+  -- a section of the call
+  pub keeps : (stage : TowerStage) (s : CvCall BufferEdit) (p : BufferPlan Reply) → p ≡ fresh site effect had stage s
+      → Stands stage None None None None effect
+      → ((x : LockState BufferState) → IsPart (react site effect had stage s (Some (told.Answer (lock_answer buffer_rules s x)))).own) → IsKept site.setup site.c p
+  keeps stage s p is may gives = record {
+    lock = Buffer (buffer_of site.call);
+    name = queue.Above s;
+    react = react site effect had stage s;
+    used = tt;
+    is = is;
+    stays = on None site.ready None (talk site effect had stage) (inside stage None None None None effect may);
+    gives = by_block;
+  }
+    where
+      by_block : (x : TowerBlock) → IsKind (Buffer (buffer_of site.call)) x → IsPart (react site effect had stage s (Some (tower.answer (queue.Above s) x))).own
+      by_block (block.Above x) kind = gives x
+      by_block (block.Queue queue homes) kind = absurd kind
+
+-- Before the effect.
+
+module _ (site : Site) (had : HasHad site None) (others : Rest site.t site.slept site.waits site.talks) where
+  asks_by : (o : Option Tid) → IsPart (react site None had at.Acquires (Acquire site.t) (Some (told.Answer (asked_out o)))).own
+  asks_by None = on site None had others None site.ready None (talk site None had at.Enters) (inside at.Enters None None None None None enters)
+  asks_by (Some owner) = asleep site None had others at.Acquires (inside at.Acquires None None _ None None (was_handed _))
+
+  pub asks_keeps : IsKept site.setup site.c (plan site had at.Acquires)
+  asks_keeps = keeps site None had others at.Acquires (Acquire site.t) (plan site had at.Acquires) (asks_plan site had) asks (λ x. asks_by x.owner)
+
+  asks_again_by : (o : Option Tid) → IsPart (react site None had at.AcquiresAgain (Acquire site.t) (Some (told.Answer (asked_out o)))).own
+  asks_again_by None = on site None had others None site.ready None (talk site None had at.Tries) (inside at.Tries None None None None None tries)
+  asks_again_by (Some owner) = asleep site None had others at.AcquiresAgain (inside at.AcquiresAgain None None _ None None (was_handed_again _))
+
+  pub asks_again_keeps : IsKept site.setup site.c (plan site had at.AcquiresAgain)
+  asks_again_keeps =
+      keeps site None had others at.AcquiresAgain (Acquire site.t) (plan site had at.AcquiresAgain) (asks_again_plan site had) asks_again (λ x. asks_again_by x.owner)
+
+  pub enters_keeps : IsKept site.setup site.c (plan site had at.Enters)
+  enters_keeps =
+      keeps site None had others at.Enters (Inside (Edit (first_of site.t site.call))) (plan site had at.Enters) (enters_plan site had) enters
+      (λ x. let drawn = first_answer site.t site.call x.above in
+      subst (λ o. IsPart (react site None had at.Enters (Inside (Edit (first_of site.t site.call))) (Some (told.Answer (did_out o)))).own) (sym drawn.1)
+      (on site None had others None site.ready None (record { stage = at.Tries; call = Some site.call; position = drawn.0; effect = None })
+      (inside at.Tries None None None None None tries)))
+
+  tries_by : (x : BufferState) → (buffer_answer (try_of site.t site.call) x ≡ NotYet) ⊎ Tried site.t site.call x
+      → IsPart (react site None had at.Tries (Inside (Edit (try_of site.t site.call))) (Some (told.Answer (did_out (buffer_answer (try_of site.t site.call) x))))).own
+  tries_by x (inl vain) =
+      subst (λ o. IsPart (react site None had at.Tries (Inside (Edit (try_of site.t site.call))) (Some (told.Answer (did_out o)))).own) (sym vain)
+      (on site None had others None site.ready None (talk site None had at.Waits) (inside at.Waits None None None None None stands_waits))
+  tries_by x (inr tried) =
+      let f : Effect = effect_is site had tried.op tried.message in
+      subst (λ o. IsPart (react site None had at.Tries (Inside (Edit (try_of site.t site.call))) (Some (told.Answer (did_out o)))).own) (sym tried.is)
+      (on site None had others None site.ready None (record { stage = at.Signals; call = Some site.call; position = site.position; effect = Some f })
+      (inside at.Signals None None None None (Some f) (signals f)))
+
+  pub tries_keeps : IsKept site.setup site.c (plan site had at.Tries)
+  tries_keeps =
+      keeps site None had others at.Tries (Inside (Edit (try_of site.t site.call))) (plan site had at.Tries) (tries_plan site had) tries
+      (λ x. tries_by x.above (try_answer site.t site.call x.above))
+
+  waits_by : (side : Side) (o : Option Tid) → IsPart (react site None had at.Waits (Release (Wait site.t side)) (Some (told.Answer (wait_out side o)))).own
+  waits_by Receivers None = waiting site None had others None site.ready at.Waits (inside at.Waits None None None _ None (was_woken _))
+  waits_by Senders None = waiting site None had others None site.ready at.Waits (inside at.Waits None None None _ None (was_woken _))
+  waits_by Receivers (Some u) = waiting site None had others _ _ at.Waits (inside at.Waits None None None _ None (was_woken _))
+  waits_by Senders (Some u) = waiting site None had others _ _ at.Waits (inside at.Waits None None None _ None (was_woken _))
+
+  waits_at : (side : Side) (x : LockState BufferState)
+      → IsPart (react site None had at.Waits (Release (Wait site.t side)) (Some (told.Answer (lock_answer buffer_rules (Release (Wait site.t side)) x)))).own
+  waits_at Receivers x = waits_by Receivers (first x.sleepers)
+  waits_at Senders x = waits_by Senders (first x.sleepers)
+
+  pub waits_keeps : IsKept site.setup site.c (plan site had at.Waits)
+  waits_keeps =
+      keeps site None had others at.Waits (Release (Wait site.t (tower_side site.call))) (plan site had at.Waits) (waits_plan site had) stands_waits
+      (waits_at (tower_side site.call))
+
+-- After the effect.
+
+module _ (site : Site) (f : Effect) (had : HasHad site (Some f)) (others : Rest site.t site.slept site.waits site.talks) where
+  signals_woke : (v : CvOut BufferOut) (u : Tid) (b : Bool)
+      → IsPart (lift site (Some f) had at.Signals (signal_out v (Some u)) (waking site (Some f) had (Some site.t) u b)).own
+  signals_woke v u true =
+      on site (Some f) had others None (site.ready ++ u ∷ []) None (talk site (Some f) had at.SignalsOwn) (inside at.SignalsOwn None None None None (Some f) (signals_own f))
+  signals_woke v u false =
+      on site (Some f) had others (Some u) site.ready (Some (signal_out v (Some u))) (talk site (Some f) had at.Signals)
+      (inside at.Signals (Some u) (Some (signal_out v (Some u))) None None (Some f) (has_signalled u v f))
+
+  signals_by : (side : Side) (v : CvOut BufferOut) (o : Option Tid)
+      → IsPart (react site (Some f) had at.Signals (Inside (SignalFront site.t side)) (Some (told.Answer (signal_out v o)))).own
+  signals_by side v None =
+      on site (Some f) had others None site.ready None (talk site (Some f) had at.SignalsOwn) (inside at.SignalsOwn None None None None (Some f) (signals_own f))
+  signals_by side v (Some u) = signals_woke v u (is_cpu site.c (slice_get site.setup.homes u.0))
+
+  pub signals_keeps : IsKept site.setup site.c (plan_to site f had at.Signals)
+  signals_keeps =
+      keeps site (Some f) had others at.Signals (Inside (SignalFront site.t (other_side site.call))) (plan_to site f had at.Signals) (signals_plan site f had) (signals f)
+      (λ x. signals_by (other_side site.call) _ _)
+
+  own_signals_woke : (v : CvOut BufferOut) (u : Tid) (b : Bool)
+      → IsPart (lift site (Some f) had at.SignalsOwn (signal_out v (Some u)) (waking site (Some f) had (Some site.t) u b)).own
+  own_signals_woke v u true =
+      on site (Some f) had others None (site.ready ++ u ∷ []) None (talk site (Some f) had at.Releases) (inside at.Releases None None None None (Some f) (releases f))
+  own_signals_woke v u false =
+      on site (Some f) had others (Some u) site.ready (Some (signal_out v (Some u))) (talk site (Some f) had at.SignalsOwn)
+      (inside at.SignalsOwn (Some u) (Some (signal_out v (Some u))) None None (Some f) (has_signalled_own u v f))
+
+  own_signals_by : (side : Side) (v : CvOut BufferOut) (o : Option Tid)
+      → IsPart (react site (Some f) had at.SignalsOwn (Inside (SignalFront site.t side)) (Some (told.Answer (signal_out v o)))).own
+  own_signals_by side v None =
+      on site (Some f) had others None site.ready None (talk site (Some f) had at.Releases) (inside at.Releases None None None None (Some f) (releases f))
+  own_signals_by side v (Some u) = own_signals_woke v u (is_cpu site.c (slice_get site.setup.homes u.0))
+
+  pub own_signals_keeps : IsKept site.setup site.c (plan_to site f had at.SignalsOwn)
+  own_signals_keeps =
+      keeps site (Some f) had others at.SignalsOwn (Inside (SignalFront site.t (tower_side site.call))) (plan_to site f had at.SignalsOwn) (own_signals_plan site f had) (signals_own f)
+      (λ x. own_signals_by (tower_side site.call) _ _)
+
+  returned_now : (ready2 : List Tid) → IsPart (own_at (Some site.t) None ready2 site.ended None site.slept site.waits (slice_set site.talks site.t.0 (over site f had)))
+  returned_now ready2 = on site (Some f) had others None ready2 None (over site f had) (outside (Some f))
+
+  releases_woke : (u : Tid) (b : Bool) → IsPart (lift site (Some f) had at.Releases (left_out (Some u)) (waking site (Some f) had (Some site.t) u b)).own
+  releases_woke u true = returned_now (site.ready ++ u ∷ [])
+  releases_woke u false =
+      on site (Some f) had others (Some u) site.ready (Some (left_out (Some u))) (talk site (Some f) had at.Releases)
+      (inside at.Releases (Some u) (Some (left_out (Some u))) None None (Some f) (has_released u f))
+
+  releases_by : (o : Option Tid) → IsPart (react site (Some f) had at.Releases (Release (Leave site.t)) (Some (told.Answer (left_out o)))).own
+  releases_by None = returned_now site.ready
+  releases_by (Some u) = releases_woke u (is_cpu site.c (slice_get site.setup.homes u.0))
+
+  pub releases_keeps : IsKept site.setup site.c (plan_to site f had at.Releases)
+  releases_keeps =
+      keeps site (Some f) had others at.Releases (Release (Leave site.t)) (plan_to site f had at.Releases) (releases_plan site f had) (releases f)
+      (λ x. releases_by (first x.sleepers))

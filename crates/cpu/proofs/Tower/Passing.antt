@@ -1,0 +1,195 @@
+-- The passes from thread to thread are lines of the table, or steps of it without an action.
+use Rattle.std.proofs.Common.{◌≡◌, ◌≢◌, ℕ, ◌+◌, ◌<◌, ◌≤◌, ◌==◌, Bool, true, false, ◌&&◌, ◌||◌, List, [], ◌∷◌, ◌++◌, length, slice_get, slice_set, Option, Some, None, IsSome, is_some, refl, ap, sym, ◌∙◌, subst, arith, inl, inr}
+use Rattle.std.proofs.lemmas.Bool.{ne_eqb}
+use Rattle.std.proofs.lemmas.List.{append-nil, get_or-set_same, set-get_or}
+use Rattle.event_log.specs.declared.entries.Entry.{Entry}
+use Rattle.event_log.specs.declared.ids.BufId.{BufId}
+use Rattle.event_log.specs.declared.ids.CpuId.{CpuId}
+use Rattle.event_log.specs.declared.ids.LockId.TheVariants.{Pending}
+use Rattle.event_log.specs.declared.ids.Tid.{Tid}
+use Rattle.guest.specs.State.{State, after_yield, at_start, next_of}
+use Rattle.thread_blocks.specs.Queues.{is_in, same_tid}
+use Rattle.thread_blocks.proofs.Members.{same_tid_self}
+use Rattle.thread_blocks.proofs.Distinct.{pushed_in}
+use Rattle.layer_traits.specs.declared.passes.Pass.{Pass}
+use Rattle.layer_traits.specs.declared.passes.Pass.TheVariants as pass
+use Rattle.layer_traits.specs.declared.queue_edits.QueueBlock.TheVariants as block
+use Rattle.layer_traits.specs.declared.queue_edits.QueueEdit.TheVariants as queue
+use Rattle.layer_traits.specs.declared.queues.QueueAnswer.TheVariants as told
+use Rattle.layer_traits.specs.declared.talks.Stage.TheVariants as at
+use Rattle.layer_traits.specs.declared.talks.Talk.{Talk}
+use Rattle.layer_traits.specs.LockLaw.{slept_for}
+use Rattle.layer_traits.specs.Passes.{queue_for}
+use Rattle.layer_traits.specs.Places.{is_thread}
+use Rattle.layer_traits.specs.Plans.{Left}
+use Rattle.layer_traits.specs.BufferLaw.{Buffering, fifo_pass_plan, quiet, talk_of}
+use Rattle.cpu.specs.Table.Blocks.{Answer, Pend, TakeAll}
+use Rattle.cpu.specs.Table.Setups.{Setup, Private, Thread, new_thread, program_of, stands_at, thread_at}
+use Rattle.cpu.specs.Table.Choice.{after_by, after_section, asked_by, at_pending, drained, ends, with_guest}
+use Rattle.cpu.specs.Tower.Views.{TowerAnswer, TowerBlock, TowerOut, answer_view, tower}
+use Rattle.cpu.specs.Tower.Privates.{guest_at, private_of, private_passed, thread_from, thread_of, tid}
+use Rattle.cpu.specs.Tower.Composed.{HandIsKnown, IsKind, IsLine}
+use Rattle.cpu.proofs.Tower.Numbered.{changed, numbered_changed, numbered_same, own_at, parts, threads_at}
+use Rattle.cpu.proofs.Tower.Lines.{react_in}
+use Rattle.cpu.proofs.Tower.Sends.{home_there, queue_is}
+use Rattle.cpu.proofs.Tower.Chains.{put_same}
+use Rattle.cpu.proofs.Tower.Begins.{thread_here}
+
+-- the plan of a poll of this pass is a line of the table
+abbrev pub PassLine : Setup → CpuId → Pass → Buffering → List State → List Entry → Type 0
+PassLine setup c p own guests trace =
+    IsLine setup c (private_of own guests trace) (fifo_pass_plan setup.homes c p own) (private_passed setup own guests trace p)
+
+or_false : (b : Bool) → (b || false) ≡ b
+or_false true = refl
+or_false false = refl
+
+or_true : (b : Bool) → (b || true) ≡ true
+or_true true = refl
+or_true false = refl
+
+and_false : (b : Bool) → (b && false) ≡ false
+and_false true = refl
+and_false false = refl
+
+module _ (setup : Setup) (c : CpuId) (guests : List State) (trace : List Entry) (ended : List Tid) (slept waits : List (Option BufId)) (talks : List Talk) where
+  -- nobody runs or is ready: the pending are taken
+  abbrev idle_with : List Tid → Buffering
+  idle_with ready = own_at None None ready ended None slept waits talks
+
+  pub drain_line : PassLine setup c pass.Drain (idle_with []) guests trace
+  drain_line = record {
+    lock = Pending c;
+    name = queue.TakeAll;
+    react = react_in (fifo_pass_plan setup.homes c pass.Drain (idle_with []));
+    is = refl;
+    asks = refl;
+    used = inl refl;
+    stays = refl;
+    gives = by_block;
+  }
+    where
+      by_block : (x : TowerBlock) → IsKind (Pending c) x
+          → HandIsKnown setup (react_in (fifo_pass_plan setup.homes c pass.Drain (idle_with [])) (Some (tower.answer queue.TakeAll x))).own
+          → private_passed setup (idle_with []) guests trace pass.Drain (react_in (fifo_pass_plan setup.homes c pass.Drain (idle_with [])) (Some (tower.answer queue.TakeAll x)))
+          ≡ after_section setup c (private_of (idle_with []) guests trace) (answer_view (tower.answer queue.TakeAll x))
+      by_block (block.Above state) kind known = absurd kind
+      by_block (block.Queue threads homes) kind known = ap (λ r. private_of (idle_with r) guests trace) (append-nil threads)
+
+  -- the thread in the hand is put among its home's pending
+  abbrev holding : Tid → List Tid → Buffering
+  holding u ready = own_at None (Some u) ready ended None slept waits talks
+
+  pub make_ready_line : (u : Tid) (ready : List Tid) → IsSome (slice_get setup.homes u.0) → PassLine setup c (pass.MakeReady u) (holding u ready) guests trace
+  make_ready_line u ready known = record {
+    lock = Pending (queue_for setup.homes c u);
+    name = queue.Push u;
+    react = react_in (fifo_pass_plan setup.homes c (pass.MakeReady u) (holding u ready));
+    is = refl;
+    asks = ap (λ d. at_pending d (Pend u)) (sym (queue_is c (slice_get setup.homes u.0) known));
+    used = inr (u, home_there c (slice_get setup.homes u.0) known);
+    stays = refl;
+    gives = λ x kind hand. refl;
+  }
+
+  -- The thread that runs is in no call.
+
+  module _ (t : Tid) (ready : List Tid) (between : (talk_of talks t).stage ≡ at.Between) (in_guests : t.0 < length guests) (in_talks : t.0 < length talks) where
+    abbrev pub running : Buffering
+    running = own_at (Some t) None ready ended None slept waits talks
+
+    abbrev p : Private
+    p = private_of running guests trace
+
+    abbrev g : State
+    g = guest_at guests t
+
+    abbrev free : State → Thread
+    free guest = record { guest = guest; call = None; ended = is_in t ended }
+
+    thread_free : (k : Bool) (guest : State)
+        → thread_from (talk_of talks t) (slept_for slept t) (slept_for waits t) k (is_in t ended) guest ≡ free guest
+    thread_free k guest =
+        ap (λ s. thread_from (record (talk_of talks t) { stage = s }) (slept_for slept t) (slept_for waits t) k (is_in t ended) guest) between
+
+    pub there_free : thread_at p t ≡ free g
+    there_free = thread_here running guests trace t in_guests ∙ thread_free (is_thread t (Some t) && false) g
+
+    -- it passes its turn on: the pending are ready, and behind them the thread
+    abbrev yields : Option TowerAnswer → Left Buffering (Unit {0})
+    yields reply = react_in (fifo_pass_plan setup.homes c pass.YieldNow running) reply
+
+    yielded : (pending : List Tid)
+        → private_passed setup running guests trace pass.YieldNow (yields (Some (told.Taken pending)))
+        ≡ after_section setup c p (answer_view (told.Taken pending))
+    yielded pending =
+        let guest : State = after_yield (next_of (program_of setup t) g) g in
+        let ready2 : List Tid = (ready ++ pending) ++ t ∷ [] in
+        (λ i. private_of (own_at None None ready2 ended None slept waits (put_same talks t.0 (talk_of talks t) quiet refl i)) (slice_set guests t.0 guest) trace)
+        ∙ (changed t None ready ended None slept waits talks guests in_guests in_talks None None ready2 None slept waits (talk_of talks t) guest trace
+        (slept_for slept t) (slept_for waits t) false (λ j other. refl) (λ j other. refl) (λ j other. refl) refl refl refl
+        ∙ (ap (λ x. parts None ready2 None (slice_set (threads_at running guests) t.0 x) trace) (thread_free false guest)
+        ∙ sym (ap (λ x. after_by setup c p t x.call (answer_view (told.Taken pending))) there_free
+        ∙ ap (λ x. parts None ready2 None (slice_set (threads_at running guests) t.0 (record x { guest = after_yield (next_of (program_of setup t) x.guest) x.guest })) trace)
+        there_free)))
+
+    pub yield_line : PassLine setup c pass.YieldNow running guests trace
+    yield_line = record {
+      lock = Pending c;
+      name = queue.TakeAll;
+      react = yields;
+      is = refl;
+      asks = ap (λ x. asked_by c t x.call) there_free;
+      used = inl refl;
+      stays = refl;
+      gives = by_block;
+    }
+      where
+        by_block : (x : TowerBlock) → IsKind (Pending c) x → HandIsKnown setup (yields (Some (tower.answer queue.TakeAll x))).own
+            → private_passed setup running guests trace pass.YieldNow (yields (Some (tower.answer queue.TakeAll x)))
+            ≡ after_section setup c p (answer_view (tower.answer queue.TakeAll x))
+        by_block (block.Above state) kind known = absurd kind
+        by_block (block.Queue threads homes) kind known = yielded threads
+
+    -- it ends
+    pub ended_now : private_of (own_at None None ready (ended ++ t ∷ []) None slept waits talks) guests trace ≡ ends p t
+    ended_now =
+        let after : Buffering = own_at None None ready (ended ++ t ∷ []) None slept waits talks in
+        let zero_plus : t.0 ≡ 0 + t.0 = omega arith in
+        ap (λ l. parts None ready None l trace)
+        (ap (λ l. threads_at after l) (put_same guests t.0 g at_start refl)
+        ∙ (numbered_changed (λ n. thread_of running (tid n)) (λ n. thread_of after (tid n)) 0 t.0 t.0 guests g zero_plus
+        (λ j x other. λ i. thread_from (talk_of talks (tid j)) (slept_for slept (tid j)) (slept_for waits (tid j))
+        (sym (ap (λ b. b && false) (ne_eqb t.0 j (λ e. other (sym e)))) i) (not_new j other i) x) in_guests
+        ∙ (ap (λ x. slice_set (threads_at running guests) t.0 x) here
+        ∙ ap (λ x. slice_set (threads_at running guests) t.0 (record x { ended = true })) (sym there_free))))
+      where
+        not_new : (j : ℕ) → j ≢ t.0 → is_in (tid j) (ended ++ t ∷ []) ≡ is_in (tid j) ended
+        not_new j other =
+            pushed_in (tid j) t ended
+            ∙ (ap (λ b. is_in (tid j) ended || (b || false)) (ne_eqb j t.0 other) ∙ or_false (is_in (tid j) ended))
+
+        here : thread_of (own_at None None ready (ended ++ t ∷ []) None slept waits talks) t g ≡ record { guest = g; call = None; ended = true }
+        here =
+            ap (λ s. thread_from (record (talk_of talks t) { stage = s }) (slept_for slept t) (slept_for waits t) false (is_in t (ended ++ t ∷ [])) g) between
+            ∙ ap (λ b. record { guest = g; call = None; ended = b })
+            (pushed_in t t ended ∙ (ap (λ b. is_in t ended || (b || false)) (same_tid_self t) ∙ or_true (is_in t ended)))
+
+  -- an instruction of the thread's own
+  pub computed_now : (own : Buffering) (t : Tid) (guest : State) → t.0 < length guests
+      → private_of own (slice_set guests t.0 guest) trace ≡ with_guest (private_of own guests trace) t guest
+  computed_now own t guest within =
+      let zero_plus : t.0 ≡ 0 + t.0 = omega arith in
+      ap (λ l. parts own.cv.lock.sleep.threads.current own.cv.lock.sleep.threads.ready own.cv.lock.sleep.threads.hand l trace)
+      (numbered_changed (λ n. thread_of own (tid n)) (λ n. thread_of own (tid n)) 0 t.0 t.0 guests guest zero_plus (λ j x other. refl) within
+      ∙ ap (λ x. slice_set (threads_at own guests) t.0 (record x { guest = guest })) (sym (thread_here own guests trace t within)))
+
+  -- the first that is ready runs
+  pub switched_now : (t : Tid) (ready : List Tid)
+      → private_of (own_at (Some t) None ready ended None slept waits talks) guests trace
+      ≡ record (private_of (idle_with (t ∷ ready)) guests trace) { current = Some t; ready = ready }
+  switched_now t ready =
+      ap (λ l. parts (Some t) ready None l trace)
+      (numbered_same (λ n. thread_of (idle_with (t ∷ ready)) (tid n)) (λ n. thread_of (own_at (Some t) None ready ended None slept waits talks) (tid n)) 0 guests
+      (λ j x below. ap (λ k. thread_from (talk_of talks (tid j)) (slept_for slept (tid j)) (slept_for waits (tid j)) k (is_in (tid j) ended) x)
+      (and_false (same_tid t (tid j)))))

@@ -1,0 +1,67 @@
+-- A CPU's step is the step table's.
+use Rattle.std.specs.Prelude.{◌≡◌, ℕ, true, List, [], length, map, Option, Some, None}
+use Rattle.event_log.specs.declared.entries.Entry.{Entry}
+use Rattle.event_log.specs.declared.ids.CpuId.{CpuId}
+use Rattle.event_log.specs.declared.ids.LockId.{LockId}
+use Rattle.event_log.specs.declared.ids.Tid.{Tid}
+use Rattle.event_log.specs.Actions.{Action}
+use Rattle.guest.specs.State.{State, at_start}
+use Rattle.thread_blocks.specs.Queues.{is_in}
+use Rattle.layer_traits.specs.declared.passes.Pass.{Pass}
+use Rattle.layer_traits.specs.declared.steps.Step.{Step}
+use Rattle.layer_traits.specs.Along.{IsStep}
+use Rattle.layer_traits.specs.Passes.{IsLocalPass}
+use Rattle.layer_traits.specs.Places.{home_of}
+use Rattle.layer_traits.specs.BufferLaw.{Buffering, Doing, Passing}
+use Rattle.cpu.specs.declared.guests.Guest.{Guest}
+use Rattle.cpu.specs.Guests.{is_ended}
+use Rattle.cpu.specs.Cpus.{guest_at}
+use Rattle.cpu.specs.Table.Setups.{Setup, Private, program_of}
+use Rattle.cpu.specs.Table.Steps.{cpu_step}
+use Rattle.cpu.specs.Tower.Views.{TowerBlock, TowerName}
+use Rattle.cpu.specs.Tower.Privates.{private_of, threads_in}
+use Rattle.cpu.specs.Tower.Composed.{OpensAs, named}
+use Rattle.cpu.specs.Tower.Standing.{IsPart}
+
+-- the guests' states; a thread of another home stays at its start
+abbrev pub state_of : Option Guest → State
+state_of None = at_start
+state_of (Some g) = g.thread
+
+abbrev pub states : List (Option Guest) → List State
+states guests = map state_of guests
+
+-- a CPU as the table's private state
+abbrev pub private : Buffering → List (Option Guest) → List Entry → Private
+private own guests trace = private_of own (states guests) trace
+
+-- a setup of a machine with these homes and capacities, for a CPU with these guests and this limit of its trace; the programs of other
+-- homes are free
+pub record IsSetupOf (setup : Setup) (homes : List CpuId) (caps : List ℕ) (guests : List (Option Guest)) (limit : ℕ) : Type 0 where
+  pub homes_are : setup.homes ≡ homes
+  pub caps_are : setup.caps ≡ caps
+  pub room_is : setup.trace_room ≡ limit
+  pub programs_are : (t : Tid) (g : Guest) → guest_at guests t.0 ≡ Some g → program_of setup t ≡ g.program
+
+-- a setup without programs
+abbrev pub bare : List CpuId → List ℕ → Setup
+bare homes caps = record { cpus = 0; homes = homes; programs = []; caps = caps; trace_room = 0 }
+
+-- what the table asks of a CPU besides
+pub record IsTabled (homes : List CpuId) (caps : List ℕ) (number : CpuId) (own : Buffering) (doing : Option Doing) (guests : List (Option Guest))
+    (opening : LockId → Option TowerBlock) : Type 0 where
+  -- all threads stand to its part as they may, and the opening blocks are the table's
+  pub part : IsPart own
+  pub opens : OpensAs (bare homes caps) number opening
+  -- it has guests of its home's threads alone, each that has ended is among the ended, and the table of guests has a place for each home
+  pub only : (t : Tid) (g : Guest) → guest_at guests t.0 ≡ Some g → home_of homes t ≡ Some number
+  pub ends : (t : Tid) (g : Guest) → guest_at guests t.0 ≡ Some g → is_ended g.stage ≡ true → is_in t (threads_in own).ended ≡ true
+  pub size : length guests ≡ length homes
+  -- a pass that touches nothing shared is never under way
+  pub quick : (p : Pass) → doing ≡ Some (Passing p) → IsLocalPass p → ⊥
+
+-- a CPU went from the old part, guests, trace and actions to the new ones by one step of the table, whatever setup of its machine it is
+abbrev pub WentByTable : (CpuId → Type 0) → List CpuId → List ℕ → CpuId → ℕ → (own own2 : Buffering) → (guests guests2 : List (Option Guest))
+    → (trace trace2 : List Entry) → (old new : List (Action TowerName)) → Step → Type 0
+WentByTable ActsFor homes caps number limit own own2 guests guests2 trace trace2 old new answer = (setup : Setup) → IsSetupOf setup homes caps guests limit
+    → IsStep ActsFor (cpu_step setup number) (private own guests trace) (private own2 guests2 trace2) (named old) (named new) answer
