@@ -1,5 +1,6 @@
 -- Facts on counting.
-use Rattle.std.proofs.Common.{◌≡◌, ℕ, ◌+◌, ◌%◌, ◌^◌, Bool, true, false, List, [], ◌∷◌, ◌++◌, Option, Some, None, refl, sym, ap, subst, ◌∙◌, arith, length, inl, inr, option_map, if◌then◌else◌}
+use Rattle.std.proofs.Common.{◌≡◌, ℕ, ◌+◌, ◌%◌, ◌^◌, Bool, true, false, List, [], ◌∷◌, ◌++◌, Option, Some, None}
+use Rattle.std.proofs.Common.{refl, sym, ap, subst, ◌∙◌, arith, length, inl, inr, option_map, if◌then◌else◌}
 use Rattle.std.proofs.lemmas.Bool.{cases_lt}
 use Rattle.std.proofs.lemmas.List.{get_or_append_left, get_or_push, length-append}
 use Rattle.event_log.specs.declared.ids.CpuId.{CpuId}
@@ -61,7 +62,8 @@ some_where_not_none None not_none = absurd (not_none refl)
 some_where_not_none (Some x) not_none = refl
 
 -- the block that is home is the number of Frees
-pub block_counts : (opening : LockId → Option ℕ) (lock : LockId) (log : List (Event (Mark AddOne))) (home : Option (Bor ℕ)) (block : Bor ℕ) → opening lock ≡ Some 0
+pub block_counts : (opening : LockId → Option ℕ) (lock : LockId) (log : List (Event (Mark AddOne))) (home : Option (Bor ℕ)) (block : Bor ℕ)
+    → opening lock ≡ Some 0
     → IfSome home (λ found. block_after counting.edited opening lock (sections log) ≡ Some found.now) → home ≡ Some block → block.now ≡ frees lock log % 2 ^ 64
 block_counts opening lock log home block zeroth leaves is =
     let found = subst (λ o. IfSome o (λ found. block_after counting.edited opening lock (sections log) ≡ Some found.now)) is leaves in

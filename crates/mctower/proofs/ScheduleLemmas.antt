@@ -1,5 +1,6 @@
 -- Facts on the reading of schedules.
-use Rattle.std.proofs.Common.{◌≡◌, ◌≤◌, ◌<◌, ◌-◌, ◌∙◌, ◌++◌, ◌∷◌, [], ℕ, false, List, Option, Some, None, refl, sym, ap, arith, length, append_assoc, option_map}
+use Rattle.std.proofs.Common.{◌≡◌, ◌≤◌, ◌<◌, ◌-◌, ◌∙◌, ◌++◌, ◌∷◌, [], ℕ, false, List, Option, Some, None}
+use Rattle.std.proofs.Common.{refl, sym, ap, arith, length, append_assoc, option_map}
 use Rattle.std.specs.Prelude.{option_and_then, replicate}
 use Rattle.std.specs.List.{slice_split}
 use Rattle.std.specs.Borrow.{Bor}
@@ -39,7 +40,8 @@ pub item_read : (all : Option (List CpuId)) (done : List CpuId) (text : List ℕ
 item_read all done text texts item so_far read =
     so_far ∙ ap (λ o. after done (option_and_then (λ i. option_map (λ more. replicate i.steps i.cpu ++ more) (steps_in texts)) o)) read
     ∙ regrouped (steps_in texts) where
-      regrouped : (o : Option (List CpuId)) → after done (option_map (λ more. replicate item.steps item.cpu ++ more) o) ≡ after (done ++ replicate item.steps item.cpu) o
+      regrouped : (o : Option (List CpuId)) → after done (option_map (λ more. replicate item.steps item.cpu ++ more) o)
+          ≡ after (done ++ replicate item.steps item.cpu) o
       regrouped None = refl
       regrouped (Some more) = ap Some (sym (append_assoc done (replicate item.steps item.cpu) more))
 

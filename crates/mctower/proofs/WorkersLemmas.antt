@@ -1,11 +1,14 @@
 -- Facts on what workers did.
-use Rattle.std.proofs.Common.{◌≡◌, ◌≢◌, ℕ, zero, suc, ◌+◌, ◌*◌, ◌<◌, ◌≤◌, Bool, true, false, if◌then◌else◌, List, [], ◌∷◌, ◌++◌, length, Option, None, Some, Result, Ok, Err, IfOk, is_some, refl, ap, sym, ◌∙◌, subst, get_or, take, All, ◌%◌, ◌^◌, length-append, ne_eqb, zero-add, mul-le-mul, mod-eq_of_lt, lt_of_not-le, arith}
+use Rattle.std.proofs.Common.{◌≡◌, ◌≢◌, ℕ, zero, suc, ◌+◌, ◌*◌, ◌%◌, ◌^◌, ◌<◌, ◌≤◌, Bool, true, false, if◌then◌else◌, Option, None, Some}
+use Rattle.std.proofs.Common.{List, [], ◌∷◌, ◌++◌, length, get_or, slice_get, take, All}
+use Rattle.std.proofs.Common.{refl, ap, sym, ◌∙◌, subst, length-append, ne_eqb, zero-add, mul-le-mul, mod-eq_of_lt, lt_of_not-le, arith}
 use Rattle.std.proofs.lemmas.List.{length-take, take_all, take_more}
+use Rattle.std.proofs.lemmas.Option.{get_or_from_slice_get}
 use mathlib.Core.Logic.{dite}
 use native.Mathlib.Decide.{ℕ_discrete, dec_le}
-use mathlib.Core.Option.{some, some-injective, some-ne-none}
-use lib.ListN.{get_elem?, get_or-append}
-use Rattle.table_machine.proofs.Fresh.{length_new, read_at, at_longer, at_last}
+use lib.ListN.{get_or-append}
+use Rattle.table_machine.proofs.Elements.{last_got, longer_got}
+use Rattle.table_machine.proofs.Fresh.{length_new}
 use Rattle.event_log.proofs.Foreign.{own_others}
 use Rattle.event_log.specs.declared.ids.TheConstants.{CPUS}
 use Rattle.event_log.specs.declared.ids.CpuId.{CpuId}
@@ -18,39 +21,41 @@ use Rattle.event_log.specs.Sections.{Section, section_actor}
 use Rattle.event_log.proofs.Same.{same_cpu_self, same_lock_self}
 use Rattle.layer_traits.specs.declared.edits.Mark.{Mark}
 use Rattle.layer_traits.specs.OneLock.{opened}
-use Rattle.layer_traits.specs.Protocol.{Rules, section}
+use Rattle.layer_traits.specs.Protocol.{section}
 use Rattle.layer_traits.specs.WordsProtocol.{edit_of, sections}
-use Rattle.layer_traits.specs.Turns.{Polled}
 use Rattle.table_machine.specs.Desks.{Board, Desk, new_desk, new_desks, Covers, IsOver, Closes}
 use Rattle.mctower.specs.declared.count.AddOne.{AddOne}
 use Rattle.mctower.specs.declared.count.TheConstants.{NUMBER}
 use Rattle.mctower.specs.Count.{counting, sections_at}
-use Rattle.mctower.specs.Workers.{made, MayGoOn, Both, HasMade, MayHaveMade, AllHaveMade, IsFresh, IsNumberOfFrees}
+use Rattle.mctower.specs.Workers.{made, MayGoOn, Both, HasMade, AllHaveMade, IsFresh, IsNumberOfFrees}
 use Rattle.mctower.proofs.CountLemmas.{frees_are_sections, number_is}
 
 one_more : (b : Bool) (k : ℕ) → (if b then k + 1 else k) ≡ k + (if b then 1 else 0)
 one_more true k = refl
 one_more false k = omega arith
 
-module _ {E B O : Type 0} (rules : Rules E B O) (opening : LockId → Option B) (ActsFor : CpuId → Type 0) (cpu : CpuId) (lock : LockId) (edit : E) (result : Option O) (old new : List (Section E)) (polled : Polled rules opening ActsFor (section cpu lock edit) result old new) (acts : ActsFor cpu) where
+-- a poll of this section, behind others' sections, adds it where it answers and only then
+module _ {E : Type 0} (s : Section E) (others old new : List (Section E)) (answered : Bool)
+    (is : new ≡ (if answered then s ∷ (others ++ old) else others ++ old)) (theirs : AreOthers section_actor s.cpu others) where
   -- a poll that does not answer adds no section of its CPU
-  pub poll_waits : is_some result ≡ false → made cpu lock new ≡ made cpu lock old
+  pub poll_waits : answered ≡ false → made s.cpu s.lock new ≡ made s.cpu s.lock old
   poll_waits waits =
-      let new_is : new ≡ polled.others ++ old = polled.is ∙ ap (λ b. if b then section cpu lock edit ∷ (polled.others ++ old) else polled.others ++ old) waits in
-      ap (λ l. sections_at lock (own_events section_actor cpu l)) new_is ∙ ap (sections_at lock) (own_others section_actor cpu polled.others old (polled.foreign cpu acts))
+      let new_is : new ≡ others ++ old = is ∙ ap (λ b. if b then s ∷ (others ++ old) else others ++ old) waits in
+      ap (made s.cpu s.lock) new_is ∙ ap (sections_at s.lock) (own_others section_actor s.cpu others old theirs)
 
   -- a poll that answers adds its section
-  pub poll_answers : is_some result ≡ true → made cpu lock new ≡ made cpu lock old + 1
+  pub poll_answers : answered ≡ true → made s.cpu s.lock new ≡ made s.cpu s.lock old + 1
   poll_answers answers =
-      let new_is : new ≡ section cpu lock edit ∷ (polled.others ++ old) = polled.is ∙ ap (λ b. if b then section cpu lock edit ∷ (polled.others ++ old) else polled.others ++ old) answers in
-      let mine : own_events section_actor cpu (section cpu lock edit ∷ (polled.others ++ old)) ≡ section cpu lock edit ∷ own_events section_actor cpu (polled.others ++ old) =
-      ap (λ b. if b then section cpu lock edit ∷ own_events section_actor cpu (polled.others ++ old) else own_events section_actor cpu (polled.others ++ old)) (same_cpu_self cpu) in
-      ap (λ l. sections_at lock (own_events section_actor cpu l)) new_is ∙ (ap (sections_at lock) mine
-      ∙ (ap (λ b. if b then sections_at lock (own_events section_actor cpu (polled.others ++ old)) + 1 else sections_at lock (own_events section_actor cpu (polled.others ++ old))) (same_lock_self lock)
-      ∙ ap (λ l. sections_at lock l + 1) (own_others section_actor cpu polled.others old (polled.foreign cpu acts))))
+      let new_is : new ≡ s ∷ (others ++ old) = is ∙ ap (λ b. if b then s ∷ (others ++ old) else others ++ old) answers in
+      let own : List (Section E) = own_events section_actor s.cpu (others ++ old) in
+      let mine : own_events section_actor s.cpu (s ∷ (others ++ old)) ≡ s ∷ own = ap (λ b. if b then s ∷ own else own) (same_cpu_self s.cpu) in
+      ap (made s.cpu s.lock) new_is ∙ (ap (sections_at s.lock) mine
+      ∙ (ap (λ b. if b then sections_at s.lock own + 1 else sections_at s.lock own) (same_lock_self s.lock)
+      ∙ ap (λ l. sections_at s.lock l + 1) (own_others section_actor s.cpu others old theirs)))
 
 -- after a poll that does not answer, the section that was polled is under way
-pub goes_on : {S : Type 0} (under_way : Option S) (answered : Bool) (s t : S) → under_way ≡ (if answered then None else Some s) → answered ≡ false → s ≡ t → MayGoOn under_way t
+pub goes_on : {S : Type 0} (under_way : Option S) (answered : Bool) (s t : S) → under_way ≡ (if answered then None else Some s)
+    → answered ≡ false → s ≡ t → MayGoOn under_way t
 goes_on under_way answered s t is waits same =
     let now : under_way ≡ Some s = is ∙ ap (λ b. if b then None else Some s) waits in
     subst (λ (u : Option _). MayGoOn u t) (sym now) same
@@ -78,22 +83,16 @@ both_then P Q S step (x ∷ xs) (y ∷ ys) [] p q = absurd q
 both_then P Q S step (x ∷ xs) (y ∷ ys) (z ∷ zs) p q = (step x y z p.0 q.0, both_then P Q S step xs ys zs p.1 q.1)
 
 -- there is room for one more, while the list that it follows has one more
-pub room_for : {A B : Type 0} (ys xs rest all : List A) (zs : List B) (x : A) (n cap : ℕ) → ys ++ xs ≡ all → xs ≡ x ∷ rest → length all ≤ cap → length zs ≡ length ys → n ≡ length zs → n < cap
+pub room_for : {A B : Type 0} (ys xs rest all : List A) (zs : List B) (x : A) (n cap : ℕ) → ys ++ xs ≡ all → xs ≡ x ∷ rest
+    → length all ≤ cap → length zs ≡ length ys → n ≡ length zs → n < cap
 room_for ys xs rest all zs x n cap whole is room same count =
     let long : length ys + length xs ≡ length all = sym (length-append ys xs) ∙ ap length whole in
     let more : length xs ≡ suc (length rest) = ap length is in
     omega arith
 
-pub if_ok_then : {X Y : Type 0} (r : Result X Y) (P Q : X → Type 0) → ((x : X) → P x → Q x) → IfOk r P → IfOk r Q
-if_ok_then (Ok x) P Q step holds = step x holds
-if_ok_then (Err e) P Q step holds = tt
-
 -- what the promise of a worker says of its key
 pub kept_for : {E B : Type 0} (lock : LockId) (d e r : Desk E B) (times turns : ℕ) → e ≡ d → turns ≡ times → HasMade lock e r turns → HasMade lock d r times
 kept_for lock d e r times turns d_is times_is made = subst (λ (x : Desk _ _). HasMade lock x r times) d_is (subst (λ (n : ℕ). HasMade lock e r n) times_is made)
-
-pub within_room : {A B : Type 0} (keys : List A) (children : List B) (n cap : ℕ) → length children ≡ length keys → n ≡ length keys → n ≤ cap → length children ≤ cap
-within_room keys children n cap same count room = omega arith
 
 -- the numbers of the CPUs below n, added up
 unfoldable pub total : (CpuId → ℕ) → ℕ → ℕ
@@ -137,19 +136,22 @@ total_more f g (suc n) d b within here other = dite (ℕ_discrete n d.0)
 
 module _ {E : Type 0} (lock : LockId) (n : ℕ) where
   -- where all sections are of CPUs below n, their number is the sum of the CPUs' numbers
-  pub sections_add_up : (past : List (Section E)) → ((c : CpuId) → n ≤ c.0 → own_events section_actor c past ≡ []) → sections_at lock past ≡ total (λ c. made c lock past) n
+  pub sections_add_up : (past : List (Section E)) → ((c : CpuId) → n ≤ c.0 → own_events section_actor c past ≡ [])
+      → sections_at lock past ≡ total (λ c. made c lock past) n
   sections_add_up [] known = sym (total_none n)
   sections_add_up (s ∷ past) known =
       let d : CpuId = s.cpu in
-      let self : own_events section_actor d (s ∷ past) ≡ s ∷ own_events section_actor d past = ap (λ b. if b then s ∷ own_events section_actor d past else own_events section_actor d past) (same_cpu_self d) in
+      let before : List (Section E) = own_events section_actor d past in
+      let self : own_events section_actor d (s ∷ past) ≡ s ∷ before = ap (λ b. if b then s ∷ before else before) (same_cpu_self d) in
       let within : d.0 < n = elim (dec_le n d.0) [
-        | yes large ↦ absurd (let gone : s ∷ own_events section_actor d past ≡ [] = sym self ∙ known d large in cc)
+        | yes large ↦ absurd (let gone : s ∷ before ≡ [] = sym self ∙ known d large in cc)
         | no small ↦ lt_of_not-le small
       ] in
       let others : (c : CpuId) → c.0 ≢ d.0 → own_events section_actor c (s ∷ past) ≡ own_events section_actor c past = λ c away.
       ap (λ b. if b then s ∷ own_events section_actor c past else own_events section_actor c past) (ne_eqb d.0 c.0 (λ e. away (sym e))) in
       let b : ℕ = if same_lock lock s.lock then 1 else 0 in
-      let so_far : sections_at lock past ≡ total (λ c. made c lock past) n = sections_add_up past (λ c large. sym (others c (λ same. omega arith)) ∙ known c large) in
+      let so_far : sections_at lock past ≡ total (λ c. made c lock past) n
+      = sections_add_up past (λ c large. sym (others c (λ same. omega arith)) ∙ known c large) in
       let mine : made d lock (s ∷ past) ≡ made d lock past + b = ap (sections_at lock) self ∙ one_more (same_lock lock s.lock) (made d lock past) in
       let sum : total (λ c. made c lock (s ∷ past)) n ≡ total (λ c. made c lock past) n + b =
       total_more (λ c. made c lock past) (λ c. made c lock (s ∷ past)) n d b within mine (λ c away. ap (sections_at lock) (others c away)) in
@@ -171,12 +173,14 @@ own_sections c (Look d lock ticket read ∷ log) = own_sections c log ∙ go (sa
 own_sections c (Free d lock mark ∷ log) = go (same_cpu d c) (own_sections c log)
   where
     go : (b : Bool) → own_events section_actor c (sections log) ≡ sections (own_events actor c log)
-        → (if b then section d lock mark.edit ∷ own_events section_actor c (sections log) else own_events section_actor c (sections log)) ≡ sections (if b then Free d lock mark ∷ own_events actor c log else own_events actor c log)
+        → (if b then section d lock mark.edit ∷ own_events section_actor c (sections log) else own_events section_actor c (sections log))
+        ≡ sections (if b then Free d lock mark ∷ own_events actor c log else own_events actor c log)
     go true same = ap (λ l. section d lock mark.edit ∷ l) same
     go false same = same
 
 -- a list with one more, element by element
-both_last : {A B : Type 0} (Fits : A → B → Type 0) (xs : List A) (x : A) (ys : List B) → Both Fits (xs ++ x ∷ []) ys → (front : List B) × (y : B) × (ys ≡ front ++ y ∷ []) × Both Fits xs front × Fits x y
+both_last : {A B : Type 0} (Fits : A → B → Type 0) (xs : List A) (x : A) (ys : List B) → Both Fits (xs ++ x ∷ []) ys
+    → (front : List B) × (y : B) × (ys ≡ front ++ y ∷ []) × Both Fits xs front × Fits x y
 both_last Fits [] x [] all = absurd all
 both_last Fits [] x (y ∷ []) all = ([], y, refl, tt, all.0)
 both_last Fits [] x (y ∷ z ∷ ys) all = absurd all.1
@@ -185,32 +189,35 @@ both_last Fits (w ∷ xs) x (y ∷ ys) all = let more = both_last Fits xs x ys a
 
 -- what came back for each key of a new table
 came_at : {E B : Type 0} (board : Board B) (Fits : Desk E B → Desk E B → Type 0) (n : ℕ) (came : List (Desk E B)) → Both Fits (new_desks board n) came
-    → (k : ℕ) → k < n → (e : Desk E B) × (get_elem? came k ≡ some e) × Fits (new_desk board k) e
+    → (k : ℕ) → k < n → (e : Desk E B) × (slice_get came k ≡ Some e) × Fits (new_desk board k) e
 came_at board Fits zero came all k below = absurd (omega arith)
 came_at {E = E} board Fits (suc n) came all k below =
     let split = both_last Fits (new_desks board n) (new_desk board n) came all in
     let long : length split.0 ≡ n = both_length Fits (new_desks board n) split.0 split.3 ∙ length_new E board n in
     dite (ℕ_discrete k n)
-    (λ (e : k ≡ n). subst (λ (m : ℕ). (e : Desk _ _) × (get_elem? came m ≡ some e) × Fits (new_desk board m) e) (sym e)
-    (split.1, ap (λ l. get_elem? l n) split.2 ∙ at_last split.0 split.1 n long, split.4))
+    (λ (e : k ≡ n). subst (λ (m : ℕ). (e : Desk _ _) × (slice_get came m ≡ Some e) × Fits (new_desk board m) e) (sym e)
+    (split.1, ap (λ l. slice_get l n) split.2 ∙ last_got split.0 split.1 n long, split.4))
     (λ (ne : k ≢ n). (
     let old = came_at board Fits n split.0 split.3 k (omega arith) in
-    (old.0, ap (λ l. get_elem? l k) split.2 ∙ at_longer split.0 (split.1 ∷ []) k old.0 old.1, old.2)))
+    (old.0, ap (λ l. slice_get l k) split.2 ∙ longer_got split.0 (split.1 ∷ []) k old.0 old.1, old.2)))
 
-module _ {B : Type 0} {E : Type 0} (lock : LockId) (times : ℕ) (board : Board B) (came : List (Desk E B)) (all : Both (λ d e. HasMade lock d e times) (new_desks board board.cpus) came) where
+module _ {B : Type 0} {E : Type 0} (lock : LockId) (times : ℕ) (board : Board B) (came : List (Desk E B))
+    (all : AllHaveMade lock (new_desks board board.cpus) came times) where
   -- each CPU has its key among those that came back
   pub came_cover : Covers board.cpus came
-  came_cover c below = let here = came_at board (λ d e. HasMade lock d e times) board.cpus came all c.0 below in (c.0, here.0, here.1, here.2.cpu)
+  came_cover c below =
+      let here = came_at board (λ d e. HasMade lock d e times) board.cpus came all c.0 below in (c.0, here.0, here.1, here.2.cpu)
 
   -- each key that came back is over
   pub came_over : All (IsOver board) came
   came_over k d below =
       let long : length came ≡ board.cpus = both_length (λ d e. HasMade lock d e times) (new_desks board board.cpus) came all ∙ length_new E board board.cpus in
       let here = came_at board (λ d e. HasMade lock d e times) board.cpus came all k (subst (λ m. k < m) long below) in
-      subst (λ (x : Desk E B). IsOver board x) (sym (read_at came k d here.0 here.1)) (record { table = here.2.table; outside = here.2.outside })
+      subst (λ (x : Desk E B). IsOver board x) (sym (get_or_from_slice_get came k here.0 d here.1))
+      (record { table = here.2.table; outside = here.2.outside })
 
-module _ (times : ℕ) (board : Board ℕ) (came : List (Desk AddOne ℕ)) (blocks : List (LockId × ℕ)) (all : Both (λ d e. HasMade NUMBER d e times) (new_desks board board.cpus) came)
-    (closes : Closes counting board came blocks) where
+module _ (times : ℕ) (board : Board ℕ) (came : List (Desk AddOne ℕ)) (blocks : List (LockId × ℕ))
+    (all : AllHaveMade NUMBER (new_desks board board.cpus) came times) (closes : Closes counting board came blocks) where
   -- the Frees of the log of the closed table: each CPU of the table has so many
   frees_are : frees NUMBER closes.log ≡ times * board.cpus
   frees_are =
@@ -218,20 +225,24 @@ module _ (times : ℕ) (board : Board ℕ) (came : List (Desk AddOne ℕ)) (bloc
       let own_made : (c : CpuId) → c.0 < board.cpus → made c NUMBER secs ≡ times = λ c below. (
       let here = came_at board (λ d e. HasMade NUMBER d e times) board.cpus came all c.0 below in
       let cpu_is : here.0.cpu ≡ c = here.2.cpu in
-      let whole : own_events actor c closes.log ≡ own_events actor c here.0.seen = subst (λ x. own_events actor x closes.log ≡ own_events actor x here.0.seen) cpu_is (closes.keys c.0 here.0 here.1).whole in
+      let whole : own_events actor c closes.log ≡ own_events actor c here.0.seen
+      = subst (λ x. own_events actor x closes.log ≡ own_events actor x here.0.seen) cpu_is (closes.keys c.0 here.0 here.1).whole in
       ap (sections_at NUMBER) (own_sections c closes.log ∙ (ap sections whole ∙ sym (own_sections c here.0.seen))) ∙ (here.2.more ∙ zero-add times)) in
-      let known : (c : CpuId) → board.cpus ≤ c.0 → own_events section_actor c secs ≡ [] = λ c large. own_sections c closes.log ∙ ap sections (closes.rest c large) in
-      sym (frees_are_sections edit_of NUMBER closes.log) ∙ (sections_add_up NUMBER board.cpus secs known ∙ total_each (λ c. made c NUMBER secs) board.cpus times own_made)
+      let known : (c : CpuId) → board.cpus ≤ c.0 → own_events section_actor c secs ≡ []
+      = λ c large. own_sections c closes.log ∙ ap sections (closes.rest c large) in
+      sym (frees_are_sections edit_of NUMBER closes.log)
+      ∙ (sections_add_up NUMBER board.cpus secs known ∙ total_each (λ c. made c NUMBER secs) board.cpus times own_made)
 
   -- a number that is so many is that of the Frees
   pub left_by_frees : (number : ℕ) → number ≡ times * board.cpus → IsNumberOfFrees counting NUMBER board came number
   left_by_frees number is = record { log = closes.log; legal = closes.legal; keys = closes.keys; rest = closes.rest; is = is ∙ sym frees_are }
 
   -- the number that the workers left
-  pub number_is_left : board.start ≡ (NUMBER, 0) ∷ [] → board.cpus ≤ CPUS → times ≤ 1000 → (get_elem? blocks 0 ≡ some (NUMBER, times * board.cpus)) × (0 < length blocks)
+  pub number_is_left : board.start ≡ (NUMBER, 0) ∷ [] → board.cpus ≤ CPUS → times ≤ 1000
+      → (slice_get blocks 0 ≡ Some (NUMBER, times * board.cpus)) × (0 < length blocks)
   number_is_left start few most =
       let secs = sections closes.log in
-      let first : get_elem? board.start 0 ≡ some (NUMBER, 0) = ap (λ l. get_elem? l 0) start in
+      let first : slice_get board.start 0 ≡ Some (NUMBER, 0) = ap (λ l. slice_get l 0) start in
       let there = closes.blocks_are 0 (NUMBER, 0) first in
       let zeroth : opened board.start NUMBER ≡ Some 0 = ap (λ l. opened l NUMBER) start in
       let folded : Some (sections_at NUMBER secs % 2 ^ 64) ≡ Some there.0 = sym (number_is (opened board.start) NUMBER secs zeroth) ∙ there.2 in
@@ -240,13 +251,13 @@ module _ (times : ℕ) (board : Board ℕ) (came : List (Desk AddOne ℕ)) (bloc
       let small : times * board.cpus < 2 ^ 64 = small_product times board.cpus most few in
       let number_is_that : there.0 ≡ times * board.cpus = sym number ∙ (ap (λ n. n % 2 ^ 64) sum ∙ mod-eq_of_lt small) in
       let count : length blocks ≡ 1 = closes.count ∙ ap length start in
-      (there.1 ∙ ap (λ (b : ℕ). some (NUMBER, b)) number_is_that, omega arith)
+      (there.1 ∙ ap (λ (b : ℕ). Some (NUMBER, b)) number_is_that, omega arith)
     where
       small_product : (a b : ℕ) → a ≤ 1000 → b ≤ CPUS → a * b < 2 ^ 64
       small_product a b p q = let bound : a * b ≤ 1000 * CPUS = mul-le-mul p q in omega arith
 
-pub number_read : (blocks : List (LockId × ℕ)) (n : ℕ) (o : LockId × ℕ) → get_elem? blocks 0 ≡ some (NUMBER, n) → o ≡ get_or blocks 0 o → o.1 ≡ n
-number_read blocks n o at is = ap (λ (p : LockId × ℕ). p.1) (is ∙ read_at blocks 0 o (NUMBER, n) at)
+pub number_read : (blocks : List (LockId × ℕ)) (n : ℕ) (o : LockId × ℕ) → slice_get blocks 0 ≡ Some (NUMBER, n) → o ≡ get_or blocks 0 o → o.1 ≡ n
+number_read blocks n o at is = ap (λ (p : LockId × ℕ). p.1) (is ∙ get_or_from_slice_get blocks 0 (NUMBER, n) o at)
 
 -- the turn of one more is below the number of keys
 pub turn_below : {A B : Type 0} (ys xs rest all : List A) (x : A) (keys : List B) (at : ℕ) → at ≡ length ys → ys ++ xs ≡ all
@@ -265,21 +276,19 @@ both_taken Fits keys at d x hs all h below so_far is fits grown =
     subst (λ (zs : List _). Both Fits (take (at + 1) keys) zs) (sym grown)
     (subst (λ (ys : List _). Both Fits ys (hs ++ h ∷ [])) (sym (take_more keys at d below)) more)
 
--- the worker of a fresh key has made what is promised of that key
-pub kept_fresh : {E B : Type 0} (lock : LockId) (board : Board B) (e d : Desk E B) (cpu : CpuId) (came : Option (Desk E B)) (times : ℕ)
-    → e ≡ d → cpu ≡ d.cpu → IsFresh board d → MayHaveMade lock (new_desk board cpu.0) came times → MayHaveMade lock e came times
-kept_fresh lock board e d cpu came times same is fresh made =
-    let there : new_desk board cpu.0 ≡ e = ap (λ (c : CpuId). new_desk board c.0) is ∙ (sym fresh ∙ sym same) in
-    subst (λ (x : Desk _ _). MayHaveMade lock x came times) there made
-
 -- the keys of a new table are fresh
 pub new_fresh : {E B : Type 0} (board : Board B) (n : ℕ) → All (IsFresh {E = E} board) (new_desks board n)
 new_fresh board zero k d below = absurd (omega arith)
 new_fresh {E = E} board (suc n) k d below = dite (ℕ_discrete k n)
-    (λ (e : k ≡ n). subst (λ (x : Desk _ _). IsFresh board x) (sym (read_at (new_desks board n ++ new_desk board n ∷ []) k d (new_desk board n)
-    (ap (λ m. get_elem? (new_desks {E = E} board n ++ new_desk board n ∷ []) m) e ∙ at_last (new_desks board n) (new_desk board n) n (length_new E board n)))) refl)
+    (λ (e : k ≡ n).
+    let last : slice_get (new_desks {E = E} board n ++ new_desk board n ∷ []) k ≡ Some (new_desk board n)
+    = ap (λ m. slice_get (new_desks {E = E} board n ++ new_desk board n ∷ []) m) e
+    ∙ last_got (new_desks board n) (new_desk board n) n (length_new E board n) in
+    subst (λ (x : Desk _ _). IsFresh board x)
+    (sym (get_or_from_slice_get (new_desks board n ++ new_desk board n ∷ []) k (new_desk board n) d last)) refl)
     (λ (ne : k ≢ n).
-    let long : length (new_desks {E = E} board n ++ new_desk board n ∷ []) ≡ n + 1 = length-append (new_desks {E = E} board n) (new_desk board n ∷ []) ∙ ap (λ m. m + 1) (length_new E board n) in
+    let long : length (new_desks {E = E} board n ++ new_desk board n ∷ []) ≡ n + 1
+    = length-append (new_desks {E = E} board n) (new_desk board n ∷ []) ∙ ap (λ m. m + 1) (length_new E board n) in
     let under : k < n = omega arith in
     let there : k < length (new_desks {E = E} board n) = subst (λ m. k < m) (sym (length_new E board n)) under in
     subst (λ (x : Desk _ _). IsFresh board x) (sym (get_or-append (new_desks board n) (new_desk board n ∷ []) d k there)) (new_fresh board n k d there))
@@ -298,7 +307,8 @@ pub taken_all : {A C : Type 0} (keys : List A) (at : ℕ) (ys all : List C) → 
 taken_all keys at ys all turn is many = let long = ap length is in take_all at keys (omega arith)
 
 -- the keys of a new table have made no section
-pub new_have_made_none : (E : Type 0) {B : Type 0} (lock : LockId) (board : Board B) (n : ℕ) → AllHaveMade {E = E} lock (new_desks board n) (new_desks board n) 0
+pub new_have_made_none : (E : Type 0) {B : Type 0} (lock : LockId) (board : Board B) (n : ℕ)
+    → AllHaveMade {E = E} lock (new_desks board n) (new_desks board n) 0
 new_have_made_none E lock board zero = tt
 new_have_made_none E lock board (suc n) =
     both_more (λ d e. HasMade {E = E} lock d e 0) (new_desks board n) (new_desks board n) (new_desk board n) (new_desk board n)

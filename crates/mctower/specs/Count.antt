@@ -29,7 +29,8 @@ AreReady cpu_of under_way Fits parts machine =
 
 -- the actions after a whole section of the CPU of this number: it took a place, entered and gave the lock on
 abbrev pub after_section : LockId → ℕ → List (Action AddOne) → List (Action AddOne)
-after_section lock number past = Give (record { 0 = number }) lock (record {}) ∷ Try (record { 0 = number }) lock true ∷ Take (record { 0 = number }) lock ∷ past
+after_section lock number past =
+    Give (record { 0 = number }) lock (record {}) ∷ Try (record { 0 = number }) lock true ∷ Take (record { 0 = number }) lock ∷ past
 
 -- the actions after a round: a whole section of each of so many CPUs, from CPU 0 on
 abbrev pub after_round : LockId → ℕ → List (Action AddOne) → List (Action AddOne)

@@ -1,9 +1,7 @@
 -- What a worker leaves: its CPU has done so many sections more.
-use Rattle.std.specs.Prelude.{◌≡◌, ℕ, ◌+◌, ◌≤◌, List, [], ◌∷◌, Option, None, Some, MatchOption}
+use Rattle.std.specs.Prelude.{◌≡◌, ℕ, ◌+◌, ◌≤◌, List, [], ◌∷◌, slice_get, Option, None, Some, MatchOption}
 use Rattle.event_log.specs.declared.ids.CpuId.{CpuId}
 use Rattle.event_log.specs.declared.ids.LockId.{LockId}
-use mathlib.Core.Option.{some}
-use lib.ListN.{get_elem?}
 use Rattle.event_log.specs.declared.events.Event.{Event}
 use Rattle.event_log.specs.History.{IsLawful, own_events}
 use Rattle.event_log.specs.WordsLog.{actor, frees, standing, Outside}
@@ -62,6 +60,6 @@ AllHaveMade lock old new times = Both (λ d e. HasMade lock d e times) old new
 pub record IsNumberOfFrees {E B O : Type 0} (rules : Rules E B O) (lock : LockId) (board : Board B) (desks : List (Desk E B)) (number : ℕ) : Type 0 where
   pub log : List (Event (Mark E))
   pub legal : IsLawful (MayCome (rules.allowed (opened board.start))) log
-  pub keys : (i : ℕ) (desk : Desk E B) → get_elem? desks i ≡ some desk → IsIn log desk
+  pub keys : (i : ℕ) (desk : Desk E B) → slice_get desks i ≡ Some desk → IsIn log desk
   pub rest : (c : CpuId) → board.cpus ≤ c.0 → own_events actor c log ≡ []
   pub is : number ≡ frees lock log

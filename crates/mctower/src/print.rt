@@ -2,7 +2,7 @@
 
 ghost use Rattle.std.specs.Prelude.{◌≡◌, IfOk, false, is_err, true};
 ghost use Rattle.std.specs.List.{before_first, flat_map};
-ghost use Rattle.tracer.specs.Sinks.{Outs, has_failed, is_flushed, writer_of};
+ghost use Rattle.tracer.specs.Sinks.{WentOut, has_failed, is_flushed, writer_of};
 ghost use Rattle.mctower.specs.Print.{PrintsRefusal, is_line_feed, shown_as};
 
 use arrayvec::ArrayString;
@@ -15,7 +15,7 @@ use tracer::{Sink, WriteFault};
 fn put_all<W: Write>(sink: &mut Sink<W>, pieces: &[&[u8]]) -> Result<(), WriteFault>
     requires { has_failed sink.old ≡ false }
     ensures failed { is_err result ≡ has_failed sink.new }
-    ensures out { Outs (has_failed sink.new) (W.contents (writer_of sink.old)) (W.contents (writer_of sink.new)) (flat_map (λ p. p.now) pieces.now) }
+    ensures out { WentOut W.contents sink.old sink.new (flat_map (λ p. p.now) pieces.now) }
 {
     for piece in pieces {
         sink.put(*piece)?;
@@ -30,7 +30,7 @@ pub fn print<W: Write>(sink: &mut Sink<W>, pieces: &[&[u8]]) -> Result<(), Write
     requires { has_failed sink.old ≡ false }
     ensures failed { is_err result ≡ has_failed sink.new }
     ensures flushed { IfOk result (λ _. is_flushed sink.new ≡ true) }
-    ensures out { Outs (has_failed sink.new) (W.contents (writer_of sink.old)) (W.contents (writer_of sink.new)) (flat_map (λ p. p.now) pieces.now) }
+    ensures out { WentOut W.contents sink.old sink.new (flat_map (λ p. p.now) pieces.now) }
 {
     put_all(sink, pieces)?;
     sink.flush()

@@ -187,7 +187,7 @@ fn worker<T: Crew, R: Wait>(
 
 // All memory that the workers of so many keys take.
 #[derive(Drop)]
-struct Room<T: Crew> {
+struct Supplies<T: Crew> {
     hands: Vec<Hand<T>>,
     group: WaitGroup,
     starts: Vec<WaitGroup>,
@@ -217,15 +217,15 @@ fn members(alloc: Global, group: &WaitGroup, count: usize) -> Result<Vec<WaitGro
     Ok(starts)
 }
 
-fn room_for<T: Crew>(alloc: Global, count: usize) -> Result<Room<T>, AllocError>
-    ensures hands { IfOk result (λ room. length room.hands.items ≡ count) }
-    ensures starts { IfOk result (λ room. length room.starts.items ≡ count) }
-    ensures children { IfOk result (λ room. (room.children.items ≡ []) × (count ≤ vec_capacity room.children)) }
-    ensures done { IfOk result (λ room. (room.done.items ≡ []) × (count ≤ vec_capacity room.done)) }
+fn supplies_for<T: Crew>(alloc: Global, count: usize) -> Result<Supplies<T>, AllocError>
+    ensures hands { IfOk result (λ supplies. length supplies.hands.items ≡ count) }
+    ensures starts { IfOk result (λ supplies. length supplies.starts.items ≡ count) }
+    ensures children { IfOk result (λ supplies. (supplies.children.items ≡ []) × (count ≤ vec_capacity supplies.children)) }
+    ensures done { IfOk result (λ supplies. (supplies.done.items ≡ []) × (count ≤ vec_capacity supplies.done)) }
 {
     let group = WaitGroup::new(alloc)?;
     let starts = members(alloc, &group, count)?;
-    Ok(Room {
+    Ok(Supplies {
         hands: empty_hands(alloc, count)?,
         group,
         starts,
@@ -284,26 +284,26 @@ fn work_in<T: Crew + Send, R: Threads + Wait + Sync>(
     rt: &R,
     shared: &Shared<AddOne>,
     keys: Vec<Key<AddOne>>,
-    room: Room<T>,
+    supplies: Supplies<T>,
     times: u64,
 ) -> Result<Vec<Key<AddOne>>, Vec<Key<AddOne>>>
     requires table { shared.now ≡ T.board }
     requires fresh { All (IsFresh shared.now) keys.items }
     requires lock { IsSome (opened shared.now.start NUMBER) }
-    requires hands { length room.hands.items ≡ length keys.items }
-    requires starts { length room.starts.items ≡ length keys.items }
-    requires children { (room.children.items ≡ []) × (length keys.items ≤ vec_capacity room.children) }
-    requires done { (room.done.items ≡ []) × (length keys.items ≤ vec_capacity room.done) }
+    requires hands { length supplies.hands.items ≡ length keys.items }
+    requires starts { length supplies.starts.items ≡ length keys.items }
+    requires children { (supplies.children.items ≡ []) × (length keys.items ≤ vec_capacity supplies.children) }
+    requires done { (supplies.done.items ≡ []) × (length keys.items ≤ vec_capacity supplies.done) }
     ensures came { IfOk result (λ came. AllHaveMade NUMBER keys.items came.items times) }
     ensures refused { IfErr result (λ back. back.items ≡ keys.items) }
 {
-    let Room {
+    let Supplies {
         hands,
         group,
         starts,
         mut children,
         done,
-    } = room;
+    } = supplies;
     let hands = hands.as_slice();
     thread::scope(
         thread::scope_env(),
@@ -350,31 +350,31 @@ struct Refused {
     keys: Vec<Key<AddOne>>,
 }
 
-// As `work_in`, where there is room: memory is wanting exactly where there is none.
-fn work_if_room<T: Crew + Send, R: Threads + Wait + Sync>(
+// As `work_in`, where the supplies are there: memory is wanting exactly where they are not.
+fn work_if_supplied<T: Crew + Send, R: Threads + Wait + Sync>(
     rt: &R,
     shared: &Shared<AddOne>,
     keys: Vec<Key<AddOne>>,
-    room: Result<Room<T>, AllocError>,
+    supplies: Result<Supplies<T>, AllocError>,
     times: u64,
 ) -> Result<Vec<Key<AddOne>>, Refused>
     requires table { shared.now ≡ T.board }
     requires fresh { All (IsFresh shared.now) keys.items }
     requires lock { IsSome (opened shared.now.start NUMBER) }
-    requires hands { IfOk room (λ room. length room.hands.items ≡ length keys.items) }
-    requires starts { IfOk room (λ room. length room.starts.items ≡ length keys.items) }
-    requires children { IfOk room (λ room. (room.children.items ≡ []) × (length keys.items ≤ vec_capacity room.children)) }
-    requires done { IfOk room (λ room. (room.done.items ≡ []) × (length keys.items ≤ vec_capacity room.done)) }
+    requires hands { IfOk supplies (λ supplies. length supplies.hands.items ≡ length keys.items) }
+    requires starts { IfOk supplies (λ supplies. length supplies.starts.items ≡ length keys.items) }
+    requires children { IfOk supplies (λ supplies. (supplies.children.items ≡ []) × (length keys.items ≤ vec_capacity supplies.children)) }
+    requires done { IfOk supplies (λ supplies. (supplies.done.items ≡ []) × (length keys.items ≤ vec_capacity supplies.done)) }
     ensures came { IfOk result (λ came. AllHaveMade NUMBER keys.items came.items times) }
     ensures refused { IfErr result (λ r. r.keys.items ≡ keys.items) }
-    ensures memory { OnErr room (IfErr result (λ r. r.fault ≡ LacksMemory)) }
-    ensures thread { OnOk room (IfErr result (λ r. r.fault ≡ LacksThread)) }
+    ensures memory { OnErr supplies (IfErr result (λ r. r.fault ≡ LacksMemory)) }
+    ensures thread { OnOk supplies (IfErr result (λ r. r.fault ≡ LacksThread)) }
 {
-    let Ok(room) = room else {
+    let Ok(supplies) = supplies else {
         let fault = CountFault::NoMemory;
         return Err(Refused { fault, keys });
     };
-    match work_in(rt, shared, keys, room, times) {
+    match work_in(rt, shared, keys, supplies, times) {
         Ok(keys) => Ok(keys),
         Err(keys) => Err(Refused {
             fault: CountFault::NoThread,
@@ -398,8 +398,8 @@ fn work_all<T: Crew + Send, R: Threads + Wait + Sync>(
     ensures came { IfOk result (λ came. AllHaveMade NUMBER keys.items came.items times) }
     ensures refused { IfErr result (λ r. r.keys.items ≡ keys.items) }
 {
-    let room = room_for::<T>(alloc, keys.len());
-    work_if_room(rt, shared, keys, room, times)
+    let supplies = supplies_for::<T>(alloc, keys.len());
+    work_if_supplied(rt, shared, keys, supplies, times)
 }
 
 // The table of the number, which is 0, with a key for each CPU.
@@ -523,7 +523,7 @@ mod tests {
     }
 
     // Run with each allocation refused in turn. With no thread to start, each is the table's or that
-    // of the room for workers: it is told as want of memory.
+    // of the supplies for workers: it is told as want of memory.
     #[test]
     fn a_refused_allocation_of_the_table_is_no_memory(rt: HostRuntime) {
         match count_table(&rt, rt.alloc(), 0, 5) {

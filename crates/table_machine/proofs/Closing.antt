@@ -1,7 +1,7 @@
 -- What is known once all keys are back.
-use Rattle.std.proofs.Common.{◌≡◌, ℕ, zero, suc, ◌<◌, ◌≤◌, inl, inr, ⊎_elim, List, [], ◌∷◌, ◌++◌, length, map, Some, IsSome, is_some, if◌then◌else◌, refl, ap}
-use Rattle.std.proofs.Common.{sym, ◌∙◌, subst, append_assoc, lt_of_not-le, arith}
-use mathlib.Core.Option.{none, some, some-ne-none}
+use Rattle.std.proofs.Common.{◌≡◌, ℕ, zero, suc, ◌<◌, ◌≤◌, inl, inr, ⊎_elim, List, [], ◌∷◌, ◌++◌, length, map, slice_get, Some, IsSome, is_some, if◌then◌else◌}
+use Rattle.std.proofs.Common.{refl, ap, sym, ◌∙◌, subst, append_assoc, lt_of_not-le, arith}
+use mathlib.Core.Option.{none, some}
 use native.Mathlib.Decide.{dec_le}
 use lib.ListN.{get_elem?, length-map}
 use Rattle.atomic_table.specs.Seated.{TableId}
@@ -25,7 +25,9 @@ use Rattle.table_machine.specs.Rule.{home_block, Kept}
 use Rattle.table_machine.specs.Plays.{Met}
 use Rattle.table_machine.specs.Desks.{Board, Desk, IsKey, Carries, Gathered, Covers, IsIn, Closes}
 use Rattle.layer_traits.proofs.OneLockLemmas.{all_home}
-use Rattle.table_machine.proofs.Logs.{standing_since, own_since, others_append, none_of_others}
+use Rattle.table_machine.proofs.Elements.{got, there_for}
+use Rattle.event_log.proofs.Foreign.{others_both, own_none}
+use Rattle.table_machine.proofs.Logs.{standing_since, own_since}
 use Rattle.table_machine.proofs.Finding.{rank_at}
 use Rattle.table_machine.proofs.Seeing.{at_end}
 use Rattle.table_machine.proofs.Showing.{home_of}
@@ -37,14 +39,14 @@ module _ {M : Type 0} where
   since_trans c a b d s t = record {
     more = s.more ++ t.more;
     is = s.is ∙ (ap (λ l. s.more ++ l) t.is ∙ sym (append_assoc s.more t.more d));
-    others = others_append c s.more t.more s.others t.others;
+    others = others_both actor c s.more t.more s.others t.others;
   }
 
   standing_none : (c : CpuId) (log : List (Event M)) → AreOthers actor c log → standing c log ≡ Outside
   standing_none c [] h = refl
   standing_none c (e ∷ log) h = ap (λ b. if b then left_by e else standing c log) h.0 ∙ standing_none c log h.1
 
-pub found_at : {A : Type 0} (l : List A) (i : ℕ) → i < length l → (a : A) × (get_elem? l i ≡ some a)
+pub found_at : {A : Type 0} (l : List A) (i : ℕ) → i < length l → (a : A) × (slice_get l i ≡ Some a)
 found_at [] i below = absurd (omega arith)
 found_at (x ∷ xs) zero below = (x, refl)
 found_at (x ∷ xs) (suc i) below = found_at xs i (omega arith)
@@ -53,14 +55,14 @@ found_at (x ∷ xs) (suc i) below = found_at xs i (omega arith)
 pub record Settled {E B O : Type 0} (R : Rules E B O) (board : Board B) (desks : List (Desk E B)) (homes : List (Home E B)) : Type 0 where
   pub log : List (Event (Mark E))
   pub legal : IsLawful (MayCome (R.allowed (opened board.start))) log
-  pub keys : (i : ℕ) (desk : Desk E B) → get_elem? desks i ≡ some desk → IsIn log desk
+  pub keys : (i : ℕ) (desk : Desk E B) → slice_get desks i ≡ Some desk → IsIn log desk
   pub rest : (c : CpuId) → board.cpus ≤ c.0 → own_events actor c log ≡ []
-  pub blocks : (i : ℕ) (o : LockId × B) → get_elem? board.start i ≡ some o
+  pub blocks : (i : ℕ) (o : LockId × B) → slice_get board.start i ≡ Some o
       → (y : Home E B) × (b : B) × (get_elem? homes i ≡ some y) × (y.block ≡ Some b) × (block_after R.edited (opened board.start) o.0 (sections log) ≡ Some b)
 
 module _ {E B O : Type 0} (R : Rules E B O) where
   pub gathered_none : (start : List (LockId × B)) → Gathered {E = E} start (viewed start [] []) []
-  gathered_none start = record { view = refl; keys = λ i d at. absurd (some-ne-none d (sym at)); quiet = λ c has. absurd has }
+  gathered_none start = record { view = refl; keys = λ i d at. absurd (cc at); quiet = λ c has. absurd has }
 
   -- one desk more
   pub gathered_more : (start : List (LockId × B)) (v : View E B) (desks : List (Desk E B)) (d : Desk E B) (at : Step (Home E B)) (held : List (ℕ × Home E B))
@@ -76,10 +78,10 @@ module _ {E B O : Type 0} (R : Rules E B O) where
         view = subst (λ (l : List CpuId). w.0 ≡ viewed start l w.0.seen) cpus_are
             (subst (λ (l : List (LockId × B)). w.0 ≡ viewed l (d.cpu ∷ v.cpus) w.0.seen) started met.view);
         keys = λ i e there. ⊎_elim
-            (λ old. let known = g.keys i e old in (has_old e.cpu known.0, since_trans e.cpu w.0.seen v.seen e.seen (met.fits.cpus e.cpu known.0) known.1))
+            (λ old. let known = g.keys i e (got desks i e old) in (has_old e.cpu known.0, since_trans e.cpu w.0.seen v.seen e.seen (met.fits.cpus e.cpu known.0) known.1))
             (λ (t : (i ≡ length desks) × (d ≡ e)). subst (λ (e : Desk E B). Has e.cpu w.0.cpus × IsSince w.0.seen e.seen e.cpu) t.1
             (subst (λ l. Has d.cpu l) cpus_are (inl refl), met.fits.lent d.cpu (inl refl)))
-            (at_end desks d e i there);
+            (at_end desks d e i (there_for (desks ++ d ∷ []) i e there));
         quiet = λ c has. ⊎_elim
             (λ (same : c ≡ d.cpu). subst (λ x. standing x w.0.seen ≡ Outside) (sym same)
             (standing_since d.cpu w.0.seen d.seen (met.fits.lent d.cpu (inl refl)) ∙ over))
@@ -110,9 +112,9 @@ module _ {E B O : Type 0} (R : Rules E B O) where
             let known = g.keys i d at in
             let since = since_trans d.cpu log v.seen d.seen (fits.cpus d.cpu known.0) known.1 in
             record { ends = record { more = since.more; is = since.is }; whole = own_since d.cpu log d.seen since });
-        rest = λ c large. none_of_others c log (kept.rest c large);
+        rest = λ c large. own_none actor c log (kept.rest c large);
         blocks = λ i o at. (
-            let rank = rank_at board.start i o distinct at in
+            let rank = rank_at board.start i o distinct (there_for board.start i o at) in
             let stands = kept.shows.each o.0 rank.1 in
             let nobody : NobodyInside o.0 log = λ c t inside. absurd (let out = outside c in cc (out, inside)) in
             let found = home_of stands.home (all_home R.edited (opened board.start) o.0 log nobody _ _ (home_block stands.home) stands.is) in
@@ -159,8 +161,9 @@ module _ {E B O : Type 0} (R : Rules E B O) where
     count = count ∙ (ap length locks_are ∙ length-map board.start (λ (o : LockId × B). o.0));
     blocks_are = λ i o at. (
         let there = settled.blocks i o at in
-        let lock_at : get_elem? locks i ≡ some o.0 = ap (λ l. get_elem? l i) locks_are ∙ at_map (λ (o : LockId × B). o.0) board.start i o at in
-        (there.1, given i o.0 there.0 there.1 lock_at there.2 there.3, there.4));
+        let lock_at : get_elem? locks i ≡ some o.0
+        = ap (λ l. get_elem? l i) locks_are ∙ at_map (λ (o : LockId × B). o.0) board.start i o (there_for board.start i o at) in
+        (there.1, got blocks i (o.0, there.1) (given i o.0 there.0 there.1 lock_at there.2 there.3), there.4));
   }
 
   -- each slot has a block

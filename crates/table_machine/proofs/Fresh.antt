@@ -1,5 +1,5 @@
 -- The keys of a table at which nothing has happened, and those of a table of two.
-use Rattle.std.proofs.Common.{◌≡◌, ◌≢◌, ℕ, zero, suc, ◌<◌, List, [], ◌∷◌, ◌++◌, length, get_or, All, refl, ap, sym, ◌∙◌, subst, length-append, arith}
+use Rattle.std.proofs.Common.{◌≡◌, ◌≢◌, ℕ, zero, suc, ◌<◌, List, [], ◌∷◌, length, get_or, All, refl, ap, sym, ◌∙◌, subst, length-append, arith}
 use mathlib.Core.Logic.{dite}
 use native.Mathlib.Decide.{ℕ_discrete}
 use mathlib.Core.Option.{some, some-injective, some-ne-none}
@@ -12,7 +12,8 @@ use Rattle.event_log.proofs.Foreign.{standing_others}
 use Rattle.layer_traits.specs.declared.edits.Mark.{Mark}
 use Rattle.table_machine.specs.Views.{IsCpu}
 use Rattle.table_machine.specs.Desks.{Board, Desk, new_desk, new_desks, Covers, IsOver}
-pub use Rattle.atomic_table.proofs.Lists.{at_longer, at_last}
+use Rattle.table_machine.proofs.Elements.{got}
+use Rattle.atomic_table.proofs.Lists.{at_longer, at_last}
 
 pub length_new : (E : Type 0) {B : Type 0} (board : Board B) (n : ℕ) → length (new_desks {E = E} board n) ≡ n
 length_new E board zero = refl
@@ -32,7 +33,7 @@ new_at {E = E} board (suc n) k below = dite (ℕ_discrete k n)
 
 -- the new keys are those of all CPUs
 pub new_cover : {E B : Type 0} (board : Board B) (n : ℕ) → Covers {E = E} n (new_desks board n)
-new_cover board n c below = (c.0, new_desk board c.0, new_at board n c.0 below, refl)
+new_cover board n c below = (c.0, new_desk board c.0, got (new_desks board n) c.0 (new_desk board c.0) (new_at board n c.0 below), refl)
 
 -- none of them has a ticket outstanding
 pub new_over : {E B : Type 0} (board : Board B) (n : ℕ) → All (IsOver {E = E} board) (new_desks board n)

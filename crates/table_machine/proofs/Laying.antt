@@ -1,6 +1,6 @@
 -- How a table is laid out, and its keys dealt.
 use Rattle.std.proofs.Common.{◌≡◌, ◌≢◌, ℕ, suc, ◌+◌, ◌-◌, ◌<◌, ◌≤◌, Bool, true, false, if◌then◌else◌, List, [], ◌∷◌, ◌++◌, length, get_or, set, drop, map}
-use Rattle.std.proofs.Common.{replicate, ◌^◌, zero-add, Some, IsSome, refl, ap, sym, ◌∙◌, subst, arith, eq-eqb, add-one, get_or-set_same, get_or-set_other}
+use Rattle.std.proofs.Common.{replicate, ◌^◌, zero-add, Some, IsSome, refl, ap, sym, ◌∙◌, subst, arith, add-one, get_or-set_same, get_or-set_other}
 use Rattle.std.proofs.Common.{drop-cons}
 use Rattle.atomic_table.specs.Seated.{TableId}
 use Rattle.atomic_table.specs.Table.{Me, Splits}
@@ -8,7 +8,6 @@ use Rattle.event_log.specs.Locks.{lock_number}
 use Rattle.event_log.specs.declared.ids.TheConstants.{LOCKS}
 use Rattle.event_log.proofs.Same.{lock_number_same}
 use Rattle.event_log.specs.declared.ids.LockId.{LockId}
-use Rattle.event_log.specs.declared.ids.LockId.TheVariants.{Pending, Buffer}
 use Rattle.event_log.specs.History.{same_lock}
 use Rattle.event_log.proofs.Same.{same_lock_true}
 use Rattle.layer_traits.specs.Protocol.{Rules}
@@ -81,7 +80,8 @@ module _ {E B O : Type 0} (R : Rules E B O) where
       (mine me.0.start (owner me.0.cpus) me.0.seen) in
       let plain : P (board_of z start n) = λ below table_is me_is. (
       let m : ℕ = n - (cpu + 1) in
-      let me_at : me ≡ (viewed start (cpus_from cpu (suc m)) [], []) = me_is ∙ ap (λ (k : ℕ). (viewed start (cpus_from cpu k) [], [])) (one_less n cpu below) in (
+      let me_at : me ≡ (viewed start (cpus_from cpu (suc m)) [], [])
+      = me_is ∙ ap (λ (k : ℕ). (viewed start (cpus_from cpu k) [], [])) (one_less n cpu below) in (
         table_is,
         has_words start z.words z.slots ranks locks laid,
         subst (λ (x : Me (Home E B) (View E B)). Splits (Kept R n start) id x.0 (viewed x.0.start (drop 1 x.0.cpus) x.0.seen)

@@ -10,4 +10,5 @@ pub mod Meeting
 pub mod Laying
 pub mod Closing
 pub mod Returning
+pub mod Elements
 pub mod Fresh

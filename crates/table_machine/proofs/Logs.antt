@@ -5,28 +5,23 @@ use Rattle.event_log.specs.declared.ids.CpuId.{CpuId}
 use Rattle.event_log.specs.declared.ids.LockId.{LockId}
 use Rattle.event_log.specs.declared.events.Event.{Event}
 use Rattle.event_log.specs.declared.events.Event.TheVariants.{Draw, Look, Free}
-use Rattle.event_log.specs.History.{same_cpu, same_lock, AreOthers, IsLawful, own_events}
-use Rattle.event_log.specs.WordsLog.{actor, standing, left_by, IsLegalWords, Inside}
-use Rattle.event_log.specs.Sections.{block_after, Section, section_actor}
+use Rattle.event_log.specs.History.{same_cpu, same_lock, AreOthers, own_events}
+use Rattle.event_log.specs.WordsLog.{actor, standing, IsLegalWords, Inside}
+use Rattle.event_log.specs.Sections.{block_after}
 use Rattle.event_log.proofs.Same.{same_lock_true}
-use Rattle.event_log.proofs.Foreign.{standing_others, own_others}
+use Rattle.event_log.proofs.Foreign.{others_both, standing_others, own_others}
 use Rattle.layer_traits.specs.declared.edits.Mark.{Mark}
-use Rattle.layer_traits.specs.Protocol.{section}
-use Rattle.layer_traits.specs.WordsProtocol.{sections, MayCome}
+use Rattle.layer_traits.specs.WordsProtocol.{sections}
 use Rattle.table_machine.specs.Views.{EndsWith, IsSince}
 use Rattle.event_log.proofs.Tickets.{one_inside}
 
 module _ {M : Type 0} where
-  pub others_append : (c : CpuId) (a b : List (Event M)) → AreOthers actor c a → AreOthers actor c b → AreOthers actor c (a ++ b)
-  others_append c [] b h k = k
-  others_append c (e ∷ a) b h k = (h.0, others_append c a b h.1 k)
-
   -- events of others put on top of what stood since
   pub since_more : (c : CpuId) (es log seen : List (Event M)) → AreOthers actor c es → IsSince log seen c → IsSince (es ++ log) seen c
   since_more c es log seen h s = record {
     more = es ++ s.more;
     is = ap (λ l. es ++ l) s.is ∙ sym (append_assoc es s.more seen);
-    others = others_append c es s.more h s.others;
+    others = others_both actor c es s.more h s.others;
   }
 
   pub since_all : (c : CpuId) (log : List (Event M)) → IsSince log log c
@@ -50,40 +45,6 @@ module _ {M : Type 0} where
 
   pub ends_trans : (a b c : List (Event M)) → EndsWith a b → EndsWith b c → EndsWith a c
   ends_trans a b c s t = record { more = s.more ++ t.more; is = s.is ∙ (ap (λ l. s.more ++ l) t.is ∙ sym (append_assoc s.more t.more c)) }
-
-  pub none_of_others : (c : CpuId) (log : List (Event M)) → AreOthers actor c log → own_events actor c log ≡ []
-  none_of_others c [] h = refl
-  none_of_others c (e ∷ log) h = ap (λ b. if b then e ∷ own_events actor c log else own_events actor c log) h.0 ∙ none_of_others c log h.1
-
-module _ {E : Type 0} (Allowed : List (Section E) → Section E → Type 0) where
-  -- a log that keeps the protocol is a legal words log
-  pub legal_words : (log : List (Event (Mark E))) → IsLawful (MayCome Allowed) log → IsLegalWords log
-  legal_words [] h = tt
-  legal_words (e ∷ log) h = (h.0.0, legal_words log h.1)
-
-  pub legal_tail : (more log : List (Event (Mark E))) → IsLawful (MayCome Allowed) (more ++ log) → IsLawful (MayCome Allowed) log
-  legal_tail [] log h = h
-  legal_tail (e ∷ more) log h = legal_tail more log h.1
-
-  -- its sections keep the protocol
-  pub lawful_sections : (log : List (Event (Mark E))) → IsLawful (MayCome Allowed) log → IsLawful Allowed (sections log)
-  lawful_sections [] h = tt
-  lawful_sections (Draw c l t ∷ log) h = lawful_sections log h.1
-  lawful_sections (Look c l t r ∷ log) h = lawful_sections log h.1
-  lawful_sections (Free c l m ∷ log) h = (h.0.1, lawful_sections log h.1)
-
-module _ {E : Type 0} where
-  pub sections_more : (more log : List (Event (Mark E))) → sections (more ++ log) ≡ sections more ++ sections log
-  sections_more [] log = refl
-  sections_more (Draw c l t ∷ more) log = sections_more more log
-  sections_more (Look c l t r ∷ more) log = sections_more more log
-  sections_more (Free c l m ∷ more) log = ap (λ s. section c l m.edit ∷ s) (sections_more more log)
-
-  pub sections_others : (c : CpuId) (more : List (Event (Mark E))) → AreOthers actor c more → AreOthers section_actor c (sections more)
-  sections_others c [] h = tt
-  sections_others c (Draw d l t ∷ more) h = sections_others c more h.1
-  sections_others c (Look d l t r ∷ more) h = sections_others c more h.1
-  sections_others c (Free d l m ∷ more) h = (h.0, sections_others c more h.1)
 
 module _ {E B : Type 0} (edited : E → B → B) (opening : LockId → Option B) where
   -- what a Free by another CPU does to a lock that this CPU is inside: nothing, since it is not of that lock

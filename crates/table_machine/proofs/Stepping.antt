@@ -26,7 +26,8 @@ use Rattle.table_machine.specs.Views.{viewed, mine, Has, IsSince}
 use Rattle.table_machine.specs.Rule.{home_block, ShowsLock, Shows, Kept}
 use Rattle.table_machine.specs.Plays.{Moves, Drew, Looked, Freed, Met, Entered}
 use Rattle.layer_traits.proofs.OneLockLemmas.{standing_own, drew, missed, hit, freed, hit_finds}
-use Rattle.table_machine.proofs.Logs.{standing_since, legal_words, lawful_sections, sections_more, sections_others, inside_keeps, ends_nil}
+use Rattle.layer_traits.proofs.Seen.{words_legal, sections_allowed, sections-append, others_sections}
+use Rattle.table_machine.proofs.Logs.{standing_since, inside_keeps, ends_nil}
 use Rattle.table_machine.proofs.Finding.{rank_below}
 use Rattle.table_machine.proofs.Seeing.{sees_moved, sees_less, sees_new, sees_join, one_event, owns_viewed}
 use Rattle.table_machine.proofs.Showing.{next_apart, serving_apart, next_not_serving, serving_not_next, next_within, serving_within, reword, shows_step}
@@ -179,7 +180,7 @@ module _ {E B O : Type 0} (R : Rules E B O) (n : ℕ) (start : List (LockId × B
       let legal : IsLawful (MayCome (R.allowed (opened start))) (e ∷ kept.log) = (may, kept.legal) in
       let old = kept.shows.each lock exists in
       let found = home_of old.home
-      (hit_finds R.edited (opened start) lock cpu ticket read kept.log (legal_words (R.allowed (opened start)) (e ∷ kept.log) legal) same
+      (hit_finds R.edited (opened start) lock cpu ticket read kept.log (words_legal (R.allowed (opened start)) (e ∷ kept.log) legal) same
       (slice_index s.words (next_at k)) (slice_index s.words i) (home_block old.home) old.is) in
       let y : Home E B = found.0 in
       let b : B = found.1 in
@@ -246,15 +247,15 @@ module _ {E B O : Type 0} (R : Rules E B O) (n : ℕ) (start : List (LockId × B
       let more : List (Event (Mark E)) = now.since.more in
       let Allowed = R.allowed (opened start) in
       let inside : standing cpu kept.log ≡ Inside lock ticket = standing_since cpu kept.log seen now.since ∙ in_lock in
-      let words_legal = legal_words Allowed kept.log kept.legal in
-      let sections_are : sections kept.log ≡ sections more ++ sections seen = ap sections now.since.is ∙ sections_more more seen in
+      let legal_log = words_legal Allowed kept.log kept.legal in
+      let sections_are : sections kept.log ≡ sections more ++ sections seen = ap sections now.since.is ∙ sections-append more seen in
       let allowed : Allowed (sections kept.log) (section cpu lock edit) = subst (λ l. Allowed l (section cpu lock edit)) (sym sections_are)
-      (stays (sections more) (sections_others cpu more now.since.others)
-      (subst (λ l. IsLawful Allowed l) sections_are (lawful_sections Allowed kept.log kept.legal))) in
+      (stays (sections more) (others_sections cpu more now.since.others)
+      (subst (λ l. IsLawful Allowed l) sections_are (sections_allowed Allowed kept.log kept.legal))) in
       let may : MayCome Allowed kept.log e = ((ticket, inside), allowed) in
       let unchanged : block_after R.edited (opened start) lock (sections kept.log) ≡ block_after R.edited (opened start) lock (sections seen) =
       ap (λ l. block_after R.edited (opened start) lock (sections l)) now.since.is
-      ∙ inside_keeps R.edited (opened start) cpu lock ticket more seen (subst (λ l. Rattle.event_log.specs.WordsLog.IsLegalWords l) now.since.is words_legal)
+      ∙ inside_keeps R.edited (opened start) cpu lock ticket more seen (subst (λ l. Rattle.event_log.specs.WordsLog.IsLegalWords l) now.since.is legal_log)
       now.since.others in_lock in
       let block_is : option_map (R.edited edit) (block_after R.edited (opened start) lock (sections kept.log)) ≡ Some block =
       ap (option_map (R.edited edit)) unchanged ∙ is_edited in
@@ -269,7 +270,7 @@ module _ {E B O : Type 0} (R : Rules E B O) (n : ℕ) (start : List (LockId × B
             (slice_index (set s.words i x) i) y.block
             (sym (get_or-set_other s.words i (next_at k) x 0 (serving_not_next k))) (sym (get_or-set_same s.words i x 0 word_within))
             (subst (λ o. LockFits R.edited (opened start) (e ∷ kept.log) lock (slice_index s.words (next_at k)) x o) (sym has_block)
-            (freed R.edited (opened start) lock cpu ticket (mark_of edit) kept.log words_legal inside block block_is (slice_index s.words (next_at k)) read
+            (freed R.edited (opened start) lock cpu ticket (mark_of edit) kept.log legal_log inside block block_is (slice_index s.words (next_at k)) read
             (home_block old.home) old.is));
       } in
       let shows = shows_step R.edited start s.words s.homes kept.log kept.shows e may.0 i x (serving_apart k) homes

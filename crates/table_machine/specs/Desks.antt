@@ -1,7 +1,5 @@
 -- What a caller knows of a table, of a key and of a seat, and what `close` says.
-use Rattle.std.specs.Prelude.{◌≡◌, ℕ, zero, suc, ◌<◌, ◌≤◌, List, [], ◌∷◌, ◌++◌, length, Some}
-use mathlib.Core.Option.{some}
-use lib.ListN.{get_elem?}
+use Rattle.std.specs.Prelude.{◌≡◌, ℕ, zero, suc, ◌<◌, ◌≤◌, List, [], ◌∷◌, ◌++◌, length, slice_get, Some}
 use Rattle.atomic_table.specs.Seated.{TableId}
 use Rattle.atomic_table.specs.Table.{Me}
 use Rattle.event_log.specs.declared.ids.CpuId.{CpuId}
@@ -69,12 +67,12 @@ pub record IsOver {E B : Type 0} (board : Board B) (desk : Desk E B) : Type 0 wh
 -- a closing seat has taken in these desks: it acts for their CPUs, which have no ticket outstanding, and goes on from what each has seen
 pub record Gathered {E B : Type 0} (start : List (LockId × B)) (v : View E B) (desks : List (Desk E B)) : Type 0 where
   pub view : v ≡ viewed start v.cpus v.seen
-  pub keys : (i : ℕ) (d : Desk E B) → get_elem? desks i ≡ some d → Has d.cpu v.cpus × IsSince v.seen d.seen d.cpu
+  pub keys : (i : ℕ) (d : Desk E B) → slice_get desks i ≡ Some d → Has d.cpu v.cpus × IsSince v.seen d.seen d.cpu
   pub quiet : (c : CpuId) → Has c v.cpus → standing c v.seen ≡ Outside
 
 -- each CPU of the table has a desk among these
 abbrev pub Covers : {E B : Type 0} → ℕ → List (Desk E B) → Type 0
-Covers cpus desks = (c : CpuId) → c.0 < cpus → (i : ℕ) × (desk : Desk _ _) × (get_elem? desks i ≡ some desk) × (desk.cpu ≡ c)
+Covers cpus desks = (c : CpuId) → c.0 < cpus → (i : ℕ) × (desk : Desk _ _) × (slice_get desks i ≡ Some desk) × (desk.cpu ≡ c)
 
 -- the log begins with all that this desk has seen, and holds of its CPU just that
 pub record IsIn {E B : Type 0} (log : List (Event (Mark E))) (desk : Desk E B) : Type 0 where
@@ -85,8 +83,8 @@ pub record IsIn {E B : Type 0} (log : List (Event (Mark E))) (desk : Desk E B) :
 pub record Closes {E B O : Type 0} (rules : Rules E B O) (board : Board B) (desks : List (Desk E B)) (blocks : List (LockId × B)) : Type 0 where
   pub log : List (Event (Mark E))
   pub legal : IsLawful (MayCome (rules.allowed (opened board.start))) log
-  pub keys : (i : ℕ) (desk : Desk E B) → get_elem? desks i ≡ some desk → IsIn log desk
+  pub keys : (i : ℕ) (desk : Desk E B) → slice_get desks i ≡ Some desk → IsIn log desk
   pub rest : (c : CpuId) → board.cpus ≤ c.0 → own_events actor c log ≡ []
   pub count : length blocks ≡ length board.start
-  pub blocks_are : (i : ℕ) (o : LockId × B) → get_elem? board.start i ≡ some o
-      → (b : B) × (get_elem? blocks i ≡ some (o.0, b)) × (block_after rules.edited (opened board.start) o.0 (sections log) ≡ Some b)
+  pub blocks_are : (i : ℕ) (o : LockId × B) → slice_get board.start i ≡ Some o
+      → (b : B) × (slice_get blocks i ≡ Some (o.0, b)) × (block_after rules.edited (opened board.start) o.0 (sections log) ≡ Some b)

@@ -23,7 +23,8 @@ pub returns-clause-counted : goal.returns-clause-counted
 returns-clause-counted c =
     let none = ap (λ log. sections_at NUMBER (sections_of (edit_of {E = AddOne}) log)) c.in_ok-machine.ensures.seen in
     let long = ap length c.as_mut_slice.ensures.value ∙ c.in-Ok.ensures.long in
-    sym (frees_are_sections (edit_of {E = AddOne}) NUMBER (history c.rounds.new.machine.log)) ∙ c.rounds.ensures.counted ∙ ap (λ n. n + c.args.times * length c.as_mut_slice.result.now) none
+    sym (frees_are_sections (edit_of {E = AddOne}) NUMBER (history c.rounds.new.machine.log)) ∙ c.rounds.ensures.counted
+    ∙ ap (λ n. n + c.args.times * length c.as_mut_slice.result.now) none
     ∙ zero-add _ ∙ ap (λ n. c.args.times * n) long
 
 pub returns-clause-rests : goal.returns-clause-rests
@@ -31,6 +32,7 @@ returns-clause-rests c cpu = outside_at_rest (history c.rounds.new.machine.log) 
 
 pub returns-clause-order : goal.returns-clause-order
 returns-clause-order c =
-    let none = ap (λ log. after_rounds NUMBER (length c.as_mut_slice.result.now) c.args.times (acts_of (edit_of {E = AddOne}) log)) c.in_ok-machine.ensures.seen in
+    let none = ap (λ log. after_rounds NUMBER (length c.as_mut_slice.result.now) c.args.times (acts_of (edit_of {E = AddOne}) log))
+    c.in_ok-machine.ensures.seen in
     let long = ap length c.as_mut_slice.ensures.value ∙ c.in-Ok.ensures.long in
     c.rounds.ensures.order ∙ none ∙ ap (λ n. after_rounds NUMBER n c.args.times []) long

@@ -12,5 +12,6 @@ invariant-loop g l = record {
   site : g.L.LockLayer.site l.machine ≡ g.L.LockLayer.site l.initial.machine;
   acts : (c : CpuId) → g.L.LockLayer.ActsFor l.initial.machine c → g.L.LockLayer.ActsFor l.machine c;
   call : MayGoOn (g.L.LockLayer.under_way l.part) (section (g.L.LockLayer.cpu_of l.initial.part) l.lock (record {}));
-  made : made (g.L.LockLayer.cpu_of l.initial.part) l.lock (g.L.LockLayer.seen l.machine) ≡ made (g.L.LockLayer.cpu_of l.initial.part) l.lock (g.L.LockLayer.seen l.initial.machine);
+  made : made (g.L.LockLayer.cpu_of l.initial.part) l.lock (g.L.LockLayer.seen l.machine)
+      ≡ made (g.L.LockLayer.cpu_of l.initial.part) l.lock (g.L.LockLayer.seen l.initial.machine);
 }

@@ -9,10 +9,12 @@ pub close-blocks-requires-clause-keys : goal.close-blocks-requires-clause-keys
 close-blocks-requires-clause-keys c = came_over NUMBER c.args.times c.args.shared c.args.keys.items c.requires.came
 
 pub returns-clause-number : goal.returns-clause-number
-returns-clause-number c = number_read c.close-blocks.result.items _ c.index.result.now
-    (number_is_left c.args.times c.args.shared c.args.keys.items c.close-blocks.result.items c.requires.came c.close-blocks.ensures c.requires.start c.requires.cpus c.requires.times).0 c.index.ensures
+returns-clause-number c =
+    let is = number_is_left c.args.times c.args.shared c.args.keys.items c.close-blocks.result.items c.requires.came c.close-blocks.ensures
+    c.requires.start c.requires.cpus c.requires.times in
+    number_read c.close-blocks.result.items _ c.index.result.now is.0 c.index.ensures
 
 pub returns-clause-frees : goal.returns-clause-frees
-returns-clause-frees c = left_by_frees c.args.times c.args.shared c.args.keys.items c.close-blocks.result.items c.requires.came c.close-blocks.ensures _
-    (number_read c.close-blocks.result.items _ c.index.result.now
-    (number_is_left c.args.times c.args.shared c.args.keys.items c.close-blocks.result.items c.requires.came c.close-blocks.ensures c.requires.start c.requires.cpus c.requires.times).0 c.index.ensures)
+returns-clause-frees c =
+    left_by_frees c.args.times c.args.shared c.args.keys.items c.close-blocks.result.items c.requires.came c.close-blocks.ensures _
+    (returns-clause-number c)

@@ -15,6 +15,7 @@ loop-preserved g c = record {
   rests = c.add_one.ensures.rests;
   opening = c.add_one.ensures.opening ∙ c.loop.invariant.opening;
   site = c.add_one.ensures.site ∙ c.loop.invariant.site;
-  made = subst (λ cpu. made cpu NUMBER (sections c.add_one.new.machine.seen) ≡ made cpu NUMBER (sections c.loop.seat.seen) + 1) c.loop.invariant.cpu c.add_one.ensures.made
+  made = subst (λ cpu. made cpu NUMBER (sections c.add_one.new.machine.seen) ≡ made cpu NUMBER (sections c.loop.seat.seen) + 1)
+      c.loop.invariant.cpu c.add_one.ensures.made
       ∙ (ap (λ n. n + 1) c.loop.invariant.made ∙ add_assoc (made c.args.key.cpu NUMBER (sections c.args.key.seen)) c.loop.counter 1);
 }

@@ -28,7 +28,8 @@ loop-start-preserved g c =
           c.into_iter-start-iterator.result.rest.items c.in-Some.start known.all c.in-Some.ensures.steps.0;
       many = known.many;
       promised = both_taken (λ d h. (h.promise.key.value ≡ d) × (h.promise.times ≡ c.captures.times)) c.captures.keys.items c.loop-start.at
-          c.index-in-loop-start.result.now c.index-in-loop-start.result.now c.loop-start.children.items c.push_reserved.new.self.items c.in-Ok.child below known.promised
+          c.index-in-loop-start.result.now c.index-in-loop-start.result.now c.loop-start.children.items c.push_reserved.new.self.items c.in-Ok.child
+          below known.promised
           c.index-in-loop-start.ensures (ap (λ p. p.key.value) c.in-Ok.ensures.ok ∙ c.of.ensures, ap (λ p. p.times) c.in-Ok.ensures.ok)
           (c.push_reserved.ensures.items ∙ ap (λ h. c.loop-start.children.items ++ h ∷ []) c.in-Ok.child-is);
       room = subst (λ n. length c.captures.keys.items ≤ n) (sym c.push_reserved.ensures.capacity) known.room;
@@ -47,7 +48,8 @@ pub returns : goal.returns
 returns g c =
     let known = c.loop-start.invariant in
     let whole : c.loop-start.yielded ≡ c.into_iter-start-iterator.result.rest.items = no_more c.loop-start.yielded c.loop-start.start-iterator.rest.items
-    c.into_iter-start-iterator.result.rest.items c.loop-start.start-iterator.rest.len known.all c.loop-start.start-iterator.rest.ok.0 c.in-None.ensures.steps.0 in
+    c.into_iter-start-iterator.result.rest.items c.loop-start.start-iterator.rest.len
+    known.all c.loop-start.start-iterator.rest.ok.0 c.in-None.ensures.steps.0 in
     let taken : take c.loop-start.at c.captures.keys.items ≡ c.captures.keys.items = taken_all c.captures.keys.items c.loop-start.at c.loop-start.yielded
     c.into_iter-start-iterator.result.rest.items known.turn whole known.many in (
       both_then (λ d h. (h.promise.key.value ≡ d) × (h.promise.times ≡ c.captures.times)) (λ h k. HasMade NUMBER h.promise.key.value k h.promise.times)
