@@ -2,7 +2,7 @@
 
 use crate::reading::instructions_in;
 use crate::refusals::{GuestError, GuestFault};
-use event_log::BufId;
+use event_log::{BufId, NoMemory};
 use std::alloc::Global;
 use std::marker::Model;
 
@@ -128,6 +128,19 @@ impl Program {
             Ok(lines) => Ok(Program { lines }),
             Err(error) => Err(error),
         }
+    }
+
+    /// The same program in memory of its own.
+    ///
+    /// Errors: `NoMemory` where the allocation was refused.
+    pub fn copy(&self, alloc: Global) -> Result<Program, NoMemory>
+        ensures { IfOk result (λ program. program ≡ self.now) }
+    {
+        let mut lines = Vec::new(alloc);
+        if lines.extend_from_slice(&self.lines).is_err() {
+            return Err(NoMemory);
+        }
+        Ok(Program { lines })
     }
 
     /// How many lines the program has, from 1 to 256.

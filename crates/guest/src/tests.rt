@@ -55,6 +55,16 @@ fn each_line_is_its_instruction(rt: HostRuntime) -> Result<(), Fail> {
 }
 
 #[test]
+fn a_copy_has_the_lines_of_its_program(rt: HostRuntime) -> Result<(), Fail> {
+    let program = Program::read(rt.alloc(), &["set r1 7", "send 0 r1"])?;
+    let copy = program.copy(rt.alloc())?;
+    assert_eq!(rt; copy.len(), 2);
+    assert_eq!(rt; copy.instruction(0), Instruction::Set(Register::Reg1, 7));
+    assert_eq!(rt; copy.instruction(1), Instruction::Send(BufId(0), Register::Reg1));
+    Ok(())
+}
+
+#[test]
 fn each_fault_has_its_line_and_number(rt: HostRuntime) -> Result<(), Fail> {
     assert_eq!(rt; refusal(&rt, &[])?.as_str(), "line 0 Empty(15)");
     assert_eq!(rt;
