@@ -1,1 +1,2 @@
 pub mod CondLemmas
+pub mod TurnLemmas

@@ -4,6 +4,10 @@
 
 mod calls;
 mod cond;
+#[cfg(test)]
+mod polling;
+#[cfg(test)]
+mod tests;
 mod waits;
 
 pub use cond::Cond;

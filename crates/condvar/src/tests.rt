@@ -1,0 +1,248 @@
+//! Conditions over queuing locks of an owned machine: a wait frees its lock, and is over once the
+//! thread was woken.
+
+ghost use Rattle.std.specs.Prelude.{◌≡◌, ◌≢◌, ◌+◌, ◌*◌, ◌<◌, ◌≤◌, [], ◌∷◌, true, IsSome, IfOk};
+ghost use Rattle.event_log.specs.declared.ids.LockId.TheVariants.{Buffer, Pending};
+ghost use Rattle.event_log.specs.declared.ids.Tid.{Tid};
+ghost use Rattle.event_log.specs.declared.ids.TheConstants.{CPUS, THREADS};
+ghost use Rattle.layer_traits.specs.Locking.{AreAtRest};
+ghost use Rattle.layer_traits.specs.QueueBlocks.{StartsWell, homes_in, inner};
+ghost use Rattle.layer_traits.specs.Renaming.{viewed};
+ghost use Rattle.queuing_lock.specs.Nested.{lock_of};
+ghost use Rattle.condvar.specs.Turns.{HasEnded, WaitsAt};
+ghost use Rattle.sleep_wakeup.specs.Nested.{state_of};
+
+use crate::Cond;
+use crate::polling::{Turn, calls, drains, is_woken, switches, turns};
+use event_log::{BufId, CPUS, CpuId, NoMemory, THREADS, Tid};
+use layer_traits::{
+    CvEdit, CvLayer, CvLeave, CvOut, Guarded, Line, OwnedConds, QEdit, QOut, QueueEdit, Side, Words,
+};
+use plain_machine::Plain;
+use queuing_lock::{QLock, QLockEdit, lock_blocks};
+use scheduler::Sched;
+use shared_queue::{SharedQueues, queue_blocks};
+use sleep_wakeup::{SleepEdit, Sleeper, sleep_blocks};
+use spinlock::Ticket;
+use std::alloc::Global;
+use std::test::Fail;
+
+/// Reads the block: the thread that stands at the front of either line.
+#[derive(Clone, Copy)]
+struct Reads {
+    caller: Tid,
+}
+
+impl Guarded for Reads {
+    ghost use Rattle.std.specs.Prelude.{Some};
+
+    type Block = Tid;
+
+    type Out = Tid;
+
+    ghost deeds = { record {
+      caller = λ e. e.caller;
+      edited = λ e b. b;
+      answer = λ e b. b;
+      ready = λ side b. Some b;
+      allowed = λ opening past s. Unit {0};
+    } };
+
+    fn caller(self) -> Tid {
+        self.caller
+    }
+
+    fn apply(self, block: &mut Tid) -> Tid {
+        *block
+    }
+
+    fn ready(_side: Side, block: &Tid) -> Option<Tid> {
+        Some(*block)
+    }
+}
+
+/// Thread 0 acquires in the polls of a section; after those of its Wait it waits among the receivers
+/// and the lock has no owner; and thread 1 then acquires in those of another.
+fn waits_and_frees<G: Guarded, C: OwnedConds<G>>(
+    zero: &mut C,
+    one: &mut C,
+    m: &mut C::Machine,
+    section: usize,
+) -> bool
+    requires granted { (opening : _) (past : _) (s : _) → G.deeds.allowed opening past s }
+    requires zero { C.Fits zero.old m.old }
+    requires one { C.Fits one.old m.old }
+    requires apart { C.cpu_of zero.old ≢ C.cpu_of one.old }
+    requires buffer { IsSome (C.opening m.old (Buffer (record { 0 = 0 }))) }
+    requires room { 3 * section ≤ C.room m.old }
+    requires owner { HasEnded G.deeds (C.own zero.old) (C.under_way zero.old) (record { 0 = 0 }) }
+    requires asker { HasEnded G.deeds (C.own one.old) (C.under_way one.old) (record { 0 = 1 }) }
+    ensures zero { C.Fits zero.new m.new }
+    ensures one { C.Fits one.new m.new }
+    ensures first { C.cpu_of zero.new ≡ C.cpu_of zero.old }
+    ensures second { C.cpu_of one.new ≡ C.cpu_of one.old }
+    ensures opening { C.opening m.new ≡ C.opening m.old }
+    ensures room { C.room m.old ≤ C.room m.new + 3 * section }
+    ensures waiter { result ≡ true → WaitsAt G.deeds (C.own zero.new) (C.under_way zero.new) (record { 0 = 0 }) (record { 0 = 0 }) }
+    ensures owner { result ≡ true → HasEnded G.deeds (C.own one.new) (C.under_way one.new) (record { 0 = 1 }) }
+{
+    let at = BufId(0);
+    let wait = QEdit::Release(CvLeave::Wait(Tid(0), Side::Receivers));
+    let Some(Turn::Answered(first)) = calls::<G, C>(zero, m, at, &QEdit::Acquire(Tid(0)), section)
+    else {
+        return false;
+    };
+    let Some(Turn::Sleeps) = calls::<G, C>(zero, m, at, &wait, section) else {
+        return false;
+    };
+    if zero.current().is_some() || C::line_in(m, at, Tid(0)) != Some(Line::Receivers) {
+        return false;
+    }
+    if C::owner_in(m, at) != Some(None) {
+        return false;
+    }
+    let Some(Turn::Answered(second)) = calls::<G, C>(one, m, at, &QEdit::Acquire(Tid(1)), section)
+    else {
+        return false;
+    };
+    matches!(first.out, QOut::Acquired) && matches!(second.out, QOut::Acquired)
+}
+
+/// Thread 1 signals the front of the receivers, by which thread 0 comes into CPU 1's hand and is then
+/// sent home, and leaves the lock.
+fn signals_and_leaves<G: Guarded, C: OwnedConds<G>>(
+    one: &mut C,
+    m: &mut C::Machine,
+    section: usize,
+) -> bool
+    requires granted { (opening : _) (past : _) (s : _) → G.deeds.allowed opening past s }
+    requires fits { C.Fits one.old m.old }
+    requires buffer { IsSome (C.opening m.old (Buffer (record { 0 = 0 }))) }
+    requires room { 3 * section ≤ C.room m.old }
+    requires owner { HasEnded G.deeds (C.own one.old) (C.under_way one.old) (record { 0 = 1 }) }
+    ensures opening { C.opening m.new ≡ C.opening m.old }
+    ensures room { C.room m.old ≤ C.room m.new + 3 * section }
+    ensures others { (p : C) → C.cpu_of p ≢ C.cpu_of one.old → C.Fits p m.old → C.Fits p m.new }
+{
+    let at = BufId(0);
+    let signal = QEdit::Inside(CvEdit::SignalFront(Tid(1), Side::Receivers));
+    let Some(Turn::GoesOn) = calls::<G, C>(one, m, at, &signal, section) else {
+        return false;
+    };
+    if one.hand() != Some(Tid(0)) || C::line_in(m, at, Tid(0)).is_some() {
+        return false;
+    }
+    let Some(Turn::Answered(signalled)) = turns::<G, C>(one, m, at, &signal, section) else {
+        return false;
+    };
+    if signalled.woke != Some(Tid(0)) || one.hand().is_some() {
+        return false;
+    }
+    let leave = QEdit::Release(CvLeave::Leave(Tid(1)));
+    matches!(
+        calls::<G, C>(one, m, at, &leave, section),
+        Some(Turn::Answered(_))
+    )
+}
+
+/// Thread 0's wait is over once it runs again.
+fn is_over<G: Guarded, C: CvLayer<G>>(zero: &mut C, m: &mut C::Machine, section: usize) -> bool
+    requires fits { C.Fits zero.old m.old }
+    requires buffer { IsSome (C.opening m.old (Buffer (record { 0 = 0 }))) }
+    requires room { section < C.room m.old }
+    requires waiter { WaitsAt G.deeds (C.own zero.old) (C.under_way zero.old) (record { 0 = 0 }) (record { 0 = 0 }) }
+{
+    if !drains::<G, C>(zero, m, section) || !switches::<G, C>(zero, m) {
+        return false;
+    }
+    match is_woken::<G, C>(zero, m, BufId(0), Tid(0), Side::Receivers) {
+        Some(Turn::Answered(over)) => matches!(over.out, QOut::Released(CvOut::Waited(_))),
+        _ => false,
+    }
+}
+
+/// Thread 0 waits and is woken by thread 1.
+fn is_waited_for<G: Guarded, C: OwnedConds<G>>(
+    zero: &mut C,
+    one: &mut C,
+    m: &mut C::Machine,
+    section: usize,
+) -> bool
+    requires granted { (opening : _) (past : _) (s : _) → G.deeds.allowed opening past s }
+    requires zero { C.Fits zero.old m.old }
+    requires one { C.Fits one.old m.old }
+    requires apart { C.cpu_of zero.old ≢ C.cpu_of one.old }
+    requires buffer { IsSome (C.opening m.old (Buffer (record { 0 = 0 }))) }
+    requires room { 7 * section < C.room m.old }
+    requires owner { HasEnded G.deeds (C.own zero.old) (C.under_way zero.old) (record { 0 = 0 }) }
+    requires asker { HasEnded G.deeds (C.own one.old) (C.under_way one.old) (record { 0 = 1 }) }
+{
+    if !switches::<G, C>(zero, m) || !switches::<G, C>(one, m) {
+        return false;
+    }
+    waits_and_frees::<G, C>(zero, one, m, section)
+        && signals_and_leaves::<G, C>(one, m, section)
+        && is_over::<G, C>(zero, m, section)
+}
+
+/// One block.
+fn one_block(alloc: Global) -> Result<Vec<Tid>, NoMemory>
+    ensures { IfOk result (λ blocks. blocks.items ≡ record { 0 = 0 } ∷ []) }
+{
+    let mut blocks = Vec::new(alloc);
+    match blocks.push(Tid(0)) {
+        Ok(()) => Ok(blocks),
+        Err(_) => Err(NoMemory),
+    }
+}
+
+/// The edits of the machine.
+type Edits = QueueEdit<SleepEdit<QLockEdit<CvEdit<Reads>, CvLeave>>>;
+
+/// A machine of two CPUs and one buffer; thread 0 is at home on CPU 0, and thread 1 on CPU 1.
+fn machine(alloc: Global) -> Result<Plain<Edits>, NoMemory>
+    ensures acts { IfOk result (λ w. (c : _) → c.0 < CPUS → ⟦<Plain<Edits> as Words>⟧.ActsFor w c) }
+    ensures starts { IfOk result (λ w. StartsWell (⟦<Plain<Edits> as Words>⟧.opening w)) }
+    ensures homes { IfOk result (λ w. homes_in (⟦<Plain<Edits> as Words>⟧.opening w) ≡ record { 0 = 0 } ∷ record { 0 = 1 } ∷ []) }
+    ensures queues { IfOk result (λ w. (c : _) → c.0 < 2 → IsSome (⟦<Plain<Edits> as Words>⟧.opening w (Pending c))) }
+    ensures rest { IfOk result (λ w. AreAtRest (inner (viewed lock_of (viewed state_of (⟦<Plain<Edits> as Words>⟧.opening w))))) }
+    ensures buffer { IfOk result (λ w. IsSome (⟦<Plain<Edits> as Words>⟧.opening w (Buffer (record { 0 = 0 })))) }
+    ensures seen { IfOk result (λ w. ⟦<Plain<Edits> as Words>⟧.seen w ≡ []) }
+    ensures room { IfOk result (λ w. ⟦<Plain<Edits> as Words>⟧.room w ≡ 30) }
+{
+    let above = one_block(alloc)?;
+    let locked = lock_blocks(alloc, above)?;
+    let blocks = sleep_blocks(alloc, locked)?;
+    let locks = queue_blocks(alloc, blocks, 2, &[CpuId(0), CpuId(1)])?;
+    Plain::open(alloc, locks, 30)
+}
+
+/// The part of a CPU at boot.
+fn part<G: Guarded, C: CvLayer<G>>(m: &C::Machine, cpu: CpuId) -> C
+    requires acts { C.ActsFor m.now cpu }
+    requires outside { C.IsOutside m.now cpu }
+    requires seen { C.seen m.now ≡ [] }
+    requires homes { homes_in (C.opening m.now) ≡ record { 0 = 0 } ∷ record { 0 = 1 } ∷ [] }
+    requires queue { IsSome (C.opening m.now (Pending cpu)) }
+    requires rest { AreAtRest (inner (C.opening m.now)) }
+    ensures cpu { C.cpu_of result ≡ cpu }
+    ensures fits { C.Fits result m.now }
+    ensures ended { (t : Tid) → t.0 < THREADS → HasEnded G.deeds (C.own result) (C.under_way result) t }
+{
+    let _ = m;
+    C::part(cpu, &[CpuId(0), CpuId(1)], 1)
+}
+
+/// Conditions over queuing locks of an owned machine.
+type Tower = Cond<
+    QLock<Sleeper<QLockEdit<CvEdit<Reads>, CvLeave>, Sched<SharedQueues<Ticket<Plain<Edits>>>>>>,
+>;
+
+#[test]
+fn a_wait_frees_its_lock_and_is_over_once_woken(rt: HostRuntime) -> Result<(), Fail> {
+    let mut m = machine(rt.alloc())?;
+    let mut zero: Tower = part::<Reads, Tower>(&m, CpuId(0));
+    let mut one: Tower = part::<Reads, Tower>(&m, CpuId(1));
+    assert!(rt; is_waited_for::<Reads, Tower>(&mut zero, &mut one, &mut m, 3));
+    Ok(())
+}
