@@ -1,0 +1,26 @@
+#!/usr/bin/env bash
+# Runs each plan of plans/ by the command in its first lines, and compares what comes on standard output and then on standard
+# error with plans/expected/. It takes seconds; .ci/run calls it after rt ci. The last line is 'plans: N passed, M failed'.
+#
+#   tests/plans.sh [PROGRAM..]
+#
+# Without a name it runs each build of mctower that `rt ci` or `rt run` left.
+set -u
+cd "$(dirname "$0")/.."
+room=$(mktemp -d); trap 'rm -rf "$room"' EXIT
+[ $# -gt 0 ] || set -- $(ls crates/mctower/out/mctower crates/mctower/out/mctower-rattle 2> /dev/null)
+passed=0; failed=0
+for program; do
+  for plan in plans/*.toml; do
+    name=$(basename "$plan" .toml)
+    schedule=$(sed -n "s/^# *mctower run --schedule '\(.*\)' <.*/\1/p" "$plan")
+    "$program" run --schedule "$schedule" < "$plan" > "$room/out" 2> "$room/states" && cat "$room/states" >> "$room/out"
+    if cmp -s "$room/out" "plans/expected/$name.txt"; then
+      passed=$((passed + 1))
+    else
+      echo "plans: $program does not print what plans/expected/$name.txt says"; failed=$((failed + 1))
+    fi
+  done
+done
+echo "plans: $passed passed, $failed failed"
+[ "$passed" -gt 0 ] && [ "$failed" = 0 ]
