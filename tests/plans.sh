@@ -8,7 +8,7 @@
 set -u
 cd "$(dirname "$0")/.."
 room=$(mktemp -d); trap 'rm -rf "$room"' EXIT
-[ $# -gt 0 ] || set -- $(ls crates/mctower/out/mctower crates/mctower/out/mctower-rattle 2> /dev/null)
+[ $# -gt 0 ] || set -- $(ls crates/mctower/out/mctower crates/mctower/out/mctower.by-rattle 2> /dev/null)
 passed=0; failed=0
 for program; do
   for plan in plans/*.toml; do
