@@ -1,15 +1,15 @@
 -- The list of blocks: the place of a lock in it, what an edit at that place leaves, and that a section keeps the list in agreement.
-use Rattle.std.proofs.Common.{◌≡◌, ℕ, zero, suc, ◌+◌, ◌<◌, Bool, true, false, List, [], ◌∷◌, ◌++◌, length, get_or, drop, slice_set, add-one, drop-cons}
-use Rattle.std.proofs.Common.{if◌then◌else◌, Option, Some, None, IsSome, option_map, refl, ap, sym, ◌∙◌, subst, arith}
+use Rattle.std.proofs.Common.{◌≡◌, ℕ, zero, suc, ◌+◌, ◌<◌, Bool, true, false, List, [], ◌∷◌, length, get_or, drop, slice_set, add-one, drop-cons}
+use Rattle.std.proofs.Common.{if◌then◌else◌, Option, Some, IsSome, option_map, refl, ap, sym, ◌∙◌, subst, arith}
 use Rattle.event_log.specs.declared.ids.CpuId.{CpuId}
 use Rattle.event_log.specs.declared.ids.LockId.{LockId}
 use Rattle.event_log.specs.declared.ids.TheConstants.{CPUS}
-use Rattle.event_log.specs.History.{IsLawful, same_lock}
-use Rattle.event_log.specs.Sections.{Section, block_after}
+use Rattle.event_log.specs.History.{same_lock}
+use Rattle.event_log.specs.Sections.{Section}
 use Rattle.event_log.proofs.Same.{same_lock_self, same_lock_true}
 use Rattle.layer_traits.proofs.Alone.{block_there}
 use Rattle.layer_traits.specs.OneLock.{opened}
-use Rattle.layer_traits.specs.Protocol.{IsKnown, Rules, section}
+use Rattle.layer_traits.specs.Protocol.{Rules, section}
 use Rattle.layer_traits.specs.Turns.{Answers}
 use Rattle.plain_layers.specs.Tables.{IsPlace, IsTable}
 

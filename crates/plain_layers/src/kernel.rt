@@ -1,15 +1,16 @@
 //! The machine beneath one-step queues and schedulers: lists of threads and of blocks.
 
-ghost use Rattle.std.specs.Prelude.{◌≡◌, ◌+◌, ◌<◌, ◌∷◌, [], Some, IsSome, IfOk, length, replicate, slice_get};
+ghost use Rattle.std.specs.Prelude.{◌≡◌, ◌+◌, ◌<◌, ◌∷◌, [], Some, IsSome, IfOk, length, option_map, replicate, slice_get};
 ghost use Rattle.event_log.specs.declared.ids.LockId.TheVariants.{Buffer, Pending};
 ghost use Rattle.event_log.specs.declared.ids.TheConstants.{CPUS};
+ghost use Rattle.thread_blocks.specs.Queues.{is_in};
 ghost use Rattle.layer_traits.specs.QueueBlocks.{homes_in, inner};
 ghost use Rattle.layer_traits.specs.Queues.{CallAllowed, answer_of, event, kernel, lock_of};
 ghost use Rattle.plain_layers.specs.Kernels.{CanDo, IsDone, IsKernel, calls_in, call_room, opening_of};
 ghost use Rattle.shared_queue.specs.Opening.{AreQueues};
 
 use arrayvec::ArrayVec;
-use event_log::{CpuId, EventLog, NoMemory, THREADS};
+use event_log::{BufId, CpuId, EventLog, NoMemory, THREADS, Tid};
 use layer_traits::{Moves, QueueAnswer, QueueCall, QueueEvent, kept_homes};
 use std::alloc::Global;
 use std::snapshot::Snapshot;
@@ -89,6 +90,23 @@ impl<E: Moves> PlainKernel<E> {
     {
         self.log.push(QueueEvent { cpu, call }).unwrap();
         do_call(&mut self.lists, call)
+    }
+
+    /// The block of the buffer `b`; `None` where there is no such buffer.
+    pub fn block(&self, b: BufId) -> Option<&E::Block>
+        ensures { option_map (λ block. block.now) result ≡ slice_get self.now.lists.buffers.items b.0 }
+    {
+        self.lists.buffers.get(usize::from(b.0))
+    }
+
+    /// Whether `t` is pending at the CPU `d`; `None` where there is no such CPU.
+    pub fn pends(&self, d: CpuId, t: Tid) -> Option<bool>
+        ensures { result ≡ option_map (λ queue. is_in t queue) (slice_get self.now.lists.pending.items d.0) }
+    {
+        match self.lists.pending.get(usize::from(d.0)) {
+            Some(queue) => Some(queue.contains(t)),
+            None => None,
+        }
     }
 }
 

@@ -74,6 +74,16 @@ impl<E: Edit> LockTable<E> {
         self.log.push(Noted { cpu, lock, edit }).unwrap();
         edit_at(&mut self.blocks, lock, edit)
     }
+
+    /// The block of `lock`, which there is.
+    pub fn block(&self, lock: LockId) -> Option<&E::Block>
+        requires sound { IsTable E.rules (opening_in self.now) (sections_noted self.now) self.now.blocks.items }
+        requires lock { IsSome (opening_in self.now lock) }
+        ensures { option_map (λ block. block.now) result ≡ opened self.now.blocks.items lock }
+    {
+        let place = place_of(&self.blocks, lock);
+        Some(&self.blocks[place].1)
+    }
 }
 
 /// Edits the block of `lock` in the list, and gives the edit's answer.

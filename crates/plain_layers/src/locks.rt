@@ -3,8 +3,9 @@
 ghost use Rattle.std.specs.Prelude.{◌≡◌, [], None};
 
 use crate::lock_table::LockTable;
-use event_log::{CpuId, LockId};
-use layer_traits::{Edit, LockLayer};
+use event_log::{CpuId, LockId, NoMemory};
+use layer_traits::{Edit, LockLayer, OwnedLocks};
+use std::alloc::Global;
 use std::marker::PhantomData;
 
 /// One CPU's part of critical sections as they are meant: a section edits its block in one step,
@@ -72,4 +73,45 @@ impl<E: Edit> LockLayer<E> for PlainLock<E> {
     ghost seen_is = { λ step m. absurd step };
 
     ghost busy = { λ p m fits step. absurd step };
+}
+
+impl<E: Edit> OwnedLocks<E> for PlainLock<E> {
+    ghost use Rattle.event_log.specs.Actions.{phase};
+    ghost use Rattle.layer_traits.specs.OneLock.{AreDistinct, opened};
+    ghost use Rattle.layer_traits.specs.Plans.{is_in_section};
+    ghost use Rattle.plain_layers.specs.ShownLaws.{table_shown};
+    ghost use Rattle.plain_layers.specs.Tables.{opening_in, sections_noted};
+    ghost use Rattle.std.specs.Prelude.{◌<◌, true, IfOk};
+    ghost use Rattle.event_log.specs.declared.ids.TheConstants.{CPUS};
+
+    ghost block_at = { λ m lock. opened m.blocks.items lock };
+
+    ghost block_with = { λ p lock. None };
+
+    fn open(
+        alloc: Global,
+        blocks: Vec<(LockId, E::Block)>,
+        room: usize,
+    ) -> Result<LockTable<E>, NoMemory>
+        requires distinct { AreDistinct blocks.items }
+        ensures seen { IfOk result (λ m. ⟦<PlainLock<E> as LockLayer<E>>⟧.seen m ≡ []) }
+        ensures opening { IfOk result (λ m. ⟦<PlainLock<E> as LockLayer<E>>⟧.opening m ≡ opened blocks.items) }
+        ensures room { IfOk result (λ m. ⟦<PlainLock<E> as LockLayer<E>>⟧.room m ≡ room) }
+        ensures acts { IfOk result (λ m. (c : _) → c.0 < CPUS → ⟦<PlainLock<E> as LockLayer<E>>⟧.ActsFor m c) }
+        ensures outside { IfOk result (λ m. (c : _) → ⟦<PlainLock<E> as LockLayer<E>>⟧.IsOutside m c) }
+        ensures none { IfOk result (λ m. ⟦<PlainLock<E> as LockLayer<E>>⟧.acts m ≡ []) }
+    {
+        LockTable::open(alloc, blocks, room)
+    }
+
+    fn block_in(m: &LockTable<E>, lock: LockId) -> Option<&E::Block> {
+        m.block(lock)
+    }
+
+    fn block_here(&self, _lock: LockId) -> Option<&E::Block> {
+        None
+    }
+
+    ghost shown = { λ m c lock acts there. table_shown E.rules (opening_in m) (sections_noted m) m.blocks.items (λ (p : Self). Self.Fits p m)
+        (λ p. p.cpu) (λ d. ⊥ × (is_in_section (phase d (Self.acts m)) ≡ true)) lock acts.1 there };
 }

@@ -3,8 +3,8 @@
 ghost use Rattle.std.specs.Prelude.{◌≡◌, [], None};
 
 use crate::kernel::PlainKernel;
-use event_log::CpuId;
-use layer_traits::{Moves, QueueAnswer, QueueCall, QueueLayer};
+use event_log::{BufId, CpuId, Tid};
+use layer_traits::{Moves, OwnedQueues, QueueAnswer, QueueCall, QueueLayer};
 use std::marker::PhantomData;
 
 /// One CPU's part of shared queues as they are meant: a push, a taking or an edit is done in one
@@ -74,4 +74,42 @@ impl<E: Moves> QueueLayer<E> for PlainQueues<E> {
     ghost seen_is = { λ step m. absurd step };
 
     ghost busy = { λ p m fits step. absurd step };
+}
+
+impl<E: Moves> OwnedQueues<E> for PlainQueues<E> {
+    ghost use Rattle.std.specs.Prelude.{true, slice_get};
+    ghost use Rattle.event_log.specs.Actions.{phase};
+    ghost use Rattle.layer_traits.specs.Plans.{is_in_section};
+    ghost use Rattle.plain_layers.specs.Kernels.{calls_in};
+    ghost use Rattle.plain_layers.specs.ShownLaws.{block_shown, queue_shown};
+
+    ghost block_at = { λ m b. slice_get m.lists.buffers.items b.0 };
+
+    ghost block_with = { λ p b. None };
+
+    ghost queue_at = { λ m d. slice_get m.lists.pending.items d.0 };
+
+    ghost queue_with = { λ p d. None };
+
+    fn block_in(m: &PlainKernel<E>, b: BufId) -> Option<&E::Block> {
+        m.block(b)
+    }
+
+    fn block_here(&self, _b: BufId) -> Option<&E::Block> {
+        None
+    }
+
+    fn pends_in(m: &PlainKernel<E>, d: CpuId, t: Tid) -> Option<bool> {
+        m.pends(d, t)
+    }
+
+    fn pends_here(&self, _d: CpuId, _t: Tid) -> Option<bool> {
+        None
+    }
+
+    ghost shown = { λ m c b acts there. block_shown E.rules E.moves m.opening (calls_in m) m.lists (λ (p : Self). Self.Fits p m)
+        (λ p. p.cpu) (λ d. ⊥ × (is_in_section (phase d (Self.acts m)) ≡ true)) acts.1 b there };
+
+    ghost queues = { λ m c d acts there. queue_shown E.rules E.moves m.opening (calls_in m) m.lists (λ (p : Self). Self.Fits p m)
+        (λ p. p.cpu) (λ d. ⊥ × (is_in_section (phase d (Self.acts m)) ≡ true)) acts.1 d there };
 }

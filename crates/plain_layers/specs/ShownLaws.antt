@@ -1,0 +1,74 @@
+-- What a machine of lists tells: all is at home, and no part ever has anything in its hands.
+use Rattle.std.specs.Prelude.{◌≡◌, List, Option, Some, None, IsSome, option_map, slice_get}
+use Rattle.std.proofs.Common.{refl, sym, ◌∙◌, subst}
+use Rattle.event_log.specs.declared.ids.BufId.{BufId}
+use Rattle.event_log.specs.declared.ids.CpuId.{CpuId}
+use Rattle.event_log.specs.declared.ids.LockId.{LockId}
+use Rattle.event_log.specs.declared.ids.LockId.TheVariants.{Pending, Buffer}
+use Rattle.event_log.specs.declared.ids.Tid.{Tid}
+use Rattle.event_log.specs.Sections.{Section, block_after}
+use Rattle.layer_traits.specs.declared.queue_edits.QueueBlock.{QueueBlock}
+use Rattle.layer_traits.specs.declared.queue_edits.QueueBlock.TheVariants.{Queue, Above}
+use Rattle.layer_traits.specs.declared.queues.QueueEvent.{QueueEvent}
+use Rattle.layer_traits.specs.MoveRules.{MoveRules}
+use Rattle.layer_traits.specs.OneLock.{opened}
+use Rattle.layer_traits.specs.Owned.{IsShown}
+use Rattle.layer_traits.specs.Places.{pending_by}
+use Rattle.layer_traits.specs.Protocol.{Rules}
+use Rattle.layer_traits.specs.QueueBlocks.{above_of, inner}
+use Rattle.layer_traits.specs.Queues.{buffer_sections, kernel, moves_in}
+use Rattle.layer_traits.proofs.Alone.{block_there}
+use Rattle.plain_layers.specs.declared.kernel.Lists.{Lists}
+use Rattle.plain_layers.specs.declared.kernel.Opening.{Opening}
+use Rattle.plain_layers.specs.Kernels.{IsKernel, opening_of}
+use Rattle.plain_layers.specs.Tables.{IsTable}
+
+-- what is there and at home is shown
+shown_at_home : {P A : Type 0} (Fits : P → Type 0) (cpu_of : P → CpuId) (IsInside : CpuId → Type 0) (home truth : Option A) → home ≡ truth → IsSome truth
+    → IsShown Fits cpu_of IsInside (λ p. None) home truth
+shown_at_home {P} {A} Fits cpu_of IsInside home truth is there = record {
+  by_machine = λ x tells. sym is ∙ tells;
+  by_part = λ p x fits tells. absurd (cc tells);
+  somewhere = λ none. absurd (nothing (subst (λ o. IsSome o) (sym is ∙ none) there));
+}
+  where
+    nothing : IsSome {T = A} None → ⊥
+    nothing some = cc
+
+-- each block is at home in the list of blocks
+pub table_shown : {P E B O : Type 0} (rules : Rules E B O) (opening : LockId → Option B) (past : List (Section E)) (list : List (LockId × B))
+    (Fits : P → Type 0) (cpu_of : P → CpuId) (IsInside : CpuId → Type 0) (lock : LockId) → IsTable rules opening past list → IsSome (opening lock)
+    → IsShown Fits cpu_of IsInside (λ p. None) (opened list lock) (block_after rules.edited opening lock past)
+table_shown rules opening past list Fits cpu_of IsInside lock table there =
+    shown_at_home Fits cpu_of IsInside (opened list lock) (block_after rules.edited opening lock past) (table.blocks lock)
+    (block_there rules.edited opening lock past there)
+
+module _ {P E B O : Type 0} (rules : Rules E B O) (mv : MoveRules E O) (start : Opening B) (past : List (QueueEvent E)) (lists : Lists B)
+    (Fits : P → Type 0) (cpu_of : P → CpuId) (IsInside : CpuId → Type 0) (sound : IsKernel rules mv start past lists) where
+  -- each buffer's block is at home
+  pub block_shown : (b : BufId) → IsSome (opening_of start (Buffer b))
+      → IsShown Fits cpu_of IsInside (λ p. None) (slice_get lists.buffers.items b.0)
+      (block_after rules.edited (inner (opening_of start)) (Buffer b) (buffer_sections past))
+  block_shown b there =
+      shown_at_home Fits cpu_of IsInside (slice_get lists.buffers.items b.0)
+      (block_after rules.edited (inner (opening_of start)) (Buffer b) (buffer_sections past)) (sound.blocks b)
+      (block_there rules.edited (inner (opening_of start)) (Buffer b) (buffer_sections past) (go (slice_get start.lists.value.buffers.items b.0) there))
+    where
+      go : (o : Option B) → IsSome (option_map Above o) → IsSome (above_of (option_map Above o))
+      go None some = absurd cc
+      go (Some block) some = refl
+
+  -- and so is each pending queue
+  pub queue_shown : (d : CpuId) → IsSome (opening_of start (Pending d))
+      → IsShown Fits cpu_of IsInside (λ p. None) (slice_get lists.pending.items d.0) (Some (pending_by (moves_in (kernel rules mv (opening_of start)) past) d))
+  queue_shown d there =
+      let queue = pending_by (moves_in (kernel rules mv (opening_of start)) past) d in
+      shown_at_home Fits cpu_of IsInside (slice_get lists.pending.items d.0) (Some queue)
+      (sound.queues d ∙ go queue (slice_get start.lists.value.pending.items d.0) there) refl
+    where
+      queue_of : List Tid → QueueBlock B
+      queue_of queue = Queue queue start.homes
+
+      go : (queue : List Tid) (o : Option (List Tid)) → IsSome (option_map queue_of o) → option_map (λ old. queue) o ≡ Some queue
+      go queue None some = absurd cc
+      go queue (Some old) some = refl
