@@ -1,2 +1,3 @@
 pub mod TableLemmas
 pub mod KernelLemmas
+pub mod WholeLemmas

@@ -1,3 +1,5 @@
 pub mod Tables
 pub mod Kernels
 pub mod ShownLaws
+pub mod Attempts
+pub mod Wholes

@@ -2,17 +2,27 @@
 //! does a whole call in one step.
 #![tactic(auto)]
 
+mod attempts;
 mod kernel;
 mod lock_table;
 mod locks;
 mod queues;
 mod scheds;
+mod sleepers;
+mod wholes;
 
+pub use attempts::{Attempt, PlainBuffer, Tried};
 pub use kernel::{Lists, Opening, PlainKernel};
 pub use lock_table::{LockTable, Noted};
 pub use locks::PlainLock;
 pub use queues::PlainQueues;
 pub use scheds::PlainSched;
+pub use sleepers::{
+    PlainCond, PlainQLock, PlainSleep, cond_is_whole, lock_is_whole, sleep_is_whole,
+};
+pub use wholes::whole;
 
+#[cfg(test)]
+mod sleep_tests;
 #[cfg(test)]
 mod tests;

@@ -1,0 +1,48 @@
+use Rattle.std.proofs.Common.{◌<◌, IsSome, Option, Some, None, inl, inr, refl, ap, subst, sym, ◌∙◌}
+use Rattle.event_log.specs.declared.ids.CpuId.{CpuId}
+use Rattle.event_log.specs.declared.ids.TheConstants.{CPUS}
+use Rattle.layer_traits.specs.SleepLaw.{SleepPolled, Sleeping, sleep_kernel}
+use Rattle.plain_layers.proofs.WholeLemmas.{first_answers, first_sends, second_sends, both_polls}
+use Rattle.plain_layers.proofs.wholes.whole.Goals as goal
+
+-- one poll did it all
+pub returns-in-Some-clause-done : goal.returns-in-Some-clause-done
+returns-in-Some-clause-done g c =
+    let S = g.S.SleepLayer in
+    let part = c.args.part.now in
+    let m = c.args.m.now in
+    let n = c.poll.new.m in
+    let said = c.in-Some.ensures in
+    let known = g.met.S.SleepLayer.known n (S.cpu_of part) (said.acts (S.cpu_of part) (g.met.S.SleepLayer.own_cpu part m c.requires.fits)) in
+    inl (first_answers (sleep_kernel g.E.Sleeps.rules (S.opening m)) (λ d. S.ActsFor m d) c.requires.all (S.cpu_of part) c.args.buffer c.args.edit
+    (S.seen m) (S.seen n) (S.own part) (S.own c.poll.new.self) c.in-Some.outcome c.requires.kept known said.seen)
+
+-- the second sent the woken thread home
+pub returns-in-None-clause-done : goal.returns-in-None-clause-done
+returns-in-None-clause-done g c =
+    let S = g.S.SleepLayer in
+    let part = c.args.part.now in
+    let m = c.args.m.now in
+    let n = c.poll.new.m in
+    let p = c.poll.new.self in
+    let said = c.in-None.ensures in
+    let more = c.poll-in-None.ensures in
+    let k = sleep_kernel g.E.Sleeps.rules (S.opening m) in
+    let acts = said.acts (S.cpu_of part) (g.met.S.SleepLayer.own_cpu part m c.requires.fits) in
+    let known = g.met.S.SleepLayer.known n (S.cpu_of part) acts in
+    let keeps = (said.prompt c.requires.whole refl).after in
+    let begun = first_sends k (λ d. S.ActsFor m d) c.requires.all (S.cpu_of part) c.args.buffer c.args.edit (S.seen m) (S.seen n)
+    (S.own part) (S.own p) c.requires.kept keeps known said.seen in
+    let n' = c.poll-in-None.new.m in
+    let p' = c.poll-in-None.new.self in
+    let now_known = g.met.S.SleepLayer.known n' (S.cpu_of part) (more.acts (S.cpu_of part) acts) in
+    let kernels = subst (λ o. SleepPolled (sleep_kernel g.E.Sleeps.rules o) (λ d. S.ActsFor n d) (S.cpu_of p) c.args.buffer c.args.edit (S.seen n) (S.seen n')
+    (S.own p) (record { own = S.own p'; answer = c.poll-in-None.result })) said.opening more.seen in
+    let cpus = subst (λ d. SleepPolled k (λ d. S.ActsFor n d) d c.args.buffer c.args.edit (S.seen n) (S.seen n') (S.own p)
+    (record { own = S.own p'; answer = c.poll-in-None.result })) said.cpu kernels in
+    let polled = subst (λ o. SleepPolled k (λ d. S.ActsFor n d) (S.cpu_of part) c.args.buffer c.args.edit (S.seen n) (S.seen n') (S.own p)
+    (record { own = S.own p'; answer = o })) c.unwrap.ensures cpus in
+    let sent = second_sends k (λ d. S.ActsFor n d) (λ d small. said.acts d (c.requires.all d small)) (S.cpu_of part) c.args.buffer c.args.edit
+    (S.seen n) (S.seen n') (S.own p) (S.own p') begun.0 c.unwrap.result (ap (λ (s : Sleeping g.row.E-Out.Denot). s.kept) begun.1.leaves) now_known polled in
+    inr (both_polls k (S.cpu_of part) c.args.buffer c.args.edit (S.seen m) (S.seen n) (S.seen n') (S.own part).threads (S.own p) (S.own p') begun.0
+    c.unwrap.result begun.1 sent)

@@ -1,0 +1,40 @@
+//! Sleep and wakeup, the queuing lock and conditions over one-step schedulers.
+//!
+//! From the shared queues up all laws speak of one list of events, and a layer adds an edit round
+//! the edit beneath and one field of its own. So over lists each of these layers is its own one-step
+//! machine: a body of its own would be the layer's again.
+
+ghost use Rattle.std.specs.Prelude.{◌≡◌};
+ghost use Rattle.layer_traits.specs.Plans.{IsWhole};
+
+use crate::scheds::PlainSched;
+use condvar::Cond;
+use layer_traits::{CvEdit, CvLayer, CvLeave, Guarded, Locked, QLockLayer, SleepLayer, Sleeps};
+use queuing_lock::{QLock, QLockEdit};
+use sleep_wakeup::{SleepEdit, Sleeper};
+
+/// One CPU's part of sleep and wakeup in one step: a section that wakes nobody of another CPU, or
+/// whose caller falls asleep, is done in one poll. Where it wakes a thread of another CPU and its
+/// caller goes on, the next poll sends that thread home and answers.
+pub type PlainSleep<E> = Sleeper<E, PlainSched<SleepEdit<E>>>;
+
+/// One CPU's part of queuing locks in one step. `R` is the release of the edits `F`.
+pub type PlainQLock<F, R> = QLock<PlainSleep<QLockEdit<F, R>>>;
+
+/// One CPU's part of conditions in one step.
+pub type PlainCond<G> = Cond<PlainQLock<CvEdit<G>, CvLeave>>;
+
+/// Law: one-step sleep and wakeup does not go action by action, so each poll of it is prompt.
+pub fn sleep_is_whole<E: Sleeps>()
+    ensures { IsWhole ⟦<PlainSleep<E> as SleepLayer<E>>⟧.IsStepwise }
+{}
+
+/// Law: the same of one-step queuing locks.
+pub fn lock_is_whole<F: Locked>()
+    ensures { IsWhole ⟦<PlainQLock<F, F::Release> as QLockLayer<F>>⟧.IsStepwise }
+{}
+
+/// Law: the same of one-step conditions.
+pub fn cond_is_whole<G: Guarded>()
+    ensures { IsWhole ⟦<PlainCond<G> as CvLayer<G>>⟧.IsStepwise }
+{}

@@ -1,0 +1,46 @@
+//! A whole section of sleep and wakeup at once, over a machine that does whole calls.
+
+ghost use Rattle.std.specs.Prelude.{◌≡◌, ◌≢◌, ◌+◌, ◌<◌, ◌≤◌, None, IsSome};
+ghost use Rattle.event_log.specs.declared.ids.CpuId.{CpuId};
+ghost use Rattle.event_log.specs.declared.ids.LockId.TheVariants.{Buffer};
+ghost use Rattle.event_log.specs.declared.ids.TheConstants.{CPUS};
+ghost use Rattle.layer_traits.specs.Plans.{IsWhole};
+ghost use Rattle.layer_traits.specs.SleepLaw.{MaySleep, sleep_kernel};
+ghost use Rattle.plain_layers.specs.Wholes.{IsDoneWhole};
+
+use event_log::BufId;
+use layer_traits::{Outcome, SleepLayer, Sleeps};
+
+/// Does the whole section of `edit` at the lock of `buffer`, where the holder of the machine acts
+/// for every CPU: one poll, or two where the section wakes a thread of another CPU and its caller
+/// goes on.
+pub fn whole<E: Sleeps, S: SleepLayer<E>>(
+    part: &mut S,
+    m: &mut S::Machine,
+    buffer: BufId,
+    edit: E,
+) -> Outcome<E::Out>
+    requires whole { IsWhole S.IsStepwise }
+    requires all { (c : CpuId) → c.0 < CPUS → S.ActsFor m.old c }
+    requires fits { S.Fits part.old m.old }
+    requires none { S.under_way part.old ≡ None }
+    requires kept { (S.own part.old).kept ≡ None }
+    requires buffer { IsSome (S.opening m.old (Buffer buffer)) }
+    requires room { 1 < S.room m.old }
+    requires call { MaySleep (sleep_kernel E.rules (S.opening m.old)) (S.cpu_of part.old) (S.seen m.old) (S.own part.old).threads buffer edit }
+    ensures done { IsDoneWhole (sleep_kernel E.rules (S.opening m.old)) (S.cpu_of part.old) buffer edit (S.seen m.old) (S.seen m.new)
+        (S.own part.old).threads (S.own part.new) result }
+    ensures fits { S.Fits part.new m.new }
+    ensures cpu { S.cpu_of part.new ≡ S.cpu_of part.old }
+    ensures none { S.under_way part.new ≡ None }
+    ensures opening { S.opening m.new ≡ S.opening m.old }
+    ensures site { S.site m.new ≡ S.site m.old }
+    ensures room { S.room m.old ≤ S.room m.new + 2 }
+    ensures acts { (c : CpuId) → S.ActsFor m.old c → S.ActsFor m.new c }
+    ensures others { (p : S) → S.cpu_of p ≢ S.cpu_of part.old → S.Fits p m.old → S.Fits p m.new }
+{
+    match part.poll(m, buffer, edit) {
+        Some(outcome) => outcome,
+        None => part.poll(m, buffer, edit).unwrap(),
+    }
+}
