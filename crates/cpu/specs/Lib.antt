@@ -5,5 +5,6 @@ pub mod Cpus
 pub mod Tower
 pub mod Claims
 pub mod Systems
+pub mod Calm
 pub mod Boots
 pub mod Tables

@@ -1,5 +1,6 @@
 //! The whole system: a machine of message calls and its CPUs.
 
+mod calm;
 mod opening;
 
 ghost use Rattle.std.specs.Prelude.{◌≡◌, ◌<◌, ◌↔◌, true, false, All, IsOk, OnErr, Some, None, [], length, map, slice_index_or};

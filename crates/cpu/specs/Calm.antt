@@ -1,0 +1,38 @@
+-- When a CPU of a system is calm, and that no trace is longer than there is room for.
+use Rattle.std.specs.Prelude.{◌≡◌, ℕ, ◌≤◌, Bool, true, false, not, ◌&&◌, List, [], ◌∷◌, length, Option, Some, None, is_some, slice_get}
+use Rattle.event_log.specs.declared.ids.CpuId.{CpuId}
+use Rattle.event_log.specs.declared.ids.Tid.{Tid}
+use Rattle.layer_traits.specs.declared.steps.Reason.{Reason}
+use Rattle.layer_traits.specs.declared.steps.Reason.TheVariants.{AllEnded, TraceFull, StepsUsed}
+use Rattle.layer_traits.specs.Places.{Threads}
+use Rattle.cpu.specs.Claims.{CpuShown, Shown}
+use Rattle.cpu.specs.Systems.{own_reason}
+
+-- whether nobody stands in a list
+abbrev pub is_nobody : List Tid → Bool
+is_nobody [] = true
+is_nobody (t ∷ rest) = false
+
+-- whether a CPU has no section under way, nobody runs or is ready on it, and its hand is empty
+abbrev pub rests : Bool → Threads → Bool
+rests busy own = not busy && (not (is_some own.current) && (not (is_some own.hand) && is_nobody own.ready))
+
+-- A halted CPU is calm where each of its threads has ended; one whose trace is full has a thread that would call. Any other CPU is calm
+-- where it rests.
+abbrev pub calm_by : Option Reason → Bool → Threads → Bool
+calm_by (Some AllEnded) busy own = true
+calm_by (Some TraceFull) busy own = false
+calm_by (Some StepsUsed) busy own = false
+calm_by None busy own = rests busy own
+
+abbrev pub is_calm : Option CpuShown → Bool
+is_calm None = false
+is_calm (Some p) = calm_by (own_reason p) p.busy p.own
+
+-- whether CPU c is calm
+abbrev pub calm_in : CpuId → Shown → Bool
+calm_in c s = is_calm (slice_get s.cpus c.0)
+
+-- no CPU's trace has more entries than there is room for
+abbrev pub TracesFit : Shown → Type 0
+TracesFit s = (c : ℕ) (p : CpuShown) → slice_get s.cpus c ≡ Some p → length p.trace ≤ p.limit
