@@ -36,7 +36,8 @@ use Rattle.thread_blocks.specs.Queues.{is_in}
 use Rattle.condvar.specs.Waiting.{is_wait, is_waiting, side_in}
 
 -- a thread that runs is one that a machine may have
-pub current_small : (homes : List CpuId) (c : CpuId) (moves : _) (own : Threads) (t : Tid) → AreMoves homes moves → Stands homes c moves own → length homes ≤ THREADS
+pub current_small : (homes : List CpuId) (c : CpuId) (moves : _) (own : Threads) (t : Tid) → AreMoves homes moves → Stands homes c moves own
+    → length homes ≤ THREADS
     → own.current ≡ Some t → t.0 < THREADS
 current_small homes c moves own t legal stands room runs =
     let home : home_of homes t ≡ Some c = (current_at homes c moves own legal stands t runs).0 in
@@ -44,7 +45,8 @@ current_small homes c moves own t legal stands room runs =
     omega (arith, within, room)
 
 -- a thread that runs stands on no waiting list of any lock
-pub current_awake : {G B O : Type 0} (deeds : Deeds G B O) (opening : LockId → Option (QueueBlock (LockState B))) (seen : List (QueueEvent (CvCall G))) (c : CpuId) (own : Threads) (t : Tid)
+pub current_awake : {G B O : Type 0} (deeds : Deeds G B O) (opening : LockId → Option (QueueBlock (LockState B))) (seen : List (QueueEvent (CvCall G)))
+    (c : CpuId) (own : Threads) (t : Tid)
     → AreMoves (homes_in opening) (moves_in (lock_kernel (cv_rules deeds) opening) seen)
     → Stands (homes_in opening) c (moves_in (lock_kernel (cv_rules deeds) opening) seen) own
     → LocksAgree (cv_rules deeds) opening seen → own.current ≡ Some t
@@ -55,10 +57,13 @@ current_awake deeds opening seen c own t legal stands agree runs lock line =
     (agree lock line t ∙ ap (λ w. one_if (is_at lock line (place_of w))) at)
 
 -- the poll of a thread that was woken out of its wait
-pub over_polled : {G B O : Type 0} (deeds : Deeds G B O) (k : Kernel (CvCall G) (LockState B) (Outcome (QOut (CvOut O)))) (ActsFor : CpuId → Type 0) (c : CpuId) (b : BufId) (call : CvCall G)
-    (old : List (QueueEvent (CvCall G))) (own : Waiting O) (under_way : Option (SchedCall (CvCall G))) (may : Type 0) (side : Side) (waits : List (Option BufId)) (at : Option BufId)
+pub over_polled : {G B O : Type 0} (deeds : Deeds G B O) (k : Kernel (CvCall G) (LockState B) (Outcome (QOut (CvOut O)))) (ActsFor : CpuId → Type 0)
+    (c : CpuId) (b : BufId) (call : CvCall G)
+    (old : List (QueueEvent (CvCall G))) (own : Waiting O) (under_way : Option (SchedCall (CvCall G))) (may : Type 0) (side : Side)
+    (waits : List (Option BufId)) (at : Option BufId)
     → is_some at ≡ true → MayWait at under_way b call (lock_caller (cv_rules deeds) call) may
-    → ((line : Line) → is_in (lock_caller (cv_rules deeds) call) (line_in line (lock_after (cv_rules deeds) k.opening (Buffer b) (buffer_sections old))) ≡ false)
+    → ((line : Line) → is_in (lock_caller (cv_rules deeds) call) (line_in line (lock_after (cv_rules deeds) k.opening (Buffer b) (buffer_sections old)))
+    ≡ false)
     → side ≡ side_in call → waits ≡ slice_set own.waits (lock_caller (cv_rules deeds) call).0 None
     → CvPolled deeds k ActsFor c b call at old old own under_way (waiting_with own.lock waits (Some (waited side)))
 over_polled deeds k ActsFor c b call old own under_way may side waits None some duty left same now = absurd cc
@@ -74,7 +79,8 @@ over_polled {O = O} deeds k ActsFor c b call old own under_way may side waits (S
     }
 
 -- what the lock's answer leaves, by what it says
-left_by_out : {O : Type 0} (t : Tid) (b : BufId) (waits now : List (Option BufId)) (lock : Locking (CvOut O)) (out : QOut (CvOut O)) (outcome : Outcome (QOut (CvOut O))) (result : Option (Outcome (QOut (CvOut O))))
+left_by_out : {O : Type 0} (t : Tid) (b : BufId) (waits now : List (Option BufId)) (lock : Locking (CvOut O)) (out : QOut (CvOut O))
+    (outcome : Outcome (QOut (CvOut O))) (result : Option (Outcome (QOut (CvOut O))))
     → now ≡ (if is_waiting out then slice_set waits t.0 (Some b) else waits) → result ≡ (if is_waiting out then None else Some outcome)
     → waiting_with lock now result ≡ left_told t b waits lock out outcome
 left_by_out t b waits now lock Acquired outcome result same told = rw (same, told) refl
@@ -86,18 +92,23 @@ left_by_out t b waits now lock (Released answer.Left) outcome result same told =
 left_by_out t b waits now lock (Released (answer.Waited side)) outcome result same told = rw (same, told) refl
 
 -- what the lock's answer leaves
-pub told_left : {O : Type 0} (t : Tid) (b : BufId) (waits now : List (Option BufId)) (lock : Locking (CvOut O)) (answer result : Option (Outcome (QOut (CvOut O))))
+pub told_left : {O : Type 0} (t : Tid) (b : BufId) (waits now : List (Option BufId)) (lock : Locking (CvOut O))
+    (answer result : Option (Outcome (QOut (CvOut O))))
     → now ≡ (if is_wait answer then slice_set waits t.0 (Some b) else waits) → result ≡ (if is_wait answer then None else answer)
     → waiting_with lock now result ≡ left_waiting t b waits lock answer
 told_left t b waits now lock None result same told = rw (same, told) refl
 told_left t b waits now lock (Some outcome) result same told = left_by_out t b waits now lock outcome.out outcome result same told
 
 -- the poll of a thread that does not wait
-pub waits_polled : {G B O : Type 0} (deeds : Deeds G B O) (k : Kernel (CvCall G) (LockState B) (Outcome (QOut (CvOut O)))) (ActsFor : CpuId → Type 0) (c : CpuId) (b : BufId) (call : CvCall G)
-    (old new : List (QueueEvent (CvCall G))) (own : Waiting O) (under_way : Option (SchedCall (CvCall G))) (lock : Locking (CvOut O)) (waits : List (Option BufId)) (answer result : Option (Outcome (QOut (CvOut O)))) (at : Option BufId)
+pub waits_polled : {G B O : Type 0} (deeds : Deeds G B O) (k : Kernel (CvCall G) (LockState B) (Outcome (QOut (CvOut O)))) (ActsFor : CpuId → Type 0)
+    (c : CpuId) (b : BufId) (call : CvCall G)
+    (old new : List (QueueEvent (CvCall G))) (own : Waiting O) (under_way : Option (SchedCall (CvCall G))) (lock : Locking (CvOut O))
+    (waits : List (Option BufId)) (answer result : Option (Outcome (QOut (CvOut O)))) (at : Option BufId)
     → is_some at ≡ false
-    → LockPolled (cv_rules deeds) k ActsFor c b call (slept_for own.lock.slept (lock_caller (cv_rules deeds) call)) old new own.lock under_way (record { own = lock; answer = answer })
-    → waits ≡ (if is_wait answer then slice_set own.waits (lock_caller (cv_rules deeds) call).0 (Some b) else own.waits) → result ≡ (if is_wait answer then None else answer)
+    → LockPolled (cv_rules deeds) k ActsFor c b call (slept_for own.lock.slept (lock_caller (cv_rules deeds) call)) old new own.lock under_way
+    (record { own = lock; answer = answer })
+    → waits ≡ (if is_wait answer then slice_set own.waits (lock_caller (cv_rules deeds) call).0 (Some b) else own.waits)
+    → result ≡ (if is_wait answer then None else answer)
     → CvPolled deeds k ActsFor c b call at old new own under_way (waiting_with lock waits result)
 waits_polled deeds k ActsFor c b call old new own under_way lock waits answer result (Some at) none polled same told = absurd cc
 waits_polled deeds k ActsFor c b call old new own under_way lock waits answer result None none polled same told = record {
@@ -107,13 +118,18 @@ waits_polled deeds k ActsFor c b call old new own under_way lock waits answer re
 }
 
 follows_of : {N B R S T A Q : Type 0} (ActsFor : CpuId → Type 0) (table : Table N B R) (opening : LockId → Option B) (cpu : CpuId) (f : Left S A → Left T Q)
-    (plan : Plan N R S A) (old new : List (Action N)) (got : Left S A) → Follows ActsFor table opening cpu plan old new got → Follows ActsFor table opening cpu (raised f plan) old new (f got)
+    (plan : Plan N R S A) (old new : List (Action N)) (got : Left S A) → Follows ActsFor table opening cpu plan old new got
+    → Follows ActsFor table opening cpu (raised f plan) old new (f got)
 follows_of ActsFor table opening cpu f (Now left) old new got follows = (follows.0, ap f follows.1)
-follows_of ActsFor table opening cpu f (Act lock name react) old new got follows = record { past = follows.past; acted = follows.acted; moves = ap f follows.moves }
+follows_of ActsFor table opening cpu f (Act lock name react) old new got follows =
+    record { past = follows.past; acted = follows.acted; moves = ap f follows.moves }
 
 -- it follows its plan where the lock's poll follows its own
-pub waits_follow : {G B O : Type 0} (ActsFor : CpuId → Type 0) (table : Table (QueueEdit (CvCall G)) B (QueueAnswer (Outcome (QOut (CvOut O))))) (opening : LockId → Option B) (mv : MoveRules (CvCall G) (Outcome (QOut (CvOut O)))) (homes : List CpuId) (c : CpuId) (b : BufId) (call : CvCall G) (own : Waiting O)
-    (old new : List (Action (QueueEdit (CvCall G)))) (lock : Locking (CvOut O)) (waits : List (Option BufId)) (answer result : Option (Outcome (QOut (CvOut O)))) (at : Option BufId)
+pub waits_follow : {G B O : Type 0} (ActsFor : CpuId → Type 0) (table : Table (QueueEdit (CvCall G)) B (QueueAnswer (Outcome (QOut (CvOut O)))))
+    (opening : LockId → Option B) (mv : MoveRules (CvCall G) (Outcome (QOut (CvOut O)))) (homes : List CpuId) (c : CpuId) (b : BufId) (call : CvCall G)
+    (own : Waiting O)
+    (old new : List (Action (QueueEdit (CvCall G)))) (lock : Locking (CvOut O)) (waits : List (Option BufId))
+    (answer result : Option (Outcome (QOut (CvOut O)))) (at : Option BufId)
     → is_some at ≡ false → Follows ActsFor table opening c (lock_plan mv homes c b call own.lock) old new (record { own = lock; answer = answer })
     → waits ≡ (if is_wait answer then slice_set own.waits (mv.caller call).0 (Some b) else own.waits) → result ≡ (if is_wait answer then None else answer)
     → Follows ActsFor table opening c (cv_plan_for mv homes c b call own at) old new (waiting_with lock waits result)

@@ -202,13 +202,17 @@ impl<G: Guarded, Q: OwnedQLocks<CvEdit<G>>> OwnedConds<G> for Cond<Q> {
         self.lower.pends_here(d, t)
     }
 
-    ghost shown = { λ m c b acts there. shown_under (λ (p : Self). p.lower) (λ p. Q.Fits p m) (λ (p : Self). Self.Fits p m) (λ p. Q.cpu_of p) (λ (p : Self). Q.cpu_of p.lower)
-        (λ d. Q.IsStepwise × (is_in_section (phase d (Q.acts m)) ≡ true)) (λ d. Q.IsStepwise × (is_in_section (phase d (Q.acts m)) ≡ true)) (λ p. Q.lock_with p b) (Q.lock_at m b)
+    ghost shown = { λ m c b acts there. shown_under (λ (p : Self). p.lower) (λ p. Q.Fits p m) (λ (p : Self). Self.Fits p m) (λ p. Q.cpu_of p)
+        (λ (p : Self). Q.cpu_of p.lower)
+        (λ d. Q.IsStepwise × (is_in_section (phase d (Q.acts m)) ≡ true)) (λ d. Q.IsStepwise × (is_in_section (phase d (Q.acts m)) ≡ true))
+        (λ p. Q.lock_with p b) (Q.lock_at m b)
         (lock_after (cv_rules G.deeds) (inner (Q.opening m)) (Buffer b) (buffer_sections (Q.seen m)))
         (λ p fits. fits) (λ p fits. refl) (λ d inside. inside) (Q.shown m c b acts there) };
 
-    ghost queues = { λ m c d acts there. shown_under (λ (p : Self). p.lower) (λ p. Q.Fits p m) (λ (p : Self). Self.Fits p m) (λ p. Q.cpu_of p) (λ (p : Self). Q.cpu_of p.lower)
-        (λ d. Q.IsStepwise × (is_in_section (phase d (Q.acts m)) ≡ true)) (λ d. Q.IsStepwise × (is_in_section (phase d (Q.acts m)) ≡ true)) (λ p. Q.queue_with p d) (Q.queue_at m d)
+    ghost queues = { λ m c d acts there. shown_under (λ (p : Self). p.lower) (λ p. Q.Fits p m) (λ (p : Self). Self.Fits p m) (λ p. Q.cpu_of p)
+        (λ (p : Self). Q.cpu_of p.lower)
+        (λ d. Q.IsStepwise × (is_in_section (phase d (Q.acts m)) ≡ true)) (λ d. Q.IsStepwise × (is_in_section (phase d (Q.acts m)) ≡ true))
+        (λ p. Q.queue_with p d) (Q.queue_at m d)
         (Some (pending_by (moves_in (lock_kernel (cv_rules G.deeds) (Q.opening m)) (Q.seen m)) d))
         (λ p fits. fits) (λ p fits. refl) (λ d inside. inside) (Q.queues m c d acts there) };
 }

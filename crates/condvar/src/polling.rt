@@ -37,17 +37,22 @@ pub fn one_turn<G: Guarded, C: CvLayer<G>>(
     requires fits { C.Fits part.old m.old }
     requires buffer { IsSome (C.opening m.old (Buffer buffer)) }
     requires room { 0 < C.room m.old }
-    requires turn { MayTurn G.deeds (lock_kernel (cv_rules G.deeds) (C.opening m.old)) (C.cpu_of part.old) (C.seen m.old) (C.own part.old) (C.under_way part.old) buffer call.now }
+    requires turn { MayTurn G.deeds (lock_kernel (cv_rules G.deeds) (C.opening m.old)) (C.cpu_of part.old) (C.seen m.old) (C.own part.old)
+        (C.under_way part.old) buffer call.now }
     ensures fits { C.Fits part.new m.new }
     ensures cpu { C.cpu_of part.new ≡ C.cpu_of part.old }
     ensures opening { C.opening m.new ≡ C.opening m.old }
     ensures room { C.room m.old ≤ C.room m.new + 1 }
     ensures others { (p : C) → C.cpu_of p ≢ C.cpu_of part.old → C.Fits p m.old → C.Fits p m.new }
-    ensures goes { result ≡ GoesOn → MayTurn G.deeds (lock_kernel (cv_rules G.deeds) (C.opening m.new)) (C.cpu_of part.new) (C.seen m.new) (C.own part.new) (C.under_way part.new) buffer call.now }
-    ensures waits { result ≡ Sleeps → (IsAcquire call.now → ⊥) → WaitsAt G.deeds (C.own part.new) (C.under_way part.new) (lock_caller (cv_rules G.deeds) call.now) buffer }
-    ensures ended { (outcome : _) → result ≡ Answered outcome → HasEnded G.deeds (C.own part.new) (C.under_way part.new) (lock_caller (cv_rules G.deeds) call.now) }
+    ensures goes { result ≡ GoesOn → MayTurn G.deeds (lock_kernel (cv_rules G.deeds) (C.opening m.new)) (C.cpu_of part.new) (C.seen m.new) (C.own part.new)
+        (C.under_way part.new) buffer call.now }
+    ensures waits { result ≡ Sleeps → (IsAcquire call.now → ⊥)
+        → WaitsAt G.deeds (C.own part.new) (C.under_way part.new) (lock_caller (cv_rules G.deeds) call.now) buffer }
+    ensures ended { (outcome : _) → result ≡ Answered outcome
+        → HasEnded G.deeds (C.own part.new) (C.under_way part.new) (lock_caller (cv_rules G.deeds) call.now) }
     ensures owns { (outcome : _) → result ≡ Answered outcome → IsAcquire call.now
-        → owner_of (cv_rules G.deeds) (inner (C.opening m.new)) (buffer_sections (C.seen m.new)) (Buffer buffer) ≡ Some (lock_caller (cv_rules G.deeds) call.now) }
+        → owner_of (cv_rules G.deeds) (inner (C.opening m.new)) (buffer_sections (C.seen m.new)) (Buffer buffer)
+        ≡ Some (lock_caller (cv_rules G.deeds) call.now) }
 {
     match part.poll(m, buffer, call) {
         Some(outcome) => Turn::Answered(outcome),
@@ -71,15 +76,19 @@ pub fn turns<G: Guarded, C: CvLayer<G>>(
     requires fits { C.Fits part.old m.old }
     requires buffer { IsSome (C.opening m.old (Buffer buffer)) }
     requires room { polls ≤ C.room m.old }
-    requires turn { MayTurn G.deeds (lock_kernel (cv_rules G.deeds) (C.opening m.old)) (C.cpu_of part.old) (C.seen m.old) (C.own part.old) (C.under_way part.old) buffer call.now }
+    requires turn { MayTurn G.deeds (lock_kernel (cv_rules G.deeds) (C.opening m.old)) (C.cpu_of part.old) (C.seen m.old) (C.own part.old)
+        (C.under_way part.old) buffer call.now }
     ensures fits { C.Fits part.new m.new }
     ensures cpu { C.cpu_of part.new ≡ C.cpu_of part.old }
     ensures opening { C.opening m.new ≡ C.opening m.old }
     ensures room { C.room m.old ≤ C.room m.new + polls }
     ensures others { (p : C) → C.cpu_of p ≢ C.cpu_of part.old → C.Fits p m.old → C.Fits p m.new }
-    ensures goes { result ≡ Some GoesOn → MayTurn G.deeds (lock_kernel (cv_rules G.deeds) (C.opening m.new)) (C.cpu_of part.new) (C.seen m.new) (C.own part.new) (C.under_way part.new) buffer call.now }
-    ensures waits { result ≡ Some Sleeps → (IsAcquire call.now → ⊥) → WaitsAt G.deeds (C.own part.new) (C.under_way part.new) (lock_caller (cv_rules G.deeds) call.now) buffer }
-    ensures ended { (outcome : _) → result ≡ Some (Answered outcome) → HasEnded G.deeds (C.own part.new) (C.under_way part.new) (lock_caller (cv_rules G.deeds) call.now) }
+    ensures goes { result ≡ Some GoesOn → MayTurn G.deeds (lock_kernel (cv_rules G.deeds) (C.opening m.new)) (C.cpu_of part.new) (C.seen m.new)
+        (C.own part.new) (C.under_way part.new) buffer call.now }
+    ensures waits { result ≡ Some Sleeps → (IsAcquire call.now → ⊥)
+        → WaitsAt G.deeds (C.own part.new) (C.under_way part.new) (lock_caller (cv_rules G.deeds) call.now) buffer }
+    ensures ended { (outcome : _) → result ≡ Some (Answered outcome)
+        → HasEnded G.deeds (C.own part.new) (C.under_way part.new) (lock_caller (cv_rules G.deeds) call.now) }
 {
     let mut last = Turn::GoesOn;
     for _ in 0..polls {
@@ -121,9 +130,12 @@ pub fn calls<G: Guarded, C: OwnedConds<G>>(
     ensures opening { C.opening m.new ≡ C.opening m.old }
     ensures room { C.room m.old ≤ C.room m.new + polls }
     ensures others { (p : C) → C.cpu_of p ≢ C.cpu_of part.old → C.Fits p m.old → C.Fits p m.new }
-    ensures goes { result ≡ Some GoesOn → MayTurn G.deeds (lock_kernel (cv_rules G.deeds) (C.opening m.new)) (C.cpu_of part.new) (C.seen m.new) (C.own part.new) (C.under_way part.new) buffer call.now }
-    ensures waits { result ≡ Some Sleeps → (IsAcquire call.now → ⊥) → WaitsAt G.deeds (C.own part.new) (C.under_way part.new) (lock_caller (cv_rules G.deeds) call.now) buffer }
-    ensures ended { (outcome : _) → result ≡ Some (Answered outcome) → HasEnded G.deeds (C.own part.new) (C.under_way part.new) (lock_caller (cv_rules G.deeds) call.now) }
+    ensures goes { result ≡ Some GoesOn → MayTurn G.deeds (lock_kernel (cv_rules G.deeds) (C.opening m.new)) (C.cpu_of part.new) (C.seen m.new)
+        (C.own part.new) (C.under_way part.new) buffer call.now }
+    ensures waits { result ≡ Some Sleeps → (IsAcquire call.now → ⊥)
+        → WaitsAt G.deeds (C.own part.new) (C.under_way part.new) (lock_caller (cv_rules G.deeds) call.now) buffer }
+    ensures ended { (outcome : _) → result ≡ Some (Answered outcome)
+        → HasEnded G.deeds (C.own part.new) (C.under_way part.new) (lock_caller (cv_rules G.deeds) call.now) }
 {
     let t = caller_of::<G>(call);
     if part.current() != Some(t) || part.hand().is_some() {

@@ -29,7 +29,8 @@ rest_at_boot {B} opening above starts blocks lock =
     (sym (inner_viewed lock_of (viewed state_of opening) lock ∙ ap (option_map lock_of) (inner_viewed state_of opening lock)))
     (by_lock lock (starts.kinds lock))
   where
-    queue : (c : CpuId) (o : Option (QueueBlock (SleepBlock (QBlock B)))) → StartsAs (Pending c) o → IsAtRest (option_map lock_of (option_map state_of (above_of o)))
+    queue : (c : CpuId) (o : Option (QueueBlock (SleepBlock (QBlock B)))) → StartsAs (Pending c) o
+        → IsAtRest (option_map lock_of (option_map state_of (above_of o)))
     queue c None kind = tt
     queue c (Some (block.Queue threads homes)) kind = tt
     queue c (Some (block.Above b)) kind = absurd kind

@@ -1,5 +1,6 @@
 -- What is kept agrees with the call under way and the hand: an outcome is kept of a call inside or of a release alone.
-use Rattle.std.proofs.Common.{◌≡◌, Bool, true, false, ◌&&◌, not, if◌then◌else◌, List, [], Option, Some, None, option_map, is_some, IsSome, refl, ap, sym, ◌∙◌, subst}
+use Rattle.std.proofs.Common.{◌≡◌, Bool, true, false, ◌&&◌, not, if◌then◌else◌, List, [], Option, Some, None, option_map, is_some, IsSome, refl, ap, sym, ◌∙◌}
+use Rattle.std.proofs.Common.{subst}
 use Rattle.event_log.specs.declared.ids.BufId.{BufId}
 use Rattle.event_log.specs.declared.ids.CpuId.{CpuId}
 use Rattle.event_log.specs.declared.ids.LockId.{LockId}
@@ -17,7 +18,8 @@ use Rattle.layer_traits.specs.declared.scheds.SchedCall.{SchedCall}
 use Rattle.layer_traits.specs.declared.scheds.SchedCall.TheVariants.{Pass, OnBuffer}
 use Rattle.layer_traits.specs.declared.passes.Pass.{Pass as PassCall}
 use Rattle.layer_traits.specs.declared.sleeps.Outcome.{Outcome}
-use Rattle.layer_traits.specs.Locking.{AreAtRest, IsAtRest, LockRules, LockState, line_asked, line_slept, lock_answer, lock_edited, lock_moves, lock_out, told_asker}
+use Rattle.layer_traits.specs.Locking.{AreAtRest, IsAtRest, LockRules, LockState, line_asked, line_slept, lock_answer, lock_edited, lock_moves, lock_out}
+use Rattle.layer_traits.specs.Locking.{told_asker}
 use Rattle.layer_traits.specs.LockLaw.{IsAcquire, lock_kernel}
 use Rattle.layer_traits.specs.Places.{Threads}
 use Rattle.layer_traits.specs.QueueBlocks.{inner}
@@ -43,11 +45,13 @@ nobody_in Receivers (Some state) rest = rest.2
 nobody_in Senders (Some state) rest = rest.3
 
 -- where locks are at rest nobody sleeps beneath
-pub nobody_beneath : {B : Type 0} (opening : LockId → Option (QueueBlock (SleepState (QBlock B)))) → AreAtRest (inner (viewed lock_of opening)) → NobodySleeps (inner opening)
+pub nobody_beneath : {B : Type 0} (opening : LockId → Option (QueueBlock (SleepState (QBlock B)))) → AreAtRest (inner (viewed lock_of opening))
+    → NobodySleeps (inner opening)
 nobody_beneath opening rest lock line = nobody_in line (inner opening lock) (subst (λ o. IsAtRest o) (inner_viewed lock_of opening lock) (rest lock))
 
 -- a part at boot keeps nothing
-pub fresh_kept : {F R O : Type 0} (under : Option (SchedCall (QLockEdit F R))) (kept : Option (Outcome (QOut O))) (hand : Option Tid) → under ≡ None → kept ≡ None
+pub fresh_kept : {F R O : Type 0} (under : Option (SchedCall (QLockEdit F R))) (kept : Option (Outcome (QOut O))) (hand : Option Tid) → under ≡ None
+    → kept ≡ None
     → KeptFits (option_map (renamed_sched edit_in) under) kept hand
 fresh_kept None None hand none nothing = tt
 fresh_kept None (Some outcome) hand none nothing = absurd cc
@@ -66,7 +70,8 @@ may_beneath (Some (OnBuffer at d)) b e duty owed gives may =
     λ i. OnBuffer (where_it_is i) (record { edit = what_it_is i })
 
 -- a call goes on, and what is kept agrees with it
-pub kept_goes : {F R O : Type 0} (under : Option (SchedCall (QEdit F R))) (kept : Option (Outcome (QOut O))) (hand : Option Tid) (b : BufId) (e : QEdit F R) (duty : Type 0)
+pub kept_goes : {F R O : Type 0} (under : Option (SchedCall (QEdit F R))) (kept : Option (Outcome (QOut O))) (hand : Option Tid) (b : BufId) (e : QEdit F R)
+    (duty : Type 0)
     → KeptFits under kept hand → MayCall under (OnBuffer b e) duty → (duty → hand ≡ None) → KeptFits (Some (OnBuffer b e)) kept hand
 kept_goes None None hand b e duty fits may empty = empty may
 kept_goes None (Some outcome) hand b e duty fits may empty = absurd fits
@@ -74,17 +79,20 @@ kept_goes (Some (Pass p)) kept hand b e duty fits may empty = absurd cc
 kept_goes (Some (OnBuffer at d)) kept hand b e duty fits may empty = subst (λ s. KeptFits (Some s) kept hand) may fits
 
 -- who asks for a lock finds nothing kept
-pub asks_none : {F R O : Type 0} (kept : Option (Outcome (QOut O))) (hand : Option Tid) (b : BufId) (e : QEdit F R) → KeptFits (Some (OnBuffer b e)) kept hand → IsAcquire e → kept ≡ None
+pub asks_none : {F R O : Type 0} (kept : Option (Outcome (QOut O))) (hand : Option Tid) (b : BufId) (e : QEdit F R) → KeptFits (Some (OnBuffer b e)) kept hand
+    → IsAcquire e → kept ≡ None
 asks_none None hand b e fits asks = refl
 asks_none (Some outcome) hand b e fits asks = absurd (fits.0 asks)
 
 -- and who goes on with nothing kept has nobody in hand
-hand_empty : {F R O : Type 0} (kept : Option (Outcome (QOut O))) (hand : Option Tid) (b : BufId) (e : QEdit F R) → KeptFits (Some (OnBuffer b e)) kept hand → kept ≡ None → hand ≡ None
+hand_empty : {F R O : Type 0} (kept : Option (Outcome (QOut O))) (hand : Option Tid) (b : BufId) (e : QEdit F R) → KeptFits (Some (OnBuffer b e)) kept hand
+    → kept ≡ None → hand ≡ None
 hand_empty None hand b e fits none = fits
 hand_empty (Some outcome) hand b e fits none = absurd cc
 
 -- what is kept is not told to one who is queued
-pub kept_is : {F R O : Type 0} (kept : Option (Outcome (QOut O))) (hand : Option Tid) (b : BufId) (e : QEdit F R) (outcome : Outcome (QOut O)) → KeptFits (Some (OnBuffer b e)) kept hand
+pub kept_is : {F R O : Type 0} (kept : Option (Outcome (QOut O))) (hand : Option Tid) (b : BufId) (e : QEdit F R) (outcome : Outcome (QOut O))
+    → KeptFits (Some (OnBuffer b e)) kept hand
     → kept ≡ Some outcome → is_queued outcome.out ≡ false
 kept_is None hand b e outcome fits is = absurd cc
 kept_is (Some kept) hand b e outcome fits is = let one : kept ≡ outcome = cc in subst (λ o. is_queued o.out ≡ false) one fits.1
@@ -122,11 +130,13 @@ module _ {F R B O : Type 0} (rules : LockRules F R B O) (opening : LockId → Op
   KeptIn got = KeptFits {F = F} {R = R} (if is_some got.answer then None else Some (OnBuffer b e)) got.own.kept got.own.threads.hand
 
   left_kept : (outcome : Outcome (QOut O)) (threads : Threads) (send : Bool) → (send ≡ true → (IsAcquire e → ⊥) × (is_queued outcome.out ≡ false))
-      → KeptIn (if send then record { own = record { threads = threads; kept = Some outcome }; answer = None } else record { own = record { threads = threads; kept = None }; answer = Some outcome })
+      → KeptIn (if send then record { own = record { threads = threads; kept = Some outcome }; answer = None } else record
+      { own = record { threads = threads; kept = None }; answer = Some outcome })
   left_kept outcome threads true sends = sends refl
   left_kept outcome threads false sends = tt
 
-  sent : (kept : Option (Outcome (QOut O))) (threads : Threads) → IsSome kept → KeptIn (record { own = record { threads = threads; kept = None }; answer = kept })
+  sent : (kept : Option (Outcome (QOut O))) (threads : Threads) → IsSome kept
+      → KeptIn (record { own = record { threads = threads; kept = None }; answer = kept })
   sent None threads some = absurd cc
   sent (Some outcome) threads some = tt
 
@@ -147,7 +157,8 @@ module _ {F R B O : Type 0} (rules : LockRules F R B O) (opening : LockId → Op
   kept_deed deed past own got may leaves fits = subst (λ l. KeptIn l) (sym leaves) (left_fits deed past own may fits)
 
 -- a pass leaves what is kept
-pub kept_passed : {F R O : Type 0} (under : Option (SchedCall (QEdit F R))) (kept : Option (Outcome (QOut O))) (hand hand' : Option Tid) (p : PassCall) (duty : Type 0) (done : Bool)
+pub kept_passed : {F R O : Type 0} (under : Option (SchedCall (QEdit F R))) (kept : Option (Outcome (QOut O))) (hand hand' : Option Tid) (p : PassCall)
+    (duty : Type 0) (done : Bool)
     → KeptFits under kept hand → MayCall under (Pass p) duty → KeptFits {F = F} {R = R} (if done then None else Some (Pass p)) kept hand'
 kept_passed None None hand hand' p duty true fits may = tt
 kept_passed None None hand hand' p duty false fits may = tt

@@ -36,7 +36,8 @@ use Rattle.queuing_lock.specs.Steady.{HasNothing, IsOwner, keeps_nothing, keeps_
 
 module _ {F R B O : Type 0} (rules : LockRules F R B O) (opening : LockId → Option (QueueBlock (LockState B))) where
   -- who runs sleeps for no lock
-  pub runs_awake : (past : List (QueueEvent (QEdit F R))) → LocksAgree rules opening past → (t : Tid) → where_is (homes_in opening) (moves_in (lock_kernel rules opening) past) t ≡ Home
+  pub runs_awake : (past : List (QueueEvent (QEdit F R))) → LocksAgree rules opening past → (t : Tid)
+      → where_is (homes_in opening) (moves_in (lock_kernel rules opening) past) t ≡ Home
       → (lock : LockId) → is_in t (line_in Sleepers (lock_after rules (inner opening) lock (buffer_sections past))) ≡ false
   runs_awake past agree t home lock =
       not_counted t (line_in Sleepers (lock_after rules (inner opening) lock (buffer_sections past)))
@@ -53,19 +54,24 @@ module _ {F R B O : Type 0} (rules : LockRules F R B O) (opening : LockId → Op
   -- the call stays the owner's, and an Acquire that of a thread which is not
   pub owners_stay : (c : CpuId) (b : BufId) (e : QEdit F R) (past : List (QueueEvent (QEdit F R))) → home_of (homes_in opening) (lock_caller rules e) ≡ Some c
       → is_in (lock_caller rules e) (line_in Sleepers (lock_after rules (inner opening) (Buffer b) (buffer_sections past))) ≡ false
-      → IsOwners rules e (owner_of rules (inner opening) (buffer_sections past) (Buffer b)) → (more : List (QueueEvent (QEdit F R))) → AreOthers event_actor c more
-      → IsLawful (QueueAllowed (lock_kernel rules opening)) (more ++ past) → IsOwners rules e (owner_of rules (inner opening) (buffer_sections (more ++ past)) (Buffer b))
+      → IsOwners rules e (owner_of rules (inner opening) (buffer_sections past) (Buffer b)) → (more : List (QueueEvent (QEdit F R)))
+      → AreOthers event_actor c more
+      → IsLawful (QueueAllowed (lock_kernel rules opening)) (more ++ past)
+      → IsOwners rules e (owner_of rules (inner opening) (buffer_sections (more ++ past)) (Buffer b))
   owners_stay c b (Acquire t) past at awake owners more others lawful =
       not_owner t (lock_after rules (inner opening) (Buffer b) (buffer_sections (more ++ past)))
       (kept_others rules opening t (HasNothing rules t) (keeps_nothing rules t) c at (Buffer b) more past others lawful
       (nothing_at t (lock_after rules (inner opening) (Buffer b) (buffer_sections past)) owners awake))
   owners_stay c b (Inside f) past at awake owners more others lawful =
-      kept_others rules opening (rules.caller f) (IsOwner rules (rules.caller f)) (keeps_owned rules (rules.caller f)) c at (Buffer b) more past others lawful owners
+      kept_others rules opening (rules.caller f) (IsOwner rules (rules.caller f)) (keeps_owned rules (rules.caller f)) c at
+      (Buffer b) more past others lawful owners
   owners_stay c b (Release r) past at awake owners more others lawful =
-      kept_others rules opening (rules.last_caller r) (IsOwner rules (rules.last_caller r)) (keeps_owned rules (rules.last_caller r)) c at (Buffer b) more past others lawful owners
+      kept_others rules opening (rules.last_caller r) (IsOwner rules (rules.last_caller r)) (keeps_owned rules (rules.last_caller r)) c at
+      (Buffer b) more past others lawful owners
 
   -- so a call that may begin stays allowed
-  pub stays_here : (c : CpuId) (b : BufId) (e : QEdit F R) (past : List (QueueEvent (QEdit F R))) (own : Threads) → AreMoves (homes_in opening) (moves_in (lock_kernel rules opening) past)
+  pub stays_here : (c : CpuId) (b : BufId) (e : QEdit F R) (past : List (QueueEvent (QEdit F R))) (own : Threads)
+      → AreMoves (homes_in opening) (moves_in (lock_kernel rules opening) past)
       → Stands (homes_in opening) c (moves_in (lock_kernel rules opening) past) own → LocksAgree rules opening past → own.current ≡ Some (lock_caller rules e)
       → MayLock rules (lock_kernel rules opening) c past own.hand b e → EditStays (lock_kernel rules opening) c past (call.OnBuffer b e)
   stays_here c b e past own moving stands agree current may more others lawful =
@@ -79,16 +85,19 @@ module _ {F R B O : Type 0} (rules : LockRules F R B O) (opening : LockId → Op
   -- and its section may begin beneath
   pub locks_may : (c : CpuId) (b : BufId) (e : QEdit F R) (past : List (QueueEvent (QLockEdit F R))) (own : Threads)
       → AreMoves (homes_in (viewed lock_of opening)) (moves_in (here rules opening) (renamed_events edit_in past))
-      → Stands (homes_in (viewed lock_of opening)) c (moves_in (here rules opening) (renamed_events edit_in past)) own → LocksAgree rules (viewed lock_of opening) (renamed_events edit_in past)
+      → Stands (homes_in (viewed lock_of opening)) c (moves_in (here rules opening) (renamed_events edit_in past)) own
+      → LocksAgree rules (viewed lock_of opening) (renamed_events edit_in past)
       → own.current ≡ Some (lock_caller rules e) → MayLock rules (here rules opening) c (renamed_events edit_in past) own.hand b e
       → MaySleep (beneath rules opening) c past own b (as_section e)
   locks_may c b e past own moving stands agree current may = record {
     current = current;
     hand = may.empty;
     stays = λ more others lawful.
-        subst (λ (o : LockId → Option (LockState B)). LockAllowed rules o (map (renamed_section edit_in) (buffer_sections (more ++ past))) (record { cpu = c; lock = Buffer b; edit = e }))
+        subst (λ (o : LockId → Option (LockState B)). LockAllowed rules o (map (renamed_section edit_in) (buffer_sections (more ++ past)))
+        (record { cpu = c; lock = Buffer b; edit = e }))
         (inner_locks rules opening)
-        (stays_renamed (beneath rules opening) (here rules opening) edit_in lock_of (edits rules) (answers rules) (inner_viewed lock_of opening) (homes_viewed lock_of opening) (λ d. refl) refl refl
+        (stays_renamed (beneath rules opening) (here rules opening) edit_in lock_of (edits rules) (answers rules) (inner_viewed lock_of opening)
+        (homes_viewed lock_of opening) (λ d. refl) refl refl
         (allowed_here rules opening) c past b (as_section e)
         (stays_here rules (viewed lock_of opening) c b e (renamed_events edit_in past) own moving stands agree current may) more others lawful);
   }

@@ -1,5 +1,6 @@
 -- A part and its polls, from what the part beneath says of its own: what is owed beneath, and what was done here.
-use Rattle.std.proofs.Common.{◌≡◌, ◌≢◌, true, false, if◌then◌else◌, List, ◌++◌, length, ◌≤◌, Option, Some, None, option_map, is_some, map, refl, ap, sym, ◌∙◌, subst, ◌<◌, arith}
+use Rattle.std.proofs.Common.{◌≡◌, ◌≢◌, true, false, if◌then◌else◌, List, ◌++◌, length, ◌≤◌, Option, Some, None, option_map, is_some, map, refl, ap, sym, ◌∙◌}
+use Rattle.std.proofs.Common.{subst, ◌<◌, arith}
 use Rattle.std.proofs.lemmas.Option.{slice_get_within}
 use Rattle.event_log.specs.declared.ids.BufId.{BufId}
 use Rattle.event_log.specs.declared.ids.CpuId.{CpuId}
@@ -20,7 +21,8 @@ use Rattle.layer_traits.specs.declared.scheds.SchedCall.TheVariants as call
 use Rattle.layer_traits.specs.declared.sleeps.Outcome.{Outcome}
 use Rattle.layer_traits.specs.ListsAgree.{ListsAgree}
 use Rattle.layer_traits.specs.Locking.{LockRules, lock_after, lock_caller, lock_moves, lock_rules}
-use Rattle.layer_traits.specs.LockLaw.{LockPolled, Locking, MayGo, MayLock, left_after, left_handed, lock_pass_plan, lock_plan, locks_passed, HasOrAwaits, plan_for, slept_for}
+use Rattle.layer_traits.specs.LockLaw.{LockPolled, Locking, MayGo, MayLock, left_after, left_handed, lock_pass_plan, lock_plan, locks_passed, HasOrAwaits}
+use Rattle.layer_traits.specs.LockLaw.{plan_for, slept_for}
 use Rattle.layer_traits.specs.Places.{AreMoves, Home, Stands, Threads, home_of, where_is}
 use Rattle.layer_traits.specs.Plans.{Follows, Left, table_of}
 use Rattle.layer_traits.specs.QueueBlocks.{StartsWell, homes_in, inner}
@@ -52,18 +54,21 @@ under_is under None b e is = ap (option_map (renamed_sched edit_in)) is
 under_is under (Some a) b e is = ap (option_map (renamed_sched edit_in)) is
 
 -- and so is a pass
-pub pass_is : {F R A : Type 0} (under : Option (SchedCall (QLockEdit F R))) (answer : Option A) (p : Pass) → under ≡ (if is_some answer then None else Some (call.Pass p))
+pub pass_is : {F R A : Type 0} (under : Option (SchedCall (QLockEdit F R))) (answer : Option A) (p : Pass)
+    → under ≡ (if is_some answer then None else Some (call.Pass p))
     → option_map (renamed_sched edit_in) under ≡ (if is_some answer then None else Some (call.Pass p))
 pass_is under None p is = ap (option_map (renamed_sched edit_in)) is
 pass_is under (Some a) p is = ap (option_map (renamed_sched edit_in)) is
 
 -- a pass beneath is a pass here
-pub pass_here : {F R B O : Type 0} (rules : LockRules F R B O) (opening : LockId → Option (QueueBlock (SleepState (QBlock B)))) (ActsFor : CpuId → Type 0) (c : CpuId) (p : Pass)
+pub pass_here : {F R B O : Type 0} (rules : LockRules F R B O) (opening : LockId → Option (QueueBlock (SleepState (QBlock B)))) (ActsFor : CpuId → Type 0)
+    (c : CpuId) (p : Pass)
     (answer : Option (SchedAnswer (Outcome (QOut O)))) (old new : List (QueueEvent (QLockEdit F R))) (own own' : Threads)
     → SchedPolled (beneath rules opening) ActsFor c (call.Pass p) answer old new own own'
     → SchedPolled (here rules opening) ActsFor c (call.Pass p) answer (renamed_events edit_in old) (renamed_events edit_in new) own own'
 pass_here rules opening ActsFor c p answer old new own own' polled =
-    polled_renamed (beneath rules opening) (here rules opening) edit_in lock_of (edits rules) (answers rules) (inner_viewed lock_of opening) (homes_viewed lock_of opening) (λ d. refl) refl refl
+    polled_renamed (beneath rules opening) (here rules opening) edit_in lock_of (edits rules) (answers rules) (inner_viewed lock_of opening)
+    (homes_viewed lock_of opening) (λ d. refl) refl refl
     (allowed_here rules opening) ActsFor c (call.Pass p) answer old new own own' polled
 
 no_buffer : (x : Option BufId) → is_some x ≡ false → x ≡ None
@@ -71,8 +76,10 @@ no_buffer None none = refl
 no_buffer (Some b) none = absurd cc
 
 -- what a part knows before a poll
-pub record Before {F R B O : Type 0} (rules : LockRules F R B O) (opening : LockId → Option (QueueBlock (SleepState (QBlock B)))) (c : CpuId) (b : BufId) (e : QEdit F R)
-    (past : List (QueueEvent (QLockEdit F R))) (own : Sleeping (QOut O)) (under : Option (SchedCall (QLockEdit F R))) (slept : List (Option BufId)) : Type 0 where
+pub record Before {F R B O : Type 0} (rules : LockRules F R B O) (opening : LockId → Option (QueueBlock (SleepState (QBlock B)))) (c : CpuId) (b : BufId)
+    (e : QEdit F R)
+    (past : List (QueueEvent (QLockEdit F R))) (own : Sleeping (QOut O)) (under : Option (SchedCall (QLockEdit F R)))
+    (slept : List (Option BufId)) : Type 0 where
   pub starts : StartsWell opening
   pub moving : AreMoves (homes_in opening) (moves_in (beneath rules opening) past)
   pub stands : Stands (homes_in opening) c (moves_in (beneath rules opening) past) own.threads
@@ -93,27 +100,35 @@ module _ {F R B O : Type 0} (rules : LockRules F R B O) (opening : LockId → Op
   stands_here = locks_stand rules opening c past own.threads before.stands
 
   at_home : home_of (homes_in (viewed lock_of opening)) (lock_caller rules e) ≡ Some c
-  at_home = (current_at (homes_in (viewed lock_of opening)) c (moves_in (here rules opening) (renamed_events edit_in past)) own.threads moving_here stands_here (lock_caller rules e) before.caller).0
+  at_home = (current_at (homes_in (viewed lock_of opening)) c
+      (moves_in (here rules opening) (renamed_events edit_in past)) own.threads moving_here stands_here (lock_caller rules e) before.caller).0
 
   runs : where_is (homes_in (viewed lock_of opening)) (moves_in (here rules opening) (renamed_events edit_in past)) (lock_caller rules e) ≡ Home
-  runs = (current_at (homes_in (viewed lock_of opening)) c (moves_in (here rules opening) (renamed_events edit_in past)) own.threads moving_here stands_here (lock_caller rules e) before.caller).1
+  runs = (current_at (homes_in (viewed lock_of opening)) c (moves_in (here rules opening) (renamed_events edit_in past)) own.threads moving_here stands_here
+      (lock_caller rules e) before.caller).1
 
   -- the caller is a thread of the machine
   pub caller_small : (lock_caller rules e).0 < THREADS
-  caller_small = let within = slice_get_within (homes_in opening) (lock_caller rules e).0 c (subst (λ h. home_of h (lock_caller rules e) ≡ Some c) (homes_viewed lock_of opening) at_home) in
+  caller_small = let within = slice_get_within (homes_in opening) (lock_caller rules e).0 c
+      (subst (λ h. home_of h (lock_caller rules e) ≡ Some c) (homes_viewed lock_of opening) at_home) in
       let room = before.starts.room in omega (arith, within, room)
 
   handed_by : (ActsFor : CpuId → Type 0) (x : Option BufId) → slept_for slept (lock_caller rules e) ≡ x → is_some x ≡ true
-      → MayGo x (option_map (renamed_sched edit_in) under) b e (lock_caller rules e) (MayLock rules (here rules opening) c (renamed_events edit_in past) own.threads.hand b e)
-      → LockPolled rules (here rules opening) ActsFor c b e x (renamed_events edit_in past) (renamed_events edit_in past) (record { sleep = own; slept = slept })
+      → MayGo x (option_map (renamed_sched edit_in) under) b e (lock_caller rules e)
+      (MayLock rules (here rules opening) c (renamed_events edit_in past) own.threads.hand b e)
+      → LockPolled rules (here rules opening) ActsFor c b e x (renamed_events edit_in past) (renamed_events edit_in past)
+      (record { sleep = own; slept = slept })
       (option_map (renamed_sched edit_in) under) (left_handed (lock_caller rules e) slept own)
   handed_by ActsFor None is some may = absurd cc
   handed_by ActsFor (Some at) is some may =
-      let one = subst (λ x. HasOrAwaits (lock_caller rules e) (lock_after rules (inner (viewed lock_of opening)) (Buffer x) (buffer_sections (renamed_events edit_in past)))) may.1
+      let one = subst (λ x. HasOrAwaits (lock_caller rules e)
+      (lock_after rules (inner (viewed lock_of opening)) (Buffer x) (buffer_sections (renamed_events edit_in past)))) may.1
       (before.fits (lock_caller rules e) at is).awaits in
       record {
-        owns = awaits_owner (lock_caller rules e) (lock_after rules (inner (viewed lock_of opening)) (Buffer b) (buffer_sections (renamed_events edit_in past))) one
-            (runs_awake rules (viewed lock_of opening) (renamed_events edit_in past) (locks_lists rules opening past before.lists) (lock_caller rules e) runs (Buffer b));
+        owns = awaits_owner (lock_caller rules e)
+            (lock_after rules (inner (viewed lock_of opening)) (Buffer b) (buffer_sections (renamed_events edit_in past))) one
+            (runs_awake rules (viewed lock_of opening) (renamed_events edit_in past) (locks_lists rules opening past before.lists) (lock_caller rules e) runs
+            (Buffer b));
         ends = may.0;
         leaves = refl;
       }
@@ -128,17 +143,20 @@ module _ {F R B O : Type 0} (rules : LockRules F R B O) (opening : LockId → Op
     pub none : slept_for slept (lock_caller rules e) ≡ None
     none = no_buffer (slept_for slept (lock_caller rules e)) awake
 
-    goes : MayCall (option_map (renamed_sched edit_in) under) (call.OnBuffer b e) (MayLock rules (here rules opening) c (renamed_events edit_in past) own.threads.hand b e)
+    goes : MayCall (option_map (renamed_sched edit_in) under) (call.OnBuffer b e)
+        (MayLock rules (here rules opening) c (renamed_events edit_in past) own.threads.hand b e)
     goes = subst (λ x. MayGo x (option_map (renamed_sched edit_in) under) b e (lock_caller rules e)
         (MayLock rules (here rules opening) c (renamed_events edit_in past) own.threads.hand b e)) none before.may
 
     -- the section may be polled beneath
     pub owed : MayCall under (call.OnBuffer b (as_section e)) (MaySleep (beneath rules opening) c past own.threads b (as_section e))
-    owed = may_beneath under b e (MayLock rules (here rules opening) c (renamed_events edit_in past) own.threads.hand b e) (MaySleep (beneath rules opening) c past own.threads b (as_section e))
+    owed = may_beneath under b e (MayLock rules (here rules opening) c (renamed_events edit_in past) own.threads.hand b e)
+        (MaySleep (beneath rules opening) c past own.threads b (as_section e))
         (λ may. locks_may rules opening c b e past own.threads moving_here stands_here (locks_lists rules opening past before.lists) before.caller may) goes
 
     kept_now : KeptFits (Some (call.OnBuffer b e)) own.kept own.threads.hand
-    kept_now = kept_goes (option_map (renamed_sched edit_in) under) own.kept own.threads.hand b e (MayLock rules (here rules opening) c (renamed_events edit_in past) own.threads.hand b e)
+    kept_now = kept_goes (option_map (renamed_sched edit_in) under) own.kept own.threads.hand b e
+        (MayLock rules (here rules opening) c (renamed_events edit_in past) own.threads.hand b e)
         before.kept goes (λ may. may.empty)
 
     module _ (ActsFor : CpuId → Type 0) (new : List (QueueEvent (QLockEdit F R))) (got : Left (Sleeping (QOut O)) (Outcome (QOut O)))
@@ -146,48 +164,59 @@ module _ {F R B O : Type 0} (rules : LockRules F R B O) (opening : LockId → Op
       -- the poll beneath is a poll here
       polled_here : SleepPolled (here rules opening) ActsFor c b e (renamed_events edit_in past) (renamed_events edit_in new) own got
       polled_here =
-          sleeps_renamed (beneath rules opening) (here rules opening) edit_in lock_of (edits rules) (answers rules) (inner_viewed lock_of opening) (homes_viewed lock_of opening) (λ d. refl) refl refl
+          sleeps_renamed (beneath rules opening) (here rules opening) edit_in lock_of (edits rules) (answers rules) (inner_viewed lock_of opening)
+          (homes_viewed lock_of opening) (λ d. refl) refl refl
           (allowed_here rules opening) ActsFor c b (as_section e) past new own got polled
 
-      pub locks : (under' : Option (SchedCall (QEdit F R))) (got' : Left (Locking O) (Outcome (QOut O))) → under' ≡ (if is_some got.answer then None else Some (call.OnBuffer b e))
+      pub locks : (under' : Option (SchedCall (QEdit F R))) (got' : Left (Locking O) (Outcome (QOut O)))
+          → under' ≡ (if is_some got.answer then None else Some (call.OnBuffer b e))
           → got' ≡ left_after (lock_caller rules e) b slept got.own got.answer
-          → LockPolled rules (here rules opening) ActsFor c b e (slept_for slept (lock_caller rules e)) (renamed_events edit_in past) (renamed_events edit_in new) (record { sleep = own; slept = slept }) under' got'
+          → LockPolled rules (here rules opening) ActsFor c b e (slept_for slept (lock_caller rules e)) (renamed_events edit_in past)
+          (renamed_events edit_in new) (record { sleep = own; slept = slept }) under' got'
       locks under' got' ends leaves =
-          subst (λ x. LockPolled rules (here rules opening) ActsFor c b e x (renamed_events edit_in past) (renamed_events edit_in new) (record { sleep = own; slept = slept }) under' got') (sym none)
+          subst (λ x. LockPolled rules (here rules opening) ActsFor c b e x (renamed_events edit_in past) (renamed_events edit_in new)
+          (record { sleep = own; slept = slept }) under' got') (sym none)
           (record { left = got; polled = polled_here; ends = ends; asks = asks_none own.kept own.threads.hand b e kept_now; leaves = leaves })
 
       -- what is kept agrees with the call that goes on
       pub kept_after : KeptIn rules (viewed lock_of opening) c b e got
-      kept_after = kept_deed rules (viewed lock_of opening) c b e polled_here.deed (polled_here.others ++ renamed_events edit_in past) own got polled_here.may polled_here.leaves kept_now
+      kept_after = kept_deed rules (viewed lock_of opening) c b e polled_here.deed
+          (polled_here.others ++ renamed_events edit_in past) own got polled_here.may polled_here.leaves kept_now
 
       module _ (acts : ActsFor c) (lawful : IsLawful (QueueAllowed (beneath rules opening)) new) where
         -- who slept owns or sleeps still
         pub slept_after : SleptFits rules (viewed lock_of opening) c (renamed_events edit_in new) slept
         slept_after =
-            slept_polled rules (viewed lock_of opening) c ActsFor acts b e (renamed_events edit_in past) (renamed_events edit_in new) own got polled_here (locks_lawful rules opening new lawful)
+            slept_polled rules (viewed lock_of opening) c ActsFor acts b e (renamed_events edit_in past) (renamed_events edit_in new) own got polled_here
+            (locks_lawful rules opening new lawful)
             slept none before.fits
 
         pub slept_told : (outcome : Outcome (QOut O)) → got.answer ≡ Some outcome
             → SleptFits rules (viewed lock_of opening) c (renamed_events edit_in new) (kept_by (lock_caller rules e) b slept outcome)
         slept_told outcome answer =
-            slept_queued rules (viewed lock_of opening) c ActsFor acts b e (renamed_events edit_in past) (renamed_events edit_in new) own got polled_here (locks_lawful rules opening new lawful)
+            slept_queued rules (viewed lock_of opening) c ActsFor acts b e (renamed_events edit_in past) (renamed_events edit_in new) own got polled_here
+            (locks_lawful rules opening new lawful)
             slept none before.fits outcome at_home (subst (λ h. length h ≤ THREADS) (sym (homes_viewed lock_of opening)) before.starts.room) answer kept_now
 
 -- the part of another CPU agrees still
-pub others_after : {F R B O : Type 0} (rules : LockRules F R B O) (opening : LockId → Option (QueueBlock (SleepState (QBlock B)))) (c d : CpuId) → c ≢ d → (ActsFor : CpuId → Type 0) → ActsFor c
+pub others_after : {F R B O : Type 0} (rules : LockRules F R B O) (opening : LockId → Option (QueueBlock (SleepState (QBlock B)))) (c d : CpuId) → c ≢ d
+    → (ActsFor : CpuId → Type 0) → ActsFor c
     → (b : BufId) (e : QEdit F R) (past new : List (QueueEvent (QLockEdit F R))) (own : Sleeping (QOut O)) (got : Left (Sleeping (QOut O)) (Outcome (QOut O)))
     → SleepPolled (beneath rules opening) ActsFor d b (as_section e) past new own got → IsLawful (QueueAllowed (beneath rules opening)) new
-    → (slept : List (Option BufId)) → SleptFits rules (viewed lock_of opening) c (renamed_events edit_in past) slept → SleptFits rules (viewed lock_of opening) c (renamed_events edit_in new) slept
+    → (slept : List (Option BufId)) → SleptFits rules (viewed lock_of opening) c (renamed_events edit_in past) slept
+    → SleptFits rules (viewed lock_of opening) c (renamed_events edit_in new) slept
 others_after rules opening c d apart ActsFor acts b e past new own got polled lawful slept fits =
     slept_of_others rules (viewed lock_of opening) c ActsFor d apart acts slept b e (renamed_events edit_in past) (renamed_events edit_in new) own got
-    (sleeps_renamed (beneath rules opening) (here rules opening) edit_in lock_of (edits rules) (answers rules) (inner_viewed lock_of opening) (homes_viewed lock_of opening) (λ d. refl) refl refl
+    (sleeps_renamed (beneath rules opening) (here rules opening) edit_in lock_of (edits rules) (answers rules) (inner_viewed lock_of opening)
+    (homes_viewed lock_of opening) (λ d. refl) refl refl
     (allowed_here rules opening) ActsFor d b (as_section e) past new own got polled) (locks_lawful rules opening new lawful) fits
 
 -- A poll that followed its plan beneath followed it here.
 
 module _ {F R B O : Type 0} (rules : LockRules F R B O) (opening : LockId → Option (QueueBlock (SleepState (QBlock B)))) (ActsFor : CpuId → Type 0) (c : CpuId)
     (acts acts' : List (Action (QueueEdit (QLockEdit F R)))) where
-  pub locks_follow : (b : BufId) (e : QEdit F R) (own : Sleeping (QOut O)) (slept : List (Option BufId)) (got : Left (Sleeping (QOut O)) (Outcome (QOut O))) → slept_for slept (lock_caller rules e) ≡ None
+  pub locks_follow : (b : BufId) (e : QEdit F R) (own : Sleeping (QOut O)) (slept : List (Option BufId)) (got : Left (Sleeping (QOut O)) (Outcome (QOut O)))
+      → slept_for slept (lock_caller rules e) ≡ None
       → Follows ActsFor (table_of (queue_rules (sleep_rules (busy_rules rules)) (sleep_moves (busy_rules rules)))) opening c
       (sleep_plan (sleep_moves (busy_rules rules)) (homes_in opening) c b (as_section e) own) acts acts' got
       → Follows ActsFor (table_of (queue_rules (lock_rules rules) (lock_moves rules))) (viewed lock_of opening) c
@@ -196,17 +225,22 @@ module _ {F R B O : Type 0} (rules : LockRules F R B O) (opening : LockId → Op
   locks_follow b e own slept got none follows =
       subst (λ x. Follows ActsFor (table_of (queue_rules (lock_rules rules) (lock_moves rules))) (viewed lock_of opening) c
       (plan_for (lock_moves rules) (homes_in (viewed lock_of opening)) c b e (record { sleep = own; slept = slept }) x)
-      (map (renamed (renamed_edit edit_in)) acts) (map (renamed (renamed_edit edit_in)) acts') (left_after (lock_caller rules e) b slept got.own got.answer)) (sym none)
-      (follows_raised ActsFor (table_of (queue_rules (lock_rules rules) (lock_moves rules))) (viewed lock_of opening) c (λ l. left_after (lock_caller rules e) b slept l.own l.answer)
+      (map (renamed (renamed_edit edit_in)) acts) (map (renamed (renamed_edit edit_in)) acts') (left_after (lock_caller rules e) b slept got.own got.answer))
+      (sym none)
+      (follows_raised ActsFor (table_of (queue_rules (lock_rules rules) (lock_moves rules))) (viewed lock_of opening) c
+      (λ l. left_after (lock_caller rules e) b slept l.own l.answer)
       (sleep_plan (lock_moves rules) (homes_in (viewed lock_of opening)) c b e own)
       (map (renamed (renamed_edit edit_in)) acts) (map (renamed (renamed_edit edit_in)) acts') got
       (subst (λ plan. Follows ActsFor (table_of (queue_rules (lock_rules rules) (lock_moves rules))) (viewed lock_of opening) c plan
       (map (renamed (renamed_edit edit_in)) acts) (map (renamed (renamed_edit edit_in)) acts') got)
-      (sleep_plan_renamed (beneath rules opening) (here rules opening) edit_in lock_of (edits rules) (answers rules) (inner_viewed lock_of opening) (homes_viewed lock_of opening) (λ d. refl) refl refl
+      (sleep_plan_renamed (beneath rules opening) (here rules opening) edit_in lock_of (edits rules) (answers rules) (inner_viewed lock_of opening)
+      (homes_viewed lock_of opening) (λ d. refl) refl refl
       (allowed_here rules opening) (homes_in opening) c b (as_section e) own
       ∙ ap (λ h. sleep_plan (lock_moves rules) h c b e own) (sym (homes_viewed lock_of opening)))
-      (follows_named (beneath rules opening) (here rules opening) edit_in lock_of (edits rules) (answers rules) (inner_viewed lock_of opening) (homes_viewed lock_of opening) (λ d. refl) refl refl
-      (allowed_here rules opening) ActsFor opening c (sleep_plan (sleep_moves (busy_rules rules)) (homes_in opening) c b (as_section e) own) acts acts' got follows)))
+      (follows_named (beneath rules opening) (here rules opening) edit_in lock_of (edits rules) (answers rules) (inner_viewed lock_of opening)
+      (homes_viewed lock_of opening) (λ d. refl) refl refl
+      (allowed_here rules opening) ActsFor opening c
+      (sleep_plan (sleep_moves (busy_rules rules)) (homes_in opening) c b (as_section e) own) acts acts' got follows)))
 
   pub locks_pass_follow : (p : Pass) (own : Sleeping (QOut O)) (slept : List (Option BufId)) (got : Left (Sleeping (QOut O)) (Unit {0}))
       → Follows ActsFor (table_of (queue_rules (sleep_rules (busy_rules rules)) (sleep_moves (busy_rules rules)))) opening c
@@ -220,8 +254,10 @@ module _ {F R B O : Type 0} (rules : LockRules F R B O) (opening : LockId → Op
       (map (renamed (renamed_edit edit_in)) acts) (map (renamed (renamed_edit edit_in)) acts') got
       (subst (λ plan. Follows ActsFor (table_of (queue_rules (lock_rules rules) (lock_moves rules))) (viewed lock_of opening) c plan
       (map (renamed (renamed_edit edit_in)) acts) (map (renamed (renamed_edit edit_in)) acts') got)
-      (pass_plan_renamed (beneath rules opening) (here rules opening) edit_in lock_of (edits rules) (answers rules) (inner_viewed lock_of opening) (homes_viewed lock_of opening) (λ d. refl) refl refl
+      (pass_plan_renamed (beneath rules opening) (here rules opening) edit_in lock_of (edits rules) (answers rules) (inner_viewed lock_of opening)
+      (homes_viewed lock_of opening) (λ d. refl) refl refl
       (allowed_here rules opening) (homes_in opening) c p own
       ∙ ap (λ h. pass_plan (lock_moves rules) h c p own) (sym (homes_viewed lock_of opening)))
-      (follows_named (beneath rules opening) (here rules opening) edit_in lock_of (edits rules) (answers rules) (inner_viewed lock_of opening) (homes_viewed lock_of opening) (λ d. refl) refl refl
+      (follows_named (beneath rules opening) (here rules opening) edit_in lock_of (edits rules) (answers rules) (inner_viewed lock_of opening)
+      (homes_viewed lock_of opening) (λ d. refl) refl refl
       (allowed_here rules opening) ActsFor opening c (pass_plan (sleep_moves (busy_rules rules)) (homes_in opening) c p own) acts acts' got follows))

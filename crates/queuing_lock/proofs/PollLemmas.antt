@@ -1,5 +1,6 @@
 -- One poll of a part: what it leaves of who slept, and that it is the poll which the law of the layer asks for.
-use Rattle.std.proofs.Common.{◌≡◌, ◌≢◌, inl, inr, ◌<◌, ◌≤◌, Bool, true, false, ◌&&◌, ◌||◌, not, nat_lt, if◌then◌else◌, List, [], ◌∷◌, ◌++◌, length, Option, Some, None, option_map, is_some, refl, ap, sym, ◌∙◌, subst, arith}
+use Rattle.std.proofs.Common.{◌≡◌, ◌≢◌, inl, inr, ◌<◌, ◌≤◌, Bool, true, false, ◌&&◌, ◌||◌, not, nat_lt, if◌then◌else◌, List, [], ◌∷◌, ◌++◌, length, Option}
+use Rattle.std.proofs.Common.{Some, None, option_map, is_some, refl, ap, sym, ◌∙◌, subst, arith}
 use Rattle.std.proofs.lemmas.Bool.{lt-ltb}
 use Rattle.std.proofs.lemmas.Option.{slice_get_within}
 use Rattle.event_log.specs.declared.ids.BufId.{BufId}
@@ -24,7 +25,8 @@ use Rattle.layer_traits.specs.declared.queues.QueueEvent.{QueueEvent}
 use Rattle.layer_traits.specs.declared.scheds.SchedAnswer.{SchedAnswer}
 use Rattle.layer_traits.specs.declared.scheds.SchedCall.TheVariants as call
 use Rattle.layer_traits.specs.declared.sleeps.Outcome.{Outcome}
-use Rattle.layer_traits.specs.Locking.{LockRules, LockState, asked, line_in, lock_after, lock_answer, lock_caller, lock_edited, lock_moves, owner_in, told_asker}
+use Rattle.layer_traits.specs.Locking.{LockRules, LockState, asked, line_in, lock_after, lock_answer, lock_caller, lock_edited, lock_moves, owner_in}
+use Rattle.layer_traits.specs.Locking.{told_asker}
 use Rattle.layer_traits.specs.LockLaw.{HasOrAwaits, left_locked, locking, lock_kernel, slept_for}
 use Rattle.layer_traits.specs.Passes.{queue_for}
 use Rattle.layer_traits.specs.Places.{Threads, home_of}
@@ -67,7 +69,8 @@ abbrev answer_of : (O : Type 0) → Left (Sleeping O) (Outcome O) → Option (Ou
 answer_of O left = left.answer
 
 -- a section that was done and answers answers its outcome
-answered_with : {O : Type 0} (done : Outcome O) (threads : Threads) (outcome : Outcome O) → (left_done done threads).answer ≡ Some outcome → Some done ≡ Some outcome
+answered_with : {O : Type 0} (done : Outcome O) (threads : Threads) (outcome : Outcome O) → (left_done done threads).answer ≡ Some outcome
+    → Some done ≡ Some outcome
 answered_with {O = O} done threads outcome answers = go (must_send done threads) answers
   where
     go : (send : Bool) → answer_of O (if send then record { own = record { threads = threads; kept = Some done }; answer = None }
@@ -84,7 +87,8 @@ told_is t b slept sleep (Did out) outcome = refl
 told_is t b slept sleep (Released out) outcome = refl
 
 module _ {F R B O : Type 0} (rules : LockRules F R B O) where
-  asked_waits : (t : Tid) (owner : Option Tid) (state : LockState B) → t.0 < THREADS → told_asker {O = O} owner ≡ Queued → HasOrAwaits t (Some (asked t owner state))
+  asked_waits : (t : Tid) (owner : Option Tid) (state : LockState B) → t.0 < THREADS → told_asker {O = O} owner ≡ Queued
+      → HasOrAwaits t (Some (asked t owner state))
   asked_waits t None state small queued = absurd cc
   asked_waits t (Some owner) state small queued = inr (joined_in t state.sleepers small)
 
@@ -95,7 +99,8 @@ module _ {F R B O : Type 0} (rules : LockRules F R B O) where
   queued_by (Release r) state small queued = absurd cc
 
   -- who is queued sleeps for the lock now
-  pub queued_awaits : (e : QEdit F R) (o : Option (LockState B)) (outcome : Outcome (QOut O)) → (lock_caller rules e).0 < THREADS → option_map (lock_answer rules e) o ≡ Some outcome
+  pub queued_awaits : (e : QEdit F R) (o : Option (LockState B)) (outcome : Outcome (QOut O)) → (lock_caller rules e).0 < THREADS
+      → option_map (lock_answer rules e) o ≡ Some outcome
       → outcome.out ≡ Queued → HasOrAwaits (lock_caller rules e) (option_map (lock_edited rules e) o)
   queued_awaits e None outcome small is queued = absurd cc
   queued_awaits e (Some state) outcome small is queued =
@@ -105,13 +110,15 @@ module _ {F R B O : Type 0} (rules : LockRules F R B O) where
 module _ {F R B O : Type 0} (rules : LockRules F R B O) (opening : LockId → Option (QueueBlock (LockState B))) (c : CpuId) where
   -- A poll of a section, seen by the part that did it.
 
-  module _ (ActsFor : CpuId → Type 0) (acts : ActsFor c) (b : BufId) (e : QEdit F R) (old new : List (QueueEvent (QEdit F R))) (own : Sleeping (QOut O)) (got : Left (Sleeping (QOut O)) (Outcome (QOut O)))
+  module _ (ActsFor : CpuId → Type 0) (acts : ActsFor c) (b : BufId) (e : QEdit F R) (old new : List (QueueEvent (QEdit F R))) (own : Sleeping (QOut O))
+      (got : Left (Sleeping (QOut O)) (Outcome (QOut O)))
       (polled : SleepPolled (lock_kernel rules opening) ActsFor c b e old new own got) (lawful : IsLawful (QueueAllowed (lock_kernel rules opening)) new)
       (slept : List (Option BufId)) (none : slept_for slept (lock_caller rules e) ≡ None) (fits : SleptFits rules opening c old slept) where
     after : IsLawful (QueueAllowed (lock_kernel rules opening)) (seen_with (lock_kernel rules opening) c b e polled.deed (polled.others ++ old))
     after = subst (λ l. IsLawful (QueueAllowed (lock_kernel rules opening)) l) polled.is lawful
 
-    before : (deed : Deed (QOut O)) (past : List (QueueEvent (QEdit F R))) → IsLawful (QueueAllowed (lock_kernel rules opening)) (seen_with (lock_kernel rules opening) c b e deed past)
+    before : (deed : Deed (QOut O)) (past : List (QueueEvent (QEdit F R)))
+        → IsLawful (QueueAllowed (lock_kernel rules opening)) (seen_with (lock_kernel rules opening) c b e deed past)
         → IsLawful (QueueAllowed (lock_kernel rules opening)) past
     before Waits past lawful = lawful
     before (Does outcome) past lawful = lawful.1
@@ -125,12 +132,15 @@ module _ {F R B O : Type 0} (rules : LockRules F R B O) (opening : LockId → Op
         (slept_others rules opening c polled.others old (polled.foreign c acts) (before polled.deed (polled.others ++ old) after) slept fits))
 
     queued_deed : (deed : Deed (QOut O)) (past : List (QueueEvent (QEdit F R))) (outcome : Outcome (QOut O)) → (lock_caller rules e).0 < THREADS
-        → MayDo (lock_kernel rules opening) c b e deed past own → (left_with (lock_kernel rules opening) c b e deed own).answer ≡ Some outcome → outcome.out ≡ Queued
+        → MayDo (lock_kernel rules opening) c b e deed past own → (left_with (lock_kernel rules opening) c b e deed own).answer ≡ Some outcome
+        → outcome.out ≡ Queued
         → KeptFits (Some (call.OnBuffer b e)) own.kept own.threads.hand
-        → HasOrAwaits (lock_caller rules e) (lock_after rules (inner opening) (Buffer b) (buffer_sections (seen_with (lock_kernel rules opening) c b e deed past)))
+        → HasOrAwaits (lock_caller rules e) (lock_after rules (inner opening) (Buffer b)
+        (buffer_sections (seen_with (lock_kernel rules opening) c b e deed past)))
     queued_deed Waits past outcome small may answers queued kept = absurd cc
     queued_deed (Does done) past outcome small may answers queued kept =
-        subst (λ same. HasOrAwaits (lock_caller rules e) (if same then option_map (lock_edited rules e) (lock_after rules (inner opening) (Buffer b) (buffer_sections past))
+        subst (λ same. HasOrAwaits (lock_caller rules e)
+        (if same then option_map (lock_edited rules e) (lock_after rules (inner opening) (Buffer b) (buffer_sections past))
         else lock_after rules (inner opening) (Buffer b) (buffer_sections past))) (sym (same_lock_self (Buffer b)))
         (queued_awaits rules e (lock_after rules (inner opening) (Buffer b) (buffer_sections past)) outcome small
         (may.1 ∙ answered_with done (own_answered (lock_moves rules) (lock_kernel rules opening).homes c (Some done) own.threads) outcome answers) queued)
@@ -140,7 +150,8 @@ module _ {F R B O : Type 0} (rules : LockRules F R B O) (opening : LockId → Op
         absurd cc
 
     -- and who is queued sleeps for the lock
-    pub slept_queued : (outcome : Outcome (QOut O)) → home_of (homes_in opening) (lock_caller rules e) ≡ Some c → length (homes_in opening) ≤ THREADS → got.answer ≡ Some outcome
+    pub slept_queued : (outcome : Outcome (QOut O)) → home_of (homes_in opening) (lock_caller rules e) ≡ Some c → length (homes_in opening) ≤ THREADS
+        → got.answer ≡ Some outcome
         → KeptFits (Some (call.OnBuffer b e)) own.kept own.threads.hand → SleptFits rules opening c new (kept_by (lock_caller rules e) b slept outcome)
     slept_queued outcome here room answers kept = go outcome.out refl
       where
@@ -169,25 +180,29 @@ module _ {F R B O : Type 0} (rules : LockRules F R B O) (opening : LockId → Op
         go true is = absurd (apart (sym (same_cpu_true by c is)))
         go false is = is
 
-    pub slept_of_others : (b : BufId) (e : QEdit F R) (old new : List (QueueEvent (QEdit F R))) (own : Sleeping (QOut O)) (got : Left (Sleeping (QOut O)) (Outcome (QOut O)))
+    pub slept_of_others : (b : BufId) (e : QEdit F R) (old new : List (QueueEvent (QEdit F R))) (own : Sleeping (QOut O))
+        (got : Left (Sleeping (QOut O)) (Outcome (QOut O)))
         → SleepPolled (lock_kernel rules opening) ActsFor by b e old new own got → IsLawful (QueueAllowed (lock_kernel rules opening)) new
         → SleptFits rules opening c old slept → SleptFits rules opening c new slept
     slept_of_others b e old new own got polled lawful fits =
         subst (λ l. SleptFits rules opening c l slept) (sym polled.is)
         (go polled.deed (subst (λ l. IsLawful (QueueAllowed (lock_kernel rules opening)) l) polled.is lawful))
       where
-        go : (deed : Deed (QOut O)) → IsLawful (QueueAllowed (lock_kernel rules opening)) (seen_with (lock_kernel rules opening) by b e deed (polled.others ++ old))
+        go : (deed : Deed (QOut O)) → IsLawful (QueueAllowed (lock_kernel rules opening))
+            (seen_with (lock_kernel rules opening) by b e deed (polled.others ++ old))
             → SleptFits rules opening c (seen_with (lock_kernel rules opening) by b e deed (polled.others ++ old)) slept
         go Waits lawful = slept_others rules opening c polled.others old (polled.foreign c acts) lawful slept fits
         go (Does outcome) lawful =
             slept_others rules opening c (event by (OnBuffer b e) ∷ polled.others) old (not_by, polled.foreign c acts) lawful slept fits
         go (Sends t) lawful =
-            slept_others rules opening c (event by (Push (queue_for (homes_in opening) by t) t) ∷ polled.others) old (not_by, polled.foreign c acts) lawful slept fits
+            slept_others rules opening c (event by (Push (queue_for (homes_in opening) by t) t) ∷ polled.others) old
+            (not_by, polled.foreign c acts) lawful slept fits
 
 -- A pass does no section, so nothing changes of who owns and who sleeps.
 
 module _ {F R B O : Type 0} (rules : LockRules F R B O) (opening : LockId → Option (QueueBlock (LockState B))) (by : CpuId) (p : PassCall) where
-  same_sections : (done : Bool) (past : List (QueueEvent (QEdit F R))) → buffer_sections (if done then events_of by (queue_call (homes_in opening) by (call.Pass p)) ++ past else past) ≡ buffer_sections past
+  same_sections : (done : Bool) (past : List (QueueEvent (QEdit F R)))
+      → buffer_sections (if done then events_of by (queue_call (homes_in opening) by (call.Pass p)) ++ past else past) ≡ buffer_sections past
   same_sections false past = refl
   same_sections true past = go p
     where
@@ -202,10 +217,12 @@ module _ {F R B O : Type 0} (rules : LockRules F R B O) (opening : LockId → Op
       → IsLawful (QueueAllowed (lock_kernel rules opening)) (if done then events_of by (queue_call (homes_in opening) by (call.Pass p)) ++ past else past)
       → IsLawful (QueueAllowed (lock_kernel rules opening)) past
   before_pass false past lawful = lawful
-  before_pass true past lawful = lawful_before (QueueAllowed (lock_kernel rules opening)) (events_of by (queue_call (homes_in opening) by (call.Pass p))) past lawful
+  before_pass true past lawful = lawful_before (QueueAllowed (lock_kernel rules opening))
+      (events_of by (queue_call (homes_in opening) by (call.Pass p))) past lawful
 
 -- who slept owns or sleeps still after a pass, seen by any part
-pub slept_passed : {F R B O : Type 0} (rules : LockRules F R B O) (opening : LockId → Option (QueueBlock (LockState B))) (ActsFor : CpuId → Type 0) (by : CpuId) (p : PassCall)
+pub slept_passed : {F R B O : Type 0} (rules : LockRules F R B O) (opening : LockId → Option (QueueBlock (LockState B))) (ActsFor : CpuId → Type 0)
+    (by : CpuId) (p : PassCall)
     (answer : Option (SchedAnswer (Outcome (QOut O)))) (c : CpuId) → ActsFor c → (old new : List (QueueEvent (QEdit F R))) (own own' : Threads)
     → SchedPolled (lock_kernel rules opening) ActsFor by (call.Pass p) answer old new own own' → IsLawful (QueueAllowed (lock_kernel rules opening)) new
     → (slept : List (Option BufId)) → SleptFits rules opening c old slept → SleptFits rules opening c new slept

@@ -1,5 +1,6 @@
 -- Whoever slept for a lock owns it or sleeps for it still, whatever is called.
-use Rattle.std.proofs.Common.{◌≡◌, ◌⊎◌, inl, inr, ℕ, zero, suc, List, [], ◌∷◌, ◌++◌, Option, Some, None, slice_index_or, slice_set, replicate, refl, ap, sym, ◌∙◌, subst}
+use Rattle.std.proofs.Common.{◌≡◌, ◌⊎◌, inl, inr, ℕ, zero, suc, List, [], ◌∷◌, ◌++◌, Option, Some, None, slice_index_or, slice_set, replicate, refl, ap, sym}
+use Rattle.std.proofs.Common.{◌∙◌, subst}
 use Rattle.event_log.specs.declared.ids.BufId.{BufId}
 use Rattle.event_log.specs.declared.ids.CpuId.{CpuId}
 use Rattle.event_log.specs.declared.ids.LockId.{LockId}
@@ -38,7 +39,8 @@ none_at (suc n) (suc j) x is = none_at n j x is
 
 module _ {F R B O : Type 0} (rules : LockRules F R B O) (opening : LockId → Option (QueueBlock (LockState B))) (c : CpuId) where
   -- others call
-  pub slept_others : (more past : List (QueueEvent (QEdit F R))) → AreOthers event_actor c more → IsLawful (QueueAllowed (lock_kernel rules opening)) (more ++ past)
+  pub slept_others : (more past : List (QueueEvent (QEdit F R))) → AreOthers event_actor c more
+      → IsLawful (QueueAllowed (lock_kernel rules opening)) (more ++ past)
       → (slept : List (Option BufId)) → SleptFits rules opening c past slept → SleptFits rules opening c (more ++ past) slept
   slept_others more past others lawful slept fits t b is = record {
     here = (fits t b is).here;
@@ -46,7 +48,8 @@ module _ {F R B O : Type 0} (rules : LockRules F R B O) (opening : LockId → Op
   }
 
   -- the history went on by calls of others
-  pub slept_goes : (more past new : List (QueueEvent (QEdit F R))) → AreOthers event_actor c more → new ≡ more ++ past → IsLawful (QueueAllowed (lock_kernel rules opening)) new
+  pub slept_goes : (more past new : List (QueueEvent (QEdit F R))) → AreOthers event_actor c more → new ≡ more ++ past
+      → IsLawful (QueueAllowed (lock_kernel rules opening)) new
       → (slept : List (Option BufId)) → SleptFits rules opening c past slept → SleptFits rules opening c new slept
   slept_goes more past new others is lawful slept fits =
       subst (λ l. SleptFits rules opening c l slept) (sym is)
@@ -60,7 +63,8 @@ module _ {F R B O : Type 0} (rules : LockRules F R B O) (opening : LockId → Op
 
   -- a thread that slept for no lock calls
   pub slept_deed : (b : BufId) (e : QEdit F R) (deed : Deed (QOut O)) (past : List (QueueEvent (QEdit F R))) (slept : List (Option BufId))
-      → IsLawful (QueueAllowed (lock_kernel rules opening)) (seen_with (lock_kernel rules opening) c b e deed past) → slept_for slept (lock_caller rules e) ≡ None
+      → IsLawful (QueueAllowed (lock_kernel rules opening)) (seen_with (lock_kernel rules opening) c b e deed past)
+      → slept_for slept (lock_caller rules e) ≡ None
       → SleptFits rules opening c past slept → SleptFits rules opening c (seen_with (lock_kernel rules opening) c b e deed past) slept
   slept_deed b e Waits past slept lawful none fits = fits
   slept_deed b e (Does outcome) past slept lawful none fits = λ t at is. record {
@@ -94,7 +98,8 @@ module _ {F R B O : Type 0} (rules : LockRules F R B O) (opening : LockId → Op
       go (inr was) = fits u at was
 
   -- at boot nobody has slept
-  pub slept_none : (past : List (QueueEvent (QEdit F R))) (slept : List (Option BufId)) (n : ℕ) → slept ≡ replicate n None → SleptFits rules opening c past slept
+  pub slept_none : (past : List (QueueEvent (QEdit F R))) (slept : List (Option BufId)) (n : ℕ) → slept ≡ replicate n None
+      → SleptFits rules opening c past slept
   slept_none past slept n is t b some =
       let none : slept_for slept t ≡ None = ap (λ l. slept_for l t) is ∙ none_at n t.0 None refl in
       absurd cc

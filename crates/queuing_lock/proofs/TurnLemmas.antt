@@ -1,5 +1,6 @@
 -- How a thread stands after a poll of its call on a queuing lock, by the law of the layer alone.
-use Rattle.std.proofs.Common.{◌≡◌, ◌⊎◌, inl, inr, Bool, true, false, ◌&&◌, not, List, ◌∷◌, ◌++◌, Option, Some, None, IsSome, is_some, option_map, if◌then◌else◌, ◌<◌, refl, ap, sym, ◌∙◌, subst}
+use Rattle.std.proofs.Common.{◌≡◌, ◌⊎◌, inl, inr, Bool, true, false, ◌&&◌, not, List, ◌∷◌, ◌++◌, Option, Some, None, IsSome, is_some, option_map}
+use Rattle.std.proofs.Common.{if◌then◌else◌, ◌<◌, refl, ap, sym, ◌∙◌, subst}
 use Rattle.std.proofs.lemmas.List.{get_or-set_same, length-replicate, length-set}
 use Rattle.event_log.specs.declared.ids.BufId.{BufId}
 use Rattle.event_log.specs.declared.ids.CpuId.{CpuId}
@@ -20,8 +21,10 @@ use Rattle.layer_traits.specs.declared.queues.QueueEvent.{QueueEvent}
 use Rattle.layer_traits.specs.declared.scheds.SchedCall.{SchedCall}
 use Rattle.layer_traits.specs.declared.scheds.SchedCall.TheVariants as call
 use Rattle.layer_traits.specs.declared.sleeps.Outcome.{Outcome}
-use Rattle.layer_traits.specs.Locking.{LockRules, LockState, asked, line_asked, line_slept, lock_after, lock_answer, lock_caller, lock_edited, lock_moves, lock_out, lock_slept, owner_in, owner_of, told_asker}
-use Rattle.layer_traits.specs.LockLaw.{at_start, Handed, IsAcquire, LockPolled, Locking, Locks, MayGo, MayLock, left_after, left_locked, lock_kernel, locking, slept_for}
+use Rattle.layer_traits.specs.Locking.{LockRules, LockState, asked, line_asked, line_slept, lock_after, lock_answer, lock_caller, lock_edited, lock_moves}
+use Rattle.layer_traits.specs.Locking.{lock_out, lock_slept, owner_in, owner_of, told_asker}
+use Rattle.layer_traits.specs.LockLaw.{at_start, Handed, IsAcquire, LockPolled, Locking, Locks, MayGo, MayLock, left_after, left_locked, lock_kernel, locking}
+use Rattle.layer_traits.specs.LockLaw.{slept_for}
 use Rattle.layer_traits.specs.Passes.{own_slept, own_woken, passed_on}
 use Rattle.layer_traits.specs.Places.{Threads}
 use Rattle.layer_traits.specs.Plans.{Left}
@@ -138,7 +141,8 @@ module _ {F R B O : Type 0} (rules : LockRules F R B O) (opening : LockId → Op
   AfterLeft past under got = After past got.own under got.answer
 
   -- who was handed the lock
-  after_handed : (old new : List (QueueEvent (QEdit F R))) (own : Locking O) (under : Option (SchedCall (QEdit F R))) (got : Left (Locking O) (Outcome (QOut O)))
+  after_handed : (old new : List (QueueEvent (QEdit F R))) (own : Locking O) (under : Option (SchedCall (QEdit F R)))
+      (got : Left (Locking O) (Outcome (QOut O)))
       → Handed rules (inner opening) b (lock_caller rules e) old own under got → IsSteady rules own (lock_caller rules e) → new ≡ old
       → AfterLeft new under got
   after_handed old new own under got handed steady same =

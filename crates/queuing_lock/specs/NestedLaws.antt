@@ -48,16 +48,20 @@ module _ {F R B O : Type 0} (rules : LockRules F R B O) (opening : LockId → Op
       → LockAllowed rules (locks (inner opening)) (map (renamed_section edit_in) past) (renamed_section edit_in s)
       → LockAllowed rules (inner (viewed lock_of opening)) (map (renamed_section edit_in) past) (renamed_section edit_in s)
   allowed_here past s allowed =
-      subst (λ (o : LockId → Option (LockState B)). LockAllowed rules o (map (renamed_section edit_in) past) (renamed_section edit_in s)) (sym inner_locks) allowed
+      subst (λ (o : LockId → Option (LockState B)). LockAllowed rules o (map (renamed_section edit_in) past) (renamed_section edit_in s))
+      (sym inner_locks) allowed
 
-  pub locks_lawful : (past : List (QueueEvent (QLockEdit F R))) → IsLawful (QueueAllowed beneath) past → IsLawful (QueueAllowed here) (renamed_events edit_in past)
+  pub locks_lawful : (past : List (QueueEvent (QLockEdit F R))) → IsLawful (QueueAllowed beneath) past
+      → IsLawful (QueueAllowed here) (renamed_events edit_in past)
   locks_lawful past lawful =
-      lawful_renamed beneath here edit_in lock_of (edits rules) (answers rules) (inner_viewed lock_of opening) (homes_viewed lock_of opening) (λ d. refl) refl refl
+      lawful_renamed beneath here edit_in lock_of (edits rules) (answers rules) (inner_viewed lock_of opening) (homes_viewed lock_of opening)
+      (λ d. refl) refl refl
       allowed_here past lawful
 
   pub same_moves : (past : List (QueueEvent (QLockEdit F R))) → moves_in here (renamed_events edit_in past) ≡ moves_in beneath past
   same_moves past =
-      moves_renamed beneath here edit_in lock_of (edits rules) (answers rules) (inner_viewed lock_of opening) (homes_viewed lock_of opening) (λ d. refl) refl refl
+      moves_renamed beneath here edit_in lock_of (edits rules) (answers rules) (inner_viewed lock_of opening) (homes_viewed lock_of opening)
+      (λ d. refl) refl refl
       allowed_here past
 
   -- the threads stand here as they stand beneath
@@ -71,11 +75,13 @@ module _ {F R B O : Type 0} (rules : LockRules F R B O) (opening : LockId → Op
   locks_moving past moving = transport (λ i. AreMoves (sym (homes_viewed lock_of opening) i) (sym (same_moves past) i)) moving
 
   -- a lock is the view of the block beneath
-  pub lock_is : (lock : LockId) (past : List (QueueEvent (QLockEdit F R))) → lock_after rules (inner (viewed lock_of opening)) lock (buffer_sections (renamed_events edit_in past))
+  pub lock_is : (lock : LockId) (past : List (QueueEvent (QLockEdit F R)))
+      → lock_after rules (inner (viewed lock_of opening)) lock (buffer_sections (renamed_events edit_in past))
       ≡ option_map lock_of (block_after (sleep_edited (busy_rules rules)) (inner opening) lock (buffer_sections past))
   lock_is lock past =
       ap (lock_after rules (inner (viewed lock_of opening)) lock) (sections_renamed edit_in past)
-      ∙ block_renamed beneath here edit_in lock_of (edits rules) (answers rules) (inner_viewed lock_of opening) (homes_viewed lock_of opening) (λ d. refl) refl refl
+      ∙ block_renamed beneath here edit_in lock_of (edits rules) (answers rules) (inner_viewed lock_of opening) (homes_viewed lock_of opening)
+      (λ d. refl) refl refl
       allowed_here lock (buffer_sections past)
 
   line_seen : (line : Line) (o : Option (SleepState (QBlock B))) → line_in line (option_map lock_of o) ≡ line_at line o
@@ -87,7 +93,8 @@ module _ {F R B O : Type 0} (rules : LockRules F R B O) (opening : LockId → Op
   line_seen Senders (Some state) = refl
 
   -- the waiting lists agree with the places
-  pub locks_lists : (past : List (QueueEvent (QLockEdit F R))) → ListsAgree (busy_rules rules) opening past → LocksAgree rules (viewed lock_of opening) (renamed_events edit_in past)
+  pub locks_lists : (past : List (QueueEvent (QLockEdit F R))) → ListsAgree (busy_rules rules) opening past
+      → LocksAgree rules (viewed lock_of opening) (renamed_events edit_in past)
   locks_lists past lists lock line t =
       ap (λ o. count_in t (line_in line o)) (lock_is lock past)
       ∙ (ap (count_in t) (line_seen line (block_after (sleep_edited (busy_rules rules)) (inner opening) lock (buffer_sections past)))

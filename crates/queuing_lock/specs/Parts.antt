@@ -49,12 +49,14 @@ is_queued (Did out) = false
 is_queued (Released out) = false
 
 -- a thread that slept for the lock of a buffer is at home here, and it owns that lock or sleeps for it still
-pub record SleptOne {F R B O : Type 0} (rules : LockRules F R B O) (opening : LockId → Option (QueueBlock (LockState B))) (c : CpuId) (seen : List (QueueEvent (QEdit F R))) (t : Tid) (b : BufId) : Type 0 where
+pub record SleptOne {F R B O : Type 0} (rules : LockRules F R B O) (opening : LockId → Option (QueueBlock (LockState B))) (c : CpuId)
+    (seen : List (QueueEvent (QEdit F R))) (t : Tid) (b : BufId) : Type 0 where
   pub here : home_of (homes_in opening) t ≡ Some c
   pub awaits : HasOrAwaits t (lock_after rules (inner opening) (Buffer b) (buffer_sections seen))
 
 -- so it is with each thread that slept for a lock
-abbrev pub SleptFits : {F R B O : Type 0} → LockRules F R B O → (LockId → Option (QueueBlock (LockState B))) → CpuId → List (QueueEvent (QEdit F R)) → List (Option BufId) → Type 0
+abbrev pub SleptFits : {F R B O : Type 0} → LockRules F R B O → (LockId → Option (QueueBlock (LockState B))) → CpuId → List (QueueEvent (QEdit F R))
+    → List (Option BufId) → Type 0
 SleptFits rules opening c seen slept = (t : Tid) (b : BufId) → slept_for slept t ≡ Some b → SleptOne rules opening c seen t b
 
 -- what is kept agrees with the call under way and the hand: an outcome is kept of a call inside or of a release alone, and not

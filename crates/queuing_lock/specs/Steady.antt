@@ -1,5 +1,6 @@
 -- What calls of other CPUs leave as it is: whether a thread owns a lock or sleeps for it, or neither.
-use Rattle.std.proofs.Common.{◌≡◌, ◌≢◌, ◌⊎◌, inl, inr, Bool, ◌&&◌, ◌||◌, not, nat_lt, true, false, List, [], ◌∷◌, ◌++◌, Option, Some, None, option_map, if◌then◌else◌, refl, ap, sym, ◌∙◌, subst}
+use Rattle.std.proofs.Common.{◌≡◌, ◌≢◌, ◌⊎◌, inl, inr, Bool, ◌&&◌, ◌||◌, not, nat_lt, true, false, List, [], ◌∷◌, ◌++◌, Option, Some, None, option_map}
+use Rattle.std.proofs.Common.{if◌then◌else◌, refl, ap, sym, ◌∙◌, subst}
 use Rattle.event_log.specs.declared.ids.BufId.{BufId}
 use Rattle.event_log.specs.declared.ids.CpuId.{CpuId}
 use Rattle.event_log.specs.declared.ids.LockId.{LockId}
@@ -26,11 +27,14 @@ use Rattle.layer_traits.specs.Sleeping.{joined}
 
 -- what is true of a lock stays so by each call of the owner that another thread makes
 abbrev pub Keeps : {F R B O : Type 0} → LockRules F R B O → Tid → (Option (LockState B) → Type 0) → Type 0
-Keeps rules t P = (e : QEdit _ _) (state : LockState _) → IsOwners rules e state.owner → (lock_caller rules e ≡ t → ⊥) → P (Some state) → P (Some (lock_edited rules e state))
+Keeps rules t P = (e : QEdit _ _) (state : LockState _) → IsOwners rules e state.owner → (lock_caller rules e ≡ t → ⊥) → P (Some state)
+    → P (Some (lock_edited rules e state))
 
-module _ {F R B O : Type 0} (rules : LockRules F R B O) (opening : LockId → Option (QueueBlock (LockState B))) (t : Tid) (P : Option (LockState B) → Type 0) (keeps : Keeps rules t P)
+module _ {F R B O : Type 0} (rules : LockRules F R B O) (opening : LockId → Option (QueueBlock (LockState B))) (t : Tid) (P : Option (LockState B) → Type 0)
+    (keeps : Keeps rules t P)
     (c : CpuId) (at_home : home_of (homes_in opening) t ≡ Some c) (lock : LockId) where
-  kept_section : (b : BufId) (e : QEdit F R) (before at : Option (LockState B)) → (lock ≡ Buffer b → before ≡ at) → IsOwners rules e (owner_in at) → (lock_caller rules e ≡ t → ⊥)
+  kept_section : (b : BufId) (e : QEdit F R) (before at : Option (LockState B)) → (lock ≡ Buffer b → before ≡ at) → IsOwners rules e (owner_in at)
+      → (lock_caller rules e ≡ t → ⊥)
       → (same : Bool) → same_lock lock (Buffer b) ≡ same → P before → P (if same then option_map (lock_edited rules e) before else before)
   kept_section b e before at same_block owners apart false other holds = holds
   kept_section b e None at same_block owners apart true here holds = holds
@@ -38,7 +42,8 @@ module _ {F R B O : Type 0} (rules : LockRules F R B O) (opening : LockId → Op
       keeps e state (subst (λ o. IsOwners rules e (owner_in o)) (sym (same_block (same_lock_true lock (Buffer b) here))) owners) apart holds
 
   -- by a call of another thread
-  pub kept_by : (past : List (QueueEvent (QEdit F R))) (d : CpuId) (b : BufId) (e : QEdit F R) → IsOwners rules e (owner_in (lock_after rules (inner opening) (Buffer b) (buffer_sections past)))
+  pub kept_by : (past : List (QueueEvent (QEdit F R))) (d : CpuId) (b : BufId) (e : QEdit F R)
+      → IsOwners rules e (owner_in (lock_after rules (inner opening) (Buffer b) (buffer_sections past)))
       → (lock_caller rules e ≡ t → ⊥) → P (lock_after rules (inner opening) lock (buffer_sections past))
       → P (lock_after rules (inner opening) lock (with_section d (OnBuffer b e) (buffer_sections past)))
   kept_by past d b e owners apart holds =
@@ -52,7 +57,8 @@ module _ {F R B O : Type 0} (rules : LockRules F R B O) (opening : LockId → Op
       let clash : true ≡ false = sym (same_cpu_self c) ∙ subst (λ x. same_cpu x c ≡ false) one differs in
       absurd cc
 
-  kept_call : (past : List (QueueEvent (QEdit F R))) (d : CpuId) (q : QueueCall (QEdit F R)) → CallAllowed (lock_kernel rules opening) past d q → same_cpu d c ≡ false
+  kept_call : (past : List (QueueEvent (QEdit F R))) (d : CpuId) (q : QueueCall (QEdit F R)) → CallAllowed (lock_kernel rules opening) past d q
+      → same_cpu d c ≡ false
       → P (lock_after rules (inner opening) lock (buffer_sections past)) → P (lock_after rules (inner opening) lock (with_section d q (buffer_sections past)))
   kept_call past d (Push to u) allowed differs holds = holds
   kept_call past d (TakeAll from) allowed differs holds = holds
@@ -60,7 +66,8 @@ module _ {F R B O : Type 0} (rules : LockRules F R B O) (opening : LockId → Op
       kept_by past d b e allowed.upper.owners (other_caller d (lock_caller rules e) differs allowed.caller.home) holds
 
   -- and by calls of other CPUs than the thread's home
-  pub kept_others : (more past : List (QueueEvent (QEdit F R))) → AreOthers event_actor c more → IsLawful (QueueAllowed (lock_kernel rules opening)) (more ++ past)
+  pub kept_others : (more past : List (QueueEvent (QEdit F R))) → AreOthers event_actor c more
+      → IsLawful (QueueAllowed (lock_kernel rules opening)) (more ++ past)
       → P (lock_after rules (inner opening) lock (buffer_sections past)) → P (lock_after rules (inner opening) lock (buffer_sections (more ++ past)))
   kept_others [] past others lawful holds = holds
   kept_others (e ∷ more) past others lawful holds =
@@ -111,18 +118,24 @@ not_front t (x ∷ queue) missing = go (same_tid t x) refl missing
   where
     go : (b : Bool) → same_tid t x ≡ b → (b || is_in t queue) ≡ false → (Some x ≢ Some t) × (is_in t queue ≡ false)
     go true is missing = absurd cc
-    go false is missing = (λ same. let one : x ≡ t = cc in let clash : true ≡ false = sym (same_tid_self t) ∙ subst (λ y. same_tid t y ≡ false) one is in absurd cc, missing)
+    go false is missing = (
+      λ same. let one : x ≡ t = cc in let clash : true ≡ false = sym (same_tid_self t)
+          ∙ subst (λ y. same_tid t y ≡ false) one is in absurd cc,
+      missing,
+    )
 
 -- The three that stay.
 
 module _ {F R B O : Type 0} (rules : LockRules F R B O) (t : Tid) where
-  asked_awaits : (u : Tid) (owner : Option Tid) (state : LockState B) → (owner ≡ Some t) ⊎ (is_in t state.sleepers ≡ true) → HasOrAwaits t (Some (asked u owner state))
+  asked_awaits : (u : Tid) (owner : Option Tid) (state : LockState B) → (owner ≡ Some t) ⊎ (is_in t state.sleepers ≡ true)
+      → HasOrAwaits t (Some (asked u owner state))
   asked_awaits u None state (inl owns) = absurd cc
   asked_awaits u None state (inr waits) = inr waits
   asked_awaits u (Some o) state (inl owns) = inl owns
   asked_awaits u (Some o) state (inr waits) = inr (joined_keeps t u state.sleepers waits)
 
-  released_awaits : (r : R) (state : LockState B) → state.owner ≡ Some (rules.last_caller r) → (rules.last_caller r ≡ t → ⊥) → (state.owner ≡ Some t) ⊎ (is_in t state.sleepers ≡ true)
+  released_awaits : (r : R) (state : LockState B) → state.owner ≡ Some (rules.last_caller r) → (rules.last_caller r ≡ t → ⊥)
+      → (state.owner ≡ Some t) ⊎ (is_in t state.sleepers ≡ true)
       → HasOrAwaits t (Some (lock_edited rules (Release r) state))
   released_awaits r state owner apart (inl owns) =
       let same : Some (rules.last_caller r) ≡ Some t = sym owner ∙ owns in
@@ -136,7 +149,8 @@ module _ {F R B O : Type 0} (rules : LockRules F R B O) (t : Tid) where
   keeps_awaits (Inside f) state owners apart holds = holds
   keeps_awaits (Release r) state owners apart holds = released_awaits r state owners apart holds
 
-  asked_nothing : (u : Tid) (owner : Option Tid) (state : LockState B) → (u ≡ t → ⊥) → (owner ≢ Some t) × (is_in t state.sleepers ≡ false) → HasNothing rules t (Some (asked u owner state))
+  asked_nothing : (u : Tid) (owner : Option Tid) (state : LockState B) → (u ≡ t → ⊥) → (owner ≢ Some t) × (is_in t state.sleepers ≡ false)
+      → HasNothing rules t (Some (asked u owner state))
   asked_nothing u None state apart nothing = (λ same. let one : u ≡ t = cc in apart one, nothing.1)
   asked_nothing u (Some o) state apart nothing = (nothing.0, joined_only t u state.sleepers apart nothing.1)
 

@@ -34,13 +34,15 @@ pub fn one_turn<F: Locked, Q: QLockLayer<F>>(
     requires fits { Q.Fits part.old m.old }
     requires buffer { IsSome (Q.opening m.old (Buffer buffer)) }
     requires room { 0 < Q.room m.old }
-    requires turn { MayTurn F.rules (lock_kernel F.rules (Q.opening m.old)) (Q.cpu_of part.old) (Q.seen m.old) (Q.own part.old) (Q.under_way part.old) buffer call.now }
+    requires turn { MayTurn F.rules (lock_kernel F.rules (Q.opening m.old)) (Q.cpu_of part.old) (Q.seen m.old) (Q.own part.old)
+        (Q.under_way part.old) buffer call.now }
     ensures fits { Q.Fits part.new m.new }
     ensures cpu { Q.cpu_of part.new ≡ Q.cpu_of part.old }
     ensures opening { Q.opening m.new ≡ Q.opening m.old }
     ensures room { Q.room m.old ≤ Q.room m.new + 1 }
     ensures others { (p : Q) → Q.cpu_of p ≢ Q.cpu_of part.old → Q.Fits p m.old → Q.Fits p m.new }
-    ensures goes { result ≡ GoesOn → MayTurn F.rules (lock_kernel F.rules (Q.opening m.new)) (Q.cpu_of part.new) (Q.seen m.new) (Q.own part.new) (Q.under_way part.new) buffer call.now }
+    ensures goes { result ≡ GoesOn → MayTurn F.rules (lock_kernel F.rules (Q.opening m.new)) (Q.cpu_of part.new) (Q.seen m.new) (Q.own part.new)
+        (Q.under_way part.new) buffer call.now }
     ensures sleeps { result ≡ Sleeps → SleepsFor F.rules (Q.own part.new) (Q.under_way part.new) (lock_caller F.rules call.now) buffer }
     ensures ended { (outcome : _) → result ≡ Answered outcome → HasEnded F.rules (Q.own part.new) (Q.under_way part.new) (lock_caller F.rules call.now) }
     ensures owns { (outcome : _) → result ≡ Answered outcome → IsAcquire call.now
@@ -68,13 +70,15 @@ pub fn turns<F: Locked, Q: QLockLayer<F>>(
     requires fits { Q.Fits part.old m.old }
     requires buffer { IsSome (Q.opening m.old (Buffer buffer)) }
     requires room { polls ≤ Q.room m.old }
-    requires turn { MayTurn F.rules (lock_kernel F.rules (Q.opening m.old)) (Q.cpu_of part.old) (Q.seen m.old) (Q.own part.old) (Q.under_way part.old) buffer call.now }
+    requires turn { MayTurn F.rules (lock_kernel F.rules (Q.opening m.old)) (Q.cpu_of part.old) (Q.seen m.old) (Q.own part.old)
+        (Q.under_way part.old) buffer call.now }
     ensures fits { Q.Fits part.new m.new }
     ensures cpu { Q.cpu_of part.new ≡ Q.cpu_of part.old }
     ensures opening { Q.opening m.new ≡ Q.opening m.old }
     ensures room { Q.room m.old ≤ Q.room m.new + polls }
     ensures others { (p : Q) → Q.cpu_of p ≢ Q.cpu_of part.old → Q.Fits p m.old → Q.Fits p m.new }
-    ensures goes { result ≡ Some GoesOn → MayTurn F.rules (lock_kernel F.rules (Q.opening m.new)) (Q.cpu_of part.new) (Q.seen m.new) (Q.own part.new) (Q.under_way part.new) buffer call.now }
+    ensures goes { result ≡ Some GoesOn → MayTurn F.rules (lock_kernel F.rules (Q.opening m.new)) (Q.cpu_of part.new) (Q.seen m.new) (Q.own part.new)
+        (Q.under_way part.new) buffer call.now }
     ensures sleeps { result ≡ Some Sleeps → SleepsFor F.rules (Q.own part.new) (Q.under_way part.new) (lock_caller F.rules call.now) buffer }
     ensures ended { (outcome : _) → result ≡ Some (Answered outcome) → HasEnded F.rules (Q.own part.new) (Q.under_way part.new) (lock_caller F.rules call.now) }
 {
@@ -139,7 +143,8 @@ pub fn releases<F: Locked, Q: OwnedQLocks<F>>(
     ensures opening { Q.opening m.new ≡ Q.opening m.old }
     ensures room { Q.room m.old ≤ Q.room m.new + polls }
     ensures others { (p : Q) → Q.cpu_of p ≢ Q.cpu_of part.old → Q.Fits p m.old → Q.Fits p m.new }
-    ensures goes { result ≡ Some GoesOn → MayTurn F.rules (lock_kernel F.rules (Q.opening m.new)) (Q.cpu_of part.new) (Q.seen m.new) (Q.own part.new) (Q.under_way part.new) buffer (Release last) }
+    ensures goes { result ≡ Some GoesOn → MayTurn F.rules (lock_kernel F.rules (Q.opening m.new)) (Q.cpu_of part.new) (Q.seen m.new) (Q.own part.new)
+        (Q.under_way part.new) buffer (Release last) }
     ensures ended { (outcome : _) → result ≡ Some (Answered outcome) → HasEnded F.rules (Q.own part.new) (Q.under_way part.new) (F.rules.last_caller last) }
 {
     let t = F::last_caller(last);

@@ -18,7 +18,8 @@ returns-then-is_some-clause-goes g c =
     let own = Q.own c.poll.new.self in
     let under = Q.under_way c.poll.new.self in
     let seen = Q.seen c.poll.new.m in
-    let after = after_polled rules opening (Q.ActsFor c.args.m.now) (Q.cpu_of c.args.part.now) b e (slept_for (Q.own c.args.part.now).slept (lock_caller rules e))
+    let after = after_polled rules opening (Q.ActsFor c.args.m.now) (Q.cpu_of c.args.part.now) b e
+    (slept_for (Q.own c.args.part.now).slept (lock_caller rules e))
     (Q.seen c.args.m.now) seen (Q.own c.args.part.now) under (record { own = own; answer = c.poll.result })
     refl c.requires.turn.runs c.requires.turn.steady c.poll.ensures.seen (λ some. ap Q.seen (c.poll.ensures.still some)) in
     λ same. subst (λ o. MayTurn rules (lock_kernel rules o) (Q.cpu_of c.poll.new.self) seen own under b e) (sym c.poll.ensures.opening)
@@ -53,7 +54,8 @@ returns-in-Some-clause-owns g c =
     (slept_for (Q.own c.args.part.now).slept (lock_caller rules e)) (Q.seen c.args.m.now) seen (Q.own c.args.part.now) under
     (record { own = own; answer = c.poll.result })
     refl c.requires.turn.runs c.requires.turn.steady c.poll.ensures.seen (λ some. ap Q.seen (c.poll.ensures.still some)) in
-    λ outcome same asks. subst (λ o. owner_of rules (inner o) (buffer_sections seen) (Buffer c.args.buffer) ≡ Some (lock_caller rules e)) (sym c.poll.ensures.opening)
+    λ outcome same asks. subst (λ o. owner_of rules (inner o) (buffer_sections seen) (Buffer c.args.buffer) ≡ Some (lock_caller rules e))
+    (sym c.poll.ensures.opening)
     ((ended_after rules (Q.opening c.args.m.now) (Q.ActsFor c.args.m.now) (Q.cpu_of c.args.part.now) c.args.buffer e seen own under
     c.poll.result c.in-Some.outcome after c.in-Some.is).1 asks)
 

@@ -98,6 +98,7 @@ returns-clause-follows g c stepwise =
     let none : is_some (slept_for waits t) ≡ false = ap (λ u. is_some (slept_for waits u)) (sym caller) ∙ sym c.wake.ensures.was ∙ c.if-wake.false in
     let kept : c.wake.new.self.buffers ≡ waits
     = c.wake.ensures.now ∙ ap (λ b. if b then slice_set waits c.caller_of-t.result.0 None else waits) c.if-wake.false in
-    waits_follow (λ d. Q.ActsFor m d) (table_of (queue_rules (lock_rules rules) (lock_moves rules))) (Q.opening m) (lock_moves rules) (homes_in (Q.opening m)) cpu
+    waits_follow (λ d. Q.ActsFor m d) (table_of (queue_rules (lock_rules rules) (lock_moves rules))) (Q.opening m) (lock_moves rules)
+    (homes_in (Q.opening m)) cpu
     c.args.buffer c.args.call.now own (Q.acts m) (Q.acts c.poll-answer.new.m) (Q.own c.poll-answer.new.self) c.told.new.self.buffers c.poll-answer.result
     c.told.result (slept_for waits t) none (c.poll-answer.ensures.follows stepwise) (rw (← kept, ← caller) c.told.ensures.waits) c.told.ensures.told

@@ -33,7 +33,8 @@ returns-clause-fits g c =
     let grown = grows_renamed edit_in (λ d. S.ActsFor m d) (S.seen m) (S.seen n) said.seen in (
       said.fits,
       transport (λ i. SleptFits rules (viewed lock_of (sym said.opening i)) (sym said.cpu i) (renamed_events edit_in (S.seen n)) self.slept.buffers)
-          (slept_goes rules (viewed lock_of (S.opening m)) cpu grown.others (renamed_events edit_in (S.seen m)) (renamed_events edit_in (S.seen n)) (grown.foreign cpu acts) grown.is
+          (slept_goes rules (viewed lock_of (S.opening m)) cpu grown.others (renamed_events edit_in (S.seen m)) (renamed_events edit_in (S.seen n))
+          (grown.foreign cpu acts) grown.is
           (locks_lawful rules (S.opening m) (S.seen n) lawful) self.slept.buffers c.requires.fits.1),
       transport (λ i. KeptFits (option_map (renamed_sched edit_in) (sym said.call i)) (sym said.own i).kept (sym said.own i).threads.hand) c.requires.fits.2,
     )
@@ -62,8 +63,10 @@ returns-clause-others g c = λ p apart fits.
     let grown = grows_renamed edit_in (λ d. S.ActsFor m d) (S.seen m) (S.seen n) said.seen in (
       said.others p.lower apart fits.0,
       transport (λ i. SleptFits rules (viewed lock_of (sym said.opening i)) (S.cpu_of p.lower) (renamed_events edit_in (S.seen n)) p.slept.buffers)
-          (slept_goes rules (viewed lock_of (S.opening m)) (S.cpu_of p.lower) grown.others (renamed_events edit_in (S.seen m)) (renamed_events edit_in (S.seen n))
-          (grown.foreign (S.cpu_of p.lower) (met.own_cpu p.lower m fits.0)) grown.is (locks_lawful rules (S.opening m) (S.seen n) lawful) p.slept.buffers fits.1),
+          (slept_goes rules (viewed lock_of (S.opening m)) (S.cpu_of p.lower) grown.others (renamed_events edit_in (S.seen m))
+          (renamed_events edit_in (S.seen n))
+          (grown.foreign (S.cpu_of p.lower) (met.own_cpu p.lower m fits.0)) grown.is
+          (locks_lawful rules (S.opening m) (S.seen n) lawful) p.slept.buffers fits.1),
       fits.2,
     )
 
@@ -71,4 +74,5 @@ pub returns-clause-tries : goal.returns-clause-tries
 returns-clause-tries g c = λ step looked.
     let S = g.S.SleepLayer in
     let m = c.args.m.now in
-    tries_renamed (renamed_edit edit_in) (λ d. S.ActsFor m d) (S.cpu_of c.args.self.now.lower) (S.acts m) (S.acts c.look.new.m) (c.look.ensures.tries step looked)
+    tries_renamed (renamed_edit edit_in) (λ d. S.ActsFor m d) (S.cpu_of c.args.self.now.lower) (S.acts m) (S.acts c.look.new.m)
+    (c.look.ensures.tries step looked)

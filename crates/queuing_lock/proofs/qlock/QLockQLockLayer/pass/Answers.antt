@@ -36,12 +36,15 @@ returns-clause-fits g c =
     (met.lawful n cpu (said.acts cpu acts)) in (
       said.fits,
       transport (λ i. SleptFits rules (viewed lock_of (sym said.opening i)) (sym said.cpu i) (renamed_events edit_in (S.seen n)) self.slept.buffers)
-          (slept_passed rules (viewed lock_of (S.opening m)) (λ d. S.ActsFor m d) cpu c.args.call (done_if c.pass.result) cpu acts (renamed_events edit_in (S.seen m)) (renamed_events edit_in (S.seen n))
+          (slept_passed rules (viewed lock_of (S.opening m)) (λ d. S.ActsFor m d) cpu c.args.call (done_if c.pass.result) cpu acts
+          (renamed_events edit_in (S.seen m)) (renamed_events edit_in (S.seen n))
           (S.own self.lower).threads (S.own part).threads
-          (pass_here rules (S.opening m) (λ d. S.ActsFor m d) cpu c.args.call (done_if c.pass.result) (S.seen m) (S.seen n) (S.own self.lower).threads (S.own part).threads said.seen)
+          (pass_here rules (S.opening m) (λ d. S.ActsFor m d) cpu c.args.call (done_if c.pass.result) (S.seen m) (S.seen n) (S.own self.lower).threads
+          (S.own part).threads said.seen)
           (locks_lawful rules (S.opening m) (S.seen n) lawful) self.slept.buffers c.requires.fits.1),
       transport (λ i. KeptFits (sym (pass_is (S.under_way part) c.pass.result c.args.call said.call) i) (sym said.kept i) (S.own part).threads.hand)
-          (kept_passed (option_map (renamed_sched edit_in) (S.under_way self.lower)) (S.own self.lower).kept (S.own self.lower).threads.hand (S.own part).threads.hand c.args.call
+          (kept_passed (option_map (renamed_sched edit_in) (S.under_way self.lower)) (S.own self.lower).kept (S.own self.lower).threads.hand
+          (S.own part).threads.hand c.args.call
           (MayPass c.args.call (S.own self.lower).threads) (is_some c.pass.result) c.requires.fits.2 c.requires.call),
     )
 
@@ -71,9 +74,11 @@ returns-clause-others g c = λ p apart fits.
     (met.lawful n cpu (said.acts cpu acts)) in (
       said.others p.lower apart fits.0,
       transport (λ i. SleptFits rules (viewed lock_of (sym said.opening i)) (S.cpu_of p.lower) (renamed_events edit_in (S.seen n)) p.slept.buffers)
-          (slept_passed rules (viewed lock_of (S.opening m)) (λ d. S.ActsFor m d) cpu c.args.call (done_if c.pass.result) (S.cpu_of p.lower) (met.own_cpu p.lower m fits.0)
+          (slept_passed rules (viewed lock_of (S.opening m)) (λ d. S.ActsFor m d) cpu c.args.call (done_if c.pass.result) (S.cpu_of p.lower)
+          (met.own_cpu p.lower m fits.0)
           (renamed_events edit_in (S.seen m)) (renamed_events edit_in (S.seen n)) (S.own self.lower).threads (S.own part).threads
-          (pass_here rules (S.opening m) (λ d. S.ActsFor m d) cpu c.args.call (done_if c.pass.result) (S.seen m) (S.seen n) (S.own self.lower).threads (S.own part).threads said.seen)
+          (pass_here rules (S.opening m) (λ d. S.ActsFor m d) cpu c.args.call (done_if c.pass.result) (S.seen m) (S.seen n) (S.own self.lower).threads
+          (S.own part).threads said.seen)
           (locks_lawful rules (S.opening m) (S.seen n) lawful) p.slept.buffers fits.1),
       fits.2,
     )
@@ -85,5 +90,6 @@ returns-clause-follows g c = λ step.
     let m = c.args.m.now in
     let part = c.pass.new.self in
     let got : Left (Sleeping (QOut g.row.F-Out.Denot)) (Unit {0}) = record { own = S.own part; answer = c.pass.result } in
-    locks_pass_follow g.F.Locked.rules (S.opening m) (λ d. S.ActsFor m d) (S.cpu_of self.lower) (S.acts m) (S.acts c.pass.new.m) c.args.call (S.own self.lower) self.slept.buffers got
+    locks_pass_follow g.F.Locked.rules (S.opening m) (λ d. S.ActsFor m d) (S.cpu_of self.lower) (S.acts m) (S.acts c.pass.new.m) c.args.call
+    (S.own self.lower) self.slept.buffers got
     (c.pass.ensures.follows step)

@@ -21,7 +21,8 @@ use Rattle.queuing_lock.specs.declared.edits.QBlock.{QBlock}
 use Rattle.queuing_lock.specs.Nested.{edit_in, lock_of}
 use Rattle.queuing_lock.specs.NestedLaws.{beneath, here}
 use Rattle.queuing_lock.specs.Parts.{KeptFits, SleptFits, kept_by}
-use Rattle.queuing_lock.proofs.PartLemmas.{Before, caller_small, handed, kept_after, locks, locks_follow, none, others_after, owed, slept_after, slept_told, under_is}
+use Rattle.queuing_lock.proofs.PartLemmas.{Before, caller_small, handed, kept_after, locks, locks_follow, none, others_after, owed, slept_after, slept_told}
+use Rattle.queuing_lock.proofs.PartLemmas.{under_is}
 use Rattle.queuing_lock.proofs.PollLemmas.{told_is}
 use Rattle.queuing_lock.proofs.SleptLemmas.{slept_less}
 use Rattle.queuing_lock.proofs.qlock.QLockQLockLayer.poll.Goals as goal
@@ -36,7 +37,8 @@ returns-then-has-clause-fits g c =
     let m = c.args.m.now in (
       c.requires.fits.0,
       subst (λ l. SleptFits rules (viewed lock_of (S.opening m)) (S.cpu_of self.lower) (renamed_events edit_in (S.seen m)) l) (sym c.over.ensures)
-          (slept_less rules (viewed lock_of (S.opening m)) (S.cpu_of self.lower) c.caller-t.result (renamed_events edit_in (S.seen m)) self.slept.buffers c.requires.fits.1),
+          (slept_less rules (viewed lock_of (S.opening m)) (S.cpu_of self.lower) c.caller-t.result
+          (renamed_events edit_in (S.seen m)) self.slept.buffers c.requires.fits.1),
       c.requires.fits.2,
     )
 
@@ -66,9 +68,12 @@ returns-then-has-clause-seen g c =
     } in
     let some : is_some (slept_for slept (lock_caller rules e)) ≡ true
     = ap (λ t. is_some (slept_for slept t)) (sym c.caller-t.ensures) ∙ (sym c.has.ensures ∙ c.if-has.true) in
-    let over : c.over.new.self.buffers ≡ slice_set slept (lock_caller rules e).0 None = c.over.ensures ∙ ap (λ t. slice_set slept t.0 None) c.caller-t.ensures in
-    subst (λ l. LockPolled rules (here rules (S.opening m)) (λ d. S.ActsFor m d) cpu b e (slept_for slept (lock_caller rules e)) (renamed_events edit_in (S.seen m)) (renamed_events edit_in (S.seen m))
-    (record { sleep = own; slept = slept }) (option_map (renamed_sched edit_in) under) (locking own l (Some (record { out = Acquired; slept = false; woke = None })))) (sym over)
+    let over : c.over.new.self.buffers ≡ slice_set slept (lock_caller rules e).0 None = c.over.ensures
+    ∙ ap (λ t. slice_set slept t.0 None) c.caller-t.ensures in
+    subst (λ l. LockPolled rules (here rules (S.opening m)) (λ d. S.ActsFor m d) cpu b e (slept_for slept (lock_caller rules e))
+    (renamed_events edit_in (S.seen m)) (renamed_events edit_in (S.seen m))
+    (record { sleep = own; slept = slept }) (option_map (renamed_sched edit_in) under)
+    (locking own l (Some (record { out = Acquired; slept = false; woke = None })))) (sym over)
     (handed rules (S.opening m) cpu b e (S.seen m) own under slept before (λ d. S.ActsFor m d) some)
 
 -- it calls beneath
@@ -204,7 +209,8 @@ returns-in-None-clause-seen g c =
     (met.lawful n cpu (said.acts cpu acts)) in
     let leaves : locking (S.own part) slept None ≡ left_after (lock_caller rules e) b slept (S.own part) c.poll.result
     = ap (left_after (lock_caller rules e) b slept (S.own part)) (sym c.in-None.is) in
-    locks rules (S.opening m) cpu b e (S.seen m) own under slept before awake (λ d. S.ActsFor m d) (S.seen n) got said.seen (option_map (renamed_sched edit_in) (S.under_way part))
+    locks rules (S.opening m) cpu b e (S.seen m) own under slept before awake (λ d. S.ActsFor m d) (S.seen n) got said.seen
+    (option_map (renamed_sched edit_in) (S.under_way part))
     (locking (S.own part) slept None) (under_is (S.under_way part) c.poll.result b e said.call) leaves
 
 pub returns-in-None-clause-others : goal.returns-in-None-clause-others
@@ -227,7 +233,8 @@ returns-in-None-clause-others g c = λ p apart fits.
     (met.lawful n cpu (said.acts cpu acts)) in (
       said.others p.lower apart fits.0,
       transport (λ i. SleptFits rules (viewed lock_of (sym said.opening i)) (S.cpu_of p.lower) (renamed_events edit_in (S.seen n)) p.slept.buffers)
-          (others_after rules (S.opening m) (S.cpu_of p.lower) cpu apart (λ d. S.ActsFor m d) (met.own_cpu p.lower m fits.0) b e (S.seen m) (S.seen n) (S.own self.lower) got said.seen lawful
+          (others_after rules (S.opening m) (S.cpu_of p.lower) cpu apart (λ d. S.ActsFor m d) (met.own_cpu p.lower m fits.0) b e (S.seen m) (S.seen n)
+          (S.own self.lower) got said.seen lawful
           p.slept.buffers fits.1),
       fits.2,
     )
@@ -314,7 +321,8 @@ returns-in-Some-clause-fits g c =
       said.fits,
       transport (λ i. SleptFits rules (viewed lock_of (sym said.opening i)) (sym said.cpu i) (renamed_events edit_in (S.seen n)) c.told.new.self.buffers)
           (subst (λ l. SleptFits rules (viewed lock_of (S.opening m)) cpu (renamed_events edit_in (S.seen n)) l) (sym keeps)
-          (slept_told rules (S.opening m) cpu b e (S.seen m) own under slept before awake (λ d. S.ActsFor m d) (S.seen n) got said.seen acts lawful outcome c.in-Some.is)),
+          (slept_told rules (S.opening m) cpu b e (S.seen m) own under slept before awake (λ d. S.ActsFor m d)
+          (S.seen n) got said.seen acts lawful outcome c.in-Some.is)),
       subst (λ u. KeptFits u (S.own part).kept (S.own part).threads.hand) (sym (under_is (S.under_way part) c.poll.result b e said.call))
           (kept_after rules (S.opening m) cpu b e (S.seen m) own under slept before awake (λ d. S.ActsFor m d) (S.seen n) got said.seen),
     )
@@ -357,8 +365,10 @@ returns-in-Some-clause-seen g c =
     = c.told.ensures.slept ∙ ap (λ t. kept_by t b slept outcome) c.caller-t.ensures in
     let leaves : locking (S.own part) c.told.new.self.buffers c.told.result ≡ left_after (lock_caller rules e) b slept (S.own part) c.poll.result
     = (λ i. locking (S.own part) (keeps i) (c.told.ensures.told i))
-    ∙ (sym (told_is (lock_caller rules e) b slept (S.own part) outcome.out outcome) ∙ ap (left_after (lock_caller rules e) b slept (S.own part)) (sym c.in-Some.is)) in
-    locks rules (S.opening m) cpu b e (S.seen m) own under slept before awake (λ d. S.ActsFor m d) (S.seen n) got said.seen (option_map (renamed_sched edit_in) (S.under_way part))
+    ∙ (sym (told_is (lock_caller rules e) b slept (S.own part) outcome.out outcome)
+    ∙ ap (left_after (lock_caller rules e) b slept (S.own part)) (sym c.in-Some.is)) in
+    locks rules (S.opening m) cpu b e (S.seen m) own under slept before awake (λ d. S.ActsFor m d) (S.seen n) got said.seen
+    (option_map (renamed_sched edit_in) (S.under_way part))
     (locking (S.own part) c.told.new.self.buffers c.told.result) (under_is (S.under_way part) c.poll.result b e said.call) leaves
 
 pub returns-in-Some-clause-others : goal.returns-in-Some-clause-others
@@ -381,7 +391,8 @@ returns-in-Some-clause-others g c = λ p apart fits.
     (met.lawful n cpu (said.acts cpu acts)) in (
       said.others p.lower apart fits.0,
       transport (λ i. SleptFits rules (viewed lock_of (sym said.opening i)) (S.cpu_of p.lower) (renamed_events edit_in (S.seen n)) p.slept.buffers)
-          (others_after rules (S.opening m) (S.cpu_of p.lower) cpu apart (λ d. S.ActsFor m d) (met.own_cpu p.lower m fits.0) b e (S.seen m) (S.seen n) (S.own self.lower) got said.seen lawful
+          (others_after rules (S.opening m) (S.cpu_of p.lower) cpu apart (λ d. S.ActsFor m d) (met.own_cpu p.lower m fits.0) b e (S.seen m) (S.seen n)
+          (S.own self.lower) got said.seen lawful
           p.slept.buffers fits.1),
       fits.2,
     )
@@ -424,7 +435,8 @@ returns-in-Some-clause-follows g c = λ step.
     = c.told.ensures.slept ∙ ap (λ t. kept_by t b slept outcome) c.caller-t.ensures in
     let leaves : locking (S.own part) c.told.new.self.buffers c.told.result ≡ left_after (lock_caller rules e) b slept (S.own part) c.poll.result
     = (λ i. locking (S.own part) (keeps i) (c.told.ensures.told i))
-    ∙ (sym (told_is (lock_caller rules e) b slept (S.own part) outcome.out outcome) ∙ ap (left_after (lock_caller rules e) b slept (S.own part)) (sym c.in-Some.is)) in
+    ∙ (sym (told_is (lock_caller rules e) b slept (S.own part) outcome.out outcome)
+    ∙ ap (left_after (lock_caller rules e) b slept (S.own part)) (sym c.in-Some.is)) in
     subst (λ l. Follows (λ d. S.ActsFor m d) (table_of (queue_rules (lock_rules rules) (lock_moves rules))) (viewed lock_of (S.opening m)) cpu
     (lock_plan (lock_moves rules) (homes_in (viewed lock_of (S.opening m))) cpu b e (record { sleep = own; slept = slept }))
     (map (renamed (renamed_edit edit_in)) (S.acts m)) (map (renamed (renamed_edit edit_in)) (S.acts n)) l) (sym leaves)
