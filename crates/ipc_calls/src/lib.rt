@@ -9,3 +9,6 @@ mod tower;
 pub use ipc::Ipc;
 pub use opening::{OpensBuffers, OpensLocks};
 pub use tower::{LockEdit, Over, TowerBlock, TowerEdit, tower_blocks};
+
+#[cfg(test)]
+mod tests;

@@ -1,0 +1,20 @@
+use Rattle.std.proofs.Common.{◌≡◌, ◌+◌, ◌≤◌, refl, sym, subst, arith}
+use Rattle.layer_traits.specs.BufferLaw.{Calling, MayGoOn}
+use Rattle.ipc_calls.proofs.Talks.{may_begin}
+use Rattle.ipc_calls.proofs.tests.called.Goals as goal
+
+pub loop-init : goal.loop-init
+loop-init g c =
+    let I = g.I.IpcLayer in
+    let room = c.requires.room in
+    let enough : c.args.polls ≤ I.room c.args.m.now + 0 = omega (arith, room) in (
+      c.requires.fits,
+      enough,
+      c.requires.runs,
+      λ none. c.requires.hand,
+      may_begin (I.talks c.args.part.now) c.args.t c.args.call.now c.requires.talks,
+      subst (λ doing. MayGoOn doing (Calling c.args.t)) (sym c.requires.doing) tt,
+      refl,
+      refl,
+      c.requires.buffer,
+    )

@@ -1,0 +1,122 @@
+//! Message calls over a whole tower of ticket locks, run.
+
+ghost use Rattle.std.specs.Prelude.{◌≡◌, ◌+◌, ◌<◌, ◌≤◌, None, Some, length, replicate};
+ghost use Rattle.event_log.specs.declared.ids.TheConstants.{THREADS};
+ghost use Rattle.layer_traits.specs.BufferLaw.{Calling, MayGoOn, MayTalk, buffer_of, quiet, talk_of};
+
+use crate::{Ipc, Over, TowerEdit};
+use arrayvec::ArrayVec;
+use event_log::{BufId, CAPACITY, CpuId, Msg, NoMemory, Tid};
+use layer_traits::{Call, IpcLayer, Owned, Pass, Place, Reply};
+use plain_machine::Plain;
+use spinlock::Ticket;
+use std::alloc::Global;
+use std::process::Abort;
+use std::test::Fail;
+
+type Tower = Ipc<Over<Ticket<Plain<TowerEdit>>>>;
+
+/// Lets thread `t`, the first that is ready, run.
+fn starts<I: IpcLayer>(rt: &impl Abort, part: &mut I, m: &mut I::Machine, t: Tid)
+    requires fits { I.Fits part.old m.old }
+    requires room { 0 < I.room m.old }
+    requires doing { I.doing part.old ≡ None }
+    ensures fits { I.Fits part.new m.new }
+    ensures room { I.room m.old ≤ I.room m.new + 1 }
+    ensures caps { I.caps m.new ≡ I.caps m.old }
+    ensures homes { I.homes_of m.new ≡ I.homes_of m.old }
+    ensures runs { (I.threads part.new).current ≡ Some t }
+    ensures hand { (I.threads part.new).hand ≡ None }
+    ensures doing { I.doing part.new ≡ None }
+    ensures talks { I.talks part.new ≡ I.talks part.old }
+{
+    let may = part.current().is_none() && part.hand().is_none() && part.has_ready();
+    assert!(rt; may);
+    let done = part.pass(m, Pass::Switch).is_some();
+    assert!(rt; done);
+    let runs = part.current() == Some(t) && part.hand().is_none();
+    assert!(rt; runs);
+}
+
+/// Of two buffers, 0 and 1, a call on 2 is refused, and nothing is done.
+fn refuses<I: IpcLayer>(rt: &impl Abort, part: &mut I, m: &mut I::Machine, t: Tid)
+    requires fits { I.Fits part.old m.old }
+    requires room { 0 < I.room m.old }
+    requires buffers { length (I.caps m.old) ≡ 2 }
+    requires runs { (I.threads part.old).current ≡ Some t }
+    requires hand { (I.threads part.old).hand ≡ None }
+    requires doing { I.doing part.old ≡ None }
+    requires talks { I.talks part.old ≡ replicate THREADS quiet }
+    ensures part { part.new ≡ part.old }
+    ensures machine { m.new ≡ m.old }
+{
+    let answer = part.poll(m, t, &Call::Recv(BufId(2)));
+    assert!(rt; answer == Some(Reply::NoBuffer));
+}
+
+/// Polls a call of `t`, which runs, until it answers or its thread sleeps, at most so many times.
+fn called<I: IpcLayer>(
+    part: &mut I,
+    m: &mut I::Machine,
+    t: Tid,
+    call: &Call,
+    polls: usize,
+) -> Option<Reply>
+    requires fits { I.Fits part.old m.old }
+    requires room { polls ≤ I.room m.old }
+    requires buffer { (buffer_of call.now).0 < length (I.caps m.old) }
+    requires runs { (I.threads part.old).current ≡ Some t }
+    requires hand { (I.threads part.old).hand ≡ None }
+    requires doing { I.doing part.old ≡ None }
+    requires talks { I.talks part.old ≡ replicate THREADS quiet }
+    ensures fits { I.Fits part.new m.new }
+    ensures caps { I.caps m.new ≡ I.caps m.old }
+    ensures homes { I.homes_of m.new ≡ I.homes_of m.old }
+{
+    for _ in 0..polls {
+        if let Some(reply) = part.poll(m, t, call) {
+            return Some(reply);
+        }
+        if part.current().is_none() {
+            return None;
+        }
+    }
+    None
+}
+
+/// Whether a buffer's items were told and are this message alone.
+fn is_one(items: Option<ArrayVec<Msg, CAPACITY>>, message: Msg) -> bool {
+    match items {
+        Some(items) => items.as_slice() == [message].as_slice(),
+        None => false,
+    }
+}
+
+/// A machine of two CPUs, each the home of a thread, with two buffers: what it tells at boot, a
+/// number that is no buffer's, and a message that is sent.
+fn runs<I: Owned + Drop>(rt: &impl Abort, alloc: Global) -> Result<(), NoMemory>
+where
+    I::Machine: Drop,
+{
+    let homes = [CpuId(0), CpuId(1)];
+    let mut m = I::open(alloc, 2, &[1, 2], &homes, 40)?;
+    let mut part = I::part(CpuId(0), &homes, 2);
+    assert!(rt; part.place_at(&m, Tid(0)) == Some(Place::Ready(CpuId(0))));
+    assert!(rt; part.place_at(&m, Tid(1)).is_none());
+    starts(rt, &mut part, &mut m, Tid(0));
+    refuses(rt, &mut part, &mut m, Tid(0));
+    assert!(rt;
+        called(&mut part, &mut m, Tid(0), &Call::Send(BufId(1), 7), 30) == Some(Reply::Sent)
+    );
+    assert!(rt; is_one(I::buffer_in(&m, BufId(1)), 7));
+    assert!(rt; I::busy_in(&m, BufId(1)) == Some(None));
+    assert!(rt; part.buffer_here(BufId(1)).is_none() && part.busy_here(BufId(1)).is_none());
+    assert!(rt; part.place_at(&m, Tid(0)) == Some(Place::Running(CpuId(0))));
+    Ok(())
+}
+
+#[test]
+fn a_tower_opens_and_sends(rt: HostRuntime) -> Result<(), Fail> {
+    runs::<Tower>(&rt, rt.alloc())?;
+    Ok(())
+}
