@@ -9,6 +9,7 @@ use event_log::Tid;
 use layer_traits::{CvEdit, CvLeave, Guarded, QEdit, Side};
 
 /// The thread that calls.
+#[inline(always)]
 pub fn caller_of<G: Guarded>(call: &QEdit<CvEdit<G>, CvLeave>) -> Tid
     ensures { result ≡ lock_caller (cv_rules G.deeds) call.now }
 {
@@ -22,6 +23,7 @@ pub fn caller_of<G: Guarded>(call: &QEdit<CvEdit<G>, CvLeave>) -> Tid
 }
 
 /// The side on which a wait is; `Receivers` of a call that is no wait.
+#[inline(always)]
 pub fn side_of<G: Guarded>(call: &QEdit<CvEdit<G>, CvLeave>) -> Side
     ensures { result ≡ side_in call.now }
 {

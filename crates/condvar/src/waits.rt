@@ -27,6 +27,7 @@ impl Waits {
     }
 
     /// Ends the wait of `t`, and tells whether there was one.
+    #[inline(always)]
     pub fn wake(&mut self, t: Tid) -> bool
         requires { t.0 < THREADS }
         ensures was { result ≡ is_some (slept_for self.old.buffers t) }
@@ -42,6 +43,7 @@ impl Waits {
 
     /// Takes what the lock of `buffer` told `t`: the answer of a wait is held back, and the thread
     /// waits there; each other answer is handed on.
+    #[inline(always)]
     pub fn told<O: Drop>(
         &mut self,
         t: Tid,
@@ -61,6 +63,7 @@ impl Waits {
 }
 
 /// Whether the lock answered that the caller waits now.
+#[inline(always)]
 fn has_waited<O>(answer: &Option<Outcome<QOut<CvOut<O>>>>) -> bool
     ensures { result ≡ is_wait answer.now }
 {

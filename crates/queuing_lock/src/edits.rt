@@ -31,6 +31,7 @@ impl<F: Locked> Sleeps for QLockEdit<F, F::Release> {
 
     ghost rules = { busy_rules F.rules };
 
+    #[inline(always)]
     fn caller(self) -> Tid {
         match self.edit {
             QEdit::Acquire(t) => t,
@@ -56,6 +57,7 @@ impl<F: Locked> Sleeps for QLockEdit<F, F::Release> {
         }
     }
 
+    #[inline(always)]
     fn joins(out: &QOut<F::Out>) -> Option<Line> {
         match out {
             QOut::Queued => Some(Line::Sleepers),
@@ -64,6 +66,7 @@ impl<F: Locked> Sleeps for QLockEdit<F, F::Release> {
         }
     }
 
+    #[inline(always)]
     fn leaves(out: &QOut<F::Out>) -> Leave {
         match out {
             QOut::Did(inside) => leave(F::signals(inside)),
@@ -74,6 +77,7 @@ impl<F: Locked> Sleeps for QLockEdit<F, F::Release> {
 }
 
 /// The list of those that wait on a side.
+#[inline(always)]
 fn line(side: Option<Side>) -> Option<Line>
     ensures { result ≡ line_for side }
 {
@@ -85,6 +89,7 @@ fn line(side: Option<Side>) -> Option<Line>
 }
 
 /// Who leaves a waiting list at a signal.
+#[inline(always)]
 fn leave(signal: Signal) -> Leave
     ensures { result ≡ leaving signal }
 {

@@ -27,6 +27,7 @@ impl Slept {
     }
 
     /// Whether `t` slept for a lock.
+    #[inline(always)]
     pub fn has(&self, t: Tid) -> bool
         ensures { result ≡ is_some (slept_for self.now.buffers t) }
     {
@@ -39,6 +40,7 @@ impl Slept {
     }
 
     /// The sleep of `t` is over.
+    #[inline(always)]
     pub fn over(&mut self, t: Tid)
         requires { t.0 < THREADS }
         ensures { self.new.buffers ≡ slice_set self.old.buffers t.0 None }
@@ -47,6 +49,7 @@ impl Slept {
     }
 
     /// `t` sleeps for the lock of `buffer` from now on.
+    #[inline(always)]
     pub fn put(&mut self, t: Tid, buffer: BufId)
         requires { t.0 < THREADS }
         ensures { self.new.buffers ≡ slice_set self.old.buffers t.0 (Some buffer) }
@@ -56,6 +59,7 @@ impl Slept {
 
     /// Takes what the lock of `buffer` told `t`: who is queued sleeps there, and its call goes on;
     /// each other outcome is handed on.
+    #[inline(always)]
     pub fn told<O: Drop>(
         &mut self,
         t: Tid,

@@ -147,10 +147,12 @@ impl<E: Sleeps> Moves for SleepEdit<E> {
 
     ghost moves = { nested_moves E.rules };
 
+    #[inline(always)]
     fn slept(out: &Outcome<E::Out>) -> Option<Line> {
         E::joins(&out.out)
     }
 
+    #[inline(always)]
     fn woke(out: &Outcome<E::Out>) -> Option<Tid> {
         out.woke
     }

@@ -20,6 +20,7 @@ pub struct Kept<E, O> {
 }
 
 /// The call on the scheduler that is due: to send home who stands in the hand, or else the section.
+#[inline(always)]
 pub fn next<E: Copy + Drop>(hand: Option<Tid>, buffer: BufId, edit: E) -> SchedCall<SleepEdit<E>>
     ensures { result ≡ due hand buffer (as_edit edit) }
 {
@@ -31,6 +32,7 @@ pub fn next<E: Copy + Drop>(hand: Option<Tid>, buffer: BufId, edit: E) -> SchedC
 
 /// Takes the scheduler's answer, after which the hand is this, and gives the outcome of the section
 /// if it has one now. It is kept while its caller goes on and a thread stands in the hand.
+#[inline(always)]
 pub fn told<E: Copy + Drop, O: Drop>(
     kept: &mut Option<Kept<E, O>>,
     hand: Option<Tid>,
@@ -62,6 +64,7 @@ pub fn told<E: Copy + Drop, O: Drop>(
 }
 
 /// Whether a call that is passed on is done.
+#[inline(always)]
 pub fn done<O: Drop>(answer: Option<SchedAnswer<O>>) -> Option<()>
     ensures { result ≡ done_of answer }
 {
