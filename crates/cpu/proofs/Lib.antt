@@ -11,3 +11,4 @@ pub mod Onces
 pub mod Advances
 pub mod Tellers
 pub mod Booting
+pub mod PlanGuests

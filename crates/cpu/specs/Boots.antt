@@ -1,5 +1,5 @@
 -- CPUs and systems at boot: their guests, and that nothing has happened.
-use Rattle.std.specs.Prelude.{◌≡◌, ℕ, ◌≤◌, List, [], length, replicate, Option, Some, None, slice_get}
+use Rattle.std.specs.Prelude.{◌≡◌, ℕ, ◌≤◌, ◌==◌, List, [], length, map, replicate, Option, Some, None, slice_get, if◌then◌else◌}
 use Rattle.event_log.specs.declared.entries.Entry.{Entry}
 use Rattle.event_log.specs.declared.ids.CpuId.{CpuId}
 use Rattle.event_log.specs.declared.ids.Tid.{Tid}
@@ -9,6 +9,8 @@ use Rattle.layer_traits.specs.Places.{Threads, at_boot, home_of}
 use Rattle.layer_traits.specs.BufferLaw.{Buffering, Doing, buffering_at_start, quiet}
 use Rattle.cpu.specs.declared.guests.Guest.{Guest}
 use Rattle.cpu.specs.Guests.{new_guest}
+use Rattle.boot.specs.Plan.{Plan, Task}
+use Rattle.cpu.specs.Claims.{listed}
 use Rattle.cpu.specs.Cpus.{NamesBelow, guest_at}
 
 -- a CPU's guests at boot: a place for each thread; at the number of each thread at home with it, and there alone, a new guest, whose
@@ -44,3 +46,19 @@ pub record IsBootedAs {P M : Type 0} (Fits : P → M → Type 0) (IsFresh : M �
   pub nothing_done : doing ≡ None
   pub own_is : IsStepwise → own ≡ buffering_at_start homes (record { 0 = k })
   pub fits : (m : M) → IsFresh m (record { 0 = k }) → count m ≡ buffers → Fits part m
+
+-- what CPU c has at the number of a thread: a new guest where it is the thread's home
+abbrev pub guest_for : ℕ → Task → Option Guest
+guest_for c task = if task.home == c then Some (new_guest task.program) else None
+
+-- the guests of CPU c
+abbrev pub guests_for : Plan → ℕ → List (Option Guest)
+guests_for plan c = map (guest_for c) plan.tasks
+
+-- the guests of all CPUs
+abbrev pub tables_for : Plan → List (List (Option Guest))
+tables_for plan = listed (guests_for plan) 0 plan.cpus
+
+-- the home of each thread
+abbrev pub homes_for : Plan → List CpuId
+homes_for plan = map (λ task. record { 0 = task.home }) plan.tasks

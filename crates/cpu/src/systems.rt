@@ -2,6 +2,7 @@
 
 mod calm;
 mod opening;
+mod plans;
 
 ghost use Rattle.std.specs.Prelude.{◌≡◌, ◌<◌, ◌↔◌, true, false, All, IsOk, OnErr, Some, None, [], length, map, slice_index_or};
 

@@ -1,0 +1,110 @@
+//! The system of a plan.
+
+ghost use Rattle.std.specs.Prelude.{◌≡◌, ◌<◌, IfOk, None, length, map, replicate, slice_index_or};
+ghost use Rattle.boot.specs.Plan.{IsPlan};
+ghost use Rattle.cpu.specs.Boots.{guests_for, homes_for, tables_for};
+
+use crate::guests::Guest;
+use crate::systems::System;
+use arrayvec::ArrayVec;
+use boot::Boot;
+use event_log::{CpuId, NoMemory, THREADS, Tid};
+use layer_traits::Owned;
+use std::alloc::Global;
+
+/// The home of each thread of a plan.
+fn homes_of(boot: &Boot) -> ArrayVec<CpuId, THREADS>
+    ensures { result.items ≡ homes_for boot.now }
+{
+    let mut homes = ArrayVec::new();
+    for t in 0..boot.threads() {
+        homes.push(boot.home(Tid(t as u8)));
+    }
+    homes
+}
+
+/// What a CPU has at the number of a thread, which must exist: a new guest where it is the
+/// thread's home.
+fn guest_at(
+    alloc: Global,
+    boot: &Boot,
+    number: CpuId,
+    thread: Tid,
+) -> Result<Option<Guest>, NoMemory>
+    requires { thread.0 < length boot.now.tasks }
+    ensures { IfOk result (λ guest. guest ≡ slice_index_or (guests_for boot.now number.0) thread.0 None) }
+{
+    let home = boot.home(thread);
+    if home.0 != number.0 {
+        return Ok(None);
+    }
+    let program = boot.program(thread).copy(alloc)?;
+    Ok(Some(Guest::new(program)))
+}
+
+/// The guests of a CPU of a plan.
+fn guests_of(alloc: Global, boot: &Boot, number: CpuId) -> Result<Vec<Option<Guest>>, NoMemory>
+    ensures { IfOk result (λ guests. guests.items ≡ guests_for boot.now number.0) }
+{
+    let Ok(mut guests) = Vec::with_capacity(alloc, boot.threads()) else {
+        return Err(NoMemory);
+    };
+    for t in 0..boot.threads() {
+        let guest = guest_at(alloc, boot, number, Tid(t as u8))?;
+        guests.push(guest).unwrap();
+    }
+    Ok(guests)
+}
+
+/// The guests of each CPU of a plan.
+fn tables_of(alloc: Global, boot: &Boot) -> Result<Vec<Vec<Option<Guest>>>, NoMemory>
+    ensures { IfOk result (λ tables. map (λ table. table.items) tables.items ≡ tables_for boot.now) }
+{
+    let Ok(mut tables) = Vec::with_capacity(alloc, usize::from(boot.cpus())) else {
+        return Err(NoMemory);
+    };
+    for number in 0..boot.cpus() {
+        let guests = guests_of(alloc, boot, CpuId(number))?;
+        tables.push(guests).unwrap();
+    }
+    Ok(tables)
+}
+
+impl<I: Owned + Drop> System<I>
+where
+    I::Machine: Drop,
+{
+    ghost use Rattle.cpu.specs.Claims.{FollowPrograms, HasOneOrder, StandsOnce, StayHome};
+
+    /// The system of a plan before its first step, with room for `room` steps: each CPU's threads
+    /// are ready by rising number, and every buffer is empty. All memory is taken here.
+    ///
+    /// Errors: `NoMemory` where an allocation was refused.
+    pub fn open(alloc: Global, boot: &Boot, room: usize) -> Result<System<I>, NoMemory>
+        ensures caps { IfOk result (λ s. s.caps ≡ boot.now.caps) }
+        ensures homes { IfOk result (λ s. s.homes ≡ homes_for boot.now) }
+        ensures guests { IfOk result (λ s. map (λ p. p.guests) s.cpus ≡ tables_for boot.now) }
+        ensures limits { IfOk result (λ s. map (λ p. p.limit) s.cpus ≡ replicate boot.now.cpus boot.now.trace) }
+        ensures room { IfOk result (λ s. s.room ≡ room) }
+        ensures taken { IfOk result (λ s. s.taken ≡ 0) }
+        ensures plan { IsPlan boot.now }
+
+        // What holds after every list of steps.
+        ensures one_order { IfOk result HasOneOrder }
+        ensures follow { IfOk result FollowPrograms }
+        ensures stay { IfOk result StayHome }
+        ensures once { IfOk result StandsOnce }
+    {
+        let homes = homes_of(boot);
+        let caps = boot.caps();
+        let tables = tables_of(alloc, boot)?;
+        System::with_tables(
+            alloc,
+            caps.as_slice(),
+            homes.as_slice(),
+            tables,
+            boot.trace() as usize,
+            room,
+        )
+    }
+}
