@@ -205,6 +205,39 @@ fn is_handed_over<F: Locked, Q: OwnedQLocks<F>>(
     one.current().is_none() && one_is_told::<F, Q>(one, m, section)
 }
 
+/// Thread 0 acquires: the machine tells of the lock, and the part has no block in its hands; then it
+/// begins a Release, and looks again.
+fn is_told<Q: OwnedQLocks<Reads>>(zero: &mut Q, m: &mut Q::Machine) -> bool
+    requires fits { Q.Fits zero.old m.old }
+    requires buffer { IsSome (Q.opening m.old (Buffer (record { 0 = 0 }))) }
+    requires queue { IsSome (Q.opening m.old (Pending (record { 0 = 1 }))) }
+    requires room { 5 < Q.room m.old }
+    requires ended { HasEnded ⟦<Reads as Locked>⟧.rules (Q.own zero.old) (Q.under_way zero.old) (record { 0 = 0 }) }
+{
+    let at = BufId(0);
+    if !switches::<Reads, Q>(zero, m) || zero.is_ready(Tid(0)) || zero.has_ended(Tid(0)) {
+        return false;
+    }
+    let Some(Turn::Answered(_)) = acquires::<Reads, Q>(zero, m, at, Tid(0), 3) else {
+        return false;
+    };
+    if Q::block_in(m, at) != Some(&7) || zero.block_here(at).is_some() {
+        return false;
+    }
+    if zero.owner_here(at).is_some() || zero.line_here(at, Tid(0)).is_some() {
+        return false;
+    }
+    if Q::pends_in(m, CpuId(1), Tid(0)) != Some(false)
+        || zero.pends_here(CpuId(1), Tid(0)).is_some()
+    {
+        return false;
+    }
+    let Some(Turn::GoesOn) = releases::<Reads, Q>(zero, m, at, Tid(0), 1) else {
+        return false;
+    };
+    zero.is_busy() && zero.look(m)
+}
+
 /// One block.
 fn one_block(alloc: Global) -> Result<Vec<u8>, NoMemory>
     ensures { IfOk result (λ blocks. blocks.items ≡ 7 ∷ []) }
@@ -263,5 +296,13 @@ fn a_lock_is_handed_from_owner_to_owner(rt: HostRuntime) -> Result<(), Fail> {
     let mut one: Tower = part::<Reads, Tower>(&m, CpuId(1));
     let mut two: Tower = part::<Reads, Tower>(&m, CpuId(2));
     assert!(rt; is_handed_over::<Reads, Tower>(&mut zero, &mut one, &mut two, &mut m, Tid(0), 3));
+    Ok(())
+}
+
+#[test]
+fn a_machine_tells_of_its_lock(rt: HostRuntime) -> Result<(), Fail> {
+    let mut m = machine(rt.alloc())?;
+    let mut zero: Tower = part::<Reads, Tower>(&m, CpuId(0));
+    assert!(rt; is_told::<Tower>(&mut zero, &mut m));
     Ok(())
 }
