@@ -137,10 +137,12 @@ system_step One Two number Acts1 Acts2 IsStepwise acts1 acts2 cpus homes homes2 
 -- What stands in a system: parts that fit a machine, and CPUs of which what always holds is true.
 module _ {M X N : Type 0} (Fits : X → M → Type 0) (number cpu : X → CpuId) (own : X → Threads) (talks : X → List Talk) (doing : X → Option Doing)
     (guests : X → List (Option Guest)) (trace : X → List Entry) (limit capacity : X → ℕ) (ActsFor : M → CpuId → Type 0) (IsStepwise : Type 0)
-    (acts : M → List (Action N)) (homes : M → List CpuId) (caps : M → List ℕ) (seen : M → List Entry) (left : M → ℕ) where
+    (acts : M → List (Action N)) (homes : M → List CpuId) (caps : M → List ℕ) (seen : M → List Entry) (left : M → ℕ)
+    (Tabled : M → X → Type 0) where
   abbrev IsOne : M → X → Type 0
   IsOne m x = Fits x m × (cpu x ≡ number x)
       × IsCpu (homes m) (length (caps m)) (seen m) (own x) (talks x) (doing x) (number x) (guests x) (trace x) (limit x) (capacity x)
+      × Tabled m x
 
   abbrev Holds : M → List X → ℕ → ℕ → Type 0
   Holds m cpus room taken = IsSystem (IsOne m) number (ActsFor m) IsStepwise (acts m) cpus (homes m) (seen m) room taken (left m)
@@ -156,13 +158,14 @@ module _ {M X N : Type 0} (Fits : X → M → Type 0) (number cpu : X → CpuId)
   pub stepped : (m m2 : M) (cpus : List X) (room taken k : ℕ) (x y : X) → Holds m cpus room taken → slice_get cpus k ≡ Some x → number y ≡ number x
       → cpu y ≡ number x → Fits y m2
       → IsCpu (homes m2) (length (caps m2)) (seen m2) (own y) (talks y) (doing y) (number y) (guests y) (trace y) (limit y) (capacity y)
+      → Tabled m2 y → ((z : X) → Tabled m z → Tabled m2 z)
       → ((z : X) → cpu z ≢ number x → Fits z m → Fits z m2) → ((c : CpuId) → ActsFor m c → ActsFor m2 c)
       → SeenGrows (ActsFor m) (number x) (seen m) (seen m2) → (IsStepwise → ActsGrow (ActsFor m) (number x) (acts m) (acts m2))
       → AllByRecursion (λ e. e.cpu.0 < CPUS) (seen m2) → homes m2 ≡ homes m → caps m2 ≡ caps m → left m ≤ left m2 + 1 → taken < room
       → Holds m2 (slice_set cpus k y) room (taken + 1)
-  stepped m m2 cpus room taken k x y is at numbered of_cpu_is fits here others goes grows does known same_homes same_caps room_left live =
+  stepped m m2 cpus room taken k x y is at numbered of_cpu_is fits here tabled tables others goes grows does known same_homes same_caps room_left live =
       system_step (IsOne m) (IsOne m2) number (ActsFor m) (ActsFor m2) IsStepwise (acts m) (acts m2) cpus (homes m) (homes m2) (seen m) (seen m2) room taken
-      (left m) (left m2) k y is (slice_get_within cpus k x at) (numbered ∙ is_k) (fits, of_cpu_is ∙ sym numbered, here) there goes
+      (left m) (left m2) k y is (slice_get_within cpus k x at) (numbered ∙ is_k) (fits, of_cpu_is ∙ sym numbered, here, tabled) there goes
       (subst (λ (c : CpuId). SeenGrows (ActsFor m) c (seen m) (seen m2)) is_k grows)
       (λ step. subst (λ (c : CpuId). ActsGrow (ActsFor m) c (acts m) (acts m2)) is_k (does step)) known same_homes room_left live
     where
@@ -179,6 +182,7 @@ module _ {M X N : Type 0} (Fits : X → M → Type 0) (number cpu : X → CpuId)
             cpu_frame (homes m) (homes m2) (length (caps m)) (length (caps m2)) (seen m) (seen m2) (own z) (talks z) (doing z) (number z) (guests z) (trace z) (limit z)
                 (capacity z) same_homes
                 (ap (λ (l : List ℕ). length l) same_caps) (same_of (ActsFor m) (number x) (number z) (seen m) (seen m2) apart act grows) before.holds.2,
+            tables z before.holds.3,
           )
 
 -- why a CPU takes a step, or takes none

@@ -12,3 +12,7 @@ pub mod Advances
 pub mod Tellers
 pub mod Booting
 pub mod PlanGuests
+pub mod TableRows
+pub mod TablePolls
+pub mod TablePasses
+pub mod TableCalls

@@ -31,7 +31,7 @@ use Rattle.cpu.specs.Cpus.{AllFollow, AreOver, IsCpu, IsOfHome, NamesBelow, begu
 use Rattle.cpu.proofs.GuestLists.{at_other, at_same, count_with, guest_within}
 
 -- an instruction that asks for no call: the guest is in none
-in_no_call : (g : Guest) (es : List Entry) (begun : Option Call) (effect : Option Effect) (todo : Todo)
+pub in_no_call : (g : Guest) (es : List Entry) (begun : Option Call) (effect : Option Effect) (todo : Todo)
     → FollowsIn g.stage g.program g.thread es begun effect
     → todo_of g ≡ todo → ((c : Call) → todo ≡ Calls c → ⊥) → (is_calling g.stage ≡ false) × (is_begun g.stage ≡ false)
 in_no_call g es begun effect todo follows asks none = go g.stage follows
@@ -54,7 +54,7 @@ between_at g es begun effect todo follows asks none some = go g.stage follows
     go Done f = absurd (none f.0 (sym asks ∙ f.2))
     go Ended f = absurd (some (sym asks ∙ ap (λ (i : Instruction). todo_at g.thread i) f.2))
 
-finish_exit : (s : State) (i : Instruction) → todo_at s i ≡ Finish → i ≡ ins.Exit
+pub finish_exit : (s : State) (i : Instruction) → todo_at s i ≡ Finish → i ≡ ins.Exit
 finish_exit s ins.Exit is = refl
 finish_exit s ins.Yield is = absurd cc
 finish_exit s (ins.Send b r) is = absurd cc
@@ -165,7 +165,7 @@ module _ (homes : List CpuId) (buffers : ℕ) (seen : List Entry) (own : Threads
           go (inr other) = (there.0, at_other guests t.0 u.0 f other ∙ there.1)
 
   -- What is chosen, by who runs.
-  computes_at : (t : Tid) → chosen own guests ≡ Computes t → (own.current ≡ Some t) × ((g : Guest) × (guest_at guests t.0 ≡ Some g) × (todo_of g ≡ Compute))
+  pub computes_at : (t : Tid) → chosen own guests ≡ Computes t → (own.current ≡ Some t) × ((g : Guest) × (guest_at guests t.0 ≡ Some g) × (todo_of g ≡ Compute))
   computes_at t chose = go own.current refl chose
     where
       by_todo : (u : Tid) (todo : Todo) → chosen_todo u todo ≡ Computes t → (u ≡ t) × (todo ≡ Compute)
@@ -228,7 +228,7 @@ module _ (homes : List CpuId) (buffers : ℕ) (seen : List Entry) (own : Threads
       nothing (Some d) none = absurd (none d refl)
 
   -- the cases of a chosen pass, where each thread that runs is at home
-  data PassCase : Pass → Type 0 where
+  pub data PassCase : Pass → Type 0 where
     switches : own.current ≡ None → own.hand ≡ None → (own.ready ≡ [] → ⊥) → PassCase Switch
     drains : own.current ≡ None → own.hand ≡ None → own.ready ≡ [] → PassCase Drain
     sends_idle : (s : Tid) → own.current ≡ None → own.hand ≡ Some s → PassCase (MakeReady s)
@@ -236,7 +236,7 @@ module _ (homes : List CpuId) (buffers : ℕ) (seen : List Entry) (own : Threads
     passes_on : (t : Tid) (g : Guest) → own.current ≡ Some t → own.hand ≡ None → guest_at guests t.0 ≡ Some g → todo_of g ≡ PassOn → PassCase YieldNow
     finishes : (t : Tid) (g : Guest) → own.current ≡ Some t → own.hand ≡ None → guest_at guests t.0 ≡ Some g → todo_of g ≡ Finish → PassCase End
 
-  pass_case : (pass : Pass) → ((t : Tid) → own.current ≡ Some t → home_of homes t ≡ Some number) → chosen own guests ≡ Passes pass → PassCase pass
+  pub pass_case : (pass : Pass) → ((t : Tid) → own.current ≡ Some t → home_of homes t ≡ Some number) → chosen own guests ≡ Passes pass → PassCase pass
   pass_case pass home chose = go own.current refl chose
     where
       idle : (hand : Option Tid) (ready : List Tid) → own.current ≡ None → own.hand ≡ hand → own.ready ≡ ready → chosen_idle hand ready ≡ Passes pass

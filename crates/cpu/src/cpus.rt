@@ -40,9 +40,10 @@ pub struct Cpu<I: IpcLayer> {
 impl<I: IpcLayer> Cpu<I> {
     ghost use Rattle.event_log.specs.declared.ids.CpuId.{CpuId};
     ghost use Rattle.layer_traits.specs.declared.steps.Reason.{Reason};
-    ghost use Rattle.layer_traits.specs.declared.steps.Step.TheVariants.{Halted};
+    ghost use Rattle.layer_traits.specs.declared.steps.Step.TheVariants.{Halted, Stepped};
     ghost use Rattle.layer_traits.specs.BufferLaw.{MovesGrow};
     ghost use Rattle.cpu.specs.declared.cpus.Choice.TheVariants.{Polls, Passes, Computes};
+    ghost use Rattle.cpu.specs.Tables.{IsTabled, WentByTable};
     ghost use Rattle.cpu.specs.Cpus.{ActsGrow, IsCpu, SeenGrows, chosen, halted_at, programs_of, reason_in, step_answer};
 
     /// What the CPU does next, where it is not halted.
@@ -110,6 +111,8 @@ impl<I: IpcLayer> Cpu<I> {
         requires chosen { chosen (I.threads self.old.part) self.old.guests.items ≡ Polls thread call }
         requires not_full { begins_at (guest_at self.old.guests.items thread.0) ≡ true
             → length self.old.trace.items + begun_count self.old.guests.items < self.old.limit }
+        requires table { I.IsStepwise → IsTabled (I.homes_of m.old) (I.caps m.old) self.old.number (I.own self.old.part)
+            (I.doing self.old.part) self.old.guests.items (I.opening m.old) }
         ensures fits { I.Fits self.new.part m.new }
         ensures is { IsCpu (I.homes_of m.new) (length (I.caps m.new)) (I.seen m.new) (I.threads self.new.part) (I.talks self.new.part)
             (I.doing self.new.part) self.new.number self.new.guests.items self.new.trace.items self.new.limit (vec_capacity self.new.trace) }
@@ -127,6 +130,11 @@ impl<I: IpcLayer> Cpu<I> {
         ensures room { I.room m.old ≤ I.room m.new + 1 }
         ensures acts { (c : CpuId) → I.ActsFor m.old c → I.ActsFor m.new c }
         ensures others { (p : I) → I.cpu_of p ≢ self.old.number → I.Fits p m.old → I.Fits p m.new }
+        ensures table { I.IsStepwise → IsTabled (I.homes_of m.new) (I.caps m.new) self.new.number (I.own self.new.part)
+            (I.doing self.new.part) self.new.guests.items (I.opening m.new) }
+        ensures steps { I.IsStepwise → WentByTable (I.ActsFor m.old) (I.homes_of m.old) (I.caps m.old) self.old.number self.old.limit
+            (I.own self.old.part) (I.own self.new.part) self.old.guests.items self.new.guests.items self.old.trace.items self.new.trace.items
+            (I.acts m.old) (I.acts m.new) Stepped }
     {
         let answer = self.part.poll(m, thread, &call);
         let effect = self.part.effect(thread);
@@ -143,6 +151,8 @@ impl<I: IpcLayer> Cpu<I> {
             (I.doing self.old.part) self.old.number self.old.guests.items self.old.trace.items self.old.limit (vec_capacity self.old.trace) }
         requires live { reason_in (I.is_inside self.old.part) (halted_at (I.threads self.old.part) self.old.guests.items self.old.trace.items self.old.limit) ≡ None }
         requires chosen { chosen (I.threads self.old.part) self.old.guests.items ≡ Passes pass }
+        requires table { I.IsStepwise → IsTabled (I.homes_of m.old) (I.caps m.old) self.old.number (I.own self.old.part)
+            (I.doing self.old.part) self.old.guests.items (I.opening m.old) }
         ensures fits { I.Fits self.new.part m.new }
         ensures is { IsCpu (I.homes_of m.new) (length (I.caps m.new)) (I.seen m.new) (I.threads self.new.part) (I.talks self.new.part)
             (I.doing self.new.part) self.new.number self.new.guests.items self.new.trace.items self.new.limit (vec_capacity self.new.trace) }
@@ -160,6 +170,11 @@ impl<I: IpcLayer> Cpu<I> {
         ensures room { I.room m.old ≤ I.room m.new + 1 }
         ensures acts { (c : CpuId) → I.ActsFor m.old c → I.ActsFor m.new c }
         ensures others { (p : I) → I.cpu_of p ≢ self.old.number → I.Fits p m.old → I.Fits p m.new }
+        ensures table { I.IsStepwise → IsTabled (I.homes_of m.new) (I.caps m.new) self.new.number (I.own self.new.part)
+            (I.doing self.new.part) self.new.guests.items (I.opening m.new) }
+        ensures steps { I.IsStepwise → WentByTable (I.ActsFor m.old) (I.homes_of m.old) (I.caps m.old) self.old.number self.old.limit
+            (I.own self.old.part) (I.own self.new.part) self.old.guests.items self.new.guests.items self.old.trace.items self.new.trace.items
+            (I.acts m.old) (I.acts m.new) Stepped }
     {
         let runs = self.part.current();
         let done = self.part.pass(m, pass);
@@ -177,6 +192,8 @@ impl<I: IpcLayer> Cpu<I> {
             (I.doing self.old.part) self.old.number self.old.guests.items self.old.trace.items self.old.limit (vec_capacity self.old.trace) }
         requires live { reason_in (I.is_inside self.old.part) (halted_at (I.threads self.old.part) self.old.guests.items self.old.trace.items self.old.limit) ≡ None }
         requires chosen { chosen (I.threads self.old.part) self.old.guests.items ≡ Computes thread }
+        requires table { I.IsStepwise → IsTabled (I.homes_of m.old) (I.caps m.old) self.old.number (I.own self.old.part)
+            (I.doing self.old.part) self.old.guests.items (I.opening m.old) }
         ensures fits { I.Fits self.new.part m.new }
         ensures is { IsCpu (I.homes_of m.new) (length (I.caps m.new)) (I.seen m.new) (I.threads self.new.part) (I.talks self.new.part)
             (I.doing self.new.part) self.new.number self.new.guests.items self.new.trace.items self.new.limit (vec_capacity self.new.trace) }
@@ -194,6 +211,11 @@ impl<I: IpcLayer> Cpu<I> {
         ensures room { I.room m.old ≤ I.room m.new + 1 }
         ensures acts { (c : CpuId) → I.ActsFor m.old c → I.ActsFor m.new c }
         ensures others { (p : I) → I.cpu_of p ≢ self.old.number → I.Fits p m.old → I.Fits p m.new }
+        ensures table { I.IsStepwise → IsTabled (I.homes_of m.new) (I.caps m.new) self.new.number (I.own self.new.part)
+            (I.doing self.new.part) self.new.guests.items (I.opening m.new) }
+        ensures steps { I.IsStepwise → WentByTable (I.ActsFor m.old) (I.homes_of m.old) (I.caps m.old) self.old.number self.old.limit
+            (I.own self.old.part) (I.own self.new.part) self.old.guests.items self.new.guests.items self.old.trace.items self.new.trace.items
+            (I.acts m.old) (I.acts m.new) Stepped }
     {
         note_compute(&mut self.guests, thread);
         let _ = m;
@@ -209,6 +231,8 @@ impl<I: IpcLayer> Cpu<I> {
         requires number { I.cpu_of self.old.part ≡ self.old.number }
         requires is { IsCpu (I.homes_of m.old) (length (I.caps m.old)) (I.seen m.old) (I.threads self.old.part) (I.talks self.old.part)
             (I.doing self.old.part) self.old.number self.old.guests.items self.old.trace.items self.old.limit (vec_capacity self.old.trace) }
+        requires table { I.IsStepwise → IsTabled (I.homes_of m.old) (I.caps m.old) self.old.number (I.own self.old.part)
+            (I.doing self.old.part) self.old.guests.items (I.opening m.old) }
         ensures fits { I.Fits self.new.part m.new }
         ensures is { IsCpu (I.homes_of m.new) (length (I.caps m.new)) (I.seen m.new) (I.threads self.new.part) (I.talks self.new.part)
             (I.doing self.new.part) self.new.number self.new.guests.items self.new.trace.items self.new.limit (vec_capacity self.new.trace) }
@@ -228,6 +252,11 @@ impl<I: IpcLayer> Cpu<I> {
         ensures others { (p : I) → I.cpu_of p ≢ self.old.number → I.Fits p m.old → I.Fits p m.new }
         ensures answer { result ≡ step_answer (reason_in (I.is_inside self.old.part) (halted_at (I.threads self.old.part) self.old.guests.items self.old.trace.items self.old.limit)) }
         ensures still { (r : Reason) → result ≡ Halted r → (m.new ≡ m.old) × (self.new ≡ self.old) }
+        ensures table { I.IsStepwise → IsTabled (I.homes_of m.new) (I.caps m.new) self.new.number (I.own self.new.part)
+            (I.doing self.new.part) self.new.guests.items (I.opening m.new) }
+        ensures steps { I.IsStepwise → WentByTable (I.ActsFor m.old) (I.homes_of m.old) (I.caps m.old) self.old.number self.old.limit
+            (I.own self.old.part) (I.own self.new.part) self.old.guests.items self.new.guests.items self.old.trace.items self.new.trace.items
+            (I.acts m.old) (I.acts m.new) result }
     {
         if let Some(reason) = self.reason() {
             return Step::Halted(reason);
@@ -248,6 +277,8 @@ impl<I: IpcLayer> Cpu<I> {
         requires number { I.cpu_of self.old.part ≡ self.old.number }
         requires is { IsCpu (I.homes_of m.old) (length (I.caps m.old)) (I.seen m.old) (I.threads self.old.part) (I.talks self.old.part)
             (I.doing self.old.part) self.old.number self.old.guests.items self.old.trace.items self.old.limit (vec_capacity self.old.trace) }
+        requires table { I.IsStepwise → IsTabled (I.homes_of m.old) (I.caps m.old) self.old.number (I.own self.old.part)
+            (I.doing self.old.part) self.old.guests.items (I.opening m.old) }
         ensures fits { I.Fits self.new.part m.new }
         ensures is { IsCpu (I.homes_of m.new) (length (I.caps m.new)) (I.seen m.new) (I.threads self.new.part) (I.talks self.new.part)
             (I.doing self.new.part) self.new.number self.new.guests.items self.new.trace.items self.new.limit (vec_capacity self.new.trace) }
@@ -267,6 +298,11 @@ impl<I: IpcLayer> Cpu<I> {
         ensures others { (p : I) → I.cpu_of p ≢ self.old.number → I.Fits p m.old → I.Fits p m.new }
         ensures still { result ≡ false → (self.new ≡ self.old) × (m.new ≡ m.old) }
         ensures live { result ≡ true → reason_in (I.is_inside self.old.part) (halted_at (I.threads self.old.part) self.old.guests.items self.old.trace.items self.old.limit) ≡ None }
+        ensures table { I.IsStepwise → IsTabled (I.homes_of m.new) (I.caps m.new) self.new.number (I.own self.new.part)
+            (I.doing self.new.part) self.new.guests.items (I.opening m.new) }
+        ensures steps { I.IsStepwise → result ≡ true → WentByTable (I.ActsFor m.old) (I.homes_of m.old) (I.caps m.old) self.old.number self.old.limit
+            (I.own self.old.part) (I.own self.new.part) self.old.guests.items self.new.guests.items self.old.trace.items self.new.trace.items
+            (I.acts m.old) (I.acts m.new) Stepped }
     {
         self.part.look(m)
     }
@@ -281,6 +317,8 @@ impl<I: IpcLayer> Cpu<I> {
         requires number { I.cpu_of self.old.part ≡ self.old.number }
         requires is { IsCpu (I.homes_of m.old) (length (I.caps m.old)) (I.seen m.old) (I.threads self.old.part) (I.talks self.old.part)
             (I.doing self.old.part) self.old.number self.old.guests.items self.old.trace.items self.old.limit (vec_capacity self.old.trace) }
+        requires table { I.IsStepwise → IsTabled (I.homes_of m.old) (I.caps m.old) self.old.number (I.own self.old.part)
+            (I.doing self.old.part) self.old.guests.items (I.opening m.old) }
         ensures fits { I.Fits self.new.part m.new }
         ensures is { IsCpu (I.homes_of m.new) (length (I.caps m.new)) (I.seen m.new) (I.threads self.new.part) (I.talks self.new.part)
             (I.doing self.new.part) self.new.number self.new.guests.items self.new.trace.items self.new.limit (vec_capacity self.new.trace) }
@@ -300,6 +338,11 @@ impl<I: IpcLayer> Cpu<I> {
         ensures others { (p : I) → I.cpu_of p ≢ self.old.number → I.Fits p m.old → I.Fits p m.new }
         ensures answer { result ≡ step_answer (reason_in (I.is_inside self.old.part) (halted_at (I.threads self.old.part) self.old.guests.items self.old.trace.items self.old.limit)) }
         ensures still { (r : Reason) → result ≡ Halted r → (m.new ≡ m.old) × (self.new ≡ self.old) }
+        ensures table { I.IsStepwise → IsTabled (I.homes_of m.new) (I.caps m.new) self.new.number (I.own self.new.part)
+            (I.doing self.new.part) self.new.guests.items (I.opening m.new) }
+        ensures steps { I.IsStepwise → WentByTable (I.ActsFor m.old) (I.homes_of m.old) (I.caps m.old) self.old.number self.old.limit
+            (I.own self.old.part) (I.own self.new.part) self.old.guests.items self.new.guests.items self.old.trace.items self.new.trace.items
+            (I.acts m.old) (I.acts m.new) result }
     {
         if self.look(m) {
             return Step::Stepped;

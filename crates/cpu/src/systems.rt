@@ -37,6 +37,7 @@ where
     ghost use Rattle.std.specs.Prelude.{◌≡◌, length, map, vec_capacity};
     ghost use Rattle.cpu.specs.Cpus.{IsCpu};
     ghost use Rattle.cpu.specs.Claims.{Shown, cpu_shown, shown_of};
+    ghost use Rattle.cpu.specs.Tables.{IsTabled};
     ghost use Rattle.cpu.specs.Systems.{IsSystem};
 
     ghost Value = { Shown };
@@ -45,7 +46,8 @@ where
         (map (λ c. cpu_shown (I.threads c.part) c.guests.items c.trace.items c.limit (I.is_inside c.part)) s.cpus.items) s.room s.taken };
 
     ghost invariant = { λ s. IsSystem (λ c. I.Fits c.part s.machine × (I.cpu_of c.part ≡ c.number)
-        × IsCpu (I.homes_of s.machine) (length (I.caps s.machine)) (I.seen s.machine) (I.threads c.part) (I.talks c.part) (I.doing c.part) c.number c.guests.items c.trace.items c.limit (vec_capacity c.trace))
+        × IsCpu (I.homes_of s.machine) (length (I.caps s.machine)) (I.seen s.machine) (I.threads c.part) (I.talks c.part) (I.doing c.part) c.number c.guests.items c.trace.items c.limit (vec_capacity c.trace)
+        × (I.IsStepwise → IsTabled (I.homes_of s.machine) (I.caps s.machine) c.number (I.own c.part) (I.doing c.part) c.guests.items (I.opening s.machine)))
         (λ c. c.number) (λ c. I.ActsFor s.machine c) I.IsStepwise (I.acts s.machine) s.cpus.items (I.homes_of s.machine) (I.seen s.machine) s.room s.taken (I.room s.machine) };
 }
 

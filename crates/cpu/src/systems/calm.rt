@@ -12,10 +12,7 @@ use layer_traits::{IpcLayer, Owned, Reason};
 fn rests<I: IpcLayer>(part: &I) -> bool
     ensures { result ≡ rests (I.is_inside part.now) (I.threads part.now) }
 {
-    !part.is_busy()
-        && part.current().is_none()
-        && part.hand().is_none()
-        && !part.has_ready()
+    !part.is_busy() && part.current().is_none() && part.hand().is_none() && !part.has_ready()
 }
 
 impl<I: Owned + Drop> System<I>

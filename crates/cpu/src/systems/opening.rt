@@ -94,6 +94,7 @@ where
     ghost use Rattle.cpu.specs.Claims.{FollowPrograms, HasOneOrder, StandsOnce, StayHome};
     ghost use Rattle.cpu.specs.Cpus.{IsCpu};
     ghost use Rattle.cpu.specs.Systems.{IsSystem};
+    ghost use Rattle.cpu.specs.Tables.{IsTabled};
     ghost use Rattle.layer_traits.specs.Openings.{AreOpenable};
 
     /// A system before its first step: buffers of these capacities, threads of these homes, and one
@@ -133,7 +134,8 @@ where
     /// The system of a machine and its CPUs, before its first step.
     fn assembled(machine: I::Machine, cpus: Vec<Cpu<I>>, room: u64) -> System<I>
         requires { IsSystem (λ c. I.Fits c.part machine × (I.cpu_of c.part ≡ c.number)
-            × IsCpu (I.homes_of machine) (length (I.caps machine)) (I.seen machine) (I.threads c.part) (I.talks c.part) (I.doing c.part) c.number c.guests.items c.trace.items c.limit (vec_capacity c.trace))
+            × IsCpu (I.homes_of machine) (length (I.caps machine)) (I.seen machine) (I.threads c.part) (I.talks c.part) (I.doing c.part) c.number c.guests.items c.trace.items c.limit (vec_capacity c.trace)
+            × (I.IsStepwise → IsTabled (I.homes_of machine) (I.caps machine) c.number (I.own c.part) (I.doing c.part) c.guests.items (I.opening machine)))
             (λ c. c.number) (λ c. I.ActsFor machine c) I.IsStepwise (I.acts machine) cpus.items (I.homes_of machine) (I.seen machine) room 0 (I.room machine) }
         ensures caps { result.caps ≡ I.caps machine }
         ensures homes { result.homes ≡ I.homes_of machine }

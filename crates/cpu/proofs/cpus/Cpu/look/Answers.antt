@@ -3,6 +3,7 @@ use Rattle.event_log.specs.declared.ids.CpuId.{CpuId}
 use Rattle.layer_traits.specs.Looks.{Tries}
 use Rattle.cpu.proofs.Passing.{look_grows, others_same}
 use Rattle.cpu.proofs.Schedules.{seen_stays}
+use Rattle.cpu.proofs.TableCalls.{looked_steps}
 use Rattle.cpu.proofs.cpus.Cpu.look.Goals as goal
 
 pub returns-clause-is : goal.returns-clause-is
@@ -24,3 +25,15 @@ returns-clause-grows g c = λ step.
     look_grows (λ d. I.ActsFor m d) c.args.self.now.number (I.acts m) (I.acts c.look.new.m) c.look.result
     (λ looked. subst (λ (d : CpuId). Tries (λ e. I.ActsFor m e) d (I.acts m) (I.acts c.look.new.m)) c.requires.number (c.look.ensures.tries step looked))
     (λ no. ap I.acts (c.look.ensures.still no).1)
+
+pub returns-clause-table : goal.returns-clause-table
+returns-clause-table g c = λ step.
+    rw (c.look.ensures.homes, c.look.ensures.caps, c.look.ensures.own step, c.look.ensures.doing, c.look.ensures.opening) (c.requires.table step)
+
+pub returns-clause-steps : goal.returns-clause-steps
+returns-clause-steps g c = λ step looked.
+    let I = g.I.IpcLayer in
+    let m = c.args.m.now in
+    let p = c.args.self.now in
+    looked_steps (λ d. I.ActsFor m d) (I.homes_of m) (I.caps m) (I.cpu_of p.part) p.number p.limit (I.own p.part) (I.own c.look.new.self) p.guests.items
+    p.trace.items (I.acts m) (I.acts c.look.new.m) c.requires.number (c.look.ensures.own step) (c.look.ensures.tries step looked)

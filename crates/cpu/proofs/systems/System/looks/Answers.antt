@@ -2,6 +2,7 @@ use Rattle.std.proofs.Common.{rules, ◌≡◌, ◌<◌, ℕ, map, Some, None, r
 use Rattle.std.specs.Prelude.{slice_get}
 use Rattle.cpu.specs.declared.cpus.Cpu.{Cpu}
 use Rattle.cpu.specs.Cpus.{programs_of}
+use Rattle.cpu.specs.Tables.{IsTabled}
 use Rattle.cpu.specs.Claims.{CpuShown, Shown, cpu_shown}
 use Rattle.cpu.specs.Systems.{reason_of}
 use Rattle.cpu.proofs.Advances.{again, live_of, stepped}
@@ -26,6 +27,15 @@ look-requires-clause-is g c =
     c.from.ensures c.requires c.index_mut-at.ensures.value in
     (c.self.invariant.each c.from.result c.index_mut-at.result.now at).holds.2
 
+pub look-requires-clause-table : goal.look-requires-clause-table
+look-requires-clause-table g c =
+    let I = g.I.IpcLayer in
+    let items = c.self.inside.cpus.items in
+    let shown = λ (x : Cpu g.row.I.Denot g.row.I-Machine.Denot). cpu_shown (I.threads x.part) x.guests.items x.trace.items x.limit (I.is_inside x.part) in
+    let at = read_at shown items c.args.self.now.cpus c.from.result c.args.cpu.0 c.index_mut-at.result.now (ap (λ (s : Shown). s.cpus) c.self.view_is)
+    c.from.ensures c.requires c.index_mut-at.ensures.value in
+    (c.self.invariant.each c.from.result c.index_mut-at.result.now at).holds.3
+
 pub invariant_of-self : goal.invariant_of-self
 invariant_of-self g c =
     let I = g.I.IpcLayer in
@@ -37,7 +47,8 @@ invariant_of-self g c =
     let still = c.look.ensures.still c.if-not-look.true in
     again (λ x n. I.Fits x.part n) (λ x. x.number) (λ x. I.cpu_of x.part) (λ x. I.threads x.part) (λ x. I.talks x.part) (λ x. I.doing x.part)
     (λ x. x.guests.items) (λ x. x.trace.items) (λ x. x.limit) (λ x. vec_capacity x.trace) (λ n d. I.ActsFor n d) I.IsStepwise
-    (λ n. I.acts n) (λ n. I.homes_of n) (λ n. I.caps n) (λ n. I.seen n) (λ n. I.room n) m c.look.new.m items c.self.inside.room c.self.inside.taken
+    (λ n. I.acts n) (λ n. I.homes_of n) (λ n. I.caps n) (λ n. I.seen n) (λ n. I.room n)
+    (λ n x. I.IsStepwise → IsTabled (I.homes_of n) (I.caps n) x.number (I.own x.part) (I.doing x.part) x.guests.items (I.opening n)) m c.look.new.m items c.self.inside.room c.self.inside.taken
     c.from.result c.index_mut-at.result.now c.look.new.self c.self.invariant at still.1 still.0
 
 pub invariant_of-self-2 : goal.invariant_of-self-2
@@ -54,8 +65,10 @@ invariant_of-self-2 g c =
     let live : c.self.inside.taken < c.self.inside.room = let used = is.used in let other = c.if-self.false in grind (arith, used, other) in
     stepped (λ x n. I.Fits x.part n) (λ x. x.number) (λ x. I.cpu_of x.part) (λ x. I.threads x.part) (λ x. I.talks x.part) (λ x. I.doing x.part)
     (λ x. x.guests.items) (λ x. x.trace.items) (λ x. x.limit) (λ x. vec_capacity x.trace) (λ n d. I.ActsFor n d) I.IsStepwise
-    (λ n. I.acts n) (λ n. I.homes_of n) (λ n. I.caps n) (λ n. I.seen n) (λ n. I.room n) m c.look.new.m items c.self.inside.room c.self.inside.taken
-    c.from.result c.index_mut-at.result.now c.look.new.self is at e.number e.cpu e.fits e.is (λ z other fits. e.others z.part other fits) e.acts e.seen e.grows
+    (λ n. I.acts n) (λ n. I.homes_of n) (λ n. I.caps n) (λ n. I.seen n) (λ n. I.room n)
+    (λ n x. I.IsStepwise → IsTabled (I.homes_of n) (I.caps n) x.number (I.own x.part) (I.doing x.part) x.guests.items (I.opening n)) m c.look.new.m items c.self.inside.room c.self.inside.taken
+    c.from.result c.index_mut-at.result.now c.look.new.self is at e.number e.cpu e.fits e.is e.table
+    (λ z before step. rw (e.homes, e.caps, e.opening) (before step)) (λ z other fits. e.others z.part other fits) e.acts e.seen e.grows
     known e.homes e.caps e.room live
 
 pub returns-clause-live : goal.returns-clause-live

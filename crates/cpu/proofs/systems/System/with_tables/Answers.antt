@@ -1,10 +1,13 @@
-use Rattle.std.proofs.Common.{◌≡◌, ◌<◌, ◌^◌, ℕ, [], List, Option, length, map, ap, sym, ◌∙◌, arith}
+use Rattle.std.proofs.Common.{◌≡◌, ◌<◌, ◌^◌, ℕ, [], List, Option, length, map, ap, sym, ◌∙◌, subst, arith}
 use Rattle.std.specs.Prelude.{slice_index_or}
 use Rattle.std.proofs.lemmas.List.{length-map}
 use Rattle.std.proofs.lemmas.Option.{slice_get-get_or, slice_get_within}
 use Rattle.layer_traits.specs.OnePlace.{cpu_at}
 use Rattle.cpu.specs.declared.cpus.Cpu.{Cpu}
 use Rattle.cpu.specs.declared.guests.Guest.{Guest}
+use Rattle.event_log.specs.declared.ids.CpuId.{CpuId}
+use Rattle.cpu.specs.Tables.{IsTabled}
+use Rattle.cpu.proofs.TableCalls.{boots_tabled}
 use Rattle.cpu.proofs.Booting.{all_one, boots_as, opens, shows_all}
 use Rattle.cpu.proofs.systems.System.with_tables.Goals as goal
 
@@ -28,10 +31,21 @@ assembled-requires g c =
     let below : k < c.len.result = let len = c.len.ensures in let ok = c.args.tables.ok.0 in omega (arith, within, len, ok) in
     record {
       number_is = b.booted.number_is;
-      holds = boots_as _ _ _ _ _ _ _ _ _ _ _ _ _ _ _ _ _ _ _ _ b m (I.homes_of m) (I.seen m) (e.fresh (cpu_at k) below)
+      holds =
+          let one = boots_as _ _ _ _ _ _ _ _ _ _ _ _ _ _ _ _ _ _ _ _ b m (I.homes_of m) (I.seen m) (e.fresh (cpu_at k) below)
           (ap (λ (l : List ℕ). length l) e.opened.caps_are)
           e.opened.homes_are e.opened.none_seen (c.requires.tables k (slice_index_or tables k []) (slice_get-get_or tables k [] (omega (arith, so_many, within))))
-          openable.threads;
+          openable.threads in
+          let are = c.requires.tables k (slice_index_or tables k []) (slice_get-get_or tables k [] (omega (arith, so_many, within))) in
+          let number : CpuId = cpu_at k in (
+            one.0,
+            one.1,
+            one.2,
+            λ step.
+                let opened = g.met.I.IpcLayer.opens step m homes number (e.fresh number below) in
+                subst (λ z. z) (λ i. IsTabled (sym e.opened.homes_are i) (I.caps m) (sym b.booted.number_is i) (sym (b.own_is step) i) (sym b.nothing_done i)
+                (sym b.booted.guests_are i) (I.opening m)) (boots_tabled homes (I.caps m) number (slice_index_or tables k []) (length c.args.caps.now) (I.opening m) are opened),
+          );
     })
     e.acts e.none e.opened.homes_are e.opened.none_seen small e.opened.room_is
 

@@ -1,0 +1,463 @@
+-- A poll of a pass, and an instruction of a thread's own, are steps of the table, and the CPU stays as the table asks.
+use Rattle.std.proofs.Common.{◌≡◌, ◌≢◌, ◌⊎◌, inl, inr, ℕ, ◌<◌, Bool, true, false, ◌||◌, List, [], ◌∷◌, ◌++◌, length, map, get_or, slice_get, slice_set, Option, Some, None, IsSome, is_some, option_map, refl, ap, sym, ◌∙◌, subst, arith}
+use Rattle.std.proofs.lemmas.List.{map-set}
+use Rattle.event_log.specs.declared.entries.Entry.{Entry}
+use Rattle.event_log.specs.declared.ids.CpuId.{CpuId}
+use Rattle.event_log.specs.declared.ids.LockId.{LockId}
+use Rattle.event_log.specs.declared.ids.Tid.{Tid}
+use Rattle.event_log.specs.declared.ids.TheConstants.{THREADS}
+use Rattle.event_log.specs.Actions.{Action, phase}
+use Rattle.event_log.proofs.Renaming.{phase_renamed}
+use Rattle.guest.specs.declared.instructions.Instruction.{Instruction}
+use Rattle.guest.specs.declared.instructions.Instruction.TheVariants as ins
+use Rattle.guest.specs.State.{State, after_local, after_yield, at_start, next_of}
+use Rattle.thread_blocks.specs.Queues.{is_in, same_tid}
+use Rattle.layer_traits.specs.declared.calls.Call.{Call}
+use Rattle.thread_blocks.proofs.Distinct.{pushed_in}
+use Rattle.thread_blocks.proofs.Members.{same_tid_self}
+use Rattle.layer_traits.specs.declared.passes.Pass.{Pass}
+use Rattle.layer_traits.specs.declared.passes.Pass.TheVariants.{Switch, YieldNow, Drain, MakeReady, End}
+use Rattle.layer_traits.specs.declared.steps.Reason.{Reason}
+use Rattle.layer_traits.specs.declared.steps.Step.TheVariants.{Stepped, Halted}
+use Rattle.layer_traits.specs.declared.talks.Stage.TheVariants as at_stage
+use Rattle.layer_traits.specs.declared.talks.Talk.{Talk}
+use Rattle.layer_traits.specs.Along.{IsStep}
+use Rattle.layer_traits.specs.LockLaw.{slept_for}
+use Rattle.layer_traits.specs.Looks.{Tries}
+use Rattle.layer_traits.specs.Passes.{IsLocalPass, as_list, pass_after, switched}
+use Rattle.layer_traits.specs.Places.{Threads, home_of}
+use Rattle.layer_traits.specs.Plans.{Left, Follows, is_in_section}
+use Rattle.layer_traits.specs.BufferLaw.{Buffering, Doing, Passing, begun_of, fifo_pass_plan, still_passing, talk_of}
+use Rattle.cpu.specs.declared.cpus.Choice.TheVariants.{Passes, Computes}
+use Rattle.cpu.specs.declared.guests.Guest.{Guest}
+use Rattle.cpu.specs.declared.guests.Stage.{Stage}
+use Rattle.cpu.specs.declared.guests.Todo.{Todo}
+use Rattle.cpu.specs.declared.guests.Todo.TheVariants.{Finish, PassOn, Compute, Calls}
+use Rattle.cpu.specs.Guests.{after_pass, computed, ended, is_calling, is_ended, passed, todo_at, todo_of}
+use Rattle.cpu.specs.Cpus.{IsCpu, chosen, chosen_at, chosen_by, chosen_for, chosen_todo, doing_of, guest_at, halted_at as cpu_halted, of_cpu, of_thread, passed_by, reason_in, with_guest}
+use Rattle.cpu.specs.Table.Setups.{Setup, Call as TableCall, Private, program_of, stands_at, thread_at}
+use Rattle.cpu.specs.Table.Choice.{Alone, Choice, Goes, at_instruction, at_ready, choice, ends, with_guest as with_state}
+use Rattle.cpu.specs.Table.Steps.{cpu_step, halted_at as table_halted}
+use Rattle.cpu.specs.Tower.Views.{TowerBlock, TowerName, name_of, tower}
+use Rattle.cpu.specs.Tower.Privates.{guest_at as state_at, guests_passed, private_of, private_passed, threads_in}
+use Rattle.cpu.specs.Tower.Composed.{HandIsKnown, IsLine, OpensAs, named}
+use Rattle.cpu.specs.Tower.Standing.{IsPart}
+use Rattle.cpu.specs.Tables.{IsSetupOf, IsTabled, bare, private, state_of, states}
+use Rattle.cpu.proofs.GuestLists.{guest_within}
+use Rattle.cpu.proofs.Schedules.{PassCase, computes_at, finish_exit, in_no_call, pass_case, switches, drains, sends_idle, sends_on, passes_on, finishes}
+use Rattle.cpu.proofs.TableRows.{call_is, call_of, guest_there, halted_same, stands_there, states_at, states_long}
+use Rattle.cpu.proofs.TablePolls.{not_halted_so, opens_as, tabled_same, tabled_with}
+use Rattle.cpu.proofs.Tower.Chains.{put_same}
+use Rattle.cpu.proofs.Tower.Numbered.{own_at}
+use Rattle.cpu.proofs.Tower.Passed.{ComesTo, at_rest, kept_none, pass_rest, passed_part, with_threads}
+use Rattle.cpu.proofs.Tower.Passing.{computed_now, drain_line, ended_now, make_ready_line, or_true, switched_now, yield_line}
+use Rattle.cpu.proofs.Tower.Polls.{alone_is_step, choice_current, choice_hand, choice_idle, halted_is_step, line_is_step, step_goes}
+
+yield_line_is : (s : State) (i : Instruction) → todo_at s i ≡ PassOn → i ≡ ins.Yield
+yield_line_is s ins.Yield is = refl
+yield_line_is s ins.Exit is = absurd (cc is)
+yield_line_is s (ins.Send b r) is = absurd (cc is)
+yield_line_is s (ins.Recv b r) is = absurd (cc is)
+yield_line_is s (ins.Set r n) is = absurd (cc is)
+yield_line_is s (ins.Add r q) is = absurd (cc is)
+yield_line_is s (ins.Sub r q) is = absurd (cc is)
+yield_line_is s (ins.Jnz r k) is = absurd (cc is)
+
+local_at : (setup : Setup) (c : CpuId) (p : Private) (t : Tid) (s : State) (i : Instruction) → todo_at s i ≡ Compute
+    → at_instruction setup c p t i ≡ Alone (with_state p t (after_local i (thread_at p t).guest))
+local_at setup c p t s (ins.Set r n) is = refl
+local_at setup c p t s (ins.Add r q) is = refl
+local_at setup c p t s (ins.Sub r q) is = refl
+local_at setup c p t s (ins.Jnz r k) is = refl
+local_at setup c p t s ins.Exit is = absurd (cc is)
+local_at setup c p t s ins.Yield is = absurd (cc is)
+local_at setup c p t s (ins.Send b r) is = absurd (cc is)
+local_at setup c p t s (ins.Recv b r) is = absurd (cc is)
+
+never_sends : (t s : Tid) (todo : Todo) → chosen_todo t todo ≡ Passes (MakeReady s) → ⊥
+never_sends t s (Calls c) is = absurd (cc is)
+never_sends t s Finish is = absurd (cc is)
+never_sends t s PassOn is = absurd (cc is)
+never_sends t s Compute is = absurd (cc is)
+
+-- a talk between calls has begun none
+unbegun : (f : Call → TableCall) (talk : Talk) → talk.stage ≡ at_stage.Between → option_map f (begun_of talk) ≡ None
+unbegun f talk between = ap (λ s. option_map f (begun_of (record talk { stage = s }))) between
+
+-- the states of the guests, where one guest changed
+states_changed : (guests : List (Option Guest)) (t : ℕ) (f : Guest → Guest) (g : Guest) → guest_at guests t ≡ Some g
+    → states (with_guest guests t f) ≡ slice_set (states guests) t ((f g).thread)
+states_changed guests t f g at =
+    map-set state_of guests t (option_map f (guest_at guests t)) ∙ ap (λ o. slice_set (states guests) t (state_of (option_map f o))) at
+
+passing_none : (pass p : Pass) (result : Option (Unit {0})) → (IsLocalPass pass → IsSome result) → still_passing pass result ≡ Some (Passing p) → IsLocalPass p → ⊥
+passing_none pass p (Some x) at_once does local = absurd (cc does)
+passing_none pass p None at_once does local =
+    let same : p ≡ pass = cc does in
+    let some : IsSome {T = Unit {0}} None = at_once (subst IsLocalPass same local) in
+    absurd (cc some)
+
+-- the guests and the threads after a poll of a pass
+abbrev pub passed_if : Option Tid → List (Option Guest) → Pass → Option (Unit {0}) → List (Option Guest)
+passed_if current guests pass None = guests
+passed_if current guests pass (Some x) = passed_by current guests pass
+
+abbrev pub threads_if : Threads → Pass → List Tid → Option (Unit {0}) → Threads
+threads_if threads pass queue None = threads
+threads_if threads pass queue (Some x) = pass_after pass queue threads
+
+module _ (homes : List CpuId) (caps : List ℕ) (buffers : ℕ) (seen : List Entry) (own : Buffering) (doing : Option Doing) (number : CpuId)
+    (guests : List (Option Guest)) (trace : List Entry) (limit capacity : ℕ) (opening : LockId → Option TowerBlock)
+    (is : IsCpu homes buffers seen (threads_in own) own.talks doing number guests trace limit capacity)
+    (tabled : IsTabled homes caps number own doing guests opening)
+    (home : (u : Tid) → (threads_in own).current ≡ Some u → home_of homes u ≡ Some number) where
+  abbrev p : Private
+  p = private own guests trace
+
+  -- a thread that runs and is in no call
+  free_between : (t : Tid) (g : Guest) → guest_at guests t.0 ≡ Some g → is_calling g.stage ≡ false → (talk_of own.talks t).stage ≡ at_stage.Between
+  free_between t g at free =
+      let follows = is.follow t g at in
+      let none = call_is g.stage g.program g.thread (of_thread t.0 (of_cpu number seen)) (begun_of (talk_of own.talks t)) (talk_of own.talks t).effect follows.1 ∙ free in
+      follows.0 (no_call (begun_of (talk_of own.talks t)) none)
+    where
+      no_call : (o : Option Call) → is_some o ≡ false → o ≡ None
+      no_call None so = refl
+      no_call (Some c) so = absurd (cc so)
+
+  not_calling : (t : Tid) (g : Guest) (todo : Todo) → guest_at guests t.0 ≡ Some g → todo_of g ≡ todo → ((c : Call) → todo ≡ Calls c → ⊥) → is_calling g.stage ≡ false
+  not_calling t g todo at asks none =
+      (in_no_call g (of_thread t.0 (of_cpu number seen)) (begun_of (talk_of own.talks t)) (talk_of own.talks t).effect todo (is.follow t g at).1 asks none).0
+
+  -- a thread in the hand is sent where nobody runs
+  sends_alone : (s t : Tid) (g : Guest) → (threads_in own).current ≡ Some t → (threads_in own).hand ≡ Some s → guest_at guests t.0 ≡ Some g
+      → chosen (threads_in own) guests ≡ Passes (MakeReady s) → ⊥
+  sends_alone s t g runs has at chose =
+      by_calling (is_calling g.stage) refl
+      (sym (ap (λ o. chosen_for t (threads_in own).hand o) at) ∙ (sym (ap (λ o. chosen_at o (threads_in own).hand (threads_in own).ready guests) runs) ∙ chose))
+    where
+      by_calling : (b : Bool) → is_calling g.stage ≡ b → chosen_by t (is_calling g.stage) (threads_in own).hand (todo_of g) ≡ Passes (MakeReady s) → ⊥
+      by_calling true calling sends = never_sends t s (todo_of g) (sym (ap (λ x. chosen_by t x (threads_in own).hand (todo_of g)) calling) ∙ sends)
+      by_calling false calling sends =
+          let rest = at_rest _ _ _ _ _ _ (tabled.part.mine t runs) (free_between t g at calling) in
+          let no : Some s ≡ None = sym has ∙ rest.hand in
+          absurd (cc no)
+
+  abbrev Case : Pass → Type 0
+  Case pass = PassCase homes buffers seen (threads_in own) own.talks doing number guests trace limit capacity is pass
+
+  comes : (pass : Pass) → Case pass → chosen (threads_in own) guests ≡ Passes pass → ComesTo pass (threads_in own)
+  comes Switch (switches runs has some) chose = (runs, has)
+  comes Drain (drains runs has none) chose = runs
+  comes (MakeReady s) (sends_idle _ runs has) chose = runs
+  comes (MakeReady s) (sends_on _ t g runs has at) chose = absurd (sends_alone s t g runs has at chose)
+  comes YieldNow (passes_on t g runs has at asks) chose = (t, runs, has)
+  comes End (finishes t g runs has at asks) chose = (t, runs, has)
+
+  module _ (pass : Pass) (chose : chosen (threads_in own) guests ≡ Passes pass) (ActsFor : CpuId → Type 0) (own2 : Buffering) (doing2 : Option Doing)
+      (guests2 : List (Option Guest)) (old new : List (Action TowerName)) (result : Option (Unit {0})) (queue : List Tid)
+      (follows : Follows ActsFor tower opening number (fifo_pass_plan homes number pass own) old new (record { own = own2; answer = result }))
+      (threads_are : threads_in own2 ≡ threads_if (threads_in own) pass queue result) (doing_is : doing2 ≡ still_passing pass result)
+      (at_once : IsLocalPass pass → IsSome result) (guests_are : guests2 ≡ passed_if (threads_in own).current guests pass result) where
+    abbrev case_is : Case pass
+    case_is = pass_case homes buffers seen (threads_in own) own.talks doing number guests trace limit capacity is pass home chose
+
+    own_is : own2 ≡ with_threads own (threads_if (threads_in own) pass queue result)
+    own_is =
+        pass_rest ActsFor opening homes number pass own old new (record { own = own2; answer = result }) follows ∙ ap (with_threads own) threads_are
+
+    part2 : IsPart own2
+    part2 = subst IsPart (sym own_is) (go result)
+      where
+        go : (r : Option (Unit {0})) → IsPart (with_threads own (threads_if (threads_in own) pass queue r))
+        go None = tabled.part
+        go (Some x) = passed_part own tabled.part pass queue (comes pass case_is chose)
+
+    quick2 : (q : Pass) → doing2 ≡ Some (Passing q) → IsLocalPass q → ⊥
+    quick2 q does local = passing_none pass q result at_once (sym doing_is ∙ does) local
+
+    over_so : (u : Tid) → is_in u (threads_in own).ended ≡ true → is_in u (threads_if (threads_in own) pass queue result).ended ≡ true
+        → is_in u (threads_in own2).ended ≡ true
+    over_so u before now = subst (λ (x : Threads). is_in u x.ended ≡ true) (sym threads_are) now
+
+    ended_more : (u t : Tid) → is_in u (threads_in own).ended ≡ true → is_in u ((threads_in own).ended ++ t ∷ []) ≡ true
+    ended_more u t before = pushed_in u t (threads_in own).ended ∙ ap (λ b. b || (same_tid u t || false)) before
+
+    pub pass_tabled : IsTabled homes caps number own2 doing2 guests2 opening
+    pass_tabled = subst (λ (l : List (Option Guest)). IsTabled homes caps number own2 doing2 l opening) (sym guests_are) (go result threads_are)
+      where
+        abbrev_same : (u : Tid) (x : Threads) → threads_in own2 ≡ x → x.ended ≡ (threads_in own).ended → is_in u (threads_in own).ended ≡ true
+            → is_in u (threads_in own2).ended ≡ true
+        abbrev_same u x same ended_same before = subst (λ l. is_in u l ≡ true) (sym (ap (λ (y : Threads). y.ended) same ∙ ended_same)) before
+
+        idle : (x : Threads) → threads_in own2 ≡ x → x.ended ≡ (threads_in own).ended → (threads_in own).current ≡ None
+            → IsTabled homes caps number own2 doing2 (passed_by (threads_in own).current guests pass) opening
+        idle x same ended_same runs =
+            subst (λ o. IsTabled homes caps number own2 doing2 (passed_by o guests pass) opening) (sym runs)
+            (tabled_same homes caps buffers seen own doing number guests trace limit capacity opening is tabled own2 doing2 part2
+            (λ u before. abbrev_same u x same ended_same before) quick2)
+
+        by_case : (q : Pass) → pass ≡ q → Case q → threads_in own2 ≡ pass_after q queue (threads_in own)
+            → IsTabled homes caps number own2 doing2 (passed_by (threads_in own).current guests pass) opening
+        by_case Switch same (switches runs has some) now = idle _ now refl runs
+        by_case Drain same (drains runs has none) now = idle _ now refl runs
+        by_case (MakeReady s) same (sends_idle _ runs has) now = idle _ now refl runs
+        by_case (MakeReady s) same (sends_on _ t g runs has at) now = absurd (sends_alone s t g runs has at (chose ∙ ap Passes same))
+        by_case YieldNow same (passes_on t g runs has at asks) now =
+            subst (λ x. x) (λ i. IsTabled homes caps number own2 doing2 (passed_by (sym runs i) guests (sym same i)) opening)
+            (tabled_with homes caps buffers seen own doing number guests trace limit capacity opening is tabled t g passed own2 doing2 at part2
+            (λ over. abbrev_same t _ now refl (tabled.ends t g at over)) (λ u other before. abbrev_same u _ now refl before) quick2)
+        by_case End same (finishes t g runs has at asks) now =
+            let ended_is : (threads_in own2).ended ≡ (threads_in own).ended ++ t ∷ []
+            = ap (λ (y : Threads). y.ended) now ∙ ap (λ o. (threads_in own).ended ++ as_list o) runs in
+            subst (λ x. x) (λ i. IsTabled homes caps number own2 doing2 (passed_by (sym runs i) guests (sym same i)) opening)
+            (tabled_with homes caps buffers seen own doing number guests trace limit capacity opening is tabled t g ended own2 doing2 at part2
+            (λ over. subst (λ l. is_in t l ≡ true) (sym ended_is) (pushed_in t t (threads_in own).ended
+            ∙ (ap (λ b. is_in t (threads_in own).ended || (b || false)) (same_tid_self t) ∙ or_true (is_in t (threads_in own).ended))))
+            (λ u other before. subst (λ l. is_in u l ≡ true) (sym ended_is) (ended_more u t before)) quick2)
+
+        go : (r : Option (Unit {0})) → threads_in own2 ≡ threads_if (threads_in own) pass queue r → IsTabled homes caps number own2 doing2 (passed_if (threads_in own).current guests pass r) opening
+        go None same =
+            tabled_same homes caps buffers seen own doing number guests trace limit capacity opening is tabled own2 doing2 part2
+            (λ u before. abbrev_same u _ same refl before) quick2
+        go (Some x) same = by_case pass refl case_is same
+
+    module _ (setup : Setup) (of : IsSetupOf setup homes caps guests limit) (inside : Bool) (acts : ActsFor number) (rests : doing ≡ None → inside ≡ false)
+        (busy : inside ≡ is_in_section (phase number old)) (live : reason_in inside (cpu_halted (threads_in own) guests trace limit) ≡ None)
+        (known : (u : Tid) → (threads_in own).hand ≡ Some u → IsSome (slice_get homes u.0))
+        (known2 : (u : Tid) → (threads_in own2).hand ≡ Some u → IsSome (slice_get homes u.0)) where
+      opens : OpensAs setup number opening
+      opens = opens_as setup homes caps number opening of.homes_are of.caps_are tabled.opens
+
+      not_halted : is_in_section (phase number old) ≡ false → table_halted setup number p ≡ None
+      not_halted outside =
+          halted_same homes caps buffers seen own doing number guests trace limit capacity opening is tabled setup of home
+          ∙ not_halted_so inside (is_in_section (phase number old)) (cpu_halted (threads_in own) guests trace limit) busy live outside
+
+      -- a pass that touches nothing shared is not under way
+      outside_so : IsLocalPass pass → is_in_section (phase number old) ≡ false
+      outside_so local = sym busy ∙ rests (go doing refl)
+        where
+          go : (d : Option Doing) → doing ≡ d → doing ≡ None
+          go None none = none
+          go (Some d) does =
+              let agreed : Some (Passing pass) ≡ Some d = sym (ap doing_of chose) ∙ is.agrees d does in
+              let passing : d ≡ Passing pass = cc agreed in
+              absurd (tabled.quick pass (does ∙ ap Some passing) local)
+
+      known_so : HandIsKnown setup own2
+      known_so u has = subst (λ h. IsSome (slice_get h u.0)) (sym of.homes_are) (known2 u has)
+
+      abbrev Goal : Type 0
+      Goal = IsStep ActsFor (cpu_step setup number) p (private own2 guests2 trace) (named old) (named new) Stepped
+
+      -- a pass that is a line of the table
+      by_line : (line : IsLine setup number p (fifo_pass_plan setup.homes number pass own) (private_passed setup own (states guests) trace pass))
+          → (is_in_section (phase number old) ≡ false → choice setup number p ≡ Goes p)
+          → private_passed setup own (states guests) trace pass (record { own = own2; answer = result }) ≡ private own2 guests2 trace → Goal
+      by_line line goes after =
+          subst (λ q. IsStep ActsFor (cpu_step setup number) p q (named old) (named new) Stepped) after
+          (line_is_step ActsFor setup opening number own2 p p (fifo_pass_plan setup.homes number pass own) (private_passed setup own (states guests) trace pass) old new result
+          acts opens line known_so (λ past same. step_goes setup number p p old past same (λ inside. refl) goes)
+          (subst (λ h. Follows ActsFor tower opening number (fifo_pass_plan h number pass own) old new (record { own = own2; answer = result })) (sym of.homes_are) follows))
+
+      -- a pass that is done alone
+      by_alone : is_in_section (phase number old) ≡ false → new ≡ old → choice setup number p ≡ Alone (private own2 guests2 trace) → Goal
+      by_alone outside same chosen_alone =
+          subst (λ l. IsStep ActsFor (cpu_step setup number) p (private own2 guests2 trace) (named old) (named l) Stepped) (sym same)
+          (alone_is_step ActsFor setup number p (private own2 guests2 trace) (named old) (ap is_in_section (phase_renamed name_of number old) ∙ outside) chosen_alone)
+
+      -- where nobody runs, the guests stay
+      idle_guests : (threads_in own).current ≡ None → private own2 guests trace ≡ private own2 guests2 trace
+      idle_guests runs = sym (ap (λ l. private own2 l trace) (guests_are ∙ go result))
+        where
+          go : (r : Option (Unit {0})) → passed_if (threads_in own).current guests pass r ≡ guests
+          go None = refl
+          go (Some x) = ap (λ o. passed_by o guests pass) runs
+
+      line_by : (o : Buffering) → own ≡ o → (q : Pass) → pass ≡ q
+          → IsLine setup number (private o guests trace) (fifo_pass_plan setup.homes number q o) (private_passed setup o (states guests) trace q)
+          → IsLine setup number p (fifo_pass_plan setup.homes number pass own) (private_passed setup own (states guests) trace pass)
+      line_by o same q pass_is line =
+          subst (λ x. x) (λ i. IsLine setup number (private (sym same i) guests trace) (fifo_pass_plan setup.homes number (sym pass_is i) (sym same i))
+          (private_passed setup (sym same i) (states guests) trace (sym pass_is i))) line
+
+      drain_step : pass ≡ Drain → (threads_in own).current ≡ None → (threads_in own).hand ≡ None → (threads_in own).ready ≡ [] → Goal
+      drain_step pass_is runs has none =
+          by_line (line_by (own_at None None [] (threads_in own).ended None own.cv.lock.slept own.cv.waits own.talks)
+          (λ i. own_at (runs i) (has i) (none i) (threads_in own).ended (tabled.part.idle runs i) own.cv.lock.slept own.cv.waits own.talks) Drain pass_is
+          (drain_line setup number (states guests) trace (threads_in own).ended own.cv.lock.slept own.cv.waits own.talks))
+          (λ outside. choice_idle setup number p has runs (not_halted outside) ∙ ap (at_ready p) none)
+          (ap (λ q. private_passed setup own (states guests) trace q (record { own = own2; answer = result })) pass_is ∙ idle_guests runs)
+
+      send_step : (s : Tid) → pass ≡ MakeReady s → (threads_in own).current ≡ None → (threads_in own).hand ≡ Some s → Goal
+      send_step s pass_is runs has =
+          by_line (line_by (own_at None (Some s) (threads_in own).ready (threads_in own).ended None own.cv.lock.slept own.cv.waits own.talks)
+          (λ i. own_at (runs i) (has i) (threads_in own).ready (threads_in own).ended (tabled.part.idle runs i) own.cv.lock.slept own.cv.waits own.talks) (MakeReady s) pass_is
+          (make_ready_line setup number (states guests) trace (threads_in own).ended own.cv.lock.slept own.cv.waits own.talks s (threads_in own).ready
+          (subst (λ h. IsSome (slice_get h s.0)) (sym of.homes_are) (known s has))))
+          (λ outside. choice_hand setup number p s has)
+          (ap (λ q. private_passed setup own (states guests) trace q (record { own = own2; answer = result })) pass_is ∙ idle_guests runs)
+
+      switch_step : pass ≡ Switch → (threads_in own).current ≡ None → (threads_in own).hand ≡ None → ((threads_in own).ready ≡ [] → ⊥)
+          → new ≡ old → own2 ≡ with_threads own (switched (threads_in own)) → Goal
+      switch_step pass_is runs has some same now = go (threads_in own).ready refl
+        where
+          outside : is_in_section (phase number old) ≡ false
+          outside = outside_so (subst IsLocalPass (sym pass_is) tt)
+
+          go : (ready : List Tid) → (threads_in own).ready ≡ ready → Goal
+          go [] queue_is = absurd (some queue_is)
+          go (t ∷ ready) queue_is =
+              let o : Buffering = own_at None None (t ∷ ready) (threads_in own).ended None own.cv.lock.slept own.cv.waits own.talks in
+              let own_so : own ≡ o = λ i. own_at (runs i) (has i) (queue_is i) (threads_in own).ended (tabled.part.idle runs i) own.cv.lock.slept own.cv.waits own.talks in
+              let next : private own2 guests trace ≡ record p { current = Some t; ready = ready }
+              = ap (λ x. private x guests trace) (now ∙ ap (λ x. with_threads x (switched (threads_in x))) own_so)
+              ∙ (switched_now setup number (states guests) trace (threads_in own).ended own.cv.lock.slept own.cv.waits own.talks t ready
+              ∙ sym (ap (λ x. record (private x guests trace) { current = Some t; ready = ready }) own_so)) in
+              by_alone outside same (choice_idle setup number p has runs (not_halted outside) ∙ (ap (at_ready p) queue_is ∙ ap Alone (sym next ∙ idle_guests runs)))
+
+      -- A thread runs that is in no call.
+
+      module _ (t : Tid) (g : Guest) (runs : (threads_in own).current ≡ Some t) (has : (threads_in own).hand ≡ None) (at : guest_at guests t.0 ≡ Some g)
+          (free : is_calling g.stage ≡ false) where
+        between : (talk_of own.talks t).stage ≡ at_stage.Between
+        between = free_between t g at free
+
+        abbrev running : Buffering
+        running = own_at (Some t) None (threads_in own).ready (threads_in own).ended None own.cv.lock.slept own.cv.waits own.talks
+
+        own_so : own ≡ running
+        own_so = λ i. own_at (runs i) (has i) (threads_in own).ready (threads_in own).ended (kept_none _ _ _ _ _ _ (tabled.part.mine t runs) has i)
+            own.cv.lock.slept own.cv.waits own.talks
+
+        long_guests : t.0 < length (states guests)
+        long_guests = subst (λ n. t.0 < n) (sym (states_long guests)) (guest_within guests t.0 g at)
+
+        long_talks : t.0 < length own.talks
+        long_talks =
+            let within = guest_within guests t.0 g at in
+            let few = is.few in
+            let long = tabled.part.talks in
+            omega (arith, within, few, long)
+
+        chosen_line : is_in_section (phase number old) ≡ false → choice setup number p ≡ at_instruction setup number p t (next_of g.program g.thread)
+        chosen_line outside =
+            choice_current setup number p t None has runs quiet (not_halted outside)
+            ∙ ap (at_instruction setup number p t) (stands_there homes caps buffers seen own doing number guests trace limit capacity opening is tabled setup of t g at)
+          where
+            quiet : (thread_at p t).call ≡ None
+            quiet =
+                call_of homes caps buffers seen own doing number guests trace limit capacity opening is tabled setup of t g at
+                ∙ unbegun _ (talk_of own.talks t) between
+
+        yield_step : pass ≡ YieldNow → todo_of g ≡ PassOn → Goal
+        yield_step pass_is asks =
+            by_line (line_by running own_so YieldNow pass_is
+            (yield_line setup number (states guests) trace (threads_in own).ended own.cv.lock.slept own.cv.waits own.talks t (threads_in own).ready between long_guests long_talks))
+            (λ outside. chosen_line outside ∙ ap (at_instruction setup number p t) (yield_line_is g.thread (next_of g.program g.thread) asks))
+            (λ i. private_of own2 (states_so i) trace)
+          where
+            by_result : (r : Option (Unit {0})) → guests_passed setup YieldNow (Some t) r (states guests) ≡ states (passed_if (threads_in own).current guests pass r)
+            by_result None = refl
+            by_result (Some x) =
+                (λ i. slice_set (states guests) t.0 (after_yield (next_of (of.programs_are t g at i) (states_at guests t.0 g at at_start i)) (states_at guests t.0 g at at_start i)))
+                ∙ sym (ap (λ o. states (passed_by o guests pass)) runs
+                ∙ (ap (λ q. states (with_guest guests t.0 (after_pass q))) pass_is ∙ states_changed guests t.0 passed g at))
+
+            states_so : guests_passed setup pass (threads_in own).current result (states guests) ≡ states guests2
+            states_so = (λ i. guests_passed setup (pass_is i) (runs i) result (states guests)) ∙ (by_result result ∙ sym (ap states guests_are))
+
+        end_step : pass ≡ End → todo_of g ≡ Finish → new ≡ old → own2 ≡ with_threads own (pass_after End queue (threads_in own)) → (x : Unit {0}) → result ≡ Some x → Goal
+        end_step pass_is asks same now x done =
+            by_alone outside same
+            (chosen_line outside ∙ (ap (at_instruction setup number p t) (finish_exit g.thread (next_of g.program g.thread) asks) ∙ ap Alone (sym next)))
+          where
+            outside : is_in_section (phase number old) ≡ false
+            outside = outside_so (subst IsLocalPass (sym pass_is) tt)
+
+            states_so : states guests2 ≡ states guests
+            states_so =
+                ap states (guests_are ∙ ap (passed_if (threads_in own).current guests pass) done)
+                ∙ (ap (λ o. states (passed_by o guests pass)) runs ∙ (ap (λ q. states (with_guest guests t.0 (after_pass q))) pass_is
+                ∙ (states_changed guests t.0 ended g at ∙ sym (put_same (states guests) t.0 g.thread at_start (states_at guests t.0 g at at_start)))))
+
+            next : private own2 guests2 trace ≡ ends p t
+            next =
+                (λ i. private_of ((now ∙ ap (λ y. with_threads y (pass_after End queue (threads_in y))) own_so) i) (states_so i) trace)
+                ∙ (ended_now setup number (states guests) trace (threads_in own).ended own.cv.lock.slept own.cv.waits own.talks t (threads_in own).ready between long_guests long_talks
+                ∙ sym (ap (λ y. ends (private y guests trace) t) own_so))
+
+      pub pass_steps : Goal
+      pass_steps = go pass refl case_is
+        where
+          follows_at : (q : Pass) → pass ≡ q → Follows ActsFor tower opening number (fifo_pass_plan homes number q own) old new (record { own = own2; answer = result })
+          follows_at q same = subst (λ x. Follows ActsFor tower opening number (fifo_pass_plan homes number x own) old new (record { own = own2; answer = result })) same follows
+
+          go : (q : Pass) → pass ≡ q → Case q → Goal
+          go Switch same (switches runs has some) =
+              let done = follows_at Switch same in switch_step same runs has some done.0 (ap (λ (l : Left Buffering (Unit {0})). l.own) done.1)
+          go Drain same (drains runs has none) = drain_step same runs has none
+          go (MakeReady s) same (sends_idle _ runs has) = send_step s same runs has
+          go (MakeReady s) same (sends_on _ t g runs has at) = absurd (sends_alone s t g runs has at (chose ∙ ap Passes same))
+          go YieldNow same (passes_on t g runs has at asks) =
+              yield_step t g runs has at (not_calling t g PassOn at asks (λ c e. absurd (cc e))) same asks
+          go End same (finishes t g runs has at asks) =
+              let done = follows_at End same in
+              end_step t g runs has at (not_calling t g Finish at asks (λ c e. absurd (cc e))) same asks done.0
+              (ap (λ (l : Left Buffering (Unit {0})). l.own) done.1) tt (ap (λ (l : Left Buffering (Unit {0})). l.answer) done.1)
+
+  -- An instruction of the thread's own.
+
+  module _ (t : Tid) (chose : chosen (threads_in own) guests ≡ Computes t) where
+    abbrev does : ((threads_in own).current ≡ Some t) × ((g : Guest) × (guest_at guests t.0 ≡ Some g) × (todo_of g ≡ Compute))
+    does = computes_at homes buffers seen (threads_in own) own.talks doing number guests trace limit capacity is t chose
+
+    abbrev g : Guest
+    g = does.1.0
+
+    abbrev at : guest_at guests t.0 ≡ Some g
+    at = does.1.1
+
+    pub compute_tabled : IsTabled homes caps number own doing (with_guest guests t.0 computed) opening
+    compute_tabled =
+        tabled_with homes caps buffers seen own doing number guests trace limit capacity opening is tabled t g computed own doing at tabled.part
+        (λ over. tabled.ends t g at over) (λ u other before. before) tabled.quick
+
+    pub compute_steps : (ActsFor : CpuId → Type 0) (old : List (Action TowerName)) (setup : Setup) (of : IsSetupOf setup homes caps guests limit) (inside : Bool)
+        → (doing ≡ None → inside ≡ false) → inside ≡ is_in_section (phase number old)
+        → reason_in inside (cpu_halted (threads_in own) guests trace limit) ≡ None
+        → IsStep ActsFor (cpu_step setup number) p (private own (with_guest guests t.0 computed) trace) (named old) (named old) Stepped
+    compute_steps ActsFor old setup of inside rests busy live =
+        let free : is_calling g.stage ≡ false = not_calling t g Compute at does.1.2 (λ c e. absurd (cc e)) in
+        let between = free_between t g at free in
+        let rest = at_rest _ _ _ _ _ _ (tabled.part.mine t does.0) between in
+        let outside : is_in_section (phase number old) ≡ false = sym busy ∙ rests (idle doing refl) in
+        let live_now = halted_same homes caps buffers seen own doing number guests trace limit capacity opening is tabled setup of home
+        ∙ not_halted_so inside (is_in_section (phase number old)) (cpu_halted (threads_in own) guests trace limit) busy live outside in
+        let quiet = call_of homes caps buffers seen own doing number guests trace limit capacity opening is tabled setup of t g at ∙ unbegun _ (talk_of own.talks t) between in
+        let there = guest_there homes caps buffers seen own doing number guests trace limit capacity opening is tabled t g at in
+        let i : Instruction = next_of g.program g.thread in
+        let within : t.0 < length (states guests) = subst (λ n. t.0 < n) (sym (states_long guests)) (guest_within guests t.0 g at) in
+        let next : private own (with_guest guests t.0 computed) trace ≡ with_state p t (after_local i g.thread)
+        = ap (λ l. private_of own l trace) (states_changed guests t.0 computed g at)
+        ∙ computed_now setup number (states guests) trace [] [] [] [] own t (after_local i g.thread) within in
+        alone_is_step ActsFor setup number p (private own (with_guest guests t.0 computed) trace) (named old)
+        (ap is_in_section (phase_renamed name_of number old) ∙ outside)
+        (choice_current setup number p t None rest.hand does.0 quiet live_now
+        ∙ (ap (at_instruction setup number p t) (stands_there homes caps buffers seen own doing number guests trace limit capacity opening is tabled setup of t g at)
+        ∙ (local_at setup number p t g.thread i does.1.2 ∙ (ap (λ x. Alone (with_state p t (after_local i x.guest))) there ∙ ap Alone (sym next)))))
+      where
+        idle : (d : Option Doing) → doing ≡ d → doing ≡ None
+        idle None none = none
+        idle (Some d) now = let no : None ≡ Some d = sym (ap doing_of chose) ∙ is.agrees d now in absurd (cc no)
+
+  -- A CPU that is halted, and a look.
+
+  pub halted_steps : (ActsFor : CpuId → Type 0) (old : List (Action TowerName)) (setup : Setup) (of : IsSetupOf setup homes caps guests limit) (inside : Bool) (reason : Reason)
+      → inside ≡ is_in_section (phase number old) → reason_in inside (cpu_halted (threads_in own) guests trace limit) ≡ Some reason
+      → IsStep ActsFor (cpu_step setup number) p p (named old) (named old) (Halted reason)
+  halted_steps ActsFor old setup of true reason busy halted = absurd (cc halted)
+  halted_steps ActsFor old setup of false reason busy halted =
+      halted_is_step ActsFor setup number p (named old) reason (ap is_in_section (phase_renamed name_of number old) ∙ sym busy)
+      (halted_same homes caps buffers seen own doing number guests trace limit capacity opening is tabled setup of home ∙ halted)

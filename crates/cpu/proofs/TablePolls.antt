@@ -1,0 +1,342 @@
+-- A poll of a call is a step of the table, and the CPU stays as the table asks.
+use Rattle.std.proofs.Common.{◌≡◌, ◌≢◌, ◌⊎◌, inl, inr, ℕ, ◌<◌, Bool, true, false, List, [], ◌∷◌, ◌++◌, length, map, get_or, slice_get, slice_set, Option, Some, None, IsSome, is_some, option_map, refl, ap, sym, ◌∙◌, subst, arith}
+use Rattle.std.proofs.lemmas.Bool.{cases_eq}
+use Rattle.std.proofs.lemmas.List.{append-nil, length-set, map-set}
+use Rattle.event_log.specs.declared.entries.Entry.{Entry}
+use Rattle.event_log.specs.declared.ids.BufId.{BufId}
+use Rattle.event_log.specs.declared.ids.CpuId.{CpuId}
+use Rattle.event_log.specs.declared.ids.LockId.{LockId}
+use Rattle.event_log.specs.declared.ids.LockId.TheVariants.{Pending, Buffer}
+use Rattle.event_log.specs.declared.ids.Tid.{Tid}
+use Rattle.event_log.specs.declared.ids.TheConstants.{THREADS}
+use Rattle.event_log.specs.Actions.{Action, phase}
+use Rattle.guest.specs.declared.instructions.Instruction.{Instruction}
+use Rattle.guest.specs.declared.instructions.Instruction.TheVariants as ins
+use Rattle.guest.specs.State.{State, at_start, next_of}
+use Rattle.thread_blocks.specs.Queues.{is_in}
+use Rattle.layer_traits.specs.declared.calls.Call.{Call}
+use Rattle.layer_traits.specs.declared.calls.Effect.{Effect}
+use Rattle.layer_traits.specs.declared.calls.Reply.{Reply}
+use Rattle.layer_traits.specs.declared.passes.Pass.{Pass}
+use Rattle.layer_traits.specs.declared.steps.Reason.{Reason}
+use Rattle.layer_traits.specs.declared.steps.Step.TheVariants.{Stepped}
+use Rattle.layer_traits.specs.declared.talks.Stage.{Stage as TalkStage}
+use Rattle.layer_traits.specs.declared.talks.Stage.TheVariants as at_stage
+use Rattle.layer_traits.specs.declared.talks.Talk.{Talk}
+use Rattle.layer_traits.specs.Along.{IsStep}
+use Rattle.layer_traits.specs.LockLaw.{slept_for}
+use Rattle.layer_traits.specs.Passes.{IsLocalPass}
+use Rattle.layer_traits.specs.Places.{Threads, home_of}
+use Rattle.layer_traits.specs.Plans.{Left, Follows, is_in_section}
+use Rattle.layer_traits.specs.BufferLaw.{Buffering, Calling, Doing, Passing, begun_of, buffer_of, entry_of, fifo_plan, going, going_at, still_calling, talk_of}
+use Rattle.cpu.specs.declared.cpus.Choice.TheVariants.{Polls}
+use Rattle.cpu.specs.declared.guests.Guest.{Guest}
+use Rattle.cpu.specs.declared.guests.Stage.{Stage}
+use Rattle.cpu.specs.declared.guests.Stage.TheVariants.{Between, Begun, Done, Ended}
+use Rattle.cpu.specs.declared.guests.Todo.TheVariants.{Calls}
+use Rattle.cpu.specs.Guests.{FollowsIn, after_answer, entries_of, fresh_effect, had, is_calling, is_ended, polled, stage_after, todo_at, todo_of}
+use Rattle.cpu.specs.Cpus.{IsCpu, chosen, doing_of, fresh_at, guest_at, halted_at as cpu_halted, of_cpu, of_thread, reason_in, with_guest}
+use Rattle.cpu.specs.Table.Setups.{Setup, Private, opening as table_opening, opening_buffer, program_of}
+use Rattle.cpu.specs.Table.Steps.{cpu_step, halted_at as table_halted}
+use Rattle.cpu.specs.Tower.Views.{TowerBlock, TowerName, tower, view}
+use Rattle.cpu.specs.Tower.Privates.{guest_at as state_at, guests_after, private_after, private_of, threads_in, trace_after}
+use Rattle.cpu.specs.Tower.Composed.{AsksFor, HandIsKnown, IsBeginning, IsGoing, IsUsed, OpensAs, named}
+use Rattle.cpu.specs.Tower.Standing.{IsPart}
+use Rattle.cpu.specs.Tables.{IsSetupOf, IsTabled, bare, private, state_of, states}
+use Rattle.cpu.proofs.Follow.{had_going}
+use Rattle.cpu.proofs.GuestLists.{at_other, at_same, guest_within}
+use Rattle.cpu.proofs.Steps.{PollsAt, polls_at, poll_number, poll_talks}
+use Rattle.cpu.proofs.TableRows.{call_is, halted_same, states_at, states_long}
+use Rattle.cpu.proofs.Tower.Begins.{first_polls_are_steps, polls_are_steps}
+use Rattle.cpu.proofs.Tower.Chains.{put_same}
+use Rattle.cpu.proofs.Tower.Kept.{IsFree, begins_keep, kept_by, plans_keep}
+use Rattle.cpu.proofs.Tower.Passed.{at_rest, in_call}
+
+-- the opening blocks are the table's, of whatever programs
+pub opens_as : (setup : Setup) (homes : List CpuId) (caps : List ℕ) (number : CpuId) (opening : LockId → Option TowerBlock) → setup.homes ≡ homes → setup.caps ≡ caps
+    → OpensAs (bare homes caps) number opening → OpensAs setup number opening
+opens_as setup homes caps number opening homes_are caps_are opens lock used = opens lock (used_so lock used) ∙ alike lock
+  where
+    used_so : (l : LockId) → IsUsed setup number l → IsUsed (bare homes caps) number l
+    used_so (Buffer b) it = tt
+    used_so (Pending d) (inl same) = inl same
+    used_so (Pending d) (inr there) = inr (there.0, ap (λ h. slice_get h there.0.0) (sym homes_are) ∙ there.1)
+
+    alike : (l : LockId) → table_opening (bare homes caps) l ≡ table_opening setup l
+    alike (Pending d) = refl
+    alike (Buffer b) = ap (λ x. opening_buffer (slice_get x b.0)) (sym caps_are)
+
+-- what an instruction asks for
+asks_for : (i : Instruction) (s : State) (c : Call) → todo_at s i ≡ Calls c → AsksFor i s c
+asks_for (ins.Send b r) s c is = sym (cc is)
+asks_for (ins.Recv b r) s c is = sym (cc is)
+asks_for ins.Exit s c is = absurd (cc is)
+asks_for ins.Yield s c is = absurd (cc is)
+asks_for (ins.Set r n) s c is = absurd (cc is)
+asks_for (ins.Add r q) s c is = absurd (cc is)
+asks_for (ins.Sub r q) s c is = absurd (cc is)
+asks_for (ins.Jnz r k) s c is = absurd (cc is)
+
+is_between : (s : TalkStage) → (s ≡ at_stage.Between) ⊎ (s ≡ at_stage.Between → ⊥)
+is_between at_stage.Between = inl refl
+is_between at_stage.Acquires = inr (λ e. absurd (cc e))
+is_between at_stage.Enters = inr (λ e. absurd (cc e))
+is_between at_stage.Tries = inr (λ e. absurd (cc e))
+is_between at_stage.Waits = inr (λ e. absurd (cc e))
+is_between at_stage.AcquiresAgain = inr (λ e. absurd (cc e))
+is_between at_stage.Signals = inr (λ e. absurd (cc e))
+is_between at_stage.SignalsOwn = inr (λ e. absurd (cc e))
+is_between at_stage.Releases = inr (λ e. absurd (cc e))
+
+-- a talk inside a call goes on as it is
+goes_same : (s : TalkStage) (talk : Talk) (c : Call) → (s ≡ at_stage.Between → ⊥) → going_at s talk c ≡ talk
+goes_same at_stage.Between talk c calls = absurd (calls refl)
+goes_same at_stage.Acquires talk c calls = refl
+goes_same at_stage.Enters talk c calls = refl
+goes_same at_stage.Tries talk c calls = refl
+goes_same at_stage.Waits talk c calls = refl
+goes_same at_stage.AcquiresAgain talk c calls = refl
+goes_same at_stage.Signals talk c calls = refl
+goes_same at_stage.SignalsOwn talk c calls = refl
+goes_same at_stage.Releases talk c calls = refl
+
+-- the trace after a poll
+first_trace : (c : CpuId) (t : Tid) (b : BufId) (before after : Option Effect) (trace : List Entry) → before ≡ None
+    → trace ++ entries_of c t b after ≡ trace_after c t b before after trace
+first_trace c t b before None trace none = append-nil trace ∙ sym (ap (λ o. trace_after c t b o None trace) none)
+first_trace c t b before (Some f) trace none = sym (ap (λ o. trace_after c t b o (Some f) trace) none)
+
+trace_by : (c : CpuId) (t : Tid) (b : BufId) (trace : List Entry) (stage : Stage) (program : List Instruction) (s : State) (es : List Entry)
+    (begun : Option Call) (effect before after : Option Effect) → FollowsIn stage program s es begun effect → before ≡ had begun effect
+    → trace ++ entries_of c t b (fresh_effect stage after) ≡ trace_after c t b before after trace
+trace_by c t b trace Between program s es begun effect before after follows is =
+    first_trace c t b before after trace (is ∙ ap (λ o. had o effect) follows.0)
+trace_by c t b trace Begun program s es begun effect before after follows is =
+    first_trace c t b before after trace (is ∙ (ap (λ o. had o effect) follows.2 ∙ follows.3))
+trace_by c t b trace Done program s es begun effect before after follows is =
+    append-nil trace ∙ sym (ap (λ o. trace_after c t b o after trace) (is ∙ (ap (λ o. had o effect) follows.3 ∙ follows.4)))
+trace_by c t b trace Ended program s es begun effect before after follows is =
+    first_trace c t b before after trace (is ∙ ap (λ o. had o effect) follows.0)
+
+-- what holds of each guest of a table in which one changed
+pub with_each : (guests : List (Option Guest)) (t : ℕ) (f : Guest → Guest) (g : Guest) → guest_at guests t ≡ Some g → (P : ℕ → Guest → Type 0) → P t (f g)
+    → ((u : ℕ) (x : Guest) → u ≢ t → guest_at guests u ≡ Some x → P u x) → (u : ℕ) (x : Guest) → guest_at (with_guest guests t f) u ≡ Some x → P u x
+with_each guests t f g at P here there u x found = go (cases_eq u t)
+  where
+    go : (u ≡ t) ⊎ (u ≡ t → ⊥) → P u x
+    go (inl equal) =
+        let new : guest_at (with_guest guests t f) u ≡ Some (f g) = subst (λ (k : ℕ). guest_at (with_guest guests t f) k ≡ Some (f g)) (sym equal) (at_same guests t f g at) in
+        let one : f g ≡ x = cc (found, new) in
+        subst (λ (k : ℕ). P k x) (sym equal) (subst (λ (y : Guest). P t y) one here)
+    go (inr other) = there u x other (sym (at_other guests t u f other) ∙ found)
+
+polled_lives : (effect : Option Effect) (answer : Option Reply) → is_ended (stage_after effect answer) ≡ true → ⊥
+polled_lives effect (Some reply) is = absurd (cc is)
+polled_lives (Some f) None is = absurd (cc is)
+polled_lives None None is = absurd (cc is)
+
+calls_on : (t : Tid) (current : Option Tid) (answer : Option Reply) (p : Pass) → still_calling t current answer ≡ Some (Passing p) → ⊥
+calls_on t None None p is = absurd (cc is)
+calls_on t None (Some r) p is = absurd (cc is)
+calls_on t (Some u) None p is = absurd (cc is)
+calls_on t (Some u) (Some r) p is = absurd (cc is)
+
+-- where a CPU is live and no section is under way, it is not halted
+pub not_halted_so : (inside b : Bool) (h : Option Reason) → inside ≡ b → reason_in inside h ≡ None → b ≡ false → h ≡ None
+not_halted_so inside b h same live outside = ap (λ x. reason_in x h) (sym outside ∙ sym same) ∙ live
+
+module _ (homes : List CpuId) (caps : List ℕ) (buffers : ℕ) (seen : List Entry) (own : Buffering) (doing : Option Doing) (number : CpuId)
+    (guests : List (Option Guest)) (trace : List Entry) (limit capacity : ℕ) (opening : LockId → Option TowerBlock)
+    (is : IsCpu homes buffers seen (threads_in own) own.talks doing number guests trace limit capacity)
+    (tabled : IsTabled homes caps number own doing guests opening) where
+  -- one thread's guest goes on
+  pub tabled_with : (t : Tid) (g : Guest) (f : Guest → Guest) (own2 : Buffering) (doing2 : Option Doing) → guest_at guests t.0 ≡ Some g → IsPart own2
+      → (is_ended (f g).stage ≡ true → is_in t (threads_in own2).ended ≡ true)
+      → ((u : Tid) → u.0 ≢ t.0 → is_in u (threads_in own).ended ≡ true → is_in u (threads_in own2).ended ≡ true)
+      → ((p : Pass) → doing2 ≡ Some (Passing p) → IsLocalPass p → ⊥) → IsTabled homes caps number own2 doing2 (with_guest guests t.0 f) opening
+  tabled_with t g f own2 doing2 at part over_t over quick = record {
+    part = part;
+    opens = tabled.opens;
+    only = λ (u : Tid) (x : Guest) found. with_each guests t.0 f g at (λ (k : ℕ) (y : Guest). home_of homes (record { 0 = k }) ≡ Some number)
+        (tabled.only t g at) (λ k y other there. tabled.only (record { 0 = k }) y there) u.0 x found;
+    ends = λ (u : Tid) (x : Guest) found ended. with_each guests t.0 f g at
+        (λ (k : ℕ) (y : Guest). is_ended y.stage ≡ true → is_in (record { 0 = k }) (threads_in own2).ended ≡ true) over_t
+        (λ k y other there now. over (record { 0 = k }) other (tabled.ends (record { 0 = k }) y there now)) u.0 x found ended;
+    size = length-set guests t.0 (option_map f (guest_at guests t.0)) ∙ tabled.size;
+    quick = quick;
+  }
+
+  -- the guests stay
+  pub tabled_same : (own2 : Buffering) (doing2 : Option Doing) → IsPart own2
+      → ((u : Tid) → is_in u (threads_in own).ended ≡ true → is_in u (threads_in own2).ended ≡ true)
+      → ((p : Pass) → doing2 ≡ Some (Passing p) → IsLocalPass p → ⊥) → IsTabled homes caps number own2 doing2 guests opening
+  tabled_same own2 doing2 part over quick = record {
+    part = part;
+    opens = tabled.opens;
+    only = tabled.only;
+    ends = λ u x found now. over u (tabled.ends u x found now);
+    size = tabled.size;
+    quick = quick;
+  }
+
+  module _ (t : Tid) (c : Call) (chose : chosen (threads_in own) guests ≡ Polls t c) where
+    abbrev polls : PollsAt (threads_in own) guests t c
+    polls = polls_at homes buffers seen (threads_in own) own.talks doing number guests trace limit capacity is t c chose
+
+    abbrev g : Guest
+    g = polls.guest
+
+    abbrev talk : Talk
+    talk = talk_of own.talks t
+
+    abbrev small : t.0 < THREADS
+    small = poll_number homes buffers seen (threads_in own) own.talks doing number guests trace limit capacity is t c chose
+
+    in_guests : t.0 < length (states guests)
+    in_guests = subst (λ n. t.0 < n) (sym (states_long guests)) (guest_within guests t.0 g polls.at)
+
+    follows_g : FollowsIn g.stage g.program g.thread (of_thread t.0 (of_cpu number seen)) (begun_of talk) talk.effect
+    follows_g = (is.follow t g polls.at).1
+
+    going_so : (talk.stage ≡ at_stage.Between → ⊥) → IsGoing own (states guests) t c
+    going_so calls = record {
+      current = polls.runs;
+      begun = sym (ap (λ x. x.call) (goes_same talk.stage talk c calls))
+          ∙ poll_talks homes buffers seen (threads_in own) own.talks doing number guests trace limit capacity is t c chose;
+      stands = in_call _ _ _ _ _ _ (tabled.part.mine t polls.runs) calls;
+      in_guests = in_guests;
+      in_talks = subst (λ n. t.0 < n) (sym tabled.part.talks) small;
+      in_slept = subst (λ n. t.0 < n) (sym tabled.part.slept) small;
+      in_waits = subst (λ n. t.0 < n) (sym tabled.part.waits) small;
+    }
+
+    free_so : talk.stage ≡ at_stage.Between → IsFree own (states guests) t
+    free_so between =
+        let rest = at_rest _ _ _ _ _ _ (tabled.part.mine t polls.runs) between in
+        record {
+          current = polls.runs;
+          hand = rest.hand;
+          kept = rest.kept;
+          slept = rest.slept;
+          waits = rest.waits;
+          between = between;
+          in_guests = in_guests;
+          in_talks = subst (λ n. t.0 < n) (sym tabled.part.talks) small;
+          in_slept = subst (λ n. t.0 < n) (sym tabled.part.slept) small;
+          in_waits = subst (λ n. t.0 < n) (sym tabled.part.waits) small;
+        }
+
+    begins_so : (setup : Setup) → IsSetupOf setup homes caps guests limit → talk.stage ≡ at_stage.Between → IsBeginning setup own (states guests) t c
+    begins_so setup of between =
+        let free = free_so between in
+        record {
+          current = free.current;
+          hand = free.hand;
+          kept = free.kept;
+          slept = free.slept;
+          waits = free.waits;
+          between = between;
+          at = subst (λ x. x) (λ i. AsksFor (next_of (sym (of.programs_are t g polls.at) i) (sym (states_at guests t.0 g polls.at at_start) i))
+              (sym (states_at guests t.0 g polls.at at_start) i) c) (asks_for (next_of g.program g.thread) g.thread c polls.asks);
+          in_guests = free.in_guests;
+          in_talks = free.in_talks;
+          in_slept = free.in_slept;
+          in_waits = free.in_waits;
+        }
+
+    -- a call that has not begun has no section under way
+    outside_so : (inside : Bool) → (doing ≡ None → inside ≡ false) → talk.stage ≡ at_stage.Between → inside ≡ false
+    outside_so inside rests between = go doing refl
+      where
+        go : (d : Option Doing) → doing ≡ d → inside ≡ false
+        go None none = rests none
+        go (Some d) does =
+            let agreed : Some (Calling t) ≡ Some d = sym (ap doing_of chose) ∙ is.agrees d does in
+            let calling : d ≡ Calling t = cc agreed in
+            let yes : is_calling g.stage ≡ true = is.calls t g (does ∙ ap Some calling) polls.at in
+            let begun = call_is g.stage g.program g.thread (of_thread t.0 (of_cpu number seen)) (begun_of talk) talk.effect follows_g in
+            let none : is_some (begun_of talk) ≡ false = ap (λ s. is_some (begun_of (record talk { stage = s }))) between in
+            absurd (cc (yes, begun, none))
+
+    module _ (ActsFor : CpuId → Type 0) (own2 : Buffering) (doing2 : Option Doing) (guests2 : List (Option Guest)) (trace2 : List Entry)
+        (old new : List (Action TowerName)) (result : Option Reply) (inside : Bool) (acts : ActsFor number)
+        (rests : doing ≡ None → inside ≡ false) (busy : inside ≡ is_in_section (phase number old))
+        (live : reason_in inside (cpu_halted (threads_in own) guests trace limit) ≡ None)
+        (home : (u : Tid) → (threads_in own).current ≡ Some u → home_of homes u ≡ Some number)
+        (known : (u : Tid) → (threads_in own).hand ≡ Some u → IsSome (slice_get homes u.0))
+        (known2 : (u : Tid) → (threads_in own2).hand ≡ Some u → IsSome (slice_get homes u.0))
+        (follows : Follows ActsFor tower opening number (fifo_plan homes number t c own) old new (record { own = own2; answer = result }))
+        (ended_is : (threads_in own2).ended ≡ (threads_in own).ended) (doing_is : doing2 ≡ still_calling t (threads_in own2).current result)
+        (guests_is : guests2 ≡ with_guest guests t.0 (λ x. polled x ((talk_of own2.talks t).effect) result))
+        (trace_is : trace2 ≡ trace ++ entries_of number t (buffer_of c) (fresh_at (guest_at guests t.0) ((talk_of own2.talks t).effect))) where
+      part2 : IsPart own2
+      part2 = go (is_between talk.stage)
+        where
+          go : (talk.stage ≡ at_stage.Between) ⊎ (talk.stage ≡ at_stage.Between → ⊥) → IsPart own2
+          go (inl between) =
+              kept_by ActsFor (bare homes caps) opening number (fifo_plan homes number t c own) old new (record { own = own2; answer = result }) tabled.opens
+              (begins_keep (bare homes caps) number own (states guests) t c (free_so between) tabled.part) follows
+          go (inr calls) =
+              kept_by ActsFor (bare homes caps) opening number (fifo_plan homes number t c own) old new (record { own = own2; answer = result }) tabled.opens
+              (plans_keep (bare homes caps) number own (states guests) t c (going_so calls) known tabled.part) follows
+
+      pub poll_tabled : IsTabled homes caps number own2 doing2 guests2 opening
+      poll_tabled =
+          subst (λ (l : List (Option Guest)). IsTabled homes caps number own2 doing2 l opening) (sym guests_is)
+          (tabled_with t g (λ x. polled x ((talk_of own2.talks t).effect) result) own2 doing2 polls.at part2
+          (λ over. absurd (polled_lives ((talk_of own2.talks t).effect) result over))
+          (λ u other over. subst (λ l. is_in u l ≡ true) (sym ended_is) over)
+          (λ p does local. calls_on t (threads_in own2).current result p (sym doing_is ∙ does)))
+
+      abbrev effect2 : Option Effect
+      effect2 = (talk_of own2.talks t).effect
+
+      module _ (setup : Setup) (of : IsSetupOf setup homes caps guests limit) where
+        states_after : (r : Option Reply) → states (with_guest guests t.0 (λ x. polled x effect2 r)) ≡ guests_after setup t r (states guests)
+        states_after None =
+            map-set state_of guests t.0 (option_map (λ x. polled x effect2 None) (guest_at guests t.0))
+            ∙ (ap (λ o. slice_set (states guests) t.0 (state_of (option_map (λ x. polled x effect2 None) o))) polls.at
+            ∙ sym (put_same (states guests) t.0 g.thread at_start (states_at guests t.0 g polls.at at_start)))
+        states_after (Some r) =
+            map-set state_of guests t.0 (option_map (λ x. polled x effect2 (Some r)) (guest_at guests t.0))
+            ∙ (ap (λ o. slice_set (states guests) t.0 (state_of (option_map (λ x. polled x effect2 (Some r)) o))) polls.at
+            ∙ (λ i. slice_set (states guests) t.0 (after_answer (Some r) (next_of (sym (of.programs_are t g polls.at) i) (sym (states_at guests t.0 g polls.at at_start) i))
+            (sym (states_at guests t.0 g polls.at at_start) i))))
+
+        trace_so : trace2 ≡ trace_after number t (buffer_of c) (going talk c).effect effect2 trace
+        trace_so =
+            trace_is
+            ∙ (ap (λ o. trace ++ entries_of number t (buffer_of c) (fresh_at o effect2)) polls.at
+            ∙ trace_by number t (buffer_of c) trace g.stage g.program g.thread (of_thread t.0 (of_cpu number seen)) (begun_of talk) talk.effect (going talk c).effect effect2
+            follows_g (had_going talk c (poll_talks homes buffers seen (threads_in own) own.talks doing number guests trace limit capacity is t c chose)))
+
+        private_so : private_after setup number t c own (states guests) trace (record { own = own2; answer = result }) ≡ private own2 guests2 trace2
+        private_so = λ i. private_of own2 (sym (ap states guests_is ∙ states_after result) i) (sym trace_so i)
+
+        not_halted : is_in_section (phase number old) ≡ false → table_halted setup number (private own guests trace) ≡ None
+        not_halted outside =
+            halted_same homes caps buffers seen own doing number guests trace limit capacity opening is tabled setup of home
+            ∙ not_halted_so inside (is_in_section (phase number old)) (cpu_halted (threads_in own) guests trace limit) busy live outside
+
+        known_in : (o : Buffering) → ((u : Tid) → (threads_in o).hand ≡ Some u → IsSome (slice_get homes u.0)) → HandIsKnown setup o
+        known_in o hand u has = subst (λ h. IsSome (slice_get h u.0)) (sym of.homes_are) (hand u has)
+
+        follows_so : Follows ActsFor tower opening number (fifo_plan setup.homes number t c own) old new (record { own = own2; answer = result })
+        follows_so = subst (λ h. Follows ActsFor tower opening number (fifo_plan h number t c own) old new (record { own = own2; answer = result })) (sym of.homes_are) follows
+
+        pub poll_steps : IsStep ActsFor (cpu_step setup number) (private own guests trace) (private own2 guests2 trace2) (named old) (named new) Stepped
+        poll_steps = subst (λ q. IsStep ActsFor (cpu_step setup number) (private own guests trace) q (named old) (named new) Stepped) private_so (go (is_between talk.stage))
+          where
+            opens : OpensAs setup number opening
+            opens = opens_as setup homes caps number opening of.homes_are of.caps_are tabled.opens
+
+            go : (talk.stage ≡ at_stage.Between) ⊎ (talk.stage ≡ at_stage.Between → ⊥)
+                → IsStep ActsFor (cpu_step setup number) (private own guests trace)
+                (private_after setup number t c own (states guests) trace (record { own = own2; answer = result })) (named old) (named new) Stepped
+            go (inl between) =
+                let outside : is_in_section (phase number old) ≡ false = sym busy ∙ outside_so inside rests between in
+                first_polls_are_steps ActsFor setup opening number own own2 (states guests) trace t c old new result acts opens (begins_so setup of between)
+                (known_in own2 known2) outside (not_halted outside) follows_so
+            go (inr calls) =
+                polls_are_steps ActsFor setup opening number own own2 (states guests) trace t c old new result acts opens (going_so calls) (known_in own known)
+                (known_in own2 known2) not_halted follows_so
