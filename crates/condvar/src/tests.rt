@@ -185,6 +185,44 @@ fn is_waited_for<G: Guarded, C: OwnedConds<G>>(
         && is_over::<G, C>(zero, m, section)
 }
 
+/// Thread 0 acquires and reads the block: the machine tells of the lock, and the part has no block in
+/// its hands; then it begins to leave, and looks again.
+fn is_told<C: OwnedConds<Reads>>(zero: &mut C, m: &mut C::Machine) -> bool
+    requires fits { C.Fits zero.old m.old }
+    requires buffer { IsSome (C.opening m.old (Buffer (record { 0 = 0 }))) }
+    requires queue { IsSome (C.opening m.old (Pending (record { 0 = 1 }))) }
+    requires room { 8 < C.room m.old }
+    requires ended { HasEnded ⟦<Reads as Guarded>⟧.deeds (C.own zero.old) (C.under_way zero.old) (record { 0 = 0 }) }
+{
+    let at = BufId(0);
+    let reads = QEdit::Inside(CvEdit::Edit(Reads { caller: Tid(0) }));
+    let leave = QEdit::Release(CvLeave::Leave(Tid(0)));
+    if !switches::<Reads, C>(zero, m) || zero.is_ready(Tid(0)) || zero.has_ended(Tid(0)) {
+        return false;
+    }
+    let Some(Turn::Answered(_)) = calls::<Reads, C>(zero, m, at, &QEdit::Acquire(Tid(0)), 3) else {
+        return false;
+    };
+    let Some(Turn::Answered(read)) = calls::<Reads, C>(zero, m, at, &reads, 3) else {
+        return false;
+    };
+    if C::block_in(m, at) != Some(&Tid(0)) || zero.block_here(at).is_some() {
+        return false;
+    }
+    if zero.owner_here(at).is_some() || zero.line_here(at, Tid(0)).is_some() || zero.at_once() {
+        return false;
+    }
+    if C::pends_in(m, CpuId(1), Tid(0)) != Some(false)
+        || zero.pends_here(CpuId(1), Tid(0)).is_some()
+    {
+        return false;
+    }
+    let Some(Turn::GoesOn) = calls::<Reads, C>(zero, m, at, &leave, 1) else {
+        return false;
+    };
+    matches!(read.out, QOut::Did(CvOut::Did(Tid(0)))) && zero.is_busy() && zero.look(m)
+}
+
 /// One block.
 fn one_block(alloc: Global) -> Result<Vec<Tid>, NoMemory>
     ensures { IfOk result (λ blocks. blocks.items ≡ record { 0 = 0 } ∷ []) }
@@ -244,5 +282,13 @@ fn a_wait_frees_its_lock_and_is_over_once_woken(rt: HostRuntime) -> Result<(), F
     let mut zero: Tower = part::<Reads, Tower>(&m, CpuId(0));
     let mut one: Tower = part::<Reads, Tower>(&m, CpuId(1));
     assert!(rt; is_waited_for::<Reads, Tower>(&mut zero, &mut one, &mut m, 3));
+    Ok(())
+}
+
+#[test]
+fn a_machine_tells_of_its_lock(rt: HostRuntime) -> Result<(), Fail> {
+    let mut m = machine(rt.alloc())?;
+    let mut zero: Tower = part::<Reads, Tower>(&m, CpuId(0));
+    assert!(rt; is_told::<Tower>(&mut zero, &mut m));
     Ok(())
 }
