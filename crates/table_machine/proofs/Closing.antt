@@ -78,7 +78,8 @@ module _ {E B O : Type 0} (R : Rules E B O) where
         view = subst (λ (l : List CpuId). w.0 ≡ viewed start l w.0.seen) cpus_are
             (subst (λ (l : List (LockId × B)). w.0 ≡ viewed l (d.cpu ∷ v.cpus) w.0.seen) started met.view);
         keys = λ i e there. ⊎_elim
-            (λ old. let known = g.keys i e (got desks i e old) in (has_old e.cpu known.0, since_trans e.cpu w.0.seen v.seen e.seen (met.fits.cpus e.cpu known.0) known.1))
+            (λ old. let known = g.keys i e (got desks i e old) in
+            (has_old e.cpu known.0, since_trans e.cpu w.0.seen v.seen e.seen (met.fits.cpus e.cpu known.0) known.1))
             (λ (t : (i ≡ length desks) × (d ≡ e)). subst (λ (e : Desk E B). Has e.cpu w.0.cpus × IsSince w.0.seen e.seen e.cpu) t.1
             (subst (λ l. Has d.cpu l) cpus_are (inl refl), met.fits.lent d.cpu (inl refl)))
             (at_end desks d e i (there_for (desks ++ d ∷ []) i e there));
