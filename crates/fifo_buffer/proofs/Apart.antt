@@ -1,5 +1,6 @@
 -- One section of another caller leaves a thread's stance as it is.
-use Rattle.std.proofs.Common.{◌≡◌, ◌≢◌, ℕ, Bool, true, false, not, ◌&&◌, ◌||◌, List, [], ◌∷◌, ◌++◌, Option, Some, None, option_map, is_some, nat_lt, if◌then◌else◌, refl, ap, sym, ◌∙◌, subst, arith}
+use Rattle.std.proofs.Common.{◌≡◌, ◌≢◌, ℕ, Bool, true, false, not, ◌&&◌, ◌||◌, List, [], ◌∷◌, ◌++◌, Option, Some, None}
+use Rattle.std.proofs.Common.{option_map, is_some, nat_lt, if◌then◌else◌, refl, ap, sym, ◌∙◌, subst, arith}
 use Rattle.std.proofs.lemmas.Bool.{and_right}
 use Rattle.event_log.specs.declared.ids.BufId.{BufId}
 use Rattle.event_log.specs.declared.ids.LockId.{LockId}
@@ -193,7 +194,8 @@ module _ (opening : LockId → Option BufferLock) (past : List BufferSection) (s
         → Stance opening (s ∷ past) t b side holds asks lined position
     stance_apart b side holds asks lined position stance = record {
       grip = λ lock. at_after lock (Grip t (holds && same_lock lock (Buffer b)) (asks && same_lock lock (Buffer b)))
-          (λ one. grip_apart t s.edit (buffer_at opening past s.lock) (holds && same_lock lock (Buffer b)) (asks && same_lock lock (Buffer b)) other owns) (stance.grip lock);
+          (λ one. grip_apart t s.edit (buffer_at opening past s.lock) (holds && same_lock lock (Buffer b))
+          (asks && same_lock lock (Buffer b)) other owns) (stance.grip lock);
       line = λ lock at. at_after lock (λ x. count_in t (line_at at x) ≡ one_if (lined && (same_lock lock (Buffer b) && same_side at side)))
           (λ one is. line_apart t s.edit (buffer_at opening past s.lock) at other ∙ is) (stance.line lock at);
       place = λ is. stance.place is ∙ sym (drawn_apart (Buffer b) side other);
@@ -209,7 +211,8 @@ module _ (opening : LockId → Option BufferLock) (past : List BufferSection) (s
     }
     fits_apart (Some call) slept waits talk fits = record {
       called = fits.called;
-      stance = stance_apart (buffer_of call) (side_of call) (holds_at talk.stage (is_some waits)) (is_some slept) (lined_at talk.stage) talk.position fits.stance;
+      stance =
+          stance_apart (buffer_of call) (side_of call) (holds_at talk.stage (is_some waits)) (is_some slept) (lined_at talk.stage) talk.position fits.stance;
       vain = λ is. vain_apart (Buffer (buffer_of call)) (side_of call) other ∙ fits.vain is;
       effect_is = fits.effect_is;
       slept_here = fits.slept_here;

@@ -16,7 +16,8 @@ use Rattle.layer_traits.specs.declared.queues.QueueAnswer.{QueueAnswer}
 use Rattle.layer_traits.specs.declared.talks.Stage.{Stage}
 use Rattle.layer_traits.specs.declared.talks.Stage.TheVariants.{Between, Acquires, Enters, Tries, Waits, AcquiresAgain, Signals, SignalsOwn, Releases}
 use Rattle.layer_traits.specs.declared.talks.Talk.{Talk}
-use Rattle.layer_traits.specs.BufferLaw.{Buffering, BufferPlan, buffer_of, chained, chained_now, heard, left_heard, plan_at, plan_beneath, plan_of, plan_on, section_at, talk_of}
+use Rattle.layer_traits.specs.BufferLaw.{Buffering, BufferPlan, buffer_of, chained, chained_now, heard, left_heard}
+use Rattle.layer_traits.specs.BufferLaw.{plan_at, plan_beneath, plan_of, plan_on, section_at, talk_of}
 use Rattle.layer_traits.specs.BufferProtocol.{buffer_rules}
 use Rattle.layer_traits.specs.Conditions.{CvCall}
 use Rattle.layer_traits.specs.CvLaw.{Waiting, cv_plan_for, left_over, left_waiting}
@@ -46,49 +47,60 @@ module _ (homes : List CpuId) (c : CpuId) (t : Tid) (call : Call) (stage : Stage
   same_caller : (lock_moves buffer_rules).caller (section_at t call stage) ≡ t
   same_caller = caller_is t call stage
 
-  sched_acts : (hand : Option Tid) → IsAct (sched_plan (lock_moves buffer_rules) homes c (due hand (buffer_of call) (section_at t call stage)) own.lock.sleep.threads)
+  sched_acts : (hand : Option Tid)
+      → IsAct (sched_plan (lock_moves buffer_rules) homes c (due hand (buffer_of call) (section_at t call stage)) own.lock.sleep.threads)
   sched_acts None = tt
   sched_acts (Some u) = tt
 
   -- the plan beneath, of a thread that neither sleeps for the lock nor waits
   pub beneath_acts : slept_for own.lock.slept t ≡ None → slept_for own.waits t ≡ None → IsAct (plan_beneath homes c t call stage own)
   beneath_acts slept waits =
-      subst (λ w. IsAct (cv_plan_for (lock_moves buffer_rules) homes c (buffer_of call) (section_at t call stage) own w)) (sym (ap (slept_for own.waits) same_caller ∙ waits))
+      subst (λ w. IsAct (cv_plan_for (lock_moves buffer_rules) homes c (buffer_of call) (section_at t call stage) own w))
+      (sym (ap (slept_for own.waits) same_caller ∙ waits))
       (act_raised (λ l. left_waiting ((lock_moves buffer_rules).caller (section_at t call stage)) (buffer_of call) own.waits l.own l.answer)
       (lock_plan (lock_moves buffer_rules) homes c (buffer_of call) (section_at t call stage) own.lock)
-      (subst (λ w. IsAct (plan_for (lock_moves buffer_rules) homes c (buffer_of call) (section_at t call stage) own.lock w)) (sym (ap (slept_for own.lock.slept) same_caller ∙ slept))
+      (subst (λ w. IsAct (plan_for (lock_moves buffer_rules) homes c (buffer_of call) (section_at t call stage) own.lock w))
+      (sym (ap (slept_for own.lock.slept) same_caller ∙ slept))
       (act_raised (λ l. left_after ((lock_moves buffer_rules).caller (section_at t call stage)) (buffer_of call) own.lock.slept l.own l.answer)
       (sleep_plan (lock_moves buffer_rules) homes c (buffer_of call) (section_at t call stage) own.lock.sleep)
-      (act_raised _ (sched_plan (lock_moves buffer_rules) homes c (due own.lock.sleep.threads.hand (buffer_of call) (section_at t call stage)) own.lock.sleep.threads)
+      (act_raised _ (sched_plan (lock_moves buffer_rules) homes c (due own.lock.sleep.threads.hand (buffer_of call) (section_at t call stage))
+      own.lock.sleep.threads)
       (sched_acts own.lock.sleep.threads.hand)))))
 
 -- a plan that acts goes on to nothing
-chained_act : {N B R S T A Q : Type 0} (ActsFor : CpuId → Type 0) (table : Table N B R) (opening : LockId → Option B) (cpu : CpuId) (next : T → Plan N R T Q) (f : Left S A → Left T Q)
+chained_act : {N B R S T A Q : Type 0} (ActsFor : CpuId → Type 0) (table : Table N B R) (opening : LockId → Option B) (cpu : CpuId)
+    (next : T → Plan N R T Q) (f : Left S A → Left T Q)
     (plan : Plan N R S A) (old new : List (Action N)) (got : Left T Q) → IsAct plan → Follows ActsFor table opening cpu (raised f plan) old new got
     → Follows ActsFor table opening cpu (chained next f plan) old new got
 chained_act ActsFor table opening cpu next f (Now left) old new got acts follows = absurd acts
 chained_act ActsFor table opening cpu next f (Act lock name react) old new got acts follows = follows
 
-module _ {B : Type 0} (ActsFor : CpuId → Type 0) (table : Table (QueueEdit (CvCall BufferEdit)) B (QueueAnswer BufferOutcome)) (opening : LockId → Option B) (cpu : CpuId)
+module _ {B : Type 0} (ActsFor : CpuId → Type 0) (table : Table (QueueEdit (CvCall BufferEdit)) B (QueueAnswer BufferOutcome))
+    (opening : LockId → Option B) (cpu : CpuId)
     (homes : List CpuId) (t : Tid) (call : Call) where
   -- one turn of a thread that neither sleeps for the lock nor waits
-  pub one_follows : (stage : Stage) (talk : Talk) (own : Buffering) (old new : List (Action (QueueEdit (CvCall BufferEdit)))) (got : Left Buffering Reply) → called_at stage ≡ true
+  pub one_follows : (stage : Stage) (talk : Talk) (own : Buffering) (old new : List (Action (QueueEdit (CvCall BufferEdit)))) (got : Left Buffering Reply)
+      → called_at stage ≡ true
       → slept_for own.cv.lock.slept t ≡ None → slept_for own.cv.waits t ≡ None
-      → Follows ActsFor table opening cpu (plan_of homes cpu t call stage talk own) old new got → Follows ActsFor table opening cpu (plan_at homes cpu t call stage talk own) old new got
+      → Follows ActsFor table opening cpu (plan_of homes cpu t call stage talk own) old new got → Follows ActsFor table opening cpu
+      (plan_at homes cpu t call stage talk own) old new got
   one_follows Between talk own old new got called slept waits follows = absurd (wrong called)
     where
       wrong : false ≡ true → ⊥
       wrong is = absurd cc
   one_follows Acquires talk own old new got called slept waits follows =
-      chained_act ActsFor table opening cpu (λ x. plan_of homes cpu t call Enters (talk_of x.talks t) x) (left_heard t call talk own.talks Acquires) (plan_beneath homes cpu t call Acquires own.cv) old new got
+      chained_act ActsFor table opening cpu (λ x. plan_of homes cpu t call Enters (talk_of x.talks t) x) (left_heard t call talk own.talks Acquires)
+      (plan_beneath homes cpu t call Acquires own.cv) old new got
       (beneath_acts homes cpu t call Acquires own.cv slept waits) follows
   one_follows Enters talk own old new got called slept waits follows = follows
   one_follows Tries talk own old new got called slept waits follows = follows
   one_follows Waits talk own old new got called slept waits follows =
-      chained_act ActsFor table opening cpu (λ x. plan_on homes cpu t call AcquiresAgain (plan_of homes cpu t call Tries) (talk_of x.talks t) x) (left_heard t call talk own.talks Waits) (plan_beneath homes cpu t call Waits own.cv) old new got
+      chained_act ActsFor table opening cpu (λ x. plan_on homes cpu t call AcquiresAgain (plan_of homes cpu t call Tries) (talk_of x.talks t) x)
+      (left_heard t call talk own.talks Waits) (plan_beneath homes cpu t call Waits own.cv) old new got
       (beneath_acts homes cpu t call Waits own.cv slept waits) follows
   one_follows AcquiresAgain talk own old new got called slept waits follows =
-      chained_act ActsFor table opening cpu (λ x. plan_of homes cpu t call Tries (talk_of x.talks t) x) (left_heard t call talk own.talks AcquiresAgain) (plan_beneath homes cpu t call AcquiresAgain own.cv) old new got
+      chained_act ActsFor table opening cpu (λ x. plan_of homes cpu t call Tries (talk_of x.talks t) x)
+      (left_heard t call talk own.talks AcquiresAgain) (plan_beneath homes cpu t call AcquiresAgain own.cv) old new got
       (beneath_acts homes cpu t call AcquiresAgain own.cv slept waits) follows
   one_follows Signals talk own old new got called slept waits follows = follows
   one_follows SignalsOwn talk own old new got called slept waits follows = follows
@@ -121,22 +133,27 @@ module _ {B : Type 0} (ActsFor : CpuId → Type 0) (table : Table (QueueEdit (Cv
   -- two turns in one poll
   two_chain : (next : Buffering → BufferPlan Reply) (f : Left (Waiting BufferOut) BufferOutcome → Left Buffering Reply)
       (plan : Plan (QueueEdit (CvCall BufferEdit)) (QueueAnswer BufferOutcome) (Waiting BufferOut) BufferOutcome)
-      (old mid new : List (Action (QueueEdit (CvCall BufferEdit)))) (one two : Left Buffering Reply) → Answers plan → Follows ActsFor table opening cpu (raised f plan) old mid one
+      (old mid new : List (Action (QueueEdit (CvCall BufferEdit)))) (one two : Left Buffering Reply) → Answers plan
+      → Follows ActsFor table opening cpu (raised f plan) old mid one
       → Follows ActsFor table opening cpu (next one.own) mid new two → Follows ActsFor table opening cpu (chained next f plan) old new two
   two_chain next f plan old mid new one two answers first second =
-      let at_now : Follows ActsFor table opening cpu (Now (f answers.0)) old mid one = subst (λ x. Follows ActsFor table opening cpu (raised f x) old mid one) answers.1 first in
+      let at_now : Follows ActsFor table opening cpu (Now (f answers.0)) old mid one = subst
+      (λ x. Follows ActsFor table opening cpu (raised f x) old mid one) answers.1 first in
       subst (λ x. Follows ActsFor table opening cpu (chained next f x) old new two) (sym answers.1)
       (go answers.0.answer answers.2
-      (subst (λ (x : Left Buffering Reply). Follows ActsFor table opening cpu (next x.own) old new two) at_now.1 (subst (λ log. Follows ActsFor table opening cpu (next one.own) log new two) at_now.0 second)))
+      (subst (λ (x : Left Buffering Reply). Follows ActsFor table opening cpu (next x.own) old new two) at_now.1
+      (subst (λ log. Follows ActsFor table opening cpu (next one.own) log new two) at_now.0 second)))
     where
       go : (a : Option BufferOutcome) → is_some a ≡ true → Follows ActsFor table opening cpu (next (f answers.0).own) old new two
           → Follows ActsFor table opening cpu (chained_now next f answers.0 a) old new two
       go None some follows = absurd cc
       go (Some o) some follows = follows
 
-  pub two_follows : (stage : Stage) (talk : Talk) (own : Buffering) (old mid new : List (Action (QueueEdit (CvCall BufferEdit)))) (one two : Left Buffering Reply) (handed : Bool)
+  pub two_follows : (stage : Stage) (talk : Talk) (own : Buffering) (old mid new : List (Action (QueueEdit (CvCall BufferEdit))))
+      (one two : Left Buffering Reply) (handed : Bool)
       (out : QOut (CvOut BufferOut)) → is_at_once stage handed ≡ true → talk_of one.own.talks t ≡ heard talk stage out
-      → (waits_at stage ≡ true → is_some (slept_for own.cv.waits t) ≡ true) → (waits_at stage ≡ false → (slept_for own.cv.waits t ≡ None) × (is_some (slept_for own.cv.lock.slept t) ≡ true))
+      → (waits_at stage ≡ true → is_some (slept_for own.cv.waits t) ≡ true)
+      → (waits_at stage ≡ false → (slept_for own.cv.waits t ≡ None) × (is_some (slept_for own.cv.lock.slept t) ≡ true))
       → slept_for one.own.cv.lock.slept t ≡ None → slept_for one.own.cv.waits t ≡ None
       → Follows ActsFor table opening cpu (plan_of homes cpu t call stage talk own) old mid one
       → Follows ActsFor table opening cpu (plan_of homes cpu t call (talk_of one.own.talks t).stage (talk_of one.own.talks t) one.own) mid new two
@@ -150,26 +167,31 @@ module _ {B : Type 0} (ActsFor : CpuId → Type 0) (table : Table (QueueEdit (Cv
   two_follows Acquires talk own old mid new one two handed out once is waits slept free freed first second =
       let at = some_of (slept_for own.cv.lock.slept t) (slept refl).1 in
       let stage_is : (talk_of one.own.talks t).stage ≡ Enters = ap (λ (x : Talk). x.stage) is in
-      two_chain (λ x. plan_of homes cpu t call Enters (talk_of x.talks t) x) (left_heard t call talk own.talks Acquires) (plan_beneath homes cpu t call Acquires own.cv) old mid new one two
+      two_chain (λ x. plan_of homes cpu t call Enters (talk_of x.talks t) x) (left_heard t call talk own.talks Acquires)
+      (plan_beneath homes cpu t call Acquires own.cv) old mid new one two
       (answers_handed Acquires own.cv at.0 at.1 (slept refl).0) first
       (subst (λ s. Follows ActsFor table opening cpu (plan_of homes cpu t call s (talk_of one.own.talks t) one.own) mid new two) stage_is second)
   two_follows AcquiresAgain talk own old mid new one two handed out once is waits slept free freed first second =
       let at = some_of (slept_for own.cv.lock.slept t) (slept refl).1 in
       let stage_is : (talk_of one.own.talks t).stage ≡ Tries = ap (λ (x : Talk). x.stage) is in
-      two_chain (λ x. plan_of homes cpu t call Tries (talk_of x.talks t) x) (left_heard t call talk own.talks AcquiresAgain) (plan_beneath homes cpu t call AcquiresAgain own.cv) old mid new one two
+      two_chain (λ x. plan_of homes cpu t call Tries (talk_of x.talks t) x) (left_heard t call talk own.talks AcquiresAgain)
+      (plan_beneath homes cpu t call AcquiresAgain own.cv) old mid new one two
       (answers_handed AcquiresAgain own.cv at.0 at.1 (slept refl).0) first
       (subst (λ s. Follows ActsFor table opening cpu (plan_of homes cpu t call s (talk_of one.own.talks t) one.own) mid new two) stage_is second)
   two_follows Waits talk own old mid new one two handed out once is waits slept free freed first second =
       let at = some_of (slept_for own.cv.waits t) (waits refl) in
       let stage_is : (talk_of one.own.talks t).stage ≡ AcquiresAgain = ap (λ (x : Talk). x.stage) is in
-      two_chain (λ x. plan_on homes cpu t call AcquiresAgain (plan_of homes cpu t call Tries) (talk_of x.talks t) x) (left_heard t call talk own.talks Waits) (plan_beneath homes cpu t call Waits own.cv) old mid new one two
+      two_chain (λ x. plan_on homes cpu t call AcquiresAgain (plan_of homes cpu t call Tries) (talk_of x.talks t) x)
+      (left_heard t call talk own.talks Waits) (plan_beneath homes cpu t call Waits own.cv) old mid new one two
       (answers_woken own.cv at.0 at.1) first
       (one_follows AcquiresAgain (talk_of one.own.talks t) one.own mid new two refl free freed
       (subst (λ s. Follows ActsFor table opening cpu (plan_of homes cpu t call s (talk_of one.own.talks t) one.own) mid new two) stage_is second))
 
 -- a plan followed by a holder that acts for fewer CPUs
-pub follows_for : {N B R S A : Type 0} (ActsFor Acts : CpuId → Type 0) → ((d : CpuId) → Acts d → ActsFor d) → (table : Table N B R) (opening : LockId → Option B) (cpu : CpuId)
-    (plan : Plan N R S A) (old new : List (Action N)) (got : Left S A) → Follows ActsFor table opening cpu plan old new got → Follows Acts table opening cpu plan old new got
+pub follows_for : {N B R S A : Type 0} (ActsFor Acts : CpuId → Type 0) → ((d : CpuId) → Acts d → ActsFor d)
+    → (table : Table N B R) (opening : LockId → Option B) (cpu : CpuId)
+    (plan : Plan N R S A) (old new : List (Action N)) (got : Left S A) → Follows ActsFor table opening cpu plan old new got
+    → Follows Acts table opening cpu plan old new got
 follows_for ActsFor Acts weaker table opening cpu (Now left) old new got follows = follows
 follows_for ActsFor Acts weaker table opening cpu (Act lock name react) old new got follows = record {
   past = follows.past;

@@ -126,7 +126,8 @@ module _ (O : LockId → Option BufferLock) (past : List BufferSection) (t : Tid
   side_same Receivers = refl
   side_same Senders = refl
 
-  once_there : (b : BufId) (side : Side) (position : ℕ) → Stance O past t b side true false true position → count_in t (line_at side (buffer_at O past (Buffer b))) ≡ 1
+  once_there : (b : BufId) (side : Side) (position : ℕ) → Stance O past t b side true false true position
+      → count_in t (line_at side (buffer_at O past (Buffer b))) ≡ 1
   once_there b side position stance =
       stance.line (Buffer b) side ∙ ap (λ v. one_if (true && (v && same_side side side))) (same_lock_self (Buffer b)) ∙ ap one_if (side_same side)
 
@@ -135,8 +136,10 @@ module _ (O : LockId → Option BufferLock) (past : List BufferSection) (t : Tid
       → IsDue O past (Buffer (buffer_of call)) (section_at t call stage)
   due_now call Between position effect now = tt
   due_now call Acquires position effect now = tt
-  due_now (Send b m) Enters position effect now = (out_of_line Senders _ (now.stance.line (Buffer b) Senders), out_of_line Receivers _ (now.stance.line (Buffer b) Receivers))
-  due_now (Recv b) Enters position effect now = (out_of_line Senders _ (now.stance.line (Buffer b) Senders), out_of_line Receivers _ (now.stance.line (Buffer b) Receivers))
+  due_now (Send b m) Enters position effect now =
+      (out_of_line Senders _ (now.stance.line (Buffer b) Senders), out_of_line Receivers _ (now.stance.line (Buffer b) Receivers))
+  due_now (Recv b) Enters position effect now =
+      (out_of_line Senders _ (now.stance.line (Buffer b) Senders), out_of_line Receivers _ (now.stance.line (Buffer b) Receivers))
   due_now (Send b m) Tries position effect now = in_line Senders _ (once_there b Senders position now.stance)
   due_now (Recv b) Tries position effect now = in_line Receivers _ (once_there b Receivers position now.stance)
   due_now call Waits position effect now = now.vain refl

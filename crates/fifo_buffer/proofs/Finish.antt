@@ -1,5 +1,6 @@
 -- What a poll of a call leaves, after its last turn.
-use Rattle.std.proofs.Common.{◌≡◌, ◌≢◌, ◌⊎◌, inl, inr, Bool, true, false, List, ◌++◌, Option, Some, None, option_map, option_to_list, is_some, if◌then◌else◌, refl, ap, sym, ◌∙◌, subst}
+use Rattle.std.proofs.Common.{◌≡◌, ◌≢◌, ◌⊎◌, inl, inr, Bool, true, false, List, ◌++◌, Option, Some, None, option_map}
+use Rattle.std.proofs.Common.{option_to_list, is_some, if◌then◌else◌, refl, ap, sym, ◌∙◌, subst}
 use Rattle.event_log.specs.declared.ids.CpuId.{CpuId}
 use Rattle.event_log.specs.declared.ids.LockId.{LockId}
 use Rattle.event_log.specs.declared.ids.Tid.{Tid}
@@ -44,7 +45,8 @@ tried_call talk (Done kind op value) = refl
 -- the call goes on after a section, but for the last one, after which it answers
 pub goes_or_ends : (talk : Talk) (call : Call) (stage : Stage) (out : QOut (CvOut BufferOut)) → talk.call ≡ Some call → is_some talk.effect ≡ done_at stage
     → ((replied call talk stage ≡ None) × ((heard talk stage out).call ≡ Some call))
-    ⊎ ((f : Effect) × (talk.effect ≡ Some f) × (replied call talk stage ≡ Some (reply_of call f)) × ((heard talk stage out).stage ≡ Between) × ((heard talk stage out).call ≡ None)
+    ⊎ ((f : Effect) × (talk.effect ≡ Some f) × (replied call talk stage ≡ Some (reply_of call f)) × ((heard talk stage out).stage ≡ Between)
+    × ((heard talk stage out).call ≡ None)
     × ((heard talk stage out).effect ≡ talk.effect))
 goes_or_ends talk call Between out is done = inl (refl, is)
 goes_or_ends talk call Acquires out is done = inl (refl, is)
@@ -58,7 +60,8 @@ goes_or_ends talk call Releases out is done =
     let it = go talk.effect refl done in
     inr (it.0, it.1, it.2, refl, refl, refl)
   where
-    go : (o : Option Effect) → talk.effect ≡ o → is_some o ≡ true → (f : Effect) × (talk.effect ≡ Some f) × (option_map (reply_of call) talk.effect ≡ Some (reply_of call f))
+    go : (o : Option Effect) → talk.effect ≡ o → is_some o ≡ true
+        → (f : Effect) × (talk.effect ≡ Some f) × (option_map (reply_of call) talk.effect ≡ Some (reply_of call f))
     go None same some = absurd cc
     go (Some f) same some = (f, same, ap (option_map (reply_of call)) same)
 
@@ -73,8 +76,10 @@ begun_there Signals o is = refl
 begun_there SignalsOwn o is = refl
 begun_there Releases o is = refl
 
-module _ (opening : LockId → Option (QueueBlock BufferLock)) (ActsFor : CpuId → Type 0) (c : CpuId) (t : Tid) (home : home_of (homes_in opening) t ≡ Some c) (call : Call) (talk : Talk)
-    (called : talk.call ≡ Some call) (old new : List BufferEvent) (own left : Waiting BufferOut) (under_way : Option (SchedCall (CvCall BufferEdit))) (done : Bool) (later : Talk)
+module _ (opening : LockId → Option (QueueBlock BufferLock)) (ActsFor : CpuId → Type 0) (c : CpuId) (t : Tid)
+    (home : home_of (homes_in opening) t ≡ Some c) (call : Call) (talk : Talk)
+    (called : talk.call ≡ Some call) (old new : List BufferEvent) (own left : Waiting BufferOut) (under_way : Option (SchedCall (CvCall BufferEdit)))
+    (done : Bool) (later : Talk)
     (turned : Turned (homes_in opening) ActsFor (inner opening) c t call talk old new own left under_way done later)
     (talks now : List Talk) (own_talk : talk_of now t ≡ later) (same : (u : Tid) → same_tid t u ≡ false → talk_of now u ≡ talk_of talks u) where
   -- the talks of the other threads fit as before
@@ -112,18 +117,22 @@ module _ (opening : LockId → Option (QueueBlock BufferLock)) (ActsFor : CpuId 
       none_there None is = tt
       none_there (Some s) is = absurd cc
 
-      go : (d : Bool) → answer ≡ (if d then replied call talk talk.stage else None) → After (inner opening) (buffer_sections new) t call talk left under_way d later
+      go : (d : Bool) → answer ≡ (if d then replied call talk talk.stage else None)
+          → After (inner opening) (buffer_sections new) t call talk left under_way d later
           → Fit (calling_after t left.lock.sleep.threads.current answer)
       go true is after = by_stage (goes_or_ends talk call talk.stage after.heard_is.0 called after.reply)
         where
           by_stage : ((replied call talk talk.stage ≡ None) × ((heard talk talk.stage after.heard_is.0).call ≡ Some call))
-              ⊎ ((f : Effect) × (talk.effect ≡ Some f) × (replied call talk talk.stage ≡ Some (reply_of call f)) × ((heard talk talk.stage after.heard_is.0).stage ≡ Between)
+              ⊎ ((f : Effect) × (talk.effect ≡ Some f) × (replied call talk talk.stage ≡ Some (reply_of call f))
+              × ((heard talk talk.stage after.heard_is.0).stage ≡ Between)
               × ((heard talk talk.stage after.heard_is.0).call ≡ None) × ((heard talk talk.stage after.heard_is.0).effect ≡ talk.effect))
               → Fit (calling_after t left.lock.sleep.threads.current answer)
           by_stage (inl goes) =
               let is_call : later.call ≡ Some call = ap (λ (o : Talk). o.call) after.heard_is.1 ∙ goes.1 in
-              let fits : InCall (inner opening) (buffer_sections new) t call (slept_for left.lock.slept t) (slept_for left.waits t) later.stage later.position later.effect
-              = subst (λ o. TalkFits (inner opening) (buffer_sections new) t o (slept_for left.lock.slept t) (slept_for left.waits t) later) is_call after.fits in
+              let fits : InCall (inner opening) (buffer_sections new) t call (slept_for left.lock.slept t)
+              (slept_for left.waits t) later.stage later.position later.effect
+              = subst (λ o. TalkFits (inner opening) (buffer_sections new) t o (slept_for left.lock.slept t) (slept_for left.waits t) later) is_call
+              after.fits in
               at (Some t) None after.current (is ∙ goes.0)
               (record {
                 call = call;
@@ -135,20 +144,30 @@ module _ (opening : LockId → Option (QueueBlock BufferLock)) (ActsFor : CpuId 
                 };
                 others = others;
               })
-          by_stage (inr ends) = at (Some t) (Some (reply_of call ends.0)) after.current (is ∙ ends.2) (idle (none_there under_way after.none) after.kept (rw own_talk after.fits) others)
+          by_stage (inr ends) =
+              at (Some t) (Some (reply_of call ends.0)) after.current (is ∙ ends.2)
+              (idle (none_there under_way after.none) after.kept (rw own_talk after.fits) others)
       go false is after = by_case after.1
         where
-          by_case : Sleeps (inner opening) (buffer_sections new) t call talk left under_way ⊎ Stays (inner opening) (buffer_sections new) t call talk left under_way
+          by_case : Sleeps (inner opening) (buffer_sections new) t call talk left under_way ⊎ Stays (inner opening)
+              (buffer_sections new) t call talk left under_way
               → Fit (calling_after t left.lock.sleep.threads.current answer)
           by_case (inl sleeps) =
               at None None sleeps.current is (idle (none_there under_way sleeps.none) sleeps.kept
-              (rw (own_talk ∙ after.0) (subst (λ o. TalkFits (inner opening) (buffer_sections new) t o (slept_for left.lock.slept t) (slept_for left.waits t) talk) (sym called) sleeps.fits)) others)
+              (rw (own_talk ∙ after.0) (subst (λ o. TalkFits (inner opening) (buffer_sections new) t o (slept_for left.lock.slept t)
+              (slept_for left.waits t) talk) (sym called) sleeps.fits)) others)
           by_case (inr stays) =
               at (Some t) None stays.current is
               (record {
                 call = call;
                 home = home;
-                may = record { current = stays.current; called = ap (λ (o : Talk). o.call) (own_talk ∙ after.0) ∙ called; goes = rw (own_talk ∙ after.0) stays.goes };
+                may =
+                    record {
+                      current = stays.current;
+                      called = ap (λ (o : Talk). o.call) (own_talk ∙ after.0) ∙ called;
+                      goes = rw
+                          (own_talk ∙ after.0) stays.goes;
+                    };
                 others = others;
               })
 
@@ -161,7 +180,9 @@ module _ (opening : LockId → Option (QueueBlock BufferLock)) (ActsFor : CpuId 
     others = effects_over (inner opening) turned.others old;
     mine = turned.effect;
     foreign = λ d acts. effects_others (inner opening) d turned.others old (turned.foreign d (weaker d acts));
-    is = turned.effects ∙ ap (λ es. option_to_list (option_map (entry_of c t (buffer_of call)) turned.effect) ++ es) (effects_append (inner opening) turned.others old);
+    is =
+        turned.effects ∙ ap (λ es. option_to_list (option_map (entry_of c t (buffer_of call)) turned.effect) ++ es)
+        (effects_append (inner opening) turned.others old);
     fresh = λ f is. (sym same_effect ∙ (turned.fresh f is).0, ap (λ (o : Talk). o.effect) own_talk ∙ (turned.fresh f is).1, (turned.fresh f is).2);
     stays = λ none. ap (λ (o : Talk). o.effect) own_talk ∙ turned.stays none ∙ same_effect;
     answers = go done answers turned.after;
@@ -171,7 +192,8 @@ module _ (opening : LockId → Option (QueueBlock BufferLock)) (ActsFor : CpuId 
       to : (x y : Talk) → x ≡ y → (r : Option Reply) → Answered call y r → Answered call x r
       to x y is r told = subst (λ (z : Talk). Answered call z r) (sym is) told
 
-      go : (d : Bool) → answer ≡ (if d then replied call talk talk.stage else None) → After (inner opening) (buffer_sections new) t call talk left under_way d later
+      go : (d : Bool) → answer ≡ (if d then replied call talk talk.stage else None)
+          → After (inner opening) (buffer_sections new) t call talk left under_way d later
           → Answered call (talk_of now t) answer
       go false is after =
           subst (Answered call (talk_of now t)) (sym is)
@@ -179,14 +201,19 @@ module _ (opening : LockId → Option (QueueBlock BufferLock)) (ActsFor : CpuId 
       go true is after = by_stage (goes_or_ends talk call talk.stage after.heard_is.0 called after.reply)
         where
           by_stage : ((replied call talk talk.stage ≡ None) × ((heard talk talk.stage after.heard_is.0).call ≡ Some call))
-              ⊎ ((f : Effect) × (talk.effect ≡ Some f) × (replied call talk talk.stage ≡ Some (reply_of call f)) × ((heard talk talk.stage after.heard_is.0).stage ≡ Between)
+              ⊎ ((f : Effect) × (talk.effect ≡ Some f) × (replied call talk talk.stage ≡ Some (reply_of call f))
+              × ((heard talk talk.stage after.heard_is.0).stage ≡ Between)
               × ((heard talk talk.stage after.heard_is.0).call ≡ None) × ((heard talk talk.stage after.heard_is.0).effect ≡ talk.effect))
               → Answered call (talk_of now t) answer
           by_stage (inl goes) =
               let is_call : later.call ≡ Some call = ap (λ (o : Talk). o.call) after.heard_is.1 ∙ goes.1 in
-              let fits : InCall (inner opening) (buffer_sections new) t call (slept_for left.lock.slept t) (slept_for left.waits t) later.stage later.position later.effect
-              = subst (λ o. TalkFits (inner opening) (buffer_sections new) t o (slept_for left.lock.slept t) (slept_for left.waits t) later) is_call after.fits in
-              subst (Answered call (talk_of now t)) (sym (is ∙ goes.0)) (to (talk_of now t) later own_talk None (begun_there later.stage later.call fits.called ∙ is_call))
+              let fits : InCall (inner opening) (buffer_sections new) t call (slept_for left.lock.slept t)
+              (slept_for left.waits t) later.stage later.position later.effect
+              = subst (λ o. TalkFits (inner opening) (buffer_sections new) t o (slept_for left.lock.slept t) (slept_for left.waits t) later) is_call
+              after.fits in
+              subst (Answered call (talk_of now t)) (sym (is ∙ goes.0))
+              (to (talk_of now t) later own_talk None (begun_there later.stage later.call fits.called ∙ is_call))
           by_stage (inr ends) =
               subst (Answered call (talk_of now t)) (sym (is ∙ ends.2))
-              (to (talk_of now t) (heard talk talk.stage after.heard_is.0) (own_talk ∙ after.heard_is.1) (Some (reply_of call ends.0)) (ends.3, (ends.0, ends.5 ∙ ends.1, refl)))
+              (to (talk_of now t) (heard talk talk.stage after.heard_is.0) (own_talk ∙ after.heard_is.1) (Some (reply_of call ends.0))
+              (ends.3, (ends.0, ends.5 ∙ ends.1, refl)))

@@ -24,7 +24,7 @@ use Rattle.fifo_buffer.specs.Stances.{InCall, Stance, TalkFits, called_at}
 use Rattle.fifo_buffer.specs.Turns.{BufferOutcome, CallsFit, FitsAt, Goes, IsCalling, MayTurn, Midway, doing_at}
 
 -- within a call the talk goes on as it is
-going_same : (stage : Stage) (talk : Talk) (call : Call) → called_at stage ≡ true → going_at stage talk call ≡ talk
+pub going_same : (stage : Stage) (talk : Talk) (call : Call) → called_at stage ≡ true → going_at stage talk call ≡ talk
 going_same Between talk call is = absurd cc
 going_same Acquires talk call is = refl
 going_same Enters talk call is = refl
@@ -36,7 +36,8 @@ going_same SignalsOwn talk call is = refl
 going_same Releases talk call is = refl
 
 module _ (O : LockId → Option BufferLock) (past : List BufferSection) (t : Tid) (call : Call) where
-  begun_fits : (slept waits : Option BufId) → Stance O past t (record { 0 = 0 }) Senders false false false 0 → slept ≡ None → waits ≡ None → InCall O past t call slept waits Acquires 0 None
+  begun_fits : (slept waits : Option BufId) → Stance O past t (record { 0 = 0 }) Senders false false false 0 → slept ≡ None → waits ≡ None
+      → InCall O past t call slept waits Acquires 0 None
   begun_fits slept waits stance slept_none waits_none = rw (slept_none, waits_none) (record {
     called = refl;
     stance = record { grip = stance.grip; line = stance.line; place = λ w. absurd cc };
@@ -65,7 +66,8 @@ module _ (O : LockId → Option BufferLock) (past : List BufferSection) (t : Tid
       )
 
 -- a call that goes on is begun
-pub goes_called : (O : LockId → Option BufferLock) (past : List BufferSection) (t : Tid) (k : Call) (talk : Talk) (own : Waiting BufferOut) (w : Option (SchedCall (CvCall BufferEdit)))
+pub goes_called : (O : LockId → Option BufferLock) (past : List BufferSection) (t : Tid) (k : Call) (talk : Talk) (own : Waiting BufferOut)
+    (w : Option (SchedCall (CvCall BufferEdit)))
     → Goes O past t k talk own w → called_at talk.stage ≡ true
 goes_called O past t k talk own None goes = goes.fits.called
 goes_called O past t k talk own (Some s) goes = midway own.lock.sleep.kept goes.midway
@@ -77,11 +79,14 @@ goes_called O past t k talk own (Some s) goes = midway own.lock.sleep.kept goes.
 -- the first turn of a poll
 pub first_may : (homes : List CpuId) (c : CpuId) (O : LockId → Option BufferLock) (past : List BufferSection) (own : Waiting BufferOut) (talks : List Talk)
     (under_way : Option (SchedCall (CvCall BufferEdit))) (calling : Option Tid) (t : Tid) (call : Call) → home_of homes t ≡ Some c
-    → CallsFit homes c O past own talks under_way calling → own.lock.sleep.threads.current ≡ Some t → (doing_at calling under_way ≡ None → own.lock.sleep.threads.hand ≡ None)
+    → CallsFit homes c O past own talks under_way calling → own.lock.sleep.threads.current ≡ Some t
+    → (doing_at calling under_way ≡ None → own.lock.sleep.threads.hand ≡ None)
     → MayTalk (talk_of talks t) call → MayGoOn (doing_at calling under_way) (Calling t)
-    → MayTurn O past t call (going (talk_of talks t) call) own under_way × ((u : Tid) → home_of homes u ≡ Some c → same_tid t u ≡ false → FitsAt O past own talks u)
+    → MayTurn O past t call (going (talk_of talks t) call) own under_way
+    × ((u : Tid) → home_of homes u ≡ Some c → same_tid t u ≡ false → FitsAt O past own talks u)
 first_may homes c O past own talks None None t call home fits runs hand talk_may may =
-    let both = going_fits O past t call (talk_of talks t) (slept_for own.lock.slept t) (slept_for own.waits t) (talk_of talks t).call refl (fits.fit t home) talk_may in
+    let both = going_fits O past t call (talk_of talks t) (slept_for own.lock.slept t) (slept_for own.waits t) (talk_of talks t).call refl
+    (fits.fit t home) talk_may in
     (record { current = runs; called = both.0; goes = record { hand = hand refl; kept = fits.kept; fits = both.1 } }, λ u there other. fits.fit u there)
 first_may homes c O past own talks (Some (sched.Pass p)) None t call home fits runs hand talk_may may = absurd (wrong may)
   where
@@ -95,7 +100,8 @@ first_may homes c O past own talks under_way (Some v) t call home fits runs hand
     let same_talk : going (talk_of talks t) call ≡ talk_of talks t = going_same (talk_of talks t).stage (talk_of talks t) call called in
     let calls : Some mine.call ≡ Some call = sym mine.may.called ∙ sym (ap (λ (x : Talk). x.call) same_talk) ∙ talk_may in
     let is_call : mine.call ≡ call = cc in (
-      subst (λ (x : Talk). MayTurn O past t call x own under_way) (sym same_talk) (subst (λ k. MayTurn O past t k (talk_of talks t) own under_way) is_call mine.may),
+      subst (λ (x : Talk). MayTurn O past t call x own under_way) (sym same_talk)
+          (subst (λ k. MayTurn O past t k (talk_of talks t) own under_way) is_call mine.may),
       mine.others,
     )
   where

@@ -25,7 +25,8 @@ use Rattle.thread_blocks.specs.Queues.{is_in}
 use Rattle.fifo_buffer.specs.Turns.{BufferEvent, BufferOutcome, heard_if}
 
 -- what a turn leaves is what its plan makes of the poll's answer
-pub heard_left : (t : Tid) (call : Call) (talk : Talk) (talks now : List Talk) (stage : Stage) (cv : Waiting BufferOut) (answer : Option BufferOutcome) (done : Bool)
+pub heard_left : (t : Tid) (call : Call) (talk : Talk) (talks now : List Talk) (stage : Stage) (cv : Waiting BufferOut)
+    (answer : Option BufferOutcome) (done : Bool)
     → done ≡ is_some answer → now ≡ slice_set talks t.0 (heard_if talk stage answer)
     → left_heard t call talk talks stage (record { own = cv; answer = answer })
     ≡ record { own = buffering cv now; answer = if done then replied call talk stage else None }

@@ -1,5 +1,6 @@
 -- A thread's own sections: what each leaves of its stance, and its effect.
-use Rattle.std.proofs.Common.{◌≡◌, ◌<◌, ℕ, Bool, true, false, ◌&&◌, List, [], ◌∷◌, ◌++◌, Option, Some, None, option_map, is_some, nat_lt, if◌then◌else◌, refl, ap, sym, ◌∙◌, subst, arith, lt-ltb}
+use Rattle.std.proofs.Common.{◌≡◌, ◌<◌, ℕ, Bool, true, false, ◌&&◌, List, [], ◌∷◌, ◌++◌, Option, Some, None, option_map}
+use Rattle.std.proofs.Common.{is_some, nat_lt, if◌then◌else◌, refl, ap, sym, ◌∙◌, subst, arith, lt-ltb}
 use Rattle.std.proofs.lemmas.Bool.{and_right}
 use Rattle.event_log.specs.declared.ids.BufId.{BufId}
 use Rattle.event_log.specs.declared.ids.CpuId.{CpuId}
@@ -28,7 +29,8 @@ use Rattle.layer_traits.specs.declared.locked.Side.{Side}
 use Rattle.layer_traits.specs.declared.locked.Side.TheVariants.{Receivers, Senders}
 use Rattle.layer_traits.specs.declared.talks.Stage.{Stage}
 use Rattle.layer_traits.specs.declared.talks.Stage.TheVariants.{Between, Acquires, Enters, Tries, Waits, AcquiresAgain, Signals, SignalsOwn, Releases}
-use Rattle.layer_traits.specs.BufferBlocks.{BufferState, effect_kind, entered, first_item, is_first, is_turn, line_of, may_go, may_join, places_of, put_in, taken_out}
+use Rattle.layer_traits.specs.BufferBlocks.{BufferState, effect_kind, entered, first_item, is_first, is_turn, line_of}
+use Rattle.layer_traits.specs.BufferBlocks.{may_go, may_join, places_of, put_in, taken_out}
 use Rattle.layer_traits.specs.BufferEffects.{drawn, effect_of, effect_on, is_enter, places_in}
 use Rattle.layer_traits.specs.BufferLaw.{IsEffectOf, buffer_of, entry_of, section_at, side_of}
 use Rattle.layer_traits.specs.BufferProtocol.{BufferLock, BufferSection, buffer_at, buffer_rules, has_tried_in_vain, is_turn_at}
@@ -59,8 +61,10 @@ side_self Receivers = refl
 side_self Senders = refl
 
 -- what a section did, where it was told this: the stance and the talk after it, and its effect
-pub record Stepped (opening : LockId → Option BufferLock) (past : List BufferSection) (c : CpuId) (t : Tid) (call : Call) (stage : Stage) (position : ℕ) (effect : Option Effect) (out : QOut (CvOut BufferOut)) : Type 0 where
-  pub fits : TalkFits opening (section c (Buffer (buffer_of call)) (section_at t call stage) ∷ past) t (heard_by (talk_in stage call position effect) stage out).call
+pub record Stepped (opening : LockId → Option BufferLock) (past : List BufferSection) (c : CpuId) (t : Tid) (call : Call) (stage : Stage)
+    (position : ℕ) (effect : Option Effect) (out : QOut (CvOut BufferOut)) : Type 0 where
+  pub fits : TalkFits opening (section c (Buffer (buffer_of call)) (section_at t call stage) ∷ past) t
+      (heard_by (talk_in stage call position effect) stage out).call
       (slept_by (buffer_of call) out) (waits_by (buffer_of call) out) (heard_by (talk_in stage call position effect) stage out)
   pub mine : Option Effect
   pub is : effect_of opening past (section c (Buffer (buffer_of call)) (section_at t call stage)) ≡ option_map (entry_of c t (buffer_of call)) mine
@@ -89,7 +93,8 @@ module _ (opening : LockId → Option BufferLock) (past : List BufferSection) (c
           → Grip t (holds' && v) (asks' && v) (if v then option_map (lock_edited buffer_rules e) (buffer_at opening past l) else buffer_at opening past l)
       grip_at l true same =
           let now : Grip t (holds && true) (asks && true) (Some lock)
-          = subst (λ x. Grip t (holds && true) (asks && true) x) (here l same) (subst (λ v. Grip t (holds && v) (asks && v) (buffer_at opening past l)) same (stance.grip l)) in
+          = subst (λ x. Grip t (holds && true) (asks && true) x) (here l same)
+          (subst (λ v. Grip t (holds && v) (asks && v) (buffer_at opening past l)) same (stance.grip l)) in
           let then' : Grip t holds' asks' (Some (lock_edited buffer_rules e lock)) = grips (rw (← and_true holds, ← and_true asks) now) in
           subst (λ x. Grip t (holds' && true) (asks' && true) (option_map (lock_edited buffer_rules e) x)) (sym (here l same))
           (rw (and_true holds', and_true asks') then')
@@ -135,7 +140,8 @@ joins_line t q none =
     let sum = count_append t q (t ∷ []) in
     omega (arith, self, none, sum)
 
-lines_entered : (t : Tid) (side at : Side) (x : BufferState) → count_in t (line_of at x) ≡ 0 → count_in t (line_of at (entered side t x)) ≡ one_if (same_side at side)
+lines_entered : (t : Tid) (side at : Side) (x : BufferState) → count_in t (line_of at x) ≡ 0
+    → count_in t (line_of at (entered side t x)) ≡ one_if (same_side at side)
 lines_entered t Receivers Receivers x none = joins_line t x.receive_line none
 lines_entered t Receivers Senders x none = none
 lines_entered t Senders Receivers x none = none
@@ -172,7 +178,8 @@ module _ (opening : LockId → Option BufferLock) (past : List BufferSection) (c
       (λ lines. stance.place lines ∙ sym (drawn_own opening past c t b side (Acquire t) lock is refl))
 
   -- how often the thread stands in its own line
-  in_own_line : (holds asks lined : Bool) (position : ℕ) → Stance opening past t b side holds asks lined position → count_in t (line_of side lock.above) ≡ one_if lined
+  in_own_line : (holds asks lined : Bool) (position : ℕ) → Stance opening past t b side holds asks lined position
+      → count_in t (line_of side lock.above) ≡ one_if lined
   in_own_line holds asks lined position stance =
       sym (ap (λ x. count_in t (line_at side x)) is) ∙ stance.line (Buffer b) side
       ∙ ap (λ v. one_if (lined && (v && same_side side side))) (same_lock_self (Buffer b))
@@ -196,7 +203,8 @@ module _ (opening : LockId → Option BufferLock) (past : List BufferSection) (c
       → Stance opening (section c (Buffer b) (Inside (SignalFront t signalled)) ∷ past) t b side holds false lined position
   same_there holds lined position signalled stance =
       own_stance opening past c t b side (Inside (SignalFront t signalled)) lock is holds false lined holds false lined position position stance
-      (λ grip. go holds grip) (λ at now. now) (λ lines. stance.place lines ∙ sym (drawn_own opening past c t b side (Inside (SignalFront t signalled)) lock is refl))
+      (λ grip. go holds grip) (λ at now. now) (λ lines. stance.place lines ∙ sym
+      (drawn_own opening past c t b side (Inside (SignalFront t signalled)) lock is refl))
     where
       go : (holds : Bool) → Grip t holds false (Some lock) → Grip t holds false (Some (lock_edited buffer_rules (Inside (SignalFront t signalled)) lock))
       go true grip = grip
@@ -271,7 +279,8 @@ module _ (opening : LockId → Option BufferLock) (past : List BufferSection) (c
       rw (same_tid_self t, same_lock_self (Buffer b), at) refl
 
 -- each section of a call, by its stage
-module _ (opening : LockId → Option BufferLock) (past : List BufferSection) (c : CpuId) (t : Tid) (lock : BufferLock) (position : ℕ) (effect : Option Effect) where
+module _ (opening : LockId → Option BufferLock) (past : List BufferSection) (c : CpuId) (t : Tid) (lock : BufferLock) (position : ℕ)
+    (effect : Option Effect) where
   quiet_here : (b : BufId) (e : CvCall BufferEdit) → buffer_at opening past (Buffer b) ≡ Some lock
       → effect_on c b e (λ side u. drawn opening (Buffer b) side u past) (Some lock) ≡ None → effect_of opening past (section c (Buffer b) e) ≡ None
   quiet_here b e is none = ap (λ x. effect_on c b e (λ side u. drawn opening (Buffer b) side u past) x) is ∙ none
@@ -313,7 +322,8 @@ module _ (opening : LockId → Option BufferLock) (past : List BufferSection) (c
         stays = λ w. refl;
       }
 
-  asks_again_step : (call : Call) → buffer_at opening past (Buffer (buffer_of call)) ≡ Some lock → InCall opening past t call None None AcquiresAgain position effect
+  asks_again_step : (call : Call) → buffer_at opening past (Buffer (buffer_of call)) ≡ Some lock
+      → InCall opening past t call None None AcquiresAgain position effect
       → Stepped opening past c t call AcquiresAgain position effect (told_asker lock.owner)
   asks_again_step call is now = go lock.owner refl
     where
@@ -350,7 +360,8 @@ module _ (opening : LockId → Option BufferLock) (past : List BufferSection) (c
         stays = λ w. refl;
       }
 
-  enters_step : (call : Call) → t.0 < THREADS → buffer_at opening past (Buffer (buffer_of call)) ≡ Some lock → InCall opening past t call None None Enters position effect
+  enters_step : (call : Call) → t.0 < THREADS → buffer_at opening past (Buffer (buffer_of call)) ≡ Some lock
+      → InCall opening past t call None None Enters position effect
       → Stepped opening past c t call Enters position effect (Did (answer.Did (told.Entered (places_of (side_of call) lock.above))))
   enters_step (Send b m) small is now = record {
     fits = record {
@@ -390,7 +401,8 @@ module _ (opening : LockId → Option BufferLock) (past : List BufferSection) (c
 
   put_step : (b : BufId) (m : Message) (v : Bool) → is_turn Senders t lock.above ≡ v → buffer_at opening past (Buffer b) ≡ Some lock
       → InCall opening past t (Send b m) None None Tries position effect
-      → Stepped opening past c t (Send b m) Tries position effect (Did (answer.Did (if v then told.Done (effect_kind Senders lock.above) lock.above.effects m else told.NotYet)))
+      → Stepped opening past c t (Send b m) Tries position effect
+      (Did (answer.Did (if v then told.Done (effect_kind Senders lock.above) lock.above.effects m else told.NotYet)))
   put_step b m true turn is now = record {
     fits = record {
       called = refl;
@@ -402,8 +414,10 @@ module _ (opening : LockId → Option BufferLock) (past : List BufferSection) (c
     };
     mine = Some (record { kind = effect_kind Senders lock.above; value = m; op = lock.above.effects; pos = position });
     is = ap (λ x. effect_on c b (Inside (Edit (TryPut t m))) (λ side u. drawn opening (Buffer b) side u past) x) is
-        ∙ ap (λ (v : Bool). if v then Some (entry_of c t b (record { kind = effect_kind Senders lock.above; value = m; op = lock.above.effects; pos = drawn opening (Buffer b) Senders t past })) else None) turn
-        ∙ ap (λ p. Some (entry_of c t b (record { kind = effect_kind Senders lock.above; value = m; op = lock.above.effects; pos = p }))) (sym (now.stance.place refl));
+        ∙ ap (λ (v : Bool). if v then Some (entry_of c t b
+        (record { kind = effect_kind Senders lock.above; value = m; op = lock.above.effects; pos = drawn opening (Buffer b) Senders t past })) else None) turn
+        ∙ ap (λ p. Some (entry_of c t b (record { kind = effect_kind Senders lock.above; value = m; op = lock.above.effects; pos = p })))
+        (sym (now.stance.place refl));
     fresh = λ f same. (none_before (Send b m) now, same, (ap (λ (g : Effect). g.kind) (sym (done f same)), ap (λ (g : Effect). g.value) (sym (done f same))));
     stays = λ w. absurd cc;
   }
@@ -422,7 +436,8 @@ module _ (opening : LockId → Option BufferLock) (past : List BufferSection) (c
     };
     mine = None;
     is = ap (λ x. effect_on c b (Inside (Edit (TryPut t m))) (λ side u. drawn opening (Buffer b) side u past) x) is
-        ∙ ap (λ (v : Bool). if v then Some (entry_of c t b (record { kind = effect_kind Senders lock.above; value = m; op = lock.above.effects; pos = drawn opening (Buffer b) Senders t past })) else None) turn;
+        ∙ ap (λ (v : Bool). if v then Some (entry_of c t b
+        (record { kind = effect_kind Senders lock.above; value = m; op = lock.above.effects; pos = drawn opening (Buffer b) Senders t past })) else None) turn;
     fresh = λ f w. absurd cc;
     stays = λ w. refl;
   }
@@ -442,8 +457,21 @@ module _ (opening : LockId → Option BufferLock) (past : List BufferSection) (c
     };
     mine = Some (record { kind = effect_kind Receivers lock.above; value = first_item lock.above.items; op = lock.above.effects; pos = position });
     is = ap (λ x. effect_on c b (Inside (Edit (TryTake t))) (λ side u. drawn opening (Buffer b) side u past) x) is
-        ∙ ap (λ (v : Bool). if v then Some (entry_of c t b (record { kind = effect_kind Receivers lock.above; value = first_item lock.above.items; op = lock.above.effects; pos = drawn opening (Buffer b) Receivers t past })) else None) turn
-        ∙ ap (λ p. Some (entry_of c t b (record { kind = effect_kind Receivers lock.above; value = first_item lock.above.items; op = lock.above.effects; pos = p }))) (sym (now.stance.place refl));
+        ∙ ap (λ (v : Bool). if v then Some (entry_of c t b
+        (record {
+          kind = effect_kind Receivers lock.above;
+          value = first_item lock.above.items;
+          op = lock.above.effects;
+          pos = drawn opening
+              (Buffer b) Receivers t past;
+        })) else None) turn
+        ∙ ap (λ p. Some (entry_of c t b (record {
+          kind = effect_kind Receivers lock.above;
+          value = first_item lock.above.items;
+          op
+              = lock.above.effects;
+          pos = p;
+        }))) (sym (now.stance.place refl));
     fresh = λ f same. (none_before (Recv b) now, same, cc);
     stays = λ w. absurd cc;
   }
@@ -458,7 +486,14 @@ module _ (opening : LockId → Option BufferLock) (past : List BufferSection) (c
     };
     mine = None;
     is = ap (λ x. effect_on c b (Inside (Edit (TryTake t))) (λ side u. drawn opening (Buffer b) side u past) x) is
-        ∙ ap (λ (v : Bool). if v then Some (entry_of c t b (record { kind = effect_kind Receivers lock.above; value = first_item lock.above.items; op = lock.above.effects; pos = drawn opening (Buffer b) Receivers t past })) else None) turn;
+        ∙ ap (λ (v : Bool). if v then Some (entry_of c t b
+        (record {
+          kind = effect_kind Receivers lock.above;
+          value = first_item lock.above.items;
+          op = lock.above.effects;
+          pos = drawn opening
+              (Buffer b) Receivers t past;
+        })) else None) turn;
     fresh = λ f w. absurd cc;
     stays = λ w. refl;
   }
@@ -541,7 +576,8 @@ module _ (opening : LockId → Option BufferLock) (past : List BufferSection) (c
 
   -- the section of any stage of a call
   pub own_step : (call : Call) (stage : Stage) → t.0 < THREADS → buffer_at opening past (Buffer (buffer_of call)) ≡ Some lock
-      → InCall opening past t call None None stage position effect → Stepped opening past c t call stage position effect (lock_out buffer_rules (section_at t call stage) lock)
+      → InCall opening past t call None None stage position effect → Stepped opening past c t call stage position effect
+      (lock_out buffer_rules (section_at t call stage) lock)
   own_step call Between small is now = absurd (false_true now.called)
     where
       false_true : false ≡ true → ⊥

@@ -1,5 +1,6 @@
 -- How the effects and the moves of the buffers grow with events, and that a part keeps fitting over events of other CPUs.
-use Rattle.std.proofs.Common.{◌≡◌, ◌≢◌, ℕ, Bool, true, false, List, [], ◌∷◌, ◌++◌, Option, Some, None, option_to_list, if◌then◌else◌, refl, ap, sym, ◌∙◌, subst, append_assoc}
+use Rattle.std.proofs.Common.{◌≡◌, ◌≢◌, ℕ, Bool, true, false, List, [], ◌∷◌, ◌++◌, Option, Some, None, option_to_list}
+use Rattle.std.proofs.Common.{if◌then◌else◌, refl, ap, sym, ◌∙◌, subst, append_assoc}
 use Rattle.std.specs.List.{AllByRecursion}
 use Rattle.event_log.specs.declared.entries.Entry.{Entry}
 use Rattle.event_log.specs.declared.ids.BufId.{BufId}
@@ -47,12 +48,16 @@ one_entry d cpu b (Acquire t) position (Some lock) other = tt
 one_entry d cpu b (Inside (Edit (Enter t side))) position (Some lock) other = tt
 one_entry d cpu b (Inside (Edit (TryPut t m))) position (Some lock) other = go (is_turn Senders t lock.above)
   where
-    go : (v : Bool) → AreOthers entry_cpu d (option_to_list (if v then Some (entry cpu t (effect_kind Senders lock.above) b m lock.above.effects (position Senders t)) else None))
+    go : (v : Bool)
+        → AreOthers entry_cpu d (option_to_list (if v then Some
+        (entry cpu t (effect_kind Senders lock.above) b m lock.above.effects (position Senders t)) else None))
     go true = (other, tt)
     go false = tt
 one_entry d cpu b (Inside (Edit (TryTake t))) position (Some lock) other = go (is_turn Receivers t lock.above)
   where
-    go : (v : Bool) → AreOthers entry_cpu d (option_to_list (if v then Some (entry cpu t (effect_kind Receivers lock.above) b (first_item lock.above.items) lock.above.effects (position Receivers t)) else None))
+    go : (v : Bool)
+        → AreOthers entry_cpu d (option_to_list (if v then Some
+        (entry cpu t (effect_kind Receivers lock.above) b (first_item lock.above.items) lock.above.effects (position Receivers t)) else None))
     go true = (other, tt)
     go false = tt
 one_entry d cpu b (Inside (SignalFront t side)) position (Some lock) other = tt
@@ -79,7 +84,8 @@ module _ (O : LockId → Option BufferLock) where
   effects_with cpu (TakeAll d) past = refl
   effects_with cpu (OnBuffer b call) past = refl
 
-  pub effects_append : (more past : List BufferEvent) → effects_in O (buffer_sections (more ++ past)) ≡ effects_over more past ++ effects_in O (buffer_sections past)
+  pub effects_append : (more past : List BufferEvent)
+      → effects_in O (buffer_sections (more ++ past)) ≡ effects_over more past ++ effects_in O (buffer_sections past)
   effects_append [] past = refl
   effects_append (e ∷ more) past =
       effects_with e.cpu e.call (buffer_sections (more ++ past))
@@ -89,7 +95,8 @@ module _ (O : LockId → Option BufferLock) where
   pub effects_others : (d : CpuId) (more past : List BufferEvent) → AreOthers event_actor d more → AreOthers entry_cpu d (effects_over more past)
   effects_others d [] past others = tt
   effects_others d (e ∷ more) past others =
-      others_join entry_cpu d (effect_by e.cpu e.call (buffer_sections (more ++ past))) (effects_over more past) (go e.call) (effects_others d more past others.1)
+      others_join entry_cpu d (effect_by e.cpu e.call (buffer_sections (more ++ past))) (effects_over more past) (go e.call)
+      (effects_others d more past others.1)
     where
       go : (call : QueueCall (CvCall BufferEdit)) → AreOthers entry_cpu d (effect_by e.cpu call (buffer_sections (more ++ past)))
       go (Push q t) = tt
@@ -102,7 +109,8 @@ module _ (opening : LockId → Option (QueueBlock BufferLock)) (d : CpuId) (more
       → TalkFits (inner opening) (buffer_sections past) u of slept waits talk → TalkFits (inner opening) (buffer_sections (more ++ past)) u of slept waits talk
   talk_on u home = keeps_fits opening d u home more past others lawful
 
-  kept_on : (t : Tid) (home : home_of (homes_in opening) t ≡ Some d) (talk : Talk) (outcome : BufferOutcome) → Kept (inner opening) (buffer_sections past) t talk.stage talk outcome
+  kept_on : (t : Tid) (home : home_of (homes_in opening) t ≡ Some d) (talk : Talk) (outcome : BufferOutcome)
+      → Kept (inner opening) (buffer_sections past) t talk.stage talk outcome
       → Kept (inner opening) (buffer_sections (more ++ past)) t talk.stage talk outcome
   kept_on t home talk outcome kept = record {
     plain = kept.plain;
@@ -118,7 +126,8 @@ module _ (opening : LockId → Option (QueueBlock BufferLock)) (d : CpuId) (more
   midway_on t home call talk None hand midway = (midway.0, talk_on t home (Some call) None None talk midway.1)
   midway_on t home call talk (Some outcome) hand midway = kept_on t home talk outcome midway
 
-  goes_on : (t : Tid) → home_of (homes_in opening) t ≡ Some d → (call : Call) (talk : Talk) (own : Waiting BufferOut) (under_way : Option (SchedCall (CvCall BufferEdit)))
+  goes_on : (t : Tid) → home_of (homes_in opening) t ≡ Some d
+      → (call : Call) (talk : Talk) (own : Waiting BufferOut) (under_way : Option (SchedCall (CvCall BufferEdit)))
       → Goes (inner opening) (buffer_sections past) t call talk own under_way → Goes (inner opening) (buffer_sections (more ++ past)) t call talk own under_way
   goes_on t home call talk own None goes = record {
     hand = goes.hand;
@@ -149,7 +158,8 @@ module _ (opening : LockId → Option (QueueBlock BufferLock)) (d : CpuId) (more
       called = fits.may.called;
       goes = goes_on t fits.home fits.call (talk_of talks t) own under_way fits.may.goes;
     };
-    others = λ u home other. talk_on u home (talk_of talks u).call (slept_for own.lock.slept u) (slept_for own.waits u) (talk_of talks u) (fits.others u home other);
+    others =
+        λ u home other. talk_on u home (talk_of talks u).call (slept_for own.lock.slept u) (slept_for own.waits u) (talk_of talks u) (fits.others u home other);
   }
 
   pub part_on : (own : Waiting BufferOut) (talks : List Talk) (under_way : Option (SchedCall (CvCall BufferEdit))) (calling : Option Tid)
@@ -167,7 +177,8 @@ pub part_grown : (opening : LockId → Option (QueueBlock BufferLock)) (d : CpuI
     → PartFits opening d past own talks under_way calling → PartFits opening d new own talks under_way calling
 part_grown opening d more past new others lawful is own talks under_way calling fits =
     subst (λ log. PartFits opening d log own talks under_way calling) (sym is)
-    (part_on opening d more past others (subst (IsLawful (QueueAllowed (lock_kernel (cv_rules buffer_deeds) opening))) is lawful) own talks under_way calling fits)
+    (part_on opening d more past others (subst (IsLawful (QueueAllowed (lock_kernel (cv_rules buffer_deeds) opening))) is lawful) own talks under_way
+    calling fits)
 
 -- effects of other CPUs alone, and moves of other CPUs alone
 pub seen_grown : (ActsFor Acts : CpuId → Type 0) (O : LockId → Option BufferLock) (others old new : List BufferEvent) → ((d : CpuId) → Acts d → ActsFor d)
@@ -184,7 +195,8 @@ all_own opening c [] past own = tt
 all_own opening c (e ∷ mine) past own = (own.0, all_own opening c mine past own.1)
 
 pub moves_grown : (opening : LockId → Option (QueueBlock BufferLock)) (ActsFor Acts : CpuId → Type 0) (c : CpuId) (mine others old new : List BufferEvent)
-    → ((d : CpuId) → Acts d → ActsFor d) → AreForeign ActsFor event_actor others → AllByRecursion (λ (e : BufferEvent). e.cpu ≡ c) mine → new ≡ mine ++ (others ++ old)
+    → ((d : CpuId) → Acts d → ActsFor d) → AreForeign ActsFor event_actor others → AllByRecursion (λ (e : BufferEvent). e.cpu ≡ c) mine → new
+    ≡ mine ++ (others ++ old)
     → MovesGrow Acts c (moves_in (lock_kernel (cv_rules buffer_deeds) opening) old) (moves_in (lock_kernel (cv_rules buffer_deeds) opening) new)
 moves_grown opening ActsFor Acts c mine others old new weaker foreign own is = record {
   others = moves_over (lock_kernel (cv_rules buffer_deeds) opening) others old;
@@ -192,7 +204,8 @@ moves_grown opening ActsFor Acts c mine others old new weaker foreign own is = r
   foreign = λ d acts. moves_others (lock_kernel (cv_rules buffer_deeds) opening) d others old (foreign d (weaker d acts));
   own = all_own opening c mine (others ++ old) own;
   is = ap (moves_in (lock_kernel (cv_rules buffer_deeds) opening)) is ∙ moves_append (lock_kernel (cv_rules buffer_deeds) opening) mine (others ++ old)
-      ∙ ap (λ steps. moves_over (lock_kernel (cv_rules buffer_deeds) opening) mine (others ++ old) ++ steps) (moves_append (lock_kernel (cv_rules buffer_deeds) opening) others old);
+      ∙ ap (λ steps. moves_over (lock_kernel (cv_rules buffer_deeds) opening) mine (others ++ old) ++ steps)
+      (moves_append (lock_kernel (cv_rules buffer_deeds) opening) others old);
 }
 
 -- the part of another CPU keeps fitting over a turn

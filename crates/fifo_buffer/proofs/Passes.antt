@@ -34,7 +34,8 @@ use Rattle.fifo_buffer.proofs.Parts.{effects_append, effects_others, effects_ove
 abbrev pub pass_events : List CpuId → CpuId → Pass → Bool → List BufferEvent
 pass_events homes c p done = if done then events_of c (pass_call homes c p) else []
 
-no_sections : (homes : List CpuId) (c : CpuId) (p : Pass) (done : Bool) (past : List BufferEvent) → buffer_sections (pass_events homes c p done ++ past) ≡ buffer_sections past
+no_sections : (homes : List CpuId) (c : CpuId) (p : Pass) (done : Bool) (past : List BufferEvent)
+    → buffer_sections (pass_events homes c p done ++ past) ≡ buffer_sections past
 no_sections homes c p false past = refl
 no_sections homes c Switch true past = refl
 no_sections homes c YieldNow true past = refl
@@ -89,7 +90,8 @@ module _ (opening : LockId → Option (QueueBlock BufferLock)) (ActsFor Acts : C
       }
 
   -- the part of this CPU, and those of other CPUs
-  pub part_passed : (d : CpuId) → AreOthers event_actor d polled.others → IsLawful (QueueAllowed (lock_kernel (cv_rules buffer_deeds) opening)) (polled.others ++ old)
+  pub part_passed : (d : CpuId) → AreOthers event_actor d polled.others
+      → IsLawful (QueueAllowed (lock_kernel (cv_rules buffer_deeds) opening)) (polled.others ++ old)
       → (cv : Waiting BufferOut) (talks : List Talk) (under_way : Option (SchedCall (CvCall BufferEdit))) (calling : Option Tid)
       → PartFits opening d old cv talks under_way calling → PartFits opening d new cv talks under_way calling
   part_passed d others lawful cv talks under_way calling fits =
@@ -97,13 +99,15 @@ module _ (opening : LockId → Option (QueueBlock BufferLock)) (ActsFor Acts : C
       record { boots = on.boots; sizes = on.sizes; calls = rw same_sections on.calls }
 
 lawful_rest : (opening : LockId → Option (QueueBlock BufferLock)) (mine past : List BufferEvent)
-    → IsLawful (QueueAllowed (lock_kernel (cv_rules buffer_deeds) opening)) (mine ++ past) → IsLawful (QueueAllowed (lock_kernel (cv_rules buffer_deeds) opening)) past
+    → IsLawful (QueueAllowed (lock_kernel (cv_rules buffer_deeds) opening)) (mine ++ past) → IsLawful
+    (QueueAllowed (lock_kernel (cv_rules buffer_deeds) opening)) past
 lawful_rest opening [] past lawful = lawful
 lawful_rest opening (e ∷ mine) past lawful = lawful_rest opening mine past lawful.1
 
 pub lawful_before : (opening : LockId → Option (QueueBlock BufferLock)) (mine past new : List BufferEvent) → new ≡ mine ++ past
     → IsLawful (QueueAllowed (lock_kernel (cv_rules buffer_deeds) opening)) new → IsLawful (QueueAllowed (lock_kernel (cv_rules buffer_deeds) opening)) past
-lawful_before opening mine past new is lawful = lawful_rest opening mine past (subst (IsLawful (QueueAllowed (lock_kernel (cv_rules buffer_deeds) opening))) is lawful)
+lawful_before opening mine past new is lawful =
+    lawful_rest opening mine past (subst (IsLawful (QueueAllowed (lock_kernel (cv_rules buffer_deeds) opening))) is lawful)
 
 -- what a pass changes of the part: its threads, and which pass is under way
 pub passed_own : (opening : LockId → Option (QueueBlock BufferLock)) (c : CpuId) (past : List BufferEvent) (cv cv' : Waiting BufferOut) (talks : List Talk)

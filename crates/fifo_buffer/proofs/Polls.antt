@@ -1,5 +1,7 @@
 -- One poll of the conditions, for a call at a stage: what it may be, and what it leaves.
-use Rattle.std.proofs.Common.{◌≡◌, ◌⊎◌, inl, inr, ◌<◌, ℕ, Bool, true, false, not, ◌&&◌, List, [], ◌∷◌, ◌++◌, length, Option, Some, None, IsSome, option_map, option_to_list, is_some, slice_set, if◌then◌else◌, refl, ap, sym, ◌∙◌, subst, arith}
+use Rattle.std.proofs.Common.{◌≡◌, ◌⊎◌, inl, inr, ◌<◌, ℕ, Bool, true, false, not, ◌&&◌, List, [], ◌∷◌, ◌++◌, length}
+use Rattle.std.proofs.Common.{Option, Some, None, IsSome, option_map, option_to_list, is_some, slice_set, if◌then◌else◌}
+use Rattle.std.proofs.Common.{refl, ap, sym, ◌∙◌, subst, arith}
 use Rattle.std.proofs.lemmas.Bool.{eqb-false}
 use Rattle.std.proofs.lemmas.List.{get_or-set_other, get_or-set_same, length-set}
 use Rattle.event_log.specs.declared.ids.BufId.{BufId}
@@ -95,9 +97,11 @@ module _ (opening : LockId → Option (QueueBlock BufferLock)) (c : CpuId) (t : 
       → Goes (inner opening) (buffer_sections past) t call talk own under_way
       → MayWait waits under_way (buffer_of call) (section_at t call talk.stage) t
       (MayGo slept under_way (buffer_of call) (section_at t call talk.stage) t
-      (MayLock (cv_rules buffer_deeds) (lock_kernel (cv_rules buffer_deeds) opening) c past own.lock.sleep.threads.hand (buffer_of call) (section_at t call talk.stage)))
+      (MayLock (cv_rules buffer_deeds) (lock_kernel (cv_rules buffer_deeds) opening) c past own.lock.sleep.threads.hand (buffer_of call)
+      (section_at t call talk.stage)))
   may_for own None slept (Some at) slept_is waits_is goes =
-      let mark : IsMark (buffer_of call) (waits_at talk.stage) (Some at) = subst (IsMark (buffer_of call) (waits_at talk.stage)) waits_is goes.fits.waits_here in
+      let mark : IsMark (buffer_of call) (waits_at talk.stage) (Some at) = subst (IsMark (buffer_of call) (waits_at talk.stage)) waits_is
+      goes.fits.waits_here in
       (refl, mark.0, (side_of call, waits_section t call talk.stage mark.1))
   may_for own None (Some at) None slept_is waits_is goes =
       let mark : IsMark (buffer_of call) (asks_at talk.stage) (Some at) = subst (IsMark (buffer_of call) (asks_at talk.stage)) slept_is goes.fits.slept_here in
@@ -122,11 +126,13 @@ module _ (opening : LockId → Option (QueueBlock BufferLock)) (c : CpuId) (t : 
       none is = absurd cc
   may_for own (Some s) None None slept_is waits_is goes = goes.is
 
-  pub may_turn : (own : Waiting BufferOut) (under_way : Option (SchedCall (CvCall BufferEdit))) → MayTurn (inner opening) (buffer_sections past) t call talk own under_way
+  pub may_turn : (own : Waiting BufferOut) (under_way : Option (SchedCall (CvCall BufferEdit)))
+      → MayTurn (inner opening) (buffer_sections past) t call talk own under_way
       → (u : Tid) → u ≡ t
       → MayWait (slept_for own.waits u) under_way (buffer_of call) (section_at t call talk.stage) u
       (MayGo (slept_for own.lock.slept u) under_way (buffer_of call) (section_at t call talk.stage) u
-      (MayLock (cv_rules buffer_deeds) (lock_kernel (cv_rules buffer_deeds) opening) c past own.lock.sleep.threads.hand (buffer_of call) (section_at t call talk.stage)))
+      (MayLock (cv_rules buffer_deeds) (lock_kernel (cv_rules buffer_deeds) opening) c past own.lock.sleep.threads.hand (buffer_of call)
+      (section_at t call talk.stage)))
   may_turn own under_way may u same = rw same (may_for own under_way (slept_for own.lock.slept t) (slept_for own.waits t) refl refl may.goes)
 
 -- the marks after an answer
@@ -149,10 +155,12 @@ waits_list t b waits (Did o) = waits
 waits_list t b waits (Released o) = waits_list_in t b waits o
 
 -- what the layers between make of an answer: it is handed on at once, or its caller has a mark now
-abbrev both : Tid → BufId → List (Option BufId) → List (Option BufId) → Left (Sleeping (QOut (CvOut BufferOut))) BufferOutcome → Left (Waiting BufferOut) BufferOutcome
+abbrev both : Tid → BufId → List (Option BufId) → List (Option BufId) → Left (Sleeping (QOut (CvOut BufferOut))) BufferOutcome
+    → Left (Waiting BufferOut) BufferOutcome
 both t b waits slept l = left_waiting t b waits (left_after t b slept l.own l.answer).own (left_after t b slept l.own l.answer).answer
 
-both_left : (t : Tid) (b : BufId) (waits slept : List (Option BufId)) (sleep : Sleeping (QOut (CvOut BufferOut))) (out : QOut (CvOut BufferOut)) (outcome : BufferOutcome)
+both_left : (t : Tid) (b : BufId) (waits slept : List (Option BufId)) (sleep : Sleeping (QOut (CvOut BufferOut))) (out : QOut (CvOut BufferOut))
+    (outcome : BufferOutcome)
     → outcome.out ≡ out
     → both t b waits slept (record { own = sleep; answer = Some outcome })
     ≡ record {
@@ -167,7 +175,8 @@ both_left t b waits slept sleep (Released (answer.Signalled side front)) outcome
 both_left t b waits slept sleep (Released answer.Left) outcome is = rw is refl
 both_left t b waits slept sleep (Released (answer.Waited side)) outcome is = rw is refl
 
-plain_marks : (O : LockId → Option BufferLock) (past : _) (t : Tid) (b : BufId) (talk : Talk) (stage : Stage) (out : QOut (CvOut BufferOut)) → is_plain out ≡ true
+plain_marks : (O : LockId → Option BufferLock) (past : _) (t : Tid) (b : BufId) (talk : Talk) (stage : Stage) (out : QOut (CvOut BufferOut))
+    → is_plain out ≡ true
     → TalkFits O past t (heard_by talk stage out).call (slept_by b out) (waits_by b out) (heard_by talk stage out)
     → TalkFits O past t (heard talk stage out).call None None (heard talk stage out)
 plain_marks O past t b talk stage Acquired plain fits = fits
@@ -208,7 +217,8 @@ plain_stays (Released answer.Left) plain = refl
 plain_stays (Released (answer.Waited side)) plain = absurd cc
 
 -- a wait's answer is not handed on at once
-no_wait_plain : (t : Tid) (call : Call) (stage : Stage) (lock : BufferLock) → is_plain (lock_out buffer_rules (section_at t call stage) lock) ≡ true → waits_at stage ≡ false
+no_wait_plain : (t : Tid) (call : Call) (stage : Stage) (lock : BufferLock) → is_plain (lock_out buffer_rules (section_at t call stage) lock) ≡ true
+    → waits_at stage ≡ false
 no_wait_plain t call Between lock plain = refl
 no_wait_plain t call Acquires lock plain = refl
 no_wait_plain t call Enters lock plain = refl
@@ -272,14 +282,16 @@ plain_lists t b slept waits (Released (answer.Signalled side front)) plain = (re
 plain_lists t b slept waits (Released answer.Left) plain = (refl, refl)
 plain_lists t b slept waits (Released (answer.Waited side)) plain = absurd cc
 
-slept_mark : (t : Tid) (b : BufId) (slept : List (Option BufId)) (out : QOut (CvOut BufferOut)) → length slept ≡ THREADS → t.0 < THREADS → slept_for slept t ≡ None
+slept_mark : (t : Tid) (b : BufId) (slept : List (Option BufId)) (out : QOut (CvOut BufferOut)) → length slept ≡ THREADS → t.0 < THREADS
+    → slept_for slept t ≡ None
     → slept_for (slept_list t b slept out) t ≡ slept_by b out
 slept_mark t b slept Acquired size small none = none
 slept_mark t b slept Queued size small none = own_mark slept t (Some b) size small
 slept_mark t b slept (Did o) size small none = none
 slept_mark t b slept (Released o) size small none = none
 
-waits_mark : (t : Tid) (b : BufId) (waits : List (Option BufId)) (out : QOut (CvOut BufferOut)) → length waits ≡ THREADS → t.0 < THREADS → slept_for waits t ≡ None
+waits_mark : (t : Tid) (b : BufId) (waits : List (Option BufId)) (out : QOut (CvOut BufferOut)) → length waits ≡ THREADS → t.0 < THREADS
+    → slept_for waits t ≡ None
     → slept_for (waits_list t b waits out) t ≡ waits_by b out
 waits_mark t b waits Acquired size small none = none
 waits_mark t b waits Queued size small none = none
@@ -342,7 +354,8 @@ not_false : (x y : Bool) → (not x && y) ≡ false → x ≡ false → y ≡ fa
 not_false true y is out = absurd cc
 not_false false y is out = is
 
-module _ (opening : LockId → Option (QueueBlock BufferLock)) (ActsFor : CpuId → Type 0) (c : CpuId) (acts : ActsFor c) (t : Tid) (home : home_of (homes_in opening) t ≡ Some c)
+module _ (opening : LockId → Option (QueueBlock BufferLock)) (ActsFor : CpuId → Type 0) (c : CpuId) (acts : ActsFor c) (t : Tid)
+    (home : home_of (homes_in opening) t ≡ Some c)
     (small : t.0 < THREADS) (call : Call) (stage : Stage) (position : ℕ) (effect : Option Effect) (own : Waiting BufferOut)
     (slept_size : length own.lock.slept ≡ THREADS) (waits_size : length own.waits ≡ THREADS)
     (runs : own.lock.sleep.threads.current ≡ Some t) (old others : List BufferEvent) (foreign : AreForeign ActsFor event_actor others) where
@@ -381,7 +394,8 @@ module _ (opening : LockId → Option (QueueBlock BufferLock)) (ActsFor : CpuId 
         )
     view (Some s) goes = go own.lock.sleep.kept refl goes.midway
       where
-        go : (kept : Option BufferOutcome) → own.lock.sleep.kept ≡ kept → Midway O (buffer_sections old) t call talk kept own.lock.sleep.threads.hand → Fresh ⊎ Keeping
+        go : (kept : Option BufferOutcome) → own.lock.sleep.kept ≡ kept → Midway O (buffer_sections old) t call talk kept own.lock.sleep.threads.hand
+            → Fresh ⊎ Keeping
         go None is midway = inl (is, midway.0, midway.1)
         go (Some outcome) is midway = inr (outcome, is, midway)
 
@@ -391,7 +405,8 @@ module _ (opening : LockId → Option (QueueBlock BufferLock)) (ActsFor : CpuId 
     not_slept : is_some (slept_for own.lock.slept t) ≡ true → ⊥
     not_slept some = let none : is_some (slept_for own.lock.slept t) ≡ false = ap is_some slept_none in absurd (cc (none, some))
 
-    kept_later : IsLawful (QueueAllowed (lock_kernel (cv_rules buffer_deeds) opening)) (others ++ old) → (outcome : BufferOutcome) → Kept O (buffer_sections old) t stage talk outcome
+    kept_later : IsLawful (QueueAllowed (lock_kernel (cv_rules buffer_deeds) opening)) (others ++ old) → (outcome : BufferOutcome)
+        → Kept O (buffer_sections old) t stage talk outcome
         → Kept O (buffer_sections (others ++ old)) t stage talk outcome
     kept_later lawful outcome kept = record {
       plain = kept.plain;
@@ -525,7 +540,8 @@ module _ (opening : LockId → Option (QueueBlock BufferLock)) (ActsFor : CpuId 
         ended = ap (λ (o : Threads). o.ended) same ∙ woken_ended (homes_in opening) c outcome.woke gone_on
             ∙ slept_ended (line_slept (cv_rules buffer_deeds) outcome.out) own.lock.sleep.threads;
         apart = λ u there other of slept waits its fits. fits_apart O (buffer_sections (others ++ old)) (section c (Buffer (buffer_of call)) e) u
-            (ap (λ v. same_tid v u) (caller_is t call stage) ∙ other) lawful.0.upper.owners of slept waits its (apart_old lawful.1 u there of slept waits its fits);
+            (ap (λ v. same_tid v u) (caller_is t call stage) ∙ other) lawful.0.upper.owners of slept waits its
+            (apart_old lawful.1 u there of slept waits its fits);
         after = after;
         over = over;
         handed = λ some. absurd (not_slept some);
@@ -539,7 +555,8 @@ module _ (opening : LockId → Option (QueueBlock BufferLock)) (ActsFor : CpuId 
       kept_turn sends =
           to_done (record { lock = record { sleep = record { threads = threads; kept = Some outcome }; slept = own.lock.slept }; waits = own.waits })
           (Some (sched.OnBuffer (buffer_of call) e)) false talk refl (λ u other. (refl, refl)) (refl, refl)
-          (λ f same. absurd (none_some (done.fresh f same).0 (sym quiet ∙ sym (ap (λ (o : Talk). o.effect) (plain_heard talk stage outcome.out plain)) ∙ (done.fresh f same).1)))
+          (λ f same. absurd (none_some (done.fresh f same).0
+          (sym quiet ∙ sym (ap (λ (o : Talk). o.effect) (plain_heard talk stage outcome.out plain)) ∙ (done.fresh f same).1)))
           (λ w. refl) (
             refl,
             inr (record {
@@ -598,7 +615,8 @@ module _ (opening : LockId → Option (QueueBlock BufferLock)) (ActsFor : CpuId 
 
       plain_or_sleeps : must_send outcome threads ≡ false
           → TurnedTo (event c (queue.OnBuffer (buffer_of call) e) ∷ (others ++ old))
-          left_now None (is_some (if is_plain outcome.out then Some outcome else None)) (heard_if talk stage (if is_plain outcome.out then Some outcome else None))
+          left_now None (is_some (if is_plain outcome.out then Some outcome else None))
+          (heard_if talk stage (if is_plain outcome.out then Some outcome else None))
       plain_or_sleeps stays_here = go (is_plain outcome.out) refl
         where
           marks : (u : Tid) → same_tid t u ≡ false
@@ -630,11 +648,15 @@ module _ (opening : LockId → Option (QueueBlock BufferLock)) (ActsFor : CpuId 
               (λ w. sym (ap (λ (o : Talk). o.effect) (plain_heard talk stage outcome.out plain)) ∙ done.stays w)
               (record {
                 none = refl;
-                current = woken_current (homes_in opening) c outcome.woke gone_on ∙ ap (λ line. (own_slept line own.lock.sleep.threads).current) (plain_stays outcome.out plain) ∙ runs;
+                current =
+                    woken_current (homes_in opening) c outcome.woke gone_on ∙ ap (λ line. (own_slept line own.lock.sleep.threads).current)
+                    (plain_stays outcome.out plain) ∙ runs;
                 hand = none_of threads.hand (not_false outcome.slept (is_some threads.hand) stays_here
                     (sleeps_as e lock ∙ ap is_some (plain_stays outcome.out plain)));
                 kept = refl;
-                fits = subst (λ (o : Talk). TalkFits O after_it t o.call (slept_for (slept_list t (buffer_of call) own.lock.slept outcome.out) t) (slept_for (waits_list t (buffer_of call) own.waits outcome.out) t) o) (plain_heard talk stage outcome.out plain) fits_now;
+                fits =
+                    subst (λ (o : Talk). TalkFits O after_it t o.call (slept_for (slept_list t (buffer_of call) own.lock.slept outcome.out) t)
+                    (slept_for (waits_list t (buffer_of call) own.waits outcome.out) t) o) (plain_heard talk stage outcome.out plain) fits_now;
                 heard_is = (outcome.out, refl);
                 reply = here.effect_is;
                 free = (
@@ -654,9 +676,13 @@ module _ (opening : LockId → Option (QueueBlock BufferLock)) (ActsFor : CpuId 
                 refl,
                 inl (record {
                   none = refl;
-                  current = woken_current (homes_in opening) c outcome.woke gone_on ∙ sleeps_none (line_slept (cv_rules buffer_deeds) outcome.out) own.lock.sleep.threads (sleeping_line outcome.out sleeps);
+                  current =
+                      woken_current (homes_in opening) c outcome.woke gone_on ∙ sleeps_none
+                      (line_slept (cv_rules buffer_deeds) outcome.out) own.lock.sleep.threads (sleeping_line outcome.out sleeps);
                   kept = refl;
-                  fits = subst (λ (o : Talk). TalkFits O after_it t o.call (slept_for (slept_list t (buffer_of call) own.lock.slept outcome.out) t) (slept_for (waits_list t (buffer_of call) own.waits outcome.out) t) o) (sleeping_heard talk stage outcome.out sleeps) fits_now;
+                  fits =
+                      subst (λ (o : Talk). TalkFits O after_it t o.call (slept_for (slept_list t (buffer_of call) own.lock.slept outcome.out) t)
+                      (slept_for (waits_list t (buffer_of call) own.waits outcome.out) t) o) (sleeping_heard talk stage outcome.out sleeps) fits_now;
                 }),
               )
               never
@@ -699,7 +725,8 @@ module _ (opening : LockId → Option (QueueBlock BufferLock)) (ActsFor : CpuId 
               (lock_answer (cv_rules buffer_deeds) e lock) refl))
               (plain_or_sleeps lawful now lock at stays_here)
 
-    does_base : (outcome : BufferOutcome) → IsLawful (QueueAllowed (lock_kernel (cv_rules buffer_deeds) opening)) (event c (queue.OnBuffer (buffer_of call) e) ∷ (others ++ old))
+    does_base : (outcome : BufferOutcome)
+        → IsLawful (QueueAllowed (lock_kernel (cv_rules buffer_deeds) opening)) (event c (queue.OnBuffer (buffer_of call) e) ∷ (others ++ old))
         → Fresh → out_at (lock_kernel (cv_rules buffer_deeds) opening) (others ++ old) (buffer_of call) e ≡ Some outcome → DoneAs outcome
     does_base outcome lawful now out = there (buffer_at O (buffer_sections (others ++ old)) (Buffer (buffer_of call))) refl out
       where
@@ -763,7 +790,8 @@ module _ (opening : LockId → Option (QueueBlock BufferLock)) (ActsFor : CpuId 
         → new ≡ seen_with (lock_kernel (cv_rules buffer_deeds) opening) c (buffer_of call) e deed (others ++ old)
         → MayDo (lock_kernel (cv_rules buffer_deeds) opening) c (buffer_of call) e deed (others ++ old) own.lock.sleep
         → (before : Option (SchedCall (CvCall BufferEdit))) → Goes O (buffer_sections old) t call talk own before
-        → (under_way : Option (SchedCall (CvCall BufferEdit))) (s : Left (Sleeping (QOut (CvOut BufferOut))) BufferOutcome) (l : Left (Locking (CvOut BufferOut)) BufferOutcome)
+        → (under_way : Option (SchedCall (CvCall BufferEdit))) (s : Left (Sleeping (QOut (CvOut BufferOut))) BufferOutcome)
+        (l : Left (Locking (CvOut BufferOut)) BufferOutcome)
         (got : Left (Waiting BufferOut) BufferOutcome) (u : Tid) → u ≡ t
         → s ≡ left_with (lock_kernel (cv_rules buffer_deeds) opening) c (buffer_of call) e deed own.lock.sleep
         → under_way ≡ (if is_some s.answer then None else Some (sched.OnBuffer (buffer_of call) e))

@@ -1,5 +1,6 @@
 -- A part fits at the start.
-use Rattle.std.proofs.Common.{◌≡◌, ℕ, zero, suc, slice_index_or, List, [], ◌∷◌, length, replicate, Option, Some, None, option_map, slice_get, refl, ap, sym, ◌∙◌, subst}
+use Rattle.std.proofs.Common.{◌≡◌, ℕ, zero, suc, slice_index_or, List, [], ◌∷◌, length, replicate, Option, Some, None}
+use Rattle.std.proofs.Common.{option_map, slice_get, refl, ap, sym, ◌∙◌, subst}
 use Rattle.std.proofs.lemmas.List.{length-replicate}
 use Rattle.event_log.specs.declared.ids.BufId.{BufId}
 use Rattle.event_log.specs.declared.ids.CpuId.{CpuId}
@@ -33,7 +34,8 @@ same_default (suc n) zero a = refl
 same_default (suc n) (suc i) a = same_default n i a
 
 -- no moves, no events
-pub no_events : (opening : LockId → Option (QueueBlock BufferLock)) (past : List BufferEvent) → moves_in (lock_kernel (cv_rules buffer_deeds) opening) past ≡ [] → past ≡ []
+pub no_events : (opening : LockId → Option (QueueBlock BufferLock)) (past : List BufferEvent)
+    → moves_in (lock_kernel (cv_rules buffer_deeds) opening) past ≡ [] → past ≡ []
 no_events opening [] none = refl
 no_events opening (e ∷ past) none = absurd cc
 
@@ -68,7 +70,8 @@ line_none : (t : Tid) (side : Side) (caps : List ℕ) (lock : LockId) → count_
 line_none t side caps (Pending d) = refl
 line_none t side caps (Buffer b) = fresh_line t side (slice_get caps b.0)
 
-quiet_fits : (opening : LockId → Option (QueueBlock BufferLock)) → BootsSo opening → (t : Tid) (slept waits : Option BufId) (talk : Talk) → slept ≡ None → waits ≡ None → talk ≡ quiet
+quiet_fits : (opening : LockId → Option (QueueBlock BufferLock)) → BootsSo opening → (t : Tid) (slept waits : Option BufId) (talk : Talk)
+    → slept ≡ None → waits ≡ None → talk ≡ quiet
     → TalkFits (inner opening) [] t talk.call slept waits talk
 quiet_fits opening boots t slept waits talk slept_none waits_none is =
     subst (λ (x : Talk). TalkFits (inner opening) [] t x.call slept waits x) (sym is) (record {
@@ -82,7 +85,9 @@ quiet_fits opening boots t slept waits talk slept_none waits_none is =
       waits_none = waits_none;
     })
 
-pub start_fits : (opening : LockId → Option (QueueBlock BufferLock)) (homes : List CpuId) (c d : CpuId) (past : List BufferEvent) (own : Waiting BufferOut) (talks : List Talk) → BootsSo opening → past ≡ []
+pub start_fits : (opening : LockId → Option (QueueBlock BufferLock)) (homes : List CpuId) (c d : CpuId) (past : List BufferEvent)
+    (own : Waiting BufferOut) (talks : List Talk)
+    → BootsSo opening → past ≡ []
     → own ≡ waiting_at_start homes c → talks ≡ replicate THREADS quiet → PartFits opening d past own talks None None
 start_fits opening homes c d past own talks boots none own_is talks_are = record {
   boots = boots;

@@ -40,9 +40,11 @@ use Rattle.fifo_buffer.specs.Turns.{Begins, BufferEvent, BufferOutcome, Ended, G
 use Rattle.fifo_buffer.proofs.Polls.{caller_is, locks_turn, other_mark, own_mark}
 
 -- a thread that was woken out of its wait asks for the lock again
-waited_on : (O : LockId → Option BufferLock) (past : List BufferSection) (t : Tid) (call : Call) (at : BufId) (slept : Option BufId) (stage : Stage) (position : ℕ) (effect : Option Effect)
+waited_on : (O : LockId → Option BufferLock) (past : List BufferSection) (t : Tid) (call : Call) (at : BufId) (slept : Option BufId)
+    (stage : Stage) (position : ℕ) (effect : Option Effect)
     → InCall O past t call slept (Some at) stage position effect
-    → (slept ≡ None) × ((out : QOut (CvOut BufferOut)) → TalkFits O past t (heard (talk_in stage call position effect) stage out).call None None (heard (talk_in stage call position effect) stage out))
+    → (slept ≡ None) × ((out : QOut (CvOut BufferOut)) → TalkFits O past t (heard (talk_in stage call position effect) stage out).call None None
+    (heard (talk_in stage call position effect) stage out))
     × ((out : QOut (CvOut BufferOut)) → (heard (talk_in stage call position effect) stage out).effect ≡ effect)
 waited_on O past t call at slept Between position effect now = absurd (wrong now.waits_here.1)
   where
@@ -105,7 +107,8 @@ handed_stance O past t b side lined position holds stance = record {
     go l true same grip = subst (λ k. Holds t (buffer_at O past k)) (sym (same_lock_true l (Buffer b) same)) holds
     go l false same grip = grip
 
-handed_on : (O : LockId → Option BufferLock) (past : List BufferSection) (t : Tid) (call : Call) (at : BufId) (stage : Stage) (position : ℕ) (effect : Option Effect)
+handed_on : (O : LockId → Option BufferLock) (past : List BufferSection) (t : Tid) (call : Call) (at : BufId) (stage : Stage) (position : ℕ)
+    (effect : Option Effect)
     → Holds t (buffer_at O past (Buffer (buffer_of call))) → InCall O past t call (Some at) None stage position effect
     → TalkFits O past t (heard (talk_in stage call position effect) stage Acquired).call None None (heard (talk_in stage call position effect) stage Acquired)
     × ((heard (talk_in stage call position effect) stage Acquired).effect ≡ effect) × (waits_at stage ≡ false)
@@ -162,7 +165,8 @@ handed_on O past t call at Releases position effect holds now = absurd (wrong no
     wrong : false ≡ true → ⊥
     wrong is = absurd cc
 
-module _ (opening : LockId → Option (QueueBlock BufferLock)) (ActsFor : CpuId → Type 0) (c : CpuId) (acts : ActsFor c) (t : Tid) (home : home_of (homes_in opening) t ≡ Some c)
+module _ (opening : LockId → Option (QueueBlock BufferLock)) (ActsFor : CpuId → Type 0) (c : CpuId) (acts : ActsFor c) (t : Tid)
+    (home : home_of (homes_in opening) t ≡ Some c)
     (small : t.0 < THREADS) (call : Call) (own : Waiting BufferOut)
     (slept_size : length own.lock.slept ≡ THREADS) (waits_size : length own.waits ≡ THREADS)
     (runs : own.lock.sleep.threads.current ≡ Some t) (old new : List BufferEvent) where
@@ -209,10 +213,12 @@ module _ (opening : LockId → Option (QueueBlock BufferLock)) (ActsFor : CpuId 
       let later : Talk = heard (talk_in stage call position effect) stage out in
       let left : Waiting BufferOut = record { lock = own.lock; waits = slice_set own.waits t.0 None } in
       let is : got ≡ left_woken t o.side own.waits own.lock = leaves ∙ ap (λ v. left_woken v o.side own.waits own.lock) caller in
-      subst (λ (g : Left (Waiting BufferOut) BufferOutcome). Turned (homes_in opening) ActsFor (inner opening) c t call (talk_in stage call position effect) old old own g.own under_way
+      subst (λ (g : Left (Waiting BufferOut) BufferOutcome). Turned (homes_in opening) ActsFor (inner opening) c t call
+      (talk_in stage call position effect) old old own g.own under_way
       (is_some g.answer) (heard_if (talk_in stage call position effect) stage g.answer)) (sym is)
       (subst (λ w. Turned (homes_in opening) ActsFor (inner opening) c t call (talk_in stage call position effect) old old own left w true later) (sym o.ends)
-      (at_once_turn stage position effect left later refl (λ v other. (refl, other_mark own.waits t v None other)) (refl, length-set own.waits t.0 None) (on.2 out)
+      (at_once_turn stage position effect left later refl (λ v other. (refl, other_mark own.waits t v None other))
+      (refl, length-set own.waits t.0 None) (on.2 out)
       (record {
         none = refl;
         current = runs;
@@ -227,7 +233,8 @@ module _ (opening : LockId → Option (QueueBlock BufferLock)) (ActsFor : CpuId 
 
   handed_turn : (stage : Stage) (position : ℕ) (effect : Option Effect) (at : BufId) → slept_for own.lock.slept t ≡ Some at → slept_for own.waits t ≡ None
       → Begins (inner opening) (buffer_sections old) t call (talk_in stage call position effect) own
-      → (got : Left (Waiting BufferOut) BufferOutcome) (l : Left (Locking (CvOut BufferOut)) BufferOutcome) (under_way : Option (SchedCall (CvCall BufferEdit))) (u : Tid) → u ≡ t
+      → (got : Left (Waiting BufferOut) BufferOutcome) (l : Left (Locking (CvOut BufferOut)) BufferOutcome)
+      (under_way : Option (SchedCall (CvCall BufferEdit))) (u : Tid) → u ≡ t
       → owner_in (buffer_at (inner opening) (buffer_sections old) (Buffer (buffer_of call))) ≡ Some t
       → is_in t (line_in line.Sleepers (buffer_at (inner opening) (buffer_sections old) (Buffer (buffer_of call)))) ≡ false
       → under_way ≡ None → l ≡ left_handed u own.lock.slept own.lock.sleep → got ≡ left_waiting u (buffer_of call) own.waits l.own l.answer
@@ -238,16 +245,20 @@ module _ (opening : LockId → Option (QueueBlock BufferLock)) (ActsFor : CpuId 
       = subst (λ w. InCall (inner opening) (buffer_sections old) t call w (slept_for own.waits t) stage position effect) slept_is begins.fits in
       let fits : InCall (inner opening) (buffer_sections old) t call (Some at) None stage position effect
       = subst (λ w. InCall (inner opening) (buffer_sections old) t call (Some at) w stage position effect) waits_none some_slept in
-      let on = handed_on (inner opening) (buffer_sections old) t call at stage position effect (held (buffer_at (inner opening) (buffer_sections old) (Buffer (buffer_of call))) owns awake) fits in
+      let on = handed_on (inner opening) (buffer_sections old) t call at stage position effect
+      (held (buffer_at (inner opening) (buffer_sections old) (Buffer (buffer_of call))) owns awake) fits in
       let later : Talk = heard (talk_in stage call position effect) stage Acquired in
       let left : Waiting BufferOut = record { lock = record { sleep = own.lock.sleep; slept = slice_set own.lock.slept t.0 None }; waits = own.waits } in
       let is : got ≡ record { own = left; answer = Some (record { out = Acquired; slept = false; woke = None }) }
       = got_is ∙ ap (λ (x : Left (Locking (CvOut BufferOut)) BufferOutcome). left_waiting u (buffer_of call) own.waits x.own x.answer) l_is
-      ∙ ap (λ v. left_waiting v (buffer_of call) own.waits (left_handed v own.lock.slept own.lock.sleep).own (left_handed v own.lock.slept own.lock.sleep).answer) caller in
-      subst (λ (g : Left (Waiting BufferOut) BufferOutcome). Turned (homes_in opening) ActsFor (inner opening) c t call (talk_in stage call position effect) old old own g.own under_way
+      ∙ ap (λ v. left_waiting v (buffer_of call) own.waits (left_handed v own.lock.slept own.lock.sleep).own
+      (left_handed v own.lock.slept own.lock.sleep).answer) caller in
+      subst (λ (g : Left (Waiting BufferOut) BufferOutcome). Turned (homes_in opening) ActsFor (inner opening) c t call
+      (talk_in stage call position effect) old old own g.own under_way
       (is_some g.answer) (heard_if (talk_in stage call position effect) stage g.answer)) (sym is)
       (subst (λ w. Turned (homes_in opening) ActsFor (inner opening) c t call (talk_in stage call position effect) old old own left w true later) (sym ends)
-      (at_once_turn stage position effect left later refl (λ v other. (other_mark own.lock.slept t v None other, refl)) (length-set own.lock.slept t.0 None, refl) on.1
+      (at_once_turn stage position effect left later refl (λ v other. (other_mark own.lock.slept t v None other, refl))
+      (length-set own.lock.slept t.0 None, refl) on.1
       (record {
         none = refl;
         current = runs;
@@ -277,29 +288,39 @@ module _ (opening : LockId → Option (QueueBlock BufferLock)) (ActsFor : CpuId 
       → (IsSome waits → new ≡ old) → (IsSome slept → new ≡ old)
       → Turned (homes_in opening) ActsFor (inner opening) c t call (talk_in stage call position effect) old new own got.own under_way (is_some got.answer)
       (heard_if (talk_in stage call position effect) stage got.answer)
-  polled_in stage position effect (Some s) under_way goes lawful awake (Some at) slept waits_is slept_is got polled woken handed = absurd (none (sym goes.waits ∙ waits_is))
+  polled_in stage position effect (Some s) under_way goes lawful awake (Some at) slept waits_is slept_is got polled woken handed =
+      absurd (none (sym goes.waits ∙ waits_is))
     where
       none : None ≡ Some at → ⊥
       none is = absurd cc
   polled_in stage position effect None under_way goes lawful awake (Some at) slept waits_is slept_is got polled woken handed =
-      subst (λ log. Turned (homes_in opening) ActsFor (inner opening) c t call (talk_in stage call position effect) old log own got.own under_way (is_some got.answer)
+      subst (λ log. Turned (homes_in opening) ActsFor (inner opening) c t call (talk_in stage call position effect) old log own got.own under_way
+      (is_some got.answer)
       (heard_if (talk_in stage call position effect) stage got.answer)) (sym (woken refl))
-      (over_turn stage position effect at waits_is goes got under_way (lock_caller (cv_rules buffer_deeds) (section_at t call stage)) (caller_is t call stage) polled polled.leaves)
-  polled_in stage position effect (Some s) under_way goes lawful awake None (Some at) waits_is slept_is got polled woken handed = absurd (none (sym goes.slept ∙ slept_is))
+      (over_turn stage position effect at waits_is goes got under_way (lock_caller (cv_rules buffer_deeds) (section_at t call stage))
+      (caller_is t call stage) polled polled.leaves)
+  polled_in stage position effect (Some s) under_way goes lawful awake None (Some at) waits_is slept_is got polled woken handed =
+      absurd (none (sym goes.slept ∙ slept_is))
     where
       none : None ≡ Some at → ⊥
       none is = absurd cc
   polled_in stage position effect None under_way goes lawful awake None (Some at) waits_is slept_is got polled woken handed =
-      let hands : Handed (cv_rules buffer_deeds) (inner opening) (buffer_of call) (lock_caller (cv_rules buffer_deeds) (section_at t call stage)) old own.lock under_way polled.left
-      = subst (λ w. LockPolled (cv_rules buffer_deeds) (lock_kernel (cv_rules buffer_deeds) opening) ActsFor c (buffer_of call) (section_at t call stage) w old new own.lock under_way polled.left)
+      let hands : Handed (cv_rules buffer_deeds) (inner opening) (buffer_of call) (lock_caller (cv_rules buffer_deeds) (section_at t call stage)) old
+      own.lock under_way polled.left
+      = subst (λ w. LockPolled (cv_rules buffer_deeds) (lock_kernel (cv_rules buffer_deeds) opening) ActsFor c (buffer_of call)
+      (section_at t call stage) w old new own.lock under_way polled.left)
       (ap (slept_for own.lock.slept) (caller_is t call stage) ∙ slept_is) polled.polled in
-      subst (λ log. Turned (homes_in opening) ActsFor (inner opening) c t call (talk_in stage call position effect) old log own got.own under_way (is_some got.answer)
+      subst (λ log. Turned (homes_in opening) ActsFor (inner opening) c t call (talk_in stage call position effect) old log own got.own under_way
+      (is_some got.answer)
       (heard_if (talk_in stage call position effect) stage got.answer)) (sym (handed refl))
-      (handed_turn stage position effect at slept_is waits_is goes got polled.left under_way (lock_caller (cv_rules buffer_deeds) (section_at t call stage)) (caller_is t call stage)
+      (handed_turn stage position effect at slept_is waits_is goes got polled.left under_way
+      (lock_caller (cv_rules buffer_deeds) (section_at t call stage)) (caller_is t call stage)
       (hands.owns ∙ ap Some (caller_is t call stage)) awake hands.ends hands.leaves polled.leaves)
   polled_in stage position effect before under_way goes lawful awake None None waits_is slept_is got polled woken handed =
-      let locks : Locks (lock_kernel (cv_rules buffer_deeds) opening) ActsFor c (buffer_of call) (section_at t call stage) old new own.lock under_way polled.left
-      = subst (λ w. LockPolled (cv_rules buffer_deeds) (lock_kernel (cv_rules buffer_deeds) opening) ActsFor c (buffer_of call) (section_at t call stage) w old new own.lock under_way polled.left)
+      let locks : Locks (lock_kernel (cv_rules buffer_deeds) opening) ActsFor c (buffer_of call) (section_at t call stage) old new own.lock under_way
+      polled.left
+      = subst (λ w. LockPolled (cv_rules buffer_deeds) (lock_kernel (cv_rules buffer_deeds) opening) ActsFor c (buffer_of call)
+      (section_at t call stage) w old new own.lock under_way polled.left)
       (ap (slept_for own.lock.slept) (caller_is t call stage) ∙ slept_is) polled.polled in
       let sleep = locks.polled in
       locks_turn opening ActsFor c acts t home small call stage position effect own slept_size waits_size runs old sleep.others sleep.foreign slept_is waits_is
@@ -311,15 +332,18 @@ module _ (opening : LockId → Option (QueueBlock BufferLock)) (ActsFor : CpuId 
       → IsLawful (QueueAllowed (lock_kernel (cv_rules buffer_deeds) opening)) new
       → is_in t (line_in line.Sleepers (buffer_at (inner opening) (buffer_sections old) (Buffer (buffer_of call)))) ≡ false
       → (u : Tid) → u ≡ t → (got : Left (Waiting BufferOut) BufferOutcome)
-      → CvPolled buffer_deeds (lock_kernel (cv_rules buffer_deeds) opening) ActsFor c (buffer_of call) (section_at t call talk.stage) (slept_for own.waits u) old new own under_way got
+      → CvPolled buffer_deeds (lock_kernel (cv_rules buffer_deeds) opening) ActsFor c (buffer_of call) (section_at t call talk.stage)
+      (slept_for own.waits u) old new own under_way got
       → (IsSome (slept_for own.waits u) → new ≡ old) → (IsSome (slept_for own.lock.slept u) → new ≡ old)
       → Turned (homes_in opening) ActsFor (inner opening) c t call talk old new own got.own under_way (is_some got.answer) (heard_if talk talk.stage got.answer)
   polled_turn talk before under_way called goes lawful awake u same got polled woken handed =
-      subst (λ (x : Talk). Turned (homes_in opening) ActsFor (inner opening) c t call x old new own got.own under_way (is_some got.answer) (heard_if x talk.stage got.answer)) whole
+      subst (λ (x : Talk). Turned (homes_in opening) ActsFor (inner opening) c t call x old new own got.own under_way (is_some got.answer)
+      (heard_if x talk.stage got.answer)) whole
       (polled_in talk.stage talk.position talk.effect before under_way
       (subst (λ (x : Talk). Goes (inner opening) (buffer_sections old) t call x own before) (sym whole) goes) lawful awake
       (slept_for own.waits t) (slept_for own.lock.slept t) refl refl got
-      (subst (λ v. CvPolled buffer_deeds (lock_kernel (cv_rules buffer_deeds) opening) ActsFor c (buffer_of call) (section_at t call talk.stage) (slept_for own.waits v) old new own under_way got)
+      (subst (λ v. CvPolled buffer_deeds (lock_kernel (cv_rules buffer_deeds) opening) ActsFor c (buffer_of call) (section_at t call talk.stage)
+      (slept_for own.waits v) old new own under_way got)
       same polled)
       (subst (λ v. IsSome (slept_for own.waits v) → new ≡ old) same woken)
       (subst (λ v. IsSome (slept_for own.lock.slept v) → new ≡ old) same handed))

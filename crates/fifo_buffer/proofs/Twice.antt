@@ -1,5 +1,6 @@
 -- Two turns in one poll; which thread runs after a poll, and what its CPU is at.
-use Rattle.std.proofs.Common.{◌≡◌, ◌≢◌, ◌⊎◌, inl, inr, Bool, true, false, List, length, Option, Some, None, IsSome, is_some, slice_set, if◌then◌else◌, refl, ap, sym, ◌∙◌, subst}
+use Rattle.std.proofs.Common.{◌≡◌, ◌≢◌, ◌⊎◌, inl, inr, Bool, true, false, List, length, Option, Some, None, IsSome}
+use Rattle.std.proofs.Common.{is_some, slice_set, if◌then◌else◌, refl, ap, sym, ◌∙◌, subst}
 use Rattle.std.proofs.lemmas.Bool.{eqb-false}
 use Rattle.std.proofs.lemmas.List.{get_or-set_other, length-set}
 use Rattle.event_log.specs.declared.ids.BufId.{BufId}
@@ -16,7 +17,7 @@ use Rattle.layer_traits.specs.declared.scheds.SchedCall.{SchedCall}
 use Rattle.layer_traits.specs.declared.talks.Stage.{Stage}
 use Rattle.layer_traits.specs.declared.talks.Stage.TheVariants.{Between, Acquires, Enters, Tries, Waits, AcquiresAgain, Signals, SignalsOwn, Releases}
 use Rattle.layer_traits.specs.declared.talks.Talk.{Talk}
-use Rattle.layer_traits.specs.BufferLaw.{RunsOn, buffer_of, heard, quiet, replied, still_calling, talk_of}
+use Rattle.layer_traits.specs.BufferLaw.{RunsOn, buffer_of, going, heard, quiet, replied, still_calling, talk_of}
 use Rattle.layer_traits.specs.BufferProtocol.{BufferLock, BufferSection}
 use Rattle.layer_traits.specs.Conditions.{CvCall}
 use Rattle.layer_traits.specs.CvLaw.{Waiting}
@@ -24,7 +25,8 @@ use Rattle.layer_traits.specs.LockLaw.{is_handed, slept_for}
 use Rattle.layer_traits.specs.Queues.{buffer_sections}
 use Rattle.thread_blocks.specs.Queues.{same_tid}
 use Rattle.fifo_buffer.specs.Stances.{IsMark, TalkFits, asks_at, waits_at}
-use Rattle.fifo_buffer.specs.Turns.{After, BufferEvent, Ended, Goes, MayTurn, Sizes, Sleeps, Stays, Turned, calling_after, doing_at, is_at_once}
+use Rattle.fifo_buffer.specs.Turns.{After, BufferEvent, Ended, Goes, MayTurn, Sizes, Sleeps, Stays, Turned, calling_after, doing_at, is_at_once, reply_at}
+use Rattle.fifo_buffer.proofs.First.{goes_called, going_same}
 
 pub at_once_why : (stage : Stage) (handed : Bool) → is_at_once stage handed ≡ true → (waits_at stage ≡ true) ⊎ (handed ≡ true)
 at_once_why Between handed is = absurd cc
@@ -50,6 +52,19 @@ same_call talk Signals handed out is = absurd cc
 same_call talk SignalsOwn handed out is = absurd cc
 same_call talk Releases handed out is = absurd cc
 
+-- the last section keeps the effect, of which the reply tells
+reply_kept : (stage : Stage) (call : Call) (talk : Talk) (out : QOut (CvOut BufferOut))
+    → reply_at call stage (heard talk stage out).effect ≡ replied call talk stage
+reply_kept Between call talk out = refl
+reply_kept Acquires call talk out = refl
+reply_kept Enters call talk out = refl
+reply_kept Tries call talk out = refl
+reply_kept Waits call talk out = refl
+reply_kept AcquiresAgain call talk out = refl
+reply_kept Signals call talk out = refl
+reply_kept SignalsOwn call talk out = refl
+reply_kept Releases call talk out = refl
+
 -- a talk of another thread stays where this one's is kept
 pub other_talk : (talks now : List Talk) (t u : Tid) (x : Talk) → now ≡ slice_set talks t.0 x → same_tid t u ≡ false → talk_of now u ≡ talk_of talks u
 other_talk talks now t u x is other = ap (λ l. talk_of l u) is ∙ get_or-set_other talks t.0 u.0 x quiet (λ same. eqb-false t.0 u.0 other (sym same))
@@ -57,7 +72,8 @@ other_talk talks now t u x is other = ap (λ l. talk_of l u) is ∙ get_or-set_o
 pub apart_talk : (talks now : List Talk) (t u : Tid) (x : Talk) → now ≡ slice_set talks t.0 x → u.0 ≢ t.0 → talk_of now u ≡ talk_of talks u
 apart_talk talks now t u x is other = ap (λ l. talk_of l u) is ∙ get_or-set_other talks t.0 u.0 x quiet other
 
-module _ (homes : List CpuId) (ActsFor : CpuId → Type 0) (O : LockId → Option BufferLock) (c : CpuId) (t : Tid) (call : Call) (talk : Talk) (old new : List BufferEvent)
+module _ (homes : List CpuId) (ActsFor : CpuId → Type 0) (O : LockId → Option BufferLock) (c : CpuId) (t : Tid) (call : Call) (talk : Talk)
+    (old new : List BufferEvent)
     (own left : Waiting BufferOut) (under_way : Option (SchedCall (CvCall BufferEdit))) (done : Bool) (later : Talk)
     (turned : Turned homes ActsFor O c t call talk old new own left under_way done later) where
   pub ended_of : done ≡ true → Ended O (buffer_sections new) t talk left under_way later
@@ -90,6 +106,10 @@ module _ (homes : List CpuId) (ActsFor : CpuId → Type 0) (O : LockId → Optio
           });
         }
 
+    -- so the talk goes on as it is
+    pub next_going : going later call ≡ later
+    next_going = going_same later.stage later call (goes_called O (buffer_sections new) t call later left under_way next_may.goes)
+
     -- why nothing was done beneath
     pub why : own.lock.sleep.threads.current ≡ Some t → handed ≡ is_handed own.lock.slept own.lock.sleep.threads.current
         → (IsSome (slept_for own.waits t)) ⊎ (IsSome (slept_for own.lock.slept t))
@@ -99,8 +119,21 @@ module _ (homes : List CpuId) (ActsFor : CpuId → Type 0) (O : LockId → Optio
         go (inl waits) = inl (sym (turned.over waits) ∙ is_done)
         go (inr is) = inr (sym (ap (is_handed own.lock.slept) runs) ∙ sym is_handed_so ∙ is)
 
+  -- the reply is read off the talk that the turn left
+  pub told_as : (stage : Stage) → stage ≡ talk.stage → (answer : Option Reply) → answer ≡ (if done then reply_at call stage later.effect else None)
+      → answer ≡ (if done then replied call talk talk.stage else None)
+  told_as stage is answer told = told ∙ go done turned.after
+    where
+      go : (d : Bool) → After O (buffer_sections new) t call talk left under_way d later
+          → (if d then reply_at call stage later.effect else None) ≡ (if d then replied call talk talk.stage else None)
+      go false after = refl
+      go true after =
+          ap (λ s. reply_at call s later.effect) is ∙ ap (λ (x : Talk). reply_at call talk.stage x.effect) after.heard_is.1
+          ∙ reply_kept talk.stage call talk after.heard_is.0
+
   -- which thread runs, and what the CPU is at
-  pub runs_by : (answer : Option Reply) → answer ≡ (if done then replied call talk talk.stage else None) → RunsOn t own.lock.sleep.threads left.lock.sleep.threads answer
+  pub runs_by : (answer : Option Reply) → answer ≡ (if done then replied call talk talk.stage else None)
+      → RunsOn t own.lock.sleep.threads left.lock.sleep.threads answer
   runs_by answer answers = go done answers turned.after
     where
       go : (d : Bool) → answer ≡ (if d then replied call talk talk.stage else None) → After O (buffer_sections new) t call talk left under_way d later
@@ -129,14 +162,16 @@ module _ (homes : List CpuId) (ActsFor : CpuId → Type 0) (O : LockId → Optio
       go : (d : Bool) → answer ≡ (if d then replied call talk talk.stage else None) → After O (buffer_sections new) t call talk left under_way d later
           → doing_at (calling_after t left.lock.sleep.threads.current answer) under_way ≡ still_calling t left.lock.sleep.threads.current answer
       go true is after =
-          subst (λ under. doing_at (calling_after t left.lock.sleep.threads.current answer) under ≡ still_calling t left.lock.sleep.threads.current answer) (sym after.none)
+          subst (λ under. doing_at (calling_after t left.lock.sleep.threads.current answer) under ≡ still_calling t left.lock.sleep.threads.current
+          answer) (sym after.none)
           (at_none left.lock.sleep.threads.current answer)
       go false is after = by_case after.1
         where
           by_case : Sleeps O (buffer_sections new) t call talk left under_way ⊎ Stays O (buffer_sections new) t call talk left under_way
               → doing_at (calling_after t left.lock.sleep.threads.current answer) under_way ≡ still_calling t left.lock.sleep.threads.current answer
           by_case (inl sleeps) =
-              subst (λ under. doing_at (calling_after t left.lock.sleep.threads.current answer) under ≡ still_calling t left.lock.sleep.threads.current answer) (sym sleeps.none)
+              subst (λ under. doing_at (calling_after t left.lock.sleep.threads.current answer) under
+              ≡ still_calling t left.lock.sleep.threads.current answer) (sym sleeps.none)
               (at_none left.lock.sleep.threads.current answer)
           by_case (inr stays) =
               subst (λ u. doing_at (calling_after t u answer) under_way ≡ still_calling t u answer) (sym stays.current)
@@ -146,10 +181,14 @@ module _ (homes : List CpuId) (ActsFor : CpuId → Type 0) (O : LockId → Optio
 abbrev pub MarksOf : Tid → Stage → Waiting BufferOut → Type 0
 MarksOf t stage own = (is_some (slept_for own.lock.slept t) ≡ true → asks_at stage ≡ true) × (is_some (slept_for own.waits t) ≡ true → waits_at stage ≡ true)
 
-pub marks_of : (O : LockId → Option BufferLock) (past : List BufferSection) (t : Tid) (call : Call) (talk : Talk) (own : Waiting BufferOut) (w : Option (SchedCall (CvCall BufferEdit)))
+pub marks_of : (O : LockId → Option BufferLock) (past : List BufferSection) (t : Tid) (call : Call) (talk : Talk) (own : Waiting BufferOut)
+    (w : Option (SchedCall (CvCall BufferEdit)))
     → Goes O past t call talk own w → MarksOf t talk.stage own
-marks_of O past t call talk own None goes =
-    (mark (buffer_of call) (asks_at talk.stage) (slept_for own.lock.slept t) goes.fits.slept_here, mark (buffer_of call) (waits_at talk.stage) (slept_for own.waits t) goes.fits.waits_here)
+marks_of O past t call talk own None goes = (
+  mark (buffer_of call) (asks_at talk.stage) (slept_for own.lock.slept t) goes.fits.slept_here,
+  mark (buffer_of call) (waits_at talk.stage)
+      (slept_for own.waits t) goes.fits.waits_here,
+)
   where
     mark : (b : BufId) (may : Bool) (x : Option BufId) → IsMark b may x → is_some x ≡ true → may ≡ true
     mark b may None is some = absurd cc
@@ -183,13 +222,15 @@ waits_once SignalsOwn handed waits = absurd cc
 waits_once Releases handed waits = absurd cc
 
 -- where one turn was all, the thread neither slept for the lock nor waited
-pub exit_free : (homes : List CpuId) (ActsFor : CpuId → Type 0) (O : LockId → Option BufferLock) (c : CpuId) (t : Tid) (call : Call) (talk : Talk) (old new : List BufferEvent)
+pub exit_free : (homes : List CpuId) (ActsFor : CpuId → Type 0) (O : LockId → Option BufferLock) (c : CpuId) (t : Tid) (call : Call) (talk : Talk)
+    (old new : List BufferEvent)
     (own left : Waiting BufferOut) (under_way : Option (SchedCall (CvCall BufferEdit))) (done : Bool) (later : Talk)
     → Turned homes ActsFor O c t call talk old new own left under_way done later → (handed : Bool) → MarksOf t talk.stage own
     → ((done ≡ true) × (is_at_once talk.stage handed ≡ false)) ⊎ (done ≡ false)
     → own.lock.sleep.threads.current ≡ Some t → handed ≡ is_handed own.lock.slept own.lock.sleep.threads.current
     → (slept_for own.lock.slept t ≡ None) × (slept_for own.waits t ≡ None)
-exit_free homes ActsFor O c t call talk old new own left under_way done later turned handed marks exits runs handed_is = (go_slept (slept_for own.lock.slept t) refl, go_waits (slept_for own.waits t) refl)
+exit_free homes ActsFor O c t call talk old new own left under_way done later turned handed marks exits runs handed_is =
+    (go_slept (slept_for own.lock.slept t) refl, go_waits (slept_for own.waits t) refl)
   where
     not_both : done ≡ true → is_at_once talk.stage handed ≡ true → ⊥
     not_both is once = by exits

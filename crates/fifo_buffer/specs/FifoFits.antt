@@ -37,7 +37,8 @@ abbrev pub BootsSo : (LockId → Option (QueueBlock BufferLock)) → Type 0
 BootsSo opening = inner opening ≡ opening_locks (caps_in opening)
 
 -- the lists by thread have their sizes, and each talk fits what was done
-pub record PartFits (opening : LockId → Option (QueueBlock BufferLock)) (c : CpuId) (past : List BufferEvent) (own : Waiting BufferOut) (talks : List Talk) (under_way : Option (SchedCall (CvCall BufferEdit))) (calling : Option Tid) : Type 0 where
+pub record PartFits (opening : LockId → Option (QueueBlock BufferLock)) (c : CpuId) (past : List BufferEvent) (own : Waiting BufferOut)
+    (talks : List Talk) (under_way : Option (SchedCall (CvCall BufferEdit))) (calling : Option Tid) : Type 0 where
   pub boots : BootsSo opening
   pub sizes : Sizes own talks
   pub calls : CallsFit (homes_in opening) c (inner opening) (buffer_sections past) own talks under_way calling

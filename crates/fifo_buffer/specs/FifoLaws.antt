@@ -1,5 +1,6 @@
 -- The laws of the layer of buffers, from those of the conditions beneath.
-use Rattle.std.proofs.Common.{◌≡◌, ℕ, ◌<◌, Bool, true, false, List, [], ◌∷◌, length, Option, Some, None, option_map, slice_get, if◌then◌else◌, refl, ap, sym, ◌∙◌, arith, ◌⊎◌, inl, inr}
+use Rattle.std.proofs.Common.{◌≡◌, ℕ, ◌<◌, Bool, true, false, List, [], ◌∷◌, length, Option, Some, None, option_map}
+use Rattle.std.proofs.Common.{slice_get, if◌then◌else◌, refl, ap, sym, ◌∙◌, arith, ◌⊎◌, inl, inr}
 use Rattle.std.proofs.lemmas.Option.{slice_get_within}
 use Rattle.event_log.specs.declared.ids.BufId.{BufId}
 use Rattle.event_log.specs.declared.ids.CpuId.{CpuId}
@@ -32,11 +33,13 @@ use Rattle.fifo_buffer.specs.Turns.{BufferEvent, doing_at}
 
 -- each effect may come after those before it
 pub fifo_lawful : (opening : LockId → Option (QueueBlock BufferLock)) (past : List BufferEvent) → BootsSo opening
-    → IsLawful (QueueAllowed (lock_kernel (cv_rules buffer_deeds) opening)) past → IsLawful (MayTakeEffect (caps_in opening)) (effects_in (inner opening) (buffer_sections past))
+    → IsLawful (QueueAllowed (lock_kernel (cv_rules buffer_deeds) opening)) past → IsLawful (MayTakeEffect (caps_in opening))
+    (effects_in (inner opening) (buffer_sections past))
 fifo_lawful opening past boots lawful = effects_lawful opening (caps_in opening) boots past lawful
 
 -- a lock that is there after some sections was there at the start
-none_after : (s : BufferSection) (x : Option BufferLock) (b : Bool) → x ≡ None → (if b then option_map (lock_edited (cv_rules buffer_deeds) s.edit) x else x) ≡ None
+none_after : (s : BufferSection) (x : Option BufferLock) (b : Bool) → x ≡ None
+    → (if b then option_map (lock_edited (cv_rules buffer_deeds) s.edit) x else x) ≡ None
 none_after s x true none = ap (option_map (lock_edited (cv_rules buffer_deeds) s.edit)) none
 none_after s x false none = none
 
@@ -49,12 +52,14 @@ only_buffers : (caps : List ℕ) (lock : LockId) → (opening_locks caps lock �
 only_buffers caps (Pending d) = inl refl
 only_buffers caps (Buffer b) = go (slice_get caps b.0) refl
   where
-    go : (o : Option ℕ) → slice_get caps b.0 ≡ o → (option_map fresh_lock (slice_get caps b.0) ≡ None) ⊎ ((d : BufId) × (Buffer b ≡ Buffer d) × (d.0 < length caps))
+    go : (o : Option ℕ) → slice_get caps b.0 ≡ o
+        → (option_map fresh_lock (slice_get caps b.0) ≡ None) ⊎ ((d : BufId) × (Buffer b ≡ Buffer d) × (d.0 < length caps))
     go None is = inl (ap (option_map fresh_lock) is)
     go (Some n) is = inr (b, refl, slice_get_within caps b.0 n is)
 
 -- the waiting lists of the buffers agree with the places
-pub fifo_lines : (opening : LockId → Option (QueueBlock BufferLock)) (past : List BufferEvent) → BootsSo opening → LocksAgree (cv_rules buffer_deeds) opening past
+pub fifo_lines : (opening : LockId → Option (QueueBlock BufferLock)) (past : List BufferEvent) → BootsSo opening
+    → LocksAgree (cv_rules buffer_deeds) opening past
     → LinesAgree (length (caps_in opening)) (homes_in opening) (moves_in (lock_kernel (cv_rules buffer_deeds) opening) past)
     (λ b line. line_in line (lock_after (cv_rules buffer_deeds) (inner opening) (Buffer b) (buffer_sections past)))
 fifo_lines opening past boots agree = record {
@@ -62,7 +67,8 @@ fifo_lines opening past boots agree = record {
   known = λ t lock line is. go t lock line is (only_buffers (caps_in opening) lock);
 }
   where
-    go : (t : Tid) (lock : LockId) (line : Line) → where_is (homes_in opening) (moves_in (lock_kernel (cv_rules buffer_deeds) opening) past) t ≡ Asleep (At lock line)
+    go : (t : Tid) (lock : LockId) (line : Line)
+        → where_is (homes_in opening) (moves_in (lock_kernel (cv_rules buffer_deeds) opening) past) t ≡ Asleep (At lock line)
         → (opening_locks (caps_in opening) lock ≡ None) ⊎ ((b : BufId) × (lock ≡ Buffer b) × (b.0 < length (caps_in opening)))
         → (b : BufId) × (lock ≡ Buffer b) × (b.0 < length (caps_in opening))
     go t lock line is (inr found) = found
@@ -70,12 +76,14 @@ fifo_lines opening past boots agree = record {
         let gone : lock_after (cv_rules buffer_deeds) (inner opening) lock (buffer_sections past) ≡ None
         = was_there (inner opening) (buffer_sections past) lock (ap (λ locks. locks lock) boots ∙ none) in
         let count : 0 ≡ 1
-        = sym (ap (λ x. count_in t (line_in line x)) gone) ∙ agree lock line t ∙ ap (λ w. one_if (is_at lock line (place_of w))) is ∙ ap one_if (place_here lock line) in
+        = sym (ap (λ x. count_in t (line_in line x)) gone) ∙ agree lock line t ∙ ap (λ w. one_if (is_at lock line (place_of w))) is ∙ ap one_if
+        (place_here lock line) in
         absurd (omega (arith, count))
 
 -- a CPU that is at nothing has no call under way beneath
 pub none_under : (opening : LockId → Option (QueueBlock BufferLock)) (c : CpuId) (past : List BufferEvent) (own : Waiting BufferOut) (talks : List Talk)
-    (under_way : Option (SchedCall (CvCall BufferEdit))) (calling : Option Tid) → PartFits opening c past own talks under_way calling → doing_at calling under_way ≡ None → under_way ≡ None
+    (under_way : Option (SchedCall (CvCall BufferEdit))) (calling : Option Tid) → PartFits opening c past own talks under_way calling
+    → doing_at calling under_way ≡ None → under_way ≡ None
 none_under opening c past own talks None calling fits nothing = refl
 none_under opening c past own talks (Some (sched.Pass p)) None fits nothing = absurd cc
 none_under opening c past own talks (Some (sched.OnBuffer b e)) None fits nothing = absurd fits.calls.none

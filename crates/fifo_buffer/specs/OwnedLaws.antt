@@ -139,6 +139,7 @@ effects_known O (event ∷ past) known = go event.call (effects_known O past kno
     go (OnBuffer d call) rest =
         more (effect_of O (buffer_sections past) (section event.cpu (Buffer d) call)) (effects_in O (buffer_sections past))
         (λ e is. subst (λ (cpu : CpuId). cpu.0 < CPUS)
-        (sym (effect_place event.cpu d call (λ side t. drawn O (Buffer d) side t (buffer_sections past)) (buffer_at O (buffer_sections past) (Buffer d)) e is).0)
+        (sym (effect_place event.cpu d call (λ side t. drawn O (Buffer d) side t (buffer_sections past))
+        (buffer_at O (buffer_sections past) (Buffer d)) e is).0)
         known.0)
         rest

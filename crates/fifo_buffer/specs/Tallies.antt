@@ -1,5 +1,7 @@
 -- What a buffer's block tells of its effects; so each effect may come after those before it.
-use Rattle.std.proofs.Common.{◌≡◌, ℕ, zero, suc, ◌+◌, ◌<◌, ◌%◌, ◌^◌, Bool, true, false, ◌&&◌, ◌||◌, ◌==◌, List, [], ◌∷◌, ◌++◌, length, drop, Option, Some, None, option_map, option_to_list, slice_get, slice_index, slice_set, if◌then◌else◌, refl, ap, sym, ◌∙◌, subst, arith, length-append}
+use Rattle.std.proofs.Common.{◌≡◌, ℕ, zero, suc, ◌+◌, ◌<◌, ◌%◌, ◌^◌, Bool, true, false, ◌&&◌, ◌||◌, ◌==◌, List, [], ◌∷◌}
+use Rattle.std.proofs.Common.{◌++◌, length, drop, Option, Some, None, option_map, option_to_list, slice_get, slice_index}
+use Rattle.std.proofs.Common.{slice_set, if◌then◌else◌, refl, ap, sym, ◌∙◌, subst, arith, length-append}
 use Rattle.std.proofs.lemmas.Bool.{and_right, eq-eqb, eqb-false, ltb-true, ne_eqb}
 use Rattle.std.proofs.lemmas.List.{get_or-set_other, get_or-set_same, length-map, length-set}
 use Rattle.std.proofs.lemmas.List.Sums.{sum_by-cons}
@@ -26,8 +28,11 @@ use Rattle.layer_traits.specs.declared.locked.Side.TheVariants.{Receivers, Sende
 use Rattle.layer_traits.specs.declared.queue_edits.QueueBlock.{QueueBlock}
 use Rattle.layer_traits.specs.declared.queues.QueueCall.{QueueCall}
 use Rattle.layer_traits.specs.declared.queues.QueueCall.TheVariants.{Push, TakeAll, OnBuffer}
-use Rattle.layer_traits.specs.BufferBlocks.{BufferState, counted, other_items, effect_kind, empty_block, entered, first_item, is_first, is_turn, line_of, may_go, may_join, places_of, put_in, taken_out}
-use Rattle.layer_traits.specs.BufferEffects.{MayTakeEffect, contents_of, drawn, effect_of, effect_on, effects_in, entry, fresh_lock, is_enter, opening_locks, places_in}
+use Rattle.layer_traits.specs.BufferBlocks.{BufferState, counted, other_items, effect_kind, empty_block, entered}
+use Rattle.layer_traits.specs.BufferBlocks.{first_item, is_first, is_turn, line_of, may_go, may_join, places_of, put_in}
+use Rattle.layer_traits.specs.BufferBlocks.{taken_out}
+use Rattle.layer_traits.specs.BufferEffects.{MayTakeEffect, contents_of, drawn, effect_of, effect_on, effects_in, entry}
+use Rattle.layer_traits.specs.BufferEffects.{fresh_lock, is_enter, opening_locks, places_in}
 use Rattle.layer_traits.specs.BufferProtocol.{BufferLock, BufferSection, IsDue, buffer_at, buffer_deeds, buffer_rules, is_in_line}
 use Rattle.layer_traits.specs.Conditions.{CvCall, cv_rules}
 use Rattle.layer_traits.specs.LockLaw.{lock_kernel}
@@ -79,13 +84,15 @@ or_parts_false : (x y : Bool) → (x || y) ≡ false → (x ≡ false) × (y ≡
 or_parts_false true y e = absurd cc
 or_parts_false false y e = (refl, e)
 
-numbered_apart : (p q : Tid → ℕ) (n : ℕ) (u : Tid) (queue : List Tid) → is_in u queue ≡ false → ((t : Tid) → same_tid u t ≡ false → q t ≡ p t) → IsNumbered p n queue → IsNumbered q n queue
+numbered_apart : (p q : Tid → ℕ) (n : ℕ) (u : Tid) (queue : List Tid) → is_in u queue ≡ false → ((t : Tid) → same_tid u t ≡ false → q t ≡ p t)
+    → IsNumbered p n queue → IsNumbered q n queue
 numbered_apart p q n u [] out same numbered = tt
 numbered_apart p q n u (t ∷ queue) out same numbered =
     let parts = or_parts_false (same_tid u t) (is_in u queue) out in
     (same t parts.0 ∙ numbered.0, numbered_apart p q (n + 1) u queue parts.1 same numbered.1)
 
-numbered_behind : (p : Tid → ℕ) (n : ℕ) (u : Tid) (queue : List Tid) → IsNumbered p n queue → p u ≡ (n + length queue) % 2 ^ 64 → IsNumbered p n (queue ++ u ∷ [])
+numbered_behind : (p : Tid → ℕ) (n : ℕ) (u : Tid) (queue : List Tid) → IsNumbered p n queue → p u ≡ (n + length queue) % 2 ^ 64
+    → IsNumbered p n (queue ++ u ∷ [])
 numbered_behind p n u [] numbered is = (is ∙ ap (λ k. k % 2 ^ 64) (omega arith), tt)
 numbered_behind p n u (t ∷ queue) numbered is =
     (numbered.0, numbered_behind p (n + 1) u queue numbered.1 (is ∙ ap (λ k. k % 2 ^ 64) (omega arith)))
@@ -96,7 +103,8 @@ and_two false y e = absurd cc
 
 module _ (caps : List ℕ) (b : ℕ) (es : List Entry) where
   -- no effect, or one on another buffer
-  elsewhere : (o : Option Entry) → ((e : Entry) → o ≡ Some e → (e.buffer.0 == b) ≡ false) → (p q : Side → Tid → ℕ) (x : BufferState) → ((side : Side) (t : Tid) → q side t ≡ p side t)
+  elsewhere : (o : Option Entry) → ((e : Entry) → o ≡ Some e → (e.buffer.0 == b) ≡ false) → (p q : Side → Tid → ℕ) (x : BufferState)
+      → ((side : Side) (t : Tid) → q side t ≡ p side t)
       → Tally caps b es p x → Tally caps b (option_to_list o ++ es) q x
   elsewhere None apart p q x same tally = record {
     known = tally.known;
@@ -112,7 +120,8 @@ module _ (caps : List ℕ) (b : ℕ) (es : List Entry) where
       let count : count_of (e ∷ es) b ≡ count_of es b
       = count_cons e es b ∙ ap (λ (v : Bool). (if v then 1 else 0) + count_of es b) other ∙ omega arith in
       let kinds : (side : Side) → count_of_kind (e ∷ es) b (kind_on side) ≡ count_of_kind es b (kind_on side)
-      = λ side. kind_cons e es b (kind_on side) ∙ ap (λ (v : Bool). (if v && kind_eq e.kind (kind_on side) then 1 else 0) + count_of_kind es b (kind_on side)) other ∙ omega arith in
+      = λ side. kind_cons e es b (kind_on side) ∙ ap
+      (λ (v : Bool). (if v && kind_eq e.kind (kind_on side) then 1 else 0) + count_of_kind es b (kind_on side)) other ∙ omega arith in
       record {
         known = tally.known;
         wide = length-set (contents_of caps es) e.buffer.0 _ ∙ tally.wide;
@@ -138,17 +147,21 @@ module _ (caps : List ℕ) (b : ℕ) (es : List Entry) where
     numbered = λ side. numbers side;
   }
     where
-      places_in_line : (side : Side) → places_of side (entered Senders u x) ≡ (count_of_kind es b (kind_on side) + length (line_of side (entered Senders u x))) % 2 ^ 64
+      places_in_line : (side : Side)
+          → places_of side (entered Senders u x) ≡ (count_of_kind es b (kind_on side) + length (line_of side (entered Senders u x))) % 2 ^ 64
       places_in_line Receivers = tally.places Receivers
       places_in_line Senders =
           one_more x.sends (count_of_kind es b Send + length x.send_line) (tally.places Senders)
           ∙ ap (λ n. n % 2 ^ 64) (let more = length-append x.send_line (u ∷ []) in omega (arith, more))
 
       numbers : (side : Side) → IsNumbered (q side) (count_of_kind es b (kind_on side)) (line_of side (entered Senders u x))
-      numbers Receivers = numbered_apart (p Receivers) (q Receivers) (count_of_kind es b Recv) u x.receive_line (nowhere Receivers) (others Receivers) (tally.numbered Receivers)
+      numbers Receivers =
+          numbered_apart (p Receivers) (q Receivers) (count_of_kind es b Recv) u x.receive_line (nowhere Receivers) (others Receivers)
+          (tally.numbered Receivers)
       numbers Senders =
           numbered_behind (q Senders) (count_of_kind es b Send) u x.send_line
-          (numbered_apart (p Senders) (q Senders) (count_of_kind es b Send) u x.send_line out (others Senders) (tally.numbered Senders)) (drew ∙ tally.places Senders)
+          (numbered_apart (p Senders) (q Senders) (count_of_kind es b Send) u x.send_line out (others Senders) (tally.numbered Senders))
+          (drew ∙ tally.places Senders)
   entered_tally p q x u Receivers out drew others nowhere tally = record {
     known = tally.known;
     wide = tally.wide;
@@ -159,17 +172,20 @@ module _ (caps : List ℕ) (b : ℕ) (es : List Entry) where
     numbered = λ side. numbers side;
   }
     where
-      places_in_line : (side : Side) → places_of side (entered Receivers u x) ≡ (count_of_kind es b (kind_on side) + length (line_of side (entered Receivers u x))) % 2 ^ 64
+      places_in_line : (side : Side)
+          → places_of side (entered Receivers u x) ≡ (count_of_kind es b (kind_on side) + length (line_of side (entered Receivers u x))) % 2 ^ 64
       places_in_line Senders = tally.places Senders
       places_in_line Receivers =
           one_more x.receives (count_of_kind es b Recv + length x.receive_line) (tally.places Receivers)
           ∙ ap (λ n. n % 2 ^ 64) (let more = length-append x.receive_line (u ∷ []) in omega (arith, more))
 
       numbers : (side : Side) → IsNumbered (q side) (count_of_kind es b (kind_on side)) (line_of side (entered Receivers u x))
-      numbers Senders = numbered_apart (p Senders) (q Senders) (count_of_kind es b Send) u x.send_line (nowhere Senders) (others Senders) (tally.numbered Senders)
+      numbers Senders =
+          numbered_apart (p Senders) (q Senders) (count_of_kind es b Send) u x.send_line (nowhere Senders) (others Senders) (tally.numbered Senders)
       numbers Receivers =
           numbered_behind (q Receivers) (count_of_kind es b Recv) u x.receive_line
-          (numbered_apart (p Receivers) (q Receivers) (count_of_kind es b Recv) u x.receive_line out (others Receivers) (tally.numbered Receivers)) (drew ∙ tally.places Receivers)
+          (numbered_apart (p Receivers) (q Receivers) (count_of_kind es b Recv) u x.receive_line out (others Receivers) (tally.numbered Receivers))
+          (drew ∙ tally.places Receivers)
 
   -- an effect: the counts go up by one, and the first of its line leaves
   counts_here : (e : Entry) → e.buffer.0 ≡ b → count_of (e ∷ es) b ≡ count_of es b + 1
@@ -199,7 +215,8 @@ module _ (caps : List ℕ) (b : ℕ) (es : List Entry) where
   first_there [] some = absurd (omega (arith, some))
   first_there (m ∷ items) some = refl
 
-  put_may : (cpu : CpuId) (at : BufId) → at.0 ≡ b → (p : Side → Tid → ℕ) (x : BufferState) (u : Tid) (m : Message) → is_turn Senders u x ≡ true → Tally caps b es p x
+  put_may : (cpu : CpuId) (at : BufId) → at.0 ≡ b → (p : Side → Tid → ℕ) (x : BufferState) (u : Tid) (m : Message) → is_turn Senders u x ≡ true
+      → Tally caps b es p x
       → MayTakeEffect caps es (entry cpu u Send at m x.effects (p Senders u))
   put_may cpu at here p x u m turn tally =
       let both = and_two (is_first u x.send_line) (may_go Senders x) turn in
@@ -223,7 +240,8 @@ module _ (caps : List ℕ) (b : ℕ) (es : List Entry) where
         pos = first_number (p Receivers) (count_of_kind es b Recv) u x.receive_line both.0 (tally.numbered Receivers);
       })
 
-  put_tally : (e : Entry) → e.buffer.0 ≡ b → e.kind ≡ Send → (p q : Side → Tid → ℕ) (x : BufferState) (u : Tid) (m : Message) → e.value ≡ m → is_first u x.send_line ≡ true
+  put_tally : (e : Entry) → e.buffer.0 ≡ b → e.kind ≡ Send → (p q : Side → Tid → ℕ) (x : BufferState) (u : Tid) (m : Message) → e.value ≡ m
+      → is_first u x.send_line ≡ true
       → ((side : Side) (t : Tid) → q side t ≡ p side t) → Tally caps b es p x → Tally caps b (e ∷ es) q (put_in m x)
   put_tally e here sends p q x u m value leads same tally = record {
     known = tally.known;
@@ -310,7 +328,8 @@ module _ (caps : List ℕ) (b : ℕ) (es : List Entry) where
       × Tally caps b (option_to_list (effect_on cpu at call p (Some lock)) ++ es) q (lock_edited buffer_rules call lock).above
 
   nothing_here : (cpu : CpuId) (at : BufId) (call : CvCall BufferEdit) (p q : Side → Tid → ℕ) (lock : BufferLock) → effect_on cpu at call p (Some lock) ≡ None
-      → lock.above ≡ (lock_edited buffer_rules call lock).above → ((side : Side) (t : Tid) → q side t ≡ p side t) → Tally caps b es p lock.above → StepHere cpu at call p q lock
+      → lock.above ≡ (lock_edited buffer_rules call lock).above → ((side : Side) (t : Tid) → q side t ≡ p side t) → Tally caps b es p lock.above
+      → StepHere cpu at call p q lock
   nothing_here cpu at call p q lock none above same tally = (
     λ e is. absurd (wrong e (sym none ∙ is)),
     subst (λ o. Tally caps b (option_to_list o ++ es) q (lock_edited buffer_rules call lock).above) (sym none)
@@ -324,7 +343,8 @@ module _ (caps : List ℕ) (b : ℕ) (es : List Entry) where
   above_same u None lock = refl
   above_same u (Some o) lock = refl
 
-  put_here : (cpu : CpuId) (at : BufId) → at.0 ≡ b → (u : Tid) (m : Message) (p q : Side → Tid → ℕ) (lock : BufferLock) → ((side : Side) (t : Tid) → q side t ≡ p side t)
+  put_here : (cpu : CpuId) (at : BufId) → at.0 ≡ b → (u : Tid) (m : Message) (p q : Side → Tid → ℕ) (lock : BufferLock)
+      → ((side : Side) (t : Tid) → q side t ≡ p side t)
       → Tally caps b es p lock.above → (v : Bool) → is_turn Senders u lock.above ≡ v → StepHere cpu at (Inside (Edit (TryPut u m))) p q lock
   put_here cpu at here u m p q lock same tally false turn =
       nothing_here cpu at (Inside (Edit (TryPut u m))) p q lock
@@ -349,12 +369,14 @@ module _ (caps : List ℕ) (b : ℕ) (es : List Entry) where
       → Tally caps b es p lock.above → (v : Bool) → is_turn Receivers u lock.above ≡ v → StepHere cpu at (Inside (Edit (TryTake u))) p q lock
   take_here cpu at here u p q lock same tally false turn =
       nothing_here cpu at (Inside (Edit (TryTake u))) p q lock
-      (ap (λ (w : Bool). if w then Some (entry cpu u (effect_kind Receivers lock.above) at (first_item lock.above.items) lock.above.effects (p Receivers u)) else None) turn)
+      (ap (λ (w : Bool). if w then Some (entry cpu u (effect_kind Receivers lock.above) at (first_item lock.above.items) lock.above.effects
+      (p Receivers u)) else None) turn)
       (sym (ap (λ (w : Bool). if w then taken_out lock.above else lock.above) turn)) same tally
   take_here cpu at here u p q lock same tally true turn =
       let it : Entry = entry cpu u Recv at (first_item lock.above.items) lock.above.effects (p Receivers u) in
       let done : effect_on cpu at (Inside (Edit (TryTake u))) p (Some lock) ≡ Some it
-      = ap (λ (w : Bool). if w then Some (entry cpu u (effect_kind Receivers lock.above) at (first_item lock.above.items) lock.above.effects (p Receivers u)) else None) turn in
+      = ap (λ (w : Bool). if w then Some (entry cpu u (effect_kind Receivers lock.above) at (first_item lock.above.items) lock.above.effects
+      (p Receivers u)) else None) turn in
       let after : taken_out lock.above ≡ (lock_edited buffer_rules (Inside (Edit (TryTake u))) lock).above
       = sym (ap (λ (w : Bool). if w then taken_out lock.above else lock.above) turn) in (
         λ e is. subst (MayTakeEffect caps es) (one it e (sym done ∙ is)) (take_may cpu at here p lock.above u turn tally),
@@ -366,7 +388,8 @@ module _ (caps : List ℕ) (b : ℕ) (es : List Entry) where
       one : (x y : Entry) → Some x ≡ Some y → x ≡ y
       one x y is = cc
 
-  enter_here : (cpu : CpuId) (at : BufId) (u : Tid) (side : Side) (p q : Side → Tid → ℕ) (lock : BufferLock) → ((to : Side) → is_in u (line_of to lock.above) ≡ false)
+  enter_here : (cpu : CpuId) (at : BufId) (u : Tid) (side : Side) (p q : Side → Tid → ℕ) (lock : BufferLock)
+      → ((to : Side) → is_in u (line_of to lock.above) ≡ false)
       → q side u ≡ places_of side lock.above → ((to : Side) (t : Tid) → same_tid u t ≡ false → q to t ≡ p to t) → Tally caps b es p lock.above
       → StepHere cpu at (Inside (Edit (Enter u side))) p q lock
   enter_here cpu at u side p q lock nowhere drew others tally = (λ e is. absurd (wrong e is), go (may_join u (line_of side lock.above)))
@@ -432,23 +455,27 @@ module _ (O : LockId → Option BufferLock) (caps : List ℕ) (past : List Buffe
 
   drawn_quiet : (side : Side) (t : Tid) → is_enter side t call ≡ false → After d side t ≡ Before d side t
   drawn_quiet side t none =
-      ap (λ v. if v then places_in side (buffer_at O past (Buffer d)) else Before d side t) (and_right (same_lock (Buffer d) (Buffer d)) (is_enter side t call) none)
+      ap (λ v. if v then places_in side (buffer_at O past (Buffer d)) else Before d side t)
+      (and_right (same_lock (Buffer d) (Buffer d)) (is_enter side t call) none)
 
-  drawn_enter : (side : Side) (t : Tid) (lock : BufferLock) → buffer_at O past (Buffer d) ≡ Some lock → is_enter side t call ≡ true → After d side t ≡ places_of side lock.above
+  drawn_enter : (side : Side) (t : Tid) (lock : BufferLock) → buffer_at O past (Buffer d) ≡ Some lock → is_enter side t call ≡ true
+      → After d side t ≡ places_of side lock.above
   drawn_enter side t lock at enters =
       ap (λ v. if v then places_in side (buffer_at O past (Buffer d)) else Before d side t) test ∙ ap (places_in side) at
     where
       test : (same_lock (Buffer d) (Buffer d) && is_enter side t call) ≡ true
       test = rw (same_lock_self (Buffer d), enters) refl
 
-here_step : (O : LockId → Option BufferLock) (caps : List ℕ) (past : List BufferSection) (cpu : CpuId) (d : BufId) (call : CvCall BufferEdit) (lock : BufferLock)
+here_step : (O : LockId → Option BufferLock) (caps : List ℕ) (past : List BufferSection) (cpu : CpuId) (d : BufId) (call : CvCall BufferEdit)
+    (lock : BufferLock)
     → buffer_at O past (Buffer d) ≡ Some lock → IsDue O past (Buffer d) call → Tally caps d.0 (effects_in O past) (Before O caps past cpu d call d) lock.above
     → StepHere caps d.0 (effects_in O past) cpu d call (Before O caps past cpu d call d) (After O caps past cpu d call d) lock
 here_step O caps past cpu d (Acquire u) lock at due tally =
     nothing_here caps d.0 (effects_in O past) cpu d (Acquire u) (Before O caps past cpu d (Acquire u) d) (After O caps past cpu d (Acquire u) d) lock refl
     (above_same caps d.0 (effects_in O past) u lock.owner lock) (λ side t. drawn_quiet O caps past cpu d (Acquire u) side t refl) tally
 here_step O caps past cpu d (Inside (Edit (Enter u side))) lock at due tally =
-    enter_here caps d.0 (effects_in O past) cpu d u side (Before O caps past cpu d (Inside (Edit (Enter u side))) d) (After O caps past cpu d (Inside (Edit (Enter u side))) d) lock
+    enter_here caps d.0 (effects_in O past) cpu d u side (Before O caps past cpu d (Inside (Edit (Enter u side))) d)
+    (After O caps past cpu d (Inside (Edit (Enter u side))) d) lock
     nowhere (drawn_enter O caps past cpu d (Inside (Edit (Enter u side))) side u lock at (enter_self u side))
     (λ to t other. drawn_quiet O caps past cpu d (Inside (Edit (Enter u side))) to t (enter_other u t side to other)) tally
   where
@@ -456,14 +483,17 @@ here_step O caps past cpu d (Inside (Edit (Enter u side))) lock at due tally =
     nowhere Receivers = sym (ap (is_in_line Receivers u) at) ∙ due.1
     nowhere Senders = sym (ap (is_in_line Senders u) at) ∙ due.0
 here_step O caps past cpu d (Inside (Edit (TryPut u m))) lock at due tally =
-    put_here caps d.0 (effects_in O past) cpu d refl u m (Before O caps past cpu d (Inside (Edit (TryPut u m))) d) (After O caps past cpu d (Inside (Edit (TryPut u m))) d) lock
+    put_here caps d.0 (effects_in O past) cpu d refl u m (Before O caps past cpu d (Inside (Edit (TryPut u m))) d)
+    (After O caps past cpu d (Inside (Edit (TryPut u m))) d) lock
     (λ side t. drawn_quiet O caps past cpu d (Inside (Edit (TryPut u m))) side t refl) tally (is_turn Senders u lock.above) refl
 here_step O caps past cpu d (Inside (Edit (TryTake u))) lock at due tally =
-    take_here caps d.0 (effects_in O past) cpu d refl u (Before O caps past cpu d (Inside (Edit (TryTake u))) d) (After O caps past cpu d (Inside (Edit (TryTake u))) d) lock
+    take_here caps d.0 (effects_in O past) cpu d refl u (Before O caps past cpu d (Inside (Edit (TryTake u))) d)
+    (After O caps past cpu d (Inside (Edit (TryTake u))) d) lock
     (λ side t. drawn_quiet O caps past cpu d (Inside (Edit (TryTake u))) side t refl) tally (is_turn Receivers u lock.above) refl
 here_step O caps past cpu d (Inside (SignalFront u side)) lock at due tally =
     nothing_here caps d.0 (effects_in O past) cpu d (Inside (SignalFront u side)) (Before O caps past cpu d (Inside (SignalFront u side)) d)
-    (After O caps past cpu d (Inside (SignalFront u side)) d) lock refl refl (λ to t. drawn_quiet O caps past cpu d (Inside (SignalFront u side)) to t refl) tally
+    (After O caps past cpu d (Inside (SignalFront u side)) d) lock refl refl
+    (λ to t. drawn_quiet O caps past cpu d (Inside (SignalFront u side)) to t refl) tally
 here_step O caps past cpu d (Release leave) lock at due tally =
     nothing_here caps d.0 (effects_in O past) cpu d (Release leave) (Before O caps past cpu d (Release leave) d)
     (After O caps past cpu d (Release leave) d) lock refl refl (λ to t. drawn_quiet O caps past cpu d (Release leave) to t refl) tally
@@ -472,15 +502,18 @@ abbrev Tallied : (LockId → Option BufferLock) → List ℕ → List BufferSect
 Tallied O caps past = (b : BufId) (lock : BufferLock) → buffer_at O past (Buffer b) ≡ Some lock
     → Tally caps b.0 (effects_in O past) (λ side t. drawn O (Buffer b) side t past) lock.above
 
-section_may : (O : LockId → Option BufferLock) (caps : List ℕ) (past : List BufferSection) (cpu : CpuId) (d : BufId) (call : CvCall BufferEdit) → IsDue O past (Buffer d) call
+section_may : (O : LockId → Option BufferLock) (caps : List ℕ) (past : List BufferSection) (cpu : CpuId) (d : BufId) (call : CvCall BufferEdit)
+    → IsDue O past (Buffer d) call
     → Tallied O caps past → (e : Entry) → effect_of O past (section cpu (Buffer d) call) ≡ Some e → MayTakeEffect caps (effects_in O past) e
 section_may O caps past cpu d call due tallied e is = go (buffer_at O past (Buffer d)) refl is
   where
-    go : (x : Option BufferLock) → buffer_at O past (Buffer d) ≡ x → effect_on cpu d call (λ side t. drawn O (Buffer d) side t past) x ≡ Some e → MayTakeEffect caps (effects_in O past) e
+    go : (x : Option BufferLock) → buffer_at O past (Buffer d) ≡ x → effect_on cpu d call (λ side t. drawn O (Buffer d) side t past) x ≡ Some e
+        → MayTakeEffect caps (effects_in O past) e
     go None at same = absurd cc
     go (Some lock) at same = (here_step O caps past cpu d call lock at due (tallied d lock at)).0 e same
 
-section_tallied : (O : LockId → Option BufferLock) (caps : List ℕ) (past : List BufferSection) (cpu : CpuId) (d : BufId) (call : CvCall BufferEdit) → IsDue O past (Buffer d) call
+section_tallied : (O : LockId → Option BufferLock) (caps : List ℕ) (past : List BufferSection) (cpu : CpuId) (d : BufId) (call : CvCall BufferEdit)
+    → IsDue O past (Buffer d) call
     → Tallied O caps past → Tallied O caps (section cpu (Buffer d) call ∷ past)
 section_tallied O caps past cpu d call due tallied b lock at = go (same_lock (Buffer b) (Buffer d)) refl
   where
@@ -488,30 +521,38 @@ section_tallied O caps past cpu d call due tallied b lock at = go (same_lock (Bu
     one n is = cc
 
     mine : (x : Option BufferLock) → buffer_at O past (Buffer d) ≡ x → option_map (lock_edited buffer_rules call) x ≡ Some lock
-        → Tally caps d.0 (option_to_list (effect_on cpu d call (λ side t. drawn O (Buffer d) side t past) x) ++ effects_in O past) (λ side t. drawn O (Buffer d) side t (section cpu (Buffer d) call ∷ past)) lock.above
+        → Tally caps d.0 (option_to_list (effect_on cpu d call (λ side t. drawn O (Buffer d) side t past) x) ++ effects_in O past)
+        (λ side t. drawn O (Buffer d) side t (section cpu (Buffer d) call ∷ past)) lock.above
     mine None is same = absurd cc
     mine (Some before) is same =
         let after : lock_edited buffer_rules call before ≡ lock = cc in
-        subst (λ (y : BufferLock). Tally caps d.0 (option_to_list (effect_on cpu d call (λ side t. drawn O (Buffer d) side t past) (Some before)) ++ effects_in O past)
+        subst (λ (y : BufferLock). Tally caps d.0
+        (option_to_list (effect_on cpu d call (λ side t. drawn O (Buffer d) side t past) (Some before)) ++ effects_in O past)
         (λ side t. drawn O (Buffer d) side t (section cpu (Buffer d) call ∷ past)) y.above) after
         (here_step O caps past cpu d call before is due (tallied d before is)).1
 
     go : (v : Bool) → same_lock (Buffer b) (Buffer d) ≡ v
-        → Tally caps b.0 (effects_in O (section cpu (Buffer d) call ∷ past)) (λ side t. drawn O (Buffer b) side t (section cpu (Buffer d) call ∷ past)) lock.above
+        → Tally caps b.0 (effects_in O (section cpu (Buffer d) call ∷ past))
+        (λ side t. drawn O (Buffer b) side t (section cpu (Buffer d) call ∷ past)) lock.above
     go true is =
         let same : b ≡ d = one d (same_lock_true (Buffer b) (Buffer d) is) in
-        let at_d : buffer_at O (section cpu (Buffer d) call ∷ past) (Buffer d) ≡ Some lock = subst (λ n. buffer_at O (section cpu (Buffer d) call ∷ past) (Buffer n) ≡ Some lock) same at in
+        let at_d : buffer_at O (section cpu (Buffer d) call ∷ past) (Buffer d) ≡ Some lock = subst
+        (λ n. buffer_at O (section cpu (Buffer d) call ∷ past) (Buffer n) ≡ Some lock) same at in
         let edited : option_map (lock_edited buffer_rules call) (buffer_at O past (Buffer d)) ≡ Some lock
-        = sym (ap (λ v. if v then option_map (lock_edited buffer_rules call) (buffer_at O past (Buffer d)) else buffer_at O past (Buffer d)) (same_lock_self (Buffer d))) ∙ at_d in
-        subst (λ n. Tally caps n.0 (effects_in O (section cpu (Buffer d) call ∷ past)) (λ side t. drawn O (Buffer n) side t (section cpu (Buffer d) call ∷ past)) lock.above) (sym same)
+        = sym (ap (λ v. if v then option_map (lock_edited buffer_rules call) (buffer_at O past (Buffer d)) else buffer_at O past (Buffer d))
+        (same_lock_self (Buffer d))) ∙ at_d in
+        subst (λ n. Tally caps n.0 (effects_in O (section cpu (Buffer d) call ∷ past))
+        (λ side t. drawn O (Buffer n) side t (section cpu (Buffer d) call ∷ past)) lock.above) (sym same)
         (mine (buffer_at O past (Buffer d)) refl edited)
     go false is =
         let was : buffer_at O past (Buffer b) ≡ Some lock
         = sym (ap (λ v. if v then option_map (lock_edited buffer_rules call) (buffer_at O past (Buffer b)) else buffer_at O past (Buffer b)) is) ∙ at in
         elsewhere caps b.0 (effects_in O past) (effect_of O past (section cpu (Buffer d) call))
-        (λ e same. ne_eqb e.buffer.0 b.0 (λ one_number. eqb-false b.0 d.0 is (sym one_number ∙ ap (λ (n : BufId). n.0) (effect_place cpu d call _ (buffer_at O past (Buffer d)) e same).1)))
+        (λ e same. ne_eqb e.buffer.0 b.0 (λ one_number. eqb-false b.0 d.0 is
+        (sym one_number ∙ ap (λ (n : BufId). n.0) (effect_place cpu d call _ (buffer_at O past (Buffer d)) e same).1)))
         (λ side t. drawn O (Buffer b) side t past) (λ side t. drawn O (Buffer b) side t (section cpu (Buffer d) call ∷ past)) lock.above
-        (λ side t. ap (λ v. if v && is_enter side t call then places_in side (buffer_at O past (Buffer b)) else drawn O (Buffer b) side t past) is) (tallied b lock was)
+        (λ side t. ap (λ v. if v && is_enter side t call then places_in side (buffer_at O past (Buffer b)) else drawn O (Buffer b) side t past) is)
+        (tallied b lock was)
 
 -- no messages
 abbrev no_items : List Message
@@ -522,7 +563,8 @@ items_none [] b = refl
 items_none (n ∷ caps) zero = refl
 items_none (n ∷ caps) (suc b) = items_none caps b
 
-start_tallied : (caps : List ℕ) (b : BufId) (o : Option ℕ) (lock : BufferLock) → slice_get caps b.0 ≡ o → option_map fresh_lock o ≡ Some lock → (p : Side → Tid → ℕ) → Tally caps b.0 [] p lock.above
+start_tallied : (caps : List ℕ) (b : BufId) (o : Option ℕ) (lock : BufferLock) → slice_get caps b.0 ≡ o → option_map fresh_lock o ≡ Some lock
+    → (p : Side → Tid → ℕ) → Tally caps b.0 [] p lock.above
 start_tallied caps b None lock is at p = absurd cc
 start_tallied caps b (Some n) lock is at p =
     let same : fresh_lock n ≡ lock = cc in
@@ -545,7 +587,8 @@ start_tallied caps b (Some n) lock is at p =
     start_numbers Senders = tt
 
 module _ (opening : LockId → Option (QueueBlock BufferLock)) (caps : List ℕ) (boots : inner opening ≡ opening_locks caps) where
-  pub all_tallied : (past : List BufferEvent) → IsLawful (QueueAllowed (lock_kernel (cv_rules buffer_deeds) opening)) past → Tallied (inner opening) caps (buffer_sections past)
+  pub all_tallied : (past : List BufferEvent) → IsLawful (QueueAllowed (lock_kernel (cv_rules buffer_deeds) opening)) past
+      → Tallied (inner opening) caps (buffer_sections past)
   all_tallied [] lawful = λ b lock at. start_tallied caps b (slice_get caps b.0) lock refl (sym (ap (λ locks. locks (Buffer b)) boots) ∙ at) (λ side t. 0)
   all_tallied (e ∷ past) lawful = go e.call lawful.0 (all_tallied past lawful.1)
     where
@@ -555,7 +598,8 @@ module _ (opening : LockId → Option (QueueBlock BufferLock)) (caps : List ℕ)
       go (TakeAll q) may tallied = tallied
       go (OnBuffer d call) may tallied = section_tallied (inner opening) caps (buffer_sections past) e.cpu d call may.upper.granted tallied
 
-  with_effect : (o : Option Entry) (past : List Entry) → ((e : Entry) → o ≡ Some e → MayTakeEffect caps past e) → IsLawful (MayTakeEffect caps) past → IsLawful (MayTakeEffect caps) (option_to_list o ++ past)
+  with_effect : (o : Option Entry) (past : List Entry) → ((e : Entry) → o ≡ Some e → MayTakeEffect caps past e) → IsLawful (MayTakeEffect caps) past
+      → IsLawful (MayTakeEffect caps) (option_to_list o ++ past)
   with_effect None past may lawful = lawful
   with_effect (Some e) past may lawful = (may e refl, lawful)
 

@@ -24,7 +24,7 @@ use Rattle.layer_traits.specs.declared.calls.Reply.{Reply}
 use Rattle.layer_traits.specs.declared.talks.Stage.TheVariants.{Between, Acquires, Enters, Tries, Waits, AcquiresAgain, Signals, SignalsOwn, Releases}
 use Rattle.layer_traits.specs.declared.talks.Talk.{Talk}
 use Rattle.layer_traits.specs.BufferEffects.{effects_in}
-use Rattle.layer_traits.specs.BufferLaw.{Calling, Doing, IsEffectOf, Passing, buffer_of, entry_of, heard, section_at, talk_of}
+use Rattle.layer_traits.specs.BufferLaw.{Calling, Doing, IsEffectOf, Passing, buffer_of, entry_of, heard, replied, section_at, talk_of}
 use Rattle.layer_traits.specs.BufferProtocol.{BufferLock, BufferSection}
 use Rattle.layer_traits.specs.Conditions.{CvCall}
 use Rattle.layer_traits.specs.CvLaw.{Waiting}
@@ -58,6 +58,10 @@ is_plain (Released out) = is_plain_in out
 abbrev pub heard_if : Talk → Stage → Option BufferOutcome → Talk
 heard_if talk stage None = talk
 heard_if talk stage (Some outcome) = heard talk stage outcome.out
+
+-- the reply of a call at a stage, with this effect
+abbrev pub reply_at : Call → Stage → Option Effect → Option Reply
+reply_at call stage effect = replied call (record { stage = stage; call = Some call; position = 0; effect = effect }) stage
 
 -- the talks after it
 abbrev pub heard_talks : List Talk → Tid → Stage → Option BufferOutcome → List Talk
@@ -100,7 +104,8 @@ pub record Begins (O : LockId → Option BufferLock) (past : List BufferSection)
   pub kept : own.lock.sleep.kept ≡ None
   pub fits : InCall O past t call (slept_for own.lock.slept t) (slept_for own.waits t) talk.stage talk.position talk.effect
 
-pub record GoesOn (O : LockId → Option BufferLock) (past : List BufferSection) (t : Tid) (call : Call) (talk : Talk) (own : Waiting BufferOut) (under_way : SchedCall (CvCall BufferEdit)) : Type 0 where
+pub record GoesOn (O : LockId → Option BufferLock) (past : List BufferSection) (t : Tid) (call : Call) (talk : Talk) (own : Waiting BufferOut)
+    (under_way : SchedCall (CvCall BufferEdit)) : Type 0 where
   pub is : under_way ≡ OnBuffer (buffer_of call) (section_at t call talk.stage)
   pub slept : slept_for own.lock.slept t ≡ None
   pub waits : slept_for own.waits t ≡ None
@@ -110,7 +115,8 @@ abbrev pub Goes : (LockId → Option BufferLock) → List BufferSection → Tid 
 Goes O past t call talk own None = Begins O past t call talk own
 Goes O past t call talk own (Some under_way) = GoesOn O past t call talk own under_way
 
-pub record MayTurn (O : LockId → Option BufferLock) (past : List BufferSection) (t : Tid) (call : Call) (talk : Talk) (own : Waiting BufferOut) (under_way : Option (SchedCall (CvCall BufferEdit))) : Type 0 where
+pub record MayTurn (O : LockId → Option BufferLock) (past : List BufferSection) (t : Tid) (call : Call) (talk : Talk) (own : Waiting BufferOut)
+    (under_way : Option (SchedCall (CvCall BufferEdit))) : Type 0 where
   pub current : own.lock.sleep.threads.current ≡ Some t
   pub called : talk.call ≡ Some call
   pub goes : Goes O past t call talk own under_way
@@ -126,24 +132,28 @@ abbrev pub FitsAt : (LockId → Option BufferLock) → List BufferSection → Wa
 FitsAt O past own talks u = ThreadFits O past u (slept_for own.lock.slept u) (slept_for own.waits u) (talk_of talks u)
 
 -- no call of a thread is under way, and all talks of the CPU's threads fit
-pub record IsIdle (homes : List CpuId) (c : CpuId) (O : LockId → Option BufferLock) (past : List BufferSection) (own : Waiting BufferOut) (talks : List Talk) (under_way : Option (SchedCall (CvCall BufferEdit))) : Type 0 where
+pub record IsIdle (homes : List CpuId) (c : CpuId) (O : LockId → Option BufferLock) (past : List BufferSection) (own : Waiting BufferOut)
+    (talks : List Talk) (under_way : Option (SchedCall (CvCall BufferEdit))) : Type 0 where
   pub none : NoSection under_way
   pub kept : own.lock.sleep.kept ≡ None
   pub fit : (u : Tid) → home_of homes u ≡ Some c → FitsAt O past own talks u
 
 -- this thread's call is under way, and the talks of the others fit
-pub record IsCalling (homes : List CpuId) (c : CpuId) (O : LockId → Option BufferLock) (past : List BufferSection) (own : Waiting BufferOut) (talks : List Talk) (under_way : Option (SchedCall (CvCall BufferEdit))) (t : Tid) : Type 0 where
+pub record IsCalling (homes : List CpuId) (c : CpuId) (O : LockId → Option BufferLock) (past : List BufferSection) (own : Waiting BufferOut)
+    (talks : List Talk) (under_way : Option (SchedCall (CvCall BufferEdit))) (t : Tid) : Type 0 where
   pub call : Call
   pub home : home_of homes t ≡ Some c
   pub may : MayTurn O past t call (talk_of talks t) own under_way
   pub others : (u : Tid) → home_of homes u ≡ Some c → same_tid t u ≡ false → FitsAt O past own talks u
 
-abbrev pub CallsFit : List CpuId → CpuId → (LockId → Option BufferLock) → List BufferSection → Waiting BufferOut → List Talk → Option (SchedCall (CvCall BufferEdit)) → Option Tid → Type 0
+abbrev pub CallsFit : List CpuId → CpuId → (LockId → Option BufferLock) → List BufferSection → Waiting BufferOut → List Talk
+    → Option (SchedCall (CvCall BufferEdit)) → Option Tid → Type 0
 CallsFit homes c O past own talks under_way None = IsIdle homes c O past own talks under_way
 CallsFit homes c O past own talks under_way (Some t) = IsCalling homes c O past own talks under_way t
 
 -- a poll that ended its section: the thread runs on, with the talk that has heard the answer
-pub record Ended (O : LockId → Option BufferLock) (past : List BufferSection) (t : Tid) (talk : Talk) (own : Waiting BufferOut) (under_way : Option (SchedCall (CvCall BufferEdit))) (later : Talk) : Type 0 where
+pub record Ended (O : LockId → Option BufferLock) (past : List BufferSection) (t : Tid) (talk : Talk) (own : Waiting BufferOut)
+    (under_way : Option (SchedCall (CvCall BufferEdit))) (later : Talk) : Type 0 where
   pub none : under_way ≡ None
   pub current : own.lock.sleep.threads.current ≡ Some t
   pub hand : own.lock.sleep.threads.hand ≡ None
@@ -154,24 +164,29 @@ pub record Ended (O : LockId → Option BufferLock) (past : List BufferSection) 
   pub free : (slept_for own.lock.slept t ≡ None) × (slept_for own.waits t ≡ None)
 
 -- a poll that did not: the thread sleeps now, or its section goes on
-pub record Sleeps (O : LockId → Option BufferLock) (past : List BufferSection) (t : Tid) (call : Call) (talk : Talk) (own : Waiting BufferOut) (under_way : Option (SchedCall (CvCall BufferEdit))) : Type 0 where
+pub record Sleeps (O : LockId → Option BufferLock) (past : List BufferSection) (t : Tid) (call : Call) (talk : Talk) (own : Waiting BufferOut)
+    (under_way : Option (SchedCall (CvCall BufferEdit))) : Type 0 where
   pub none : under_way ≡ None
   pub current : own.lock.sleep.threads.current ≡ None
   pub kept : own.lock.sleep.kept ≡ None
   pub fits : InCall O past t call (slept_for own.lock.slept t) (slept_for own.waits t) talk.stage talk.position talk.effect
 
-pub record Stays (O : LockId → Option BufferLock) (past : List BufferSection) (t : Tid) (call : Call) (talk : Talk) (own : Waiting BufferOut) (under_way : Option (SchedCall (CvCall BufferEdit))) : Type 0 where
+pub record Stays (O : LockId → Option BufferLock) (past : List BufferSection) (t : Tid) (call : Call) (talk : Talk) (own : Waiting BufferOut)
+    (under_way : Option (SchedCall (CvCall BufferEdit))) : Type 0 where
   pub current : own.lock.sleep.threads.current ≡ Some t
   pub section_is : is_some under_way ≡ true
   pub goes : Goes O past t call talk own under_way
 
-abbrev pub After : (LockId → Option BufferLock) → List BufferSection → Tid → Call → Talk → Waiting BufferOut → Option (SchedCall (CvCall BufferEdit)) → Bool → Talk → Type 0
+abbrev pub After : (LockId → Option BufferLock) → List BufferSection → Tid → Call → Talk → Waiting BufferOut → Option (SchedCall (CvCall BufferEdit))
+    → Bool → Talk → Type 0
 After O past t call talk own under_way true later = Ended O past t talk own under_way later
 After O past t call talk own under_way false later =
     (later ≡ talk) × (Sleeps O past t call talk own under_way ⊎ Stays O past t call talk own under_way)
 
 -- what one poll of a section did: foreign events came first, then at most one of this CPU; it left this own state and this talk
-pub record Turned (homes : List CpuId) (ActsFor : CpuId → Type 0) (O : LockId → Option BufferLock) (c : CpuId) (t : Tid) (call : Call) (talk : Talk) (old new : List BufferEvent) (own left : Waiting BufferOut) (under_way : Option (SchedCall (CvCall BufferEdit))) (done : Bool) (later : Talk) : Type 0 where
+pub record Turned (homes : List CpuId) (ActsFor : CpuId → Type 0) (O : LockId → Option BufferLock) (c : CpuId) (t : Tid) (call : Call)
+    (talk : Talk) (old new : List BufferEvent) (own left : Waiting BufferOut) (under_way : Option (SchedCall (CvCall BufferEdit))) (done : Bool)
+    (later : Talk) : Type 0 where
   pub others : List BufferEvent
   pub mine : List BufferEvent
   pub foreign : AreForeign ActsFor (λ (e : BufferEvent). e.cpu) others

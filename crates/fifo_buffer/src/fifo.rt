@@ -4,7 +4,7 @@ ghost use Rattle.std.specs.Prelude.{◌≡◌, ◌≢◌, ◌+◌, ◌<◌, ◌�
 ghost use Rattle.event_log.specs.declared.ids.CpuId.{CpuId};
 ghost use Rattle.event_log.specs.declared.ids.LockId.TheVariants.{Buffer};
 ghost use Rattle.event_log.specs.declared.ids.TheConstants.{THREADS};
-ghost use Rattle.layer_traits.specs.BufferLaw.{buffer_of, buffering, plan_of, replied, talk_of};
+ghost use Rattle.layer_traits.specs.BufferLaw.{buffer_of, buffering, going, plan_of, replied, talk_of};
 ghost use Rattle.layer_traits.specs.BufferProtocol.{buffer_rules};
 ghost use Rattle.layer_traits.specs.Locking.{lock_moves, lock_rules};
 ghost use Rattle.layer_traits.specs.LockLaw.{slept_for};
@@ -12,15 +12,15 @@ ghost use Rattle.layer_traits.specs.Plans.{Follows, table_of};
 ghost use Rattle.layer_traits.specs.QueueBlocks.{homes_in, inner};
 ghost use Rattle.layer_traits.specs.QueueRules.{queue_rules};
 ghost use Rattle.layer_traits.specs.Queues.{buffer_sections};
-ghost use Rattle.fifo_buffer.specs.Turns.{MayTurn, Sizes, Turned, calling_after};
+ghost use Rattle.fifo_buffer.specs.Turns.{MayTurn, Sizes, Turned, calling_after, reply_at};
 
-use crate::sections::{answers_at_once, begin, buffer_in, reply, section};
+use crate::sections::{answers_at_once, buffer_in, reply, section};
 use crate::talk_table::Talks;
 use arrayvec::ArrayVec;
 use event_log::{BufId, CAPACITY, CpuId, Msg, Tid};
 use layer_traits::{
     BufferEdit, BufferLayer, Call, CvLayer, Effect, Line, OwnedBuffers, OwnedConds, Pass, Reply,
-    Talk,
+    Stage,
 };
 
 /// One CPU's part of first-in first-out blocking bounded buffers (Anderson and Dahlin), over a part
@@ -34,17 +34,18 @@ pub struct Fifo<C> {
 }
 
 impl<C: CvLayer<BufferEdit>> Fifo<C> {
-    /// Polls the section of `talk`, the talk of `t` within `call`, and tells whether it ended.
-    fn turn(&mut self, m: &mut C::Machine, t: Tid, call: &Call, talk: &Talk) -> bool
+    /// Polls the section of `call` by `t` at this stage, and tells whether it ended.
+    fn turn(&mut self, m: &mut C::Machine, t: Tid, call: &Call, stage: Stage) -> bool
         requires known { t.0 < THREADS }
+        requires stage { stage ≡ (going (talk_of self.old.talks.talks t) call.now).stage }
         requires fits { C.Fits self.old.lower m.old }
         requires buffer { IsSome (C.opening m.old (Buffer (buffer_of call.now))) }
         requires room { 0 < C.room m.old }
         requires sizes { Sizes (C.own self.old.lower) self.old.talks.talks }
-        requires may { MayTurn (inner (C.opening m.old)) (buffer_sections (C.seen m.old)) t call.now talk.now (C.own self.old.lower)
+        requires may { MayTurn (inner (C.opening m.old)) (buffer_sections (C.seen m.old)) t call.now (going (talk_of self.old.talks.talks t) call.now) (C.own self.old.lower)
             (C.under_way self.old.lower) }
         ensures turned { Turned (homes_in (C.opening m.old)) (λ c. C.ActsFor m.old c) (inner (C.opening m.old)) (C.cpu_of self.old.lower) t call.now
-            talk.now (C.seen m.old) (C.seen m.new) (C.own self.old.lower) (C.own self.new.lower) (C.under_way self.new.lower) result
+            (going (talk_of self.old.talks.talks t) call.now) (C.seen m.old) (C.seen m.new) (C.own self.old.lower) (C.own self.new.lower) (C.under_way self.new.lower) result
             (talk_of self.new.talks.talks t) }
         ensures talks { self.new.talks.talks ≡ slice_set self.old.talks.talks t.0 (talk_of self.new.talks.talks t) }
         ensures calling { self.new.calling ≡ self.old.calling }
@@ -60,28 +61,33 @@ impl<C: CvLayer<BufferEdit>> Fifo<C> {
         ensures follows { C.IsStepwise
             → Follows (C.ActsFor m.old) (table_of (queue_rules (lock_rules buffer_rules) (lock_moves buffer_rules))) (C.opening m.old)
             (C.cpu_of self.old.lower)
-            (plan_of (homes_in (C.opening m.old)) (C.cpu_of self.old.lower) t call.now talk.now.stage talk.now
+            (plan_of (homes_in (C.opening m.old)) (C.cpu_of self.old.lower) t call.now (going (talk_of self.old.talks.talks t) call.now).stage (going (talk_of self.old.talks.talks t) call.now)
             (buffering (C.own self.old.lower) self.old.talks.talks))
             (C.acts m.old) (C.acts m.new)
             (record {
               own = buffering (C.own self.new.lower) self.new.talks.talks;
-              answer = if result then replied call.now talk.now talk.now.stage else None;
+              answer = if result then replied call.now (going (talk_of self.old.talks.talks t) call.now) (going (talk_of self.old.talks.talks t) call.now).stage else None;
             }) }
     {
-        let edit = section(t, call, talk.stage);
+        let edit = section(t, call, stage);
         let answer = self.lower.poll(m, buffer_in(call), &edit);
-        self.talks.hear(t, talk, &answer)
+        self.talks.hear(t, call, &answer)
     }
 
-    /// The reply of `call` after a turn at `talk`, which ended its section or not; and notes whether
-    /// the call is still under way.
-    fn told(&mut self, t: Tid, call: &Call, talk: &Talk, done: bool) -> Option<Reply>
-        ensures answer { result ≡ (if done then replied call.now talk.now talk.now.stage else None) }
+    /// The reply of `call` after a turn at this stage, which ended its section or not; and notes
+    /// whether the call is still under way.
+    fn told(&mut self, t: Tid, call: &Call, stage: Stage, done: bool) -> Option<Reply>
+        requires known { t.0 < THREADS }
+        ensures answer { result ≡ (if done then reply_at call.now stage (talk_of self.old.talks.talks t).effect else None) }
         ensures calling { self.new.calling ≡ calling_after t (C.own self.old.lower).lock.sleep.threads.current result }
         ensures lower { self.new.lower ≡ self.old.lower }
         ensures talks { self.new.talks.talks ≡ self.old.talks.talks }
     {
-        let answer = if done { reply(call, talk) } else { None };
+        let answer = if done {
+            reply(call, stage, self.talks.effect(t))
+        } else {
+            None
+        };
         self.calling = match self.lower.current() {
             None => None,
             Some(_) => { if answer.is_none() { Some(t) } else { None } }
@@ -150,42 +156,49 @@ impl<C: CvLayer<BufferEdit>> BufferLayer for Fifo<C> {
         }
     }
 
+    #[inline(always)]
     fn is_busy(&self) -> bool {
         self.lower.is_busy()
     }
 
+    #[inline(always)]
     fn current(&self) -> Option<Tid> {
         self.lower.current()
     }
 
+    #[inline(always)]
     fn hand(&self) -> Option<Tid> {
         self.lower.hand()
     }
 
+    #[inline(always)]
     fn has_ready(&self) -> bool {
         self.lower.has_ready()
     }
 
+    #[inline(always)]
     fn effect(&self, t: Tid) -> Option<Effect> {
-        self.talks.get(t).effect
+        self.talks.effect(t)
     }
 
+    #[inline(always)]
     fn look(&mut self, m: &mut C::Machine) -> bool {
         self.lower.look(m)
     }
 
     fn poll(&mut self, m: &mut C::Machine, t: Tid, call: &Call) -> Option<Reply> {
-        let talk = begin(self.talks.get(t), call);
-        let at_once = answers_at_once(talk.stage, self.lower.at_once());
-        let done = self.turn(m, t, call, &talk);
+        let stage = self.talks.next_stage(t, call);
+        let at_once = answers_at_once(stage, self.lower.at_once());
+        let done = self.turn(m, t, call, stage);
         if done && at_once {
-            let next = self.talks.get(t);
-            let last = self.turn(m, t, call, &next);
-            return self.told(t, call, &next, last);
+            let next = self.talks.next_stage(t, call);
+            let last = self.turn(m, t, call, next);
+            return self.told(t, call, next, last);
         }
-        self.told(t, call, &talk, done)
+        self.told(t, call, stage, done)
     }
 
+    #[inline(always)]
     fn pass(&mut self, m: &mut C::Machine, call: Pass) -> Option<()> {
         self.lower.pass(m, call)
     }

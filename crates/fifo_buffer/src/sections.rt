@@ -1,8 +1,8 @@
 //! The sections of a message call, stage by stage.
 
 ghost use Rattle.std.specs.Prelude.{◌≡◌};
-ghost use Rattle.layer_traits.specs.BufferLaw.{at_stage, buffer_of, first_of, going, heard, other_side, placed, replied, reply_by, section_at, side_of, told_by, tried, try_of};
-ghost use Rattle.fifo_buffer.specs.Turns.{is_at_once};
+ghost use Rattle.layer_traits.specs.BufferLaw.{buffer_of, first_of, going, heard, other_side, placed, reply_by, section_at, side_of, told_by, tried, try_of};
+ghost use Rattle.fifo_buffer.specs.Turns.{is_at_once, reply_at};
 
 use event_log::{BufId, Kind, Msg, Tid};
 use layer_traits::{
@@ -11,6 +11,7 @@ use layer_traits::{
 };
 
 /// The buffer of a call.
+#[inline(always)]
 pub fn buffer_in(call: &Call) -> BufId
     ensures { result ≡ buffer_of call.now }
 {
@@ -20,6 +21,7 @@ pub fn buffer_in(call: &Call) -> BufId
 }
 
 /// A call's own side.
+#[inline(always)]
 fn own_side(call: &Call) -> Side
     ensures { result ≡ side_of call.now }
 {
@@ -30,6 +32,7 @@ fn own_side(call: &Call) -> Side
 }
 
 /// The side that a call signals to first.
+#[inline(always)]
 fn far_side(call: &Call) -> Side
     ensures { result ≡ other_side call.now }
 {
@@ -40,6 +43,7 @@ fn far_side(call: &Call) -> Side
 }
 
 /// The edit with which a call enters its line.
+#[inline(always)]
 fn first_edit(t: Tid, call: &Call) -> BufferEdit
     ensures { result ≡ first_of t call.now }
 {
@@ -50,6 +54,7 @@ fn first_edit(t: Tid, call: &Call) -> BufferEdit
 }
 
 /// The edit that a call tries.
+#[inline(always)]
 fn next_try(t: Tid, call: &Call) -> BufferEdit
     ensures { result ≡ try_of t call.now }
 {
@@ -60,6 +65,7 @@ fn next_try(t: Tid, call: &Call) -> BufferEdit
 }
 
 /// The reply of a call after an effect.
+#[inline(always)]
 fn answer_by(call: &Call, kind: Kind, value: Msg) -> Reply
     ensures { result ≡ reply_by call.now kind value }
 {
@@ -71,6 +77,7 @@ fn answer_by(call: &Call, kind: Kind, value: Msg) -> Reply
 }
 
 /// The section of a call at a stage.
+#[inline(always)]
 pub fn section(t: Tid, call: &Call, stage: Stage) -> QEdit<CvEdit<BufferEdit>, CvLeave>
     ensures { result ≡ section_at t call.now stage }
 {
@@ -85,29 +92,23 @@ pub fn section(t: Tid, call: &Call, stage: Stage) -> QEdit<CvEdit<BufferEdit>, C
     }
 }
 
-/// The talk with which a poll of a call goes on: between calls a new one begins.
-pub fn begin(talk: Talk, call: &Call) -> Talk
-    ensures { result ≡ going talk call.now }
+/// Begins `call` where its thread is between calls.
+#[inline(always)]
+pub fn begin(talk: &mut Talk, call: &Call)
+    ensures { talk.new ≡ going talk.old call.now }
 {
-    match talk.stage {
-        Stage::Between => Talk {
+    if talk.stage == Stage::Between {
+        *talk = Talk {
             stage: Stage::Acquires,
             call: Some(*call),
             position: 0,
             effect: None,
-        },
-        Stage::Acquires
-        | Stage::Enters
-        | Stage::Tries
-        | Stage::Waits
-        | Stage::AcquiresAgain
-        | Stage::Signals
-        | Stage::SignalsOwn
-        | Stage::Releases => talk,
+        };
     }
 }
 
 /// What an edit of the buffer answered, in the answer of its section; `NotYet` where it was none.
+#[inline(always)]
 fn told(out: &QOut<CvOut<BufferOut>>) -> BufferOut
     ensures { result ≡ told_by out.now }
 {
@@ -118,77 +119,65 @@ fn told(out: &QOut<CvOut<BufferOut>>) -> BufferOut
     }
 }
 
-/// The talk of a thread that has entered its line.
-fn after_entry(talk: &Talk, told: BufferOut) -> Talk
-    ensures { result ≡ placed talk.now told }
+/// Keeps what a thread that entered its line was told: its position.
+#[inline(always)]
+fn hear_entry(talk: &mut Talk, told: BufferOut)
+    ensures { talk.new ≡ placed talk.old told }
 {
-    match told {
-        BufferOut::Entered(position) => Talk {
-            stage: Stage::Tries,
-            position,
-            ..*talk
-        },
-        BufferOut::NotYet | BufferOut::Done(_, _, _) => *talk,
+    if let BufferOut::Entered(position) = told {
+        talk.stage = Stage::Tries;
+        talk.position = position;
     }
 }
 
-/// The talk of a thread that has tried.
-fn after_try(talk: &Talk, told: BufferOut) -> Talk
-    ensures { result ≡ tried talk.now told }
+/// Keeps what a thread that tried was told: its effect, or that it has to wait.
+#[inline(always)]
+fn hear_try(talk: &mut Talk, told: BufferOut)
+    ensures { talk.new ≡ tried talk.old told }
 {
     match told {
-        BufferOut::Done(kind, op, value) => Talk {
-            stage: Stage::Signals,
-            effect: Some(Effect {
+        BufferOut::Done(kind, op, value) => {
+            talk.stage = Stage::Signals;
+            talk.effect = Some(Effect {
                 kind,
                 value,
                 op,
                 pos: talk.position,
-            }),
-            ..*talk
-        },
-        BufferOut::NotYet | BufferOut::Entered(_) => Talk {
-            stage: Stage::Waits,
-            ..*talk
-        },
+            });
+        }
+        BufferOut::NotYet | BufferOut::Entered(_) => talk.stage = Stage::Waits,
     }
 }
 
-/// The talk after the section of its stage, which answered this.
-pub fn after_section(talk: &Talk, out: &QOut<CvOut<BufferOut>>) -> Talk
-    ensures { result ≡ heard talk.now talk.now.stage out.now }
+/// Keeps what the section of the talk's stage answered: the talk is at the next stage then.
+#[inline(always)]
+pub fn hear_section(talk: &mut Talk, out: &QOut<CvOut<BufferOut>>)
+    ensures { talk.new ≡ heard talk.old talk.old.stage out.now }
 {
     match talk.stage {
-        Stage::Between => *talk,
-        Stage::Acquires => moved(talk, Stage::Enters),
-        Stage::Enters => after_entry(talk, told(out)),
-        Stage::Tries => after_try(talk, told(out)),
-        Stage::Waits => moved(talk, Stage::AcquiresAgain),
-        Stage::AcquiresAgain => moved(talk, Stage::Tries),
-        Stage::Signals => moved(talk, Stage::SignalsOwn),
-        Stage::SignalsOwn => moved(talk, Stage::Releases),
-        Stage::Releases => Talk {
-            stage: Stage::Between,
-            call: None,
-            ..*talk
-        },
+        Stage::Between => {}
+        Stage::Acquires => talk.stage = Stage::Enters,
+        Stage::Enters => hear_entry(talk, told(out)),
+        Stage::Tries => hear_try(talk, told(out)),
+        Stage::Waits => talk.stage = Stage::AcquiresAgain,
+        Stage::AcquiresAgain => talk.stage = Stage::Tries,
+        Stage::Signals => talk.stage = Stage::SignalsOwn,
+        Stage::SignalsOwn => talk.stage = Stage::Releases,
+        Stage::Releases => {
+            talk.stage = Stage::Between;
+            talk.call = None;
+        }
     }
 }
 
-/// The talk at another stage.
-fn moved(talk: &Talk, stage: Stage) -> Talk
-    ensures { result ≡ at_stage stage talk.now }
+/// The reply of a call whose section at this stage has ended: that of its effect, after the last
+/// section.
+#[inline(always)]
+pub fn reply(call: &Call, stage: Stage, effect: Option<Effect>) -> Option<Reply>
+    ensures { result ≡ reply_at call.now stage effect }
 {
-    Talk { stage, ..*talk }
-}
-
-/// The reply of a call whose section at this talk's stage has ended: that of its effect, after the
-/// last section.
-pub fn reply(call: &Call, talk: &Talk) -> Option<Reply>
-    ensures { result ≡ replied call.now talk.now talk.now.stage }
-{
-    match talk.stage {
-        Stage::Releases => match talk.effect {
+    match stage {
+        Stage::Releases => match effect {
             Some(effect) => Some(answer_by(call, effect.kind, effect.value)),
             None => None,
         },
@@ -205,6 +194,7 @@ pub fn reply(call: &Call, talk: &Talk) -> Option<Reply>
 
 /// Whether the next section follows in the same poll where this stage's ends without an action: at
 /// an Acquire, where its thread was handed the lock, and at a wait.
+#[inline(always)]
 pub fn answers_at_once(stage: Stage, handed: bool) -> bool
     ensures { result ≡ is_at_once stage handed }
 {

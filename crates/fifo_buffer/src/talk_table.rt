@@ -2,12 +2,12 @@
 
 ghost use Rattle.std.specs.Prelude.{◌≡◌, ◌<◌, is_some, replicate, slice_set};
 ghost use Rattle.event_log.specs.declared.ids.TheConstants.{THREADS};
-ghost use Rattle.layer_traits.specs.BufferLaw.{quiet, talk_of};
+ghost use Rattle.layer_traits.specs.BufferLaw.{going, quiet, talk_of};
 ghost use Rattle.fifo_buffer.specs.Turns.{heard_if};
 
-use crate::sections::after_section;
+use crate::sections::{begin, hear_section};
 use event_log::{THREADS, Tid};
-use layer_traits::{BufferOut, CvOut, Outcome, QOut, Stage, Talk};
+use layer_traits::{BufferOut, Call, CvOut, Effect, Outcome, QOut, Stage, Talk};
 
 /// The talk of each thread.
 #[derive(Drop)]
@@ -31,32 +31,54 @@ impl Talks {
         }
     }
 
-    /// The talk of `t`.
-    pub fn get(&self, t: Tid) -> Talk
+    /// The effect of the newest call of `t`.
+    #[inline(always)]
+    pub fn effect(&self, t: Tid) -> Option<Effect>
         requires { t.0 < THREADS }
-        ensures { result ≡ talk_of self.now.talks t }
+        ensures { result ≡ (talk_of self.now.talks t).effect }
     {
-        self.talks[usize::from(t.0)]
+        self.talks[usize::from(t.0)].effect
     }
 
-    /// Keeps for `t` its talk after a poll that answered this, and tells whether it answered.
+    /// The stage at which a poll of `call` by `t` goes on: between calls a new one begins.
+    #[inline(always)]
+    pub fn next_stage(&self, t: Tid, call: &Call) -> Stage
+        requires { t.0 < THREADS }
+        ensures { result ≡ (going (talk_of self.now.talks t) call.now).stage }
+    {
+        let _ = call;
+        match self.talks[usize::from(t.0)].stage {
+            Stage::Between => Stage::Acquires,
+            Stage::Acquires => Stage::Acquires,
+            Stage::Enters => Stage::Enters,
+            Stage::Tries => Stage::Tries,
+            Stage::Waits => Stage::Waits,
+            Stage::AcquiresAgain => Stage::AcquiresAgain,
+            Stage::Signals => Stage::Signals,
+            Stage::SignalsOwn => Stage::SignalsOwn,
+            Stage::Releases => Stage::Releases,
+        }
+    }
+
+    /// Keeps for `t`, which is in `call`, what a poll of its section answered, and tells whether it
+    /// did.
     pub fn hear(
         &mut self,
         t: Tid,
-        talk: &Talk,
+        call: &Call,
         answer: &Option<Outcome<QOut<CvOut<BufferOut>>>>,
     ) -> bool
         requires { t.0 < THREADS }
         ensures done { result ≡ is_some answer.now }
-        ensures talks { self.new.talks ≡ slice_set self.old.talks t.0 (heard_if talk.now talk.now.stage answer.now) }
+        ensures talks { self.new.talks ≡ slice_set self.old.talks t.0 (heard_if (going (talk_of self.old.talks t) call.now)
+            (going (talk_of self.old.talks t) call.now).stage answer.now) }
     {
+        let talk = &mut self.talks[usize::from(t.0)];
+        begin(talk, call);
         match answer {
-            None => {
-                self.talks[usize::from(t.0)] = *talk;
-                false
-            }
+            None => false,
             Some(outcome) => {
-                self.talks[usize::from(t.0)] = after_section(talk, &outcome.out);
+                hear_section(talk, &outcome.out);
                 true
             }
         }

@@ -2,7 +2,7 @@ use Rattle.std.proofs.Common.{◌≡◌, ◌∙◌, ap, arith}
 use Rattle.std.proofs.lemmas.List.{get_or-set_same}
 use Rattle.event_log.specs.declared.ids.LockId.TheVariants.{Buffer}
 use Rattle.layer_traits.specs.declared.moves.Line.TheVariants as line
-use Rattle.layer_traits.specs.BufferLaw.{buffer_of, left_heard, plan_beneath, quiet, section_at, talk_of}
+use Rattle.layer_traits.specs.BufferLaw.{buffer_of, going, left_heard, plan_beneath, quiet, section_at, talk_of}
 use Rattle.layer_traits.specs.BufferProtocol.{buffer_deeds, buffer_rules}
 use Rattle.layer_traits.specs.Conditions.{cv_rules}
 use Rattle.layer_traits.specs.Locking.{lock_caller, lock_moves, lock_rules}
@@ -24,10 +24,15 @@ poll-answer-requires-clause-call g c =
     let p = c.args.self.now.lower in
     let cpu = C.cpu_of p in
     let acts = law.own_cpu p m c.requires.fits in
-    let home = runs_home (C.opening m) cpu (C.seen m) (C.own p).lock.sleep.threads c.args.t (law.moving m cpu acts) (law.stands p m c.requires.fits) c.requires.may.current in
-    rw (c.section-edit.ensures, c.buffer_in.ensures)
-    (may_turn (C.opening m) cpu c.args.t home c.args.call.now c.args.talk.now (C.seen m) (C.own p) (C.under_way p) c.requires.may
-    (lock_caller (cv_rules buffer_deeds) (section_at c.args.t c.args.call.now c.args.talk.now.stage)) (caller_is c.args.t c.args.call.now c.args.talk.now.stage))
+    let home = runs_home (C.opening m) cpu (C.seen m) (C.own p).lock.sleep.threads c.args.t (law.moving m cpu acts)
+    (law.stands p m c.requires.fits) c.requires.may.current in
+    let edit_is = c.section-edit.ensures ∙ ap (section_at c.args.t c.args.call.now) c.requires.stage in
+    rw (edit_is, c.buffer_in.ensures)
+    (may_turn (C.opening m) cpu c.args.t home c.args.call.now (going (talk_of c.args.self.now.talks.talks c.args.t) c.args.call.now) (C.seen m)
+    (C.own p) (C.under_way p) c.requires.may
+    (lock_caller (cv_rules buffer_deeds) (section_at c.args.t c.args.call.now
+    (going (talk_of c.args.self.now.talks.talks c.args.t) c.args.call.now).stage))
+    (caller_is c.args.t c.args.call.now (going (talk_of c.args.self.now.talks.talks c.args.t) c.args.call.now).stage))
 
 pub returns-clause-turned : goal.returns-clause-turned
 returns-clause-turned g c =
@@ -38,22 +43,26 @@ returns-clause-turned g c =
     let cpu = C.cpu_of p in
     let t = c.args.t in
     let call = c.args.call.now in
-    let talk = c.args.talk.now in
+    let talk = going (talk_of c.args.self.now.talks.talks t) call in
     let acts = law.own_cpu p m c.requires.fits in
     let legal = law.moving m cpu acts in
     let stands = law.stands p m c.requires.fits in
     let home = runs_home (C.opening m) cpu (C.seen m) (C.own p).lock.sleep.threads t legal stands c.requires.may.current in
-    let awake = runs_awake (C.opening m) cpu (C.seen m) (C.own p).lock.sleep.threads t legal stands c.requires.may.current (law.lists p m c.requires.fits) (Buffer (buffer_of call)) line.Sleepers in
+    let awake = runs_awake (C.opening m) cpu (C.seen m) (C.own p).lock.sleep.threads t legal stands c.requires.may.current
+    (law.lists p m c.requires.fits) (Buffer (buffer_of call)) line.Sleepers in
     let lawful = rw c.poll-answer.ensures.opening at (law.lawful c.poll-answer.new.m cpu (c.poll-answer.ensures.acts cpu acts)) in
     let small = c.requires.known in
     let size = c.requires.sizes.talks_are in
     let later : talk_of c.hear.new.self.talks t ≡ heard_if talk talk.stage c.poll-answer.result
-    = ap (λ talks. talk_of talks t) c.hear.ensures.talks ∙ get_or-set_same c.args.self.now.talks.talks t.0 (heard_if talk talk.stage c.poll-answer.result) quiet (omega (arith, small, size)) in
-    let seen = rw (c.section-edit.ensures, c.buffer_in.ensures) at c.poll-answer.ensures.seen in
-    let woken = rw c.section-edit.ensures at c.poll-answer.ensures.woken in
-    let handed = rw c.section-edit.ensures at c.poll-answer.ensures.handed in
+    = ap (λ talks. talk_of talks t) c.hear.ensures.talks ∙ get_or-set_same c.args.self.now.talks.talks t.0
+    (heard_if talk talk.stage c.poll-answer.result) quiet (omega (arith, small, size)) in
+    let edit_is = c.section-edit.ensures ∙ ap (section_at t call) c.requires.stage in
+    let seen = rw (edit_is, c.buffer_in.ensures) at c.poll-answer.ensures.seen in
+    let woken = rw edit_is at c.poll-answer.ensures.woken in
+    let handed = rw edit_is at c.poll-answer.ensures.handed in
     let turn = polled_turn (C.opening m) (λ d. C.ActsFor m d) cpu acts t home small call (C.own p) c.requires.sizes.slept c.requires.sizes.waits
-    c.requires.may.current (C.seen m) (C.seen c.poll-answer.new.m) talk (C.under_way p) (C.under_way c.poll-answer.new.self) c.requires.may.called c.requires.may.goes
+    c.requires.may.current (C.seen m) (C.seen c.poll-answer.new.m) talk (C.under_way p) (C.under_way c.poll-answer.new.self) c.requires.may.called
+    c.requires.may.goes
     lawful awake (lock_caller (cv_rules buffer_deeds) (section_at t call talk.stage)) (caller_is t call talk.stage)
     (record { own = C.own c.poll-answer.new.self; answer = c.poll-answer.result }) seen (λ some. ap C.seen (woken some)) (λ some. ap C.seen (handed some)) in
     rw (c.hear.ensures.done, later) turn
@@ -66,10 +75,12 @@ returns-clause-follows g c stepwise =
     let cpu = C.cpu_of p in
     let t = c.args.t in
     let call = c.args.call.now in
-    let talk = c.args.talk.now in
+    let talk = going (talk_of c.args.self.now.talks.talks t) call in
     let talks = c.args.self.now.talks.talks in
-    let follows = rw (c.section-edit.ensures, c.buffer_in.ensures) at (c.poll-answer.ensures.follows stepwise) in
-    rw (← heard_left t call talk talks c.hear.new.self.talks talk.stage (C.own c.poll-answer.new.self) c.poll-answer.result c.hear.result c.hear.ensures.done c.hear.ensures.talks)
+    let edit_is = c.section-edit.ensures ∙ ap (section_at t call) c.requires.stage in
+    let follows = rw (edit_is, c.buffer_in.ensures) at (c.poll-answer.ensures.follows stepwise) in
+    rw (← heard_left t call talk talks c.hear.new.self.talks talk.stage (C.own c.poll-answer.new.self) c.poll-answer.result c.hear.result
+    c.hear.ensures.done c.hear.ensures.talks)
     (follows_raised (λ d. C.ActsFor m d) (table_of (queue_rules (lock_rules buffer_rules) (lock_moves buffer_rules))) (C.opening m) cpu
     (left_heard t call talk talks talk.stage) (plan_beneath (homes_in (C.opening m)) cpu t call talk.stage (C.own p)) (C.acts m) (C.acts c.poll-answer.new.m)
     (record { own = C.own c.poll-answer.new.self; answer = c.poll-answer.result }) follows)

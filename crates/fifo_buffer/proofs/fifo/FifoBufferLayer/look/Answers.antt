@@ -20,7 +20,8 @@ returns-clause-moves g c =
     let m = c.args.m.now in
     let grown = c.look.ensures.seen in
     rw c.look.ensures.opening
-    (moves_grown (C.opening m) (λ d. C.ActsFor m d) _ (C.cpu_of c.args.self.now.lower) [] grown.others (C.seen m) (C.seen c.look.new.m) (λ d both. both.0) grown.foreign tt grown.is)
+    (moves_grown (C.opening m) (λ d. C.ActsFor m d) _ (C.cpu_of c.args.self.now.lower) [] grown.others (C.seen m) (C.seen c.look.new.m)
+    (λ d both. both.0) grown.foreign tt grown.is)
 
 pub returns-clause-fits : goal.returns-clause-fits
 returns-clause-fits g c =
@@ -34,7 +35,8 @@ returns-clause-fits g c =
     let lawful = rw c.look.ensures.opening at (law.lawful c.look.new.m cpu (c.look.ensures.acts cpu acts)) in (
       c.look.ensures.fits,
       rw (c.look.ensures.opening, c.look.ensures.cpu, c.look.ensures.own, c.look.ensures.call)
-          (part_grown (C.opening m) cpu grown.others (C.seen m) (C.seen c.look.new.m) (grown.foreign cpu acts) lawful grown.is (C.own p.lower) p.talks.talks (C.under_way p.lower) p.calling c.requires.fits.1),
+          (part_grown (C.opening m) cpu grown.others (C.seen m) (C.seen c.look.new.m) (grown.foreign cpu acts) lawful grown.is
+          (C.own p.lower) p.talks.talks (C.under_way p.lower) p.calling c.requires.fits.1),
     )
 
 pub returns-clause-others : goal.returns-clause-others
@@ -45,9 +47,11 @@ returns-clause-others g c q other fits =
     let cpu = C.cpu_of c.args.self.now.lower in
     let grown = c.look.ensures.seen in
     let acts = law.own_cpu q.lower m fits.0 in
-    let lawful = rw c.look.ensures.opening at (law.lawful c.look.new.m cpu (c.look.ensures.acts cpu (law.own_cpu c.args.self.now.lower m c.requires.fits.0))) in (
+    let lawful = rw c.look.ensures.opening at
+    (law.lawful c.look.new.m cpu (c.look.ensures.acts cpu (law.own_cpu c.args.self.now.lower m c.requires.fits.0))) in (
       c.look.ensures.others q.lower other fits.0,
       rw c.look.ensures.opening
-          (part_grown (C.opening m) (C.cpu_of q.lower) grown.others (C.seen m) (C.seen c.look.new.m) (grown.foreign (C.cpu_of q.lower) acts) lawful grown.is (C.own q.lower) q.talks.talks
+          (part_grown (C.opening m) (C.cpu_of q.lower) grown.others (C.seen m) (C.seen c.look.new.m)
+          (grown.foreign (C.cpu_of q.lower) acts) lawful grown.is (C.own q.lower) q.talks.talks
           (C.under_way q.lower) q.calling fits.1),
     )

@@ -37,15 +37,19 @@ returns-clause-fits g c =
     let polled = c.pass.ensures.seen in
     let threads = (C.own p.lower).lock.sleep.threads in
     let threads_then = (C.own c.pass.new.self).lock.sleep.threads in
-    let grown = pass_grown (C.opening m) (λ d. C.ActsFor m d) (λ d. C.ActsFor m d) (λ d a. a) cpu c.args.call c.pass.result (C.seen m) (C.seen c.pass.new.m) threads threads_then polled in
+    let grown = pass_grown (C.opening m) (λ d. C.ActsFor m d) (λ d. C.ActsFor m d) (λ d a. a) cpu c.args.call c.pass.result (C.seen m)
+    (C.seen c.pass.new.m) threads threads_then polled in
     let lawful = rw c.pass.ensures.opening at (law.lawful c.pass.new.m cpu (c.pass.ensures.acts cpu acts)) in
-    let before = lawful_before (C.opening m) (pass_events (homes_in (C.opening m)) cpu c.args.call (is_some (done_if {O = BufferOutcome} c.pass.result))) (polled.others ++ C.seen m)
+    let before = lawful_before (C.opening m) (pass_events (homes_in (C.opening m)) cpu c.args.call
+    (is_some (done_if {O = BufferOutcome} c.pass.result))) (polled.others ++ C.seen m)
     (C.seen c.pass.new.m) grown lawful in
-    let on = part_passed (C.opening m) (λ d. C.ActsFor m d) (λ d. C.ActsFor m d) (λ d a. a) cpu c.args.call c.pass.result (C.seen m) (C.seen c.pass.new.m) threads threads_then polled
+    let on = part_passed (C.opening m) (λ d. C.ActsFor m d) (λ d. C.ActsFor m d) (λ d a. a) cpu c.args.call c.pass.result (C.seen m)
+    (C.seen c.pass.new.m) threads threads_then polled
     cpu (polled.foreign cpu acts) before (C.own p.lower) p.talks.talks (C.under_way p.lower) p.calling c.requires.fits.1 in (
       c.pass.ensures.fits,
       rw (c.pass.ensures.opening, c.pass.ensures.cpu, c.pass.ensures.call)
-          (passed_own (C.opening m) cpu (C.seen c.pass.new.m) (C.own p.lower) (C.own c.pass.new.self) p.talks.talks (C.under_way p.lower) p.calling c.args.call (is_some c.pass.result)
+          (passed_own (C.opening m) cpu (C.seen c.pass.new.m) (C.own p.lower) (C.own c.pass.new.self) p.talks.talks
+          (C.under_way p.lower) p.calling c.args.call (is_some c.pass.result)
           c.requires.goes_on c.pass.ensures.kept c.pass.ensures.slept c.pass.ensures.waits on),
     )
 
@@ -60,12 +64,16 @@ returns-clause-others g c q other fits =
     let polled = c.pass.ensures.seen in
     let threads = (C.own p.lower).lock.sleep.threads in
     let threads_then = (C.own c.pass.new.self).lock.sleep.threads in
-    let grown = pass_grown (C.opening m) (λ d. C.ActsFor m d) (λ d. C.ActsFor m d) (λ d a. a) cpu c.args.call c.pass.result (C.seen m) (C.seen c.pass.new.m) threads threads_then polled in
+    let grown = pass_grown (C.opening m) (λ d. C.ActsFor m d) (λ d. C.ActsFor m d) (λ d a. a) cpu c.args.call c.pass.result (C.seen m)
+    (C.seen c.pass.new.m) threads threads_then polled in
     let lawful = rw c.pass.ensures.opening at (law.lawful c.pass.new.m cpu (c.pass.ensures.acts cpu acts)) in
-    let before = lawful_before (C.opening m) (pass_events (homes_in (C.opening m)) cpu c.args.call (is_some (done_if {O = BufferOutcome} c.pass.result))) (polled.others ++ C.seen m)
+    let before = lawful_before (C.opening m) (pass_events (homes_in (C.opening m)) cpu c.args.call
+    (is_some (done_if {O = BufferOutcome} c.pass.result))) (polled.others ++ C.seen m)
     (C.seen c.pass.new.m) grown lawful in (
       c.pass.ensures.others q.lower other fits.0,
       rw c.pass.ensures.opening
-          (part_passed (C.opening m) (λ d. C.ActsFor m d) (λ d. C.ActsFor m d) (λ d a. a) cpu c.args.call c.pass.result (C.seen m) (C.seen c.pass.new.m) threads threads_then polled
-          (C.cpu_of q.lower) (polled.foreign (C.cpu_of q.lower) (law.own_cpu q.lower m fits.0)) before (C.own q.lower) q.talks.talks (C.under_way q.lower) q.calling fits.1),
+          (part_passed (C.opening m) (λ d. C.ActsFor m d) (λ d. C.ActsFor m d) (λ d a. a) cpu c.args.call c.pass.result (C.seen m)
+          (C.seen c.pass.new.m) threads threads_then polled
+          (C.cpu_of q.lower) (polled.foreign (C.cpu_of q.lower) (law.own_cpu q.lower m fits.0)) before (C.own q.lower) q.talks.talks
+          (C.under_way q.lower) q.calling fits.1),
     )

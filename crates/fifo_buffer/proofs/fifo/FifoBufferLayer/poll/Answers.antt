@@ -1,7 +1,8 @@
-use Rattle.std.proofs.Common.{◌≡◌, ◌∙◌, ap, sym, subst, refl, false, Some, inl, inr, ◌≤◌, ◌+◌, ◌++◌, None, if◌then◌else◌}
+use Rattle.std.proofs.Common.{◌≡◌, ◌∙◌, ap, sym, subst, refl, true, false, Some, inl, inr, ◌≤◌, ◌+◌, ◌++◌, None, if◌then◌else◌}
 use Rattle.event_log.specs.declared.ids.CpuId.{CpuId}
 use Rattle.event_log.specs.declared.ids.Tid.{Tid}
 use Rattle.layer_traits.specs.declared.calls.Reply.{Reply}
+use Rattle.layer_traits.specs.declared.talks.Stage.{Stage}
 use Rattle.layer_traits.specs.declared.talks.Talk.{Talk}
 use Rattle.layer_traits.specs.BufferLaw.{Buffering, buffer_of, buffering, going, plan_at, plan_of, replied, talk_of}
 use Rattle.layer_traits.specs.BufferProtocol.{buffer_rules}
@@ -11,14 +12,16 @@ use Rattle.layer_traits.specs.QueueRules.{queue_rules}
 use Rattle.layer_traits.specs.QueueBlocks.{homes_in, inner}
 use Rattle.layer_traits.specs.Queues.{buffer_sections}
 use Rattle.thread_blocks.specs.Queues.{same_tid}
-use Rattle.fifo_buffer.specs.Turns.{MayTurn, Turned}
+use Rattle.fifo_buffer.specs.Stances.{called_at}
+use Rattle.fifo_buffer.specs.Turns.{MayTurn, Turned, is_at_once}
 use Rattle.fifo_buffer.proofs.Chains.{follows_for, one_follows, two_follows}
 use Rattle.fifo_buffer.proofs.Finish.{called_by, finish, others_after}
 use Rattle.fifo_buffer.proofs.First.{first_may, goes_called}
 use Rattle.fifo_buffer.proofs.Heard.{runs_home}
 use Rattle.fifo_buffer.specs.OwnedLaws.{block_there}
 use Rattle.fifo_buffer.proofs.Parts.{moves_grown, other_part}
-use Rattle.fifo_buffer.proofs.Twice.{apart_talk, ended_of, exit_free, marks_of, doing_by, later_call, later_effect, next_may, other_talk, runs_by, sizes_of, why, why_slept}
+use Rattle.fifo_buffer.proofs.Twice.{apart_talk, ended_of, next_going, told_as, exit_free, marks_of, doing_by}
+use Rattle.fifo_buffer.proofs.Twice.{later_call, later_effect, next_may, other_talk, runs_by, sizes_of, why, why_slept}
 use Rattle.fifo_buffer.proofs.fifo.FifoBufferLayer.poll.Goals as goal
 
 pub returns-clause-acts : goal.returns-clause-acts
@@ -51,10 +54,12 @@ turn-done-requires-clause-may g c =
     let O = inner (C.opening m) in
     let homes = homes_in (C.opening m) in
     let acts = law.own_cpu p.lower m c.requires.fits.0 in
-    let home = runs_home (C.opening m) cpu (C.seen m) own.lock.sleep.threads t (law.moving m cpu acts) (law.stands p.lower m c.requires.fits.0) c.requires.runs in
-    let first = first_may homes cpu O (buffer_sections (C.seen m)) own talks (C.under_way p.lower) p.calling t call home c.requires.fits.1.calls c.requires.runs c.requires.hand c.requires.same c.requires.goes_on in
-    let talk = c.begin-talk.result in
-    let talk_is : talk ≡ going (talk_of talks t) call = c.begin-talk.ensures ∙ ap (λ x. going x call) c.get.ensures in
+    let home = runs_home (C.opening m) cpu (C.seen m) own.lock.sleep.threads t (law.moving m cpu acts)
+    (law.stands p.lower m c.requires.fits.0) c.requires.runs in
+    let first = first_may homes cpu O (buffer_sections (C.seen m)) own talks (C.under_way p.lower) p.calling t call home c.requires.fits.1.calls
+    c.requires.runs c.requires.hand c.requires.same c.requires.goes_on in
+    let talk = going (talk_of talks t) call in
+    let talk_is : talk ≡ going (talk_of talks t) call = refl in
     let may = subst (λ x. MayTurn O (buffer_sections (C.seen m)) t call x own (C.under_way p.lower)) (sym talk_is) first.0 in
     may
 
@@ -72,10 +77,12 @@ turn-last-requires-clause-may g c =
     let O = inner (C.opening m) in
     let homes = homes_in (C.opening m) in
     let acts = law.own_cpu p.lower m c.requires.fits.0 in
-    let home = runs_home (C.opening m) cpu (C.seen m) own.lock.sleep.threads t (law.moving m cpu acts) (law.stands p.lower m c.requires.fits.0) c.requires.runs in
-    let first = first_may homes cpu O (buffer_sections (C.seen m)) own talks (C.under_way p.lower) p.calling t call home c.requires.fits.1.calls c.requires.runs c.requires.hand c.requires.same c.requires.goes_on in
-    let talk = c.begin-talk.result in
-    let talk_is : talk ≡ going (talk_of talks t) call = c.begin-talk.ensures ∙ ap (λ x. going x call) c.get.ensures in
+    let home = runs_home (C.opening m) cpu (C.seen m) own.lock.sleep.threads t (law.moving m cpu acts)
+    (law.stands p.lower m c.requires.fits.0) c.requires.runs in
+    let first = first_may homes cpu O (buffer_sections (C.seen m)) own talks (C.under_way p.lower) p.calling t call home c.requires.fits.1.calls
+    c.requires.runs c.requires.hand c.requires.same c.requires.goes_on in
+    let talk = going (talk_of talks t) call in
+    let talk_is : talk ≡ going (talk_of talks t) call = refl in
     let may = subst (λ x. MayTurn O (buffer_sections (C.seen m)) t call x own (C.under_way p.lower)) (sym talk_is) first.0 in
     let one = c.turn-done in
     let m1 = one.new.m in
@@ -86,11 +93,18 @@ turn-last-requires-clause-may g c =
     let Acts0 : CpuId → Type 0 = λ d. C.ActsFor m d in
     let turned1 = one.ensures.turned in
     let same1 : (u : Tid) → same_tid t u ≡ false → talk_of talks1 u ≡ talk_of talks u = λ u other. other_talk talks talks1 t u later1 one.ensures.talks other in
-    let sizes1 = sizes_of homes Acts0 O cpu t call talk (C.seen m) (C.seen m1) own own1 under1 one.result later1 turned1 talks talks1 one.ensures.talks c.requires.fits.1.sizes in
-    let others1 = others_after (C.opening m) Acts0 cpu t home call talk may.called (C.seen m) (C.seen m1) own own1 under1 one.result later1 turned1 talks talks1 refl same1 first.1 in
-    let at_once = sym c.answers_at_once-at_once.ensures ∙ c.if-at_once.true in
-    rw (one.ensures.opening, c.get-next.ensures)
-    (next_may homes Acts0 O cpu t call talk (C.seen m) (C.seen m1) own own1 under1 one.result later1 turned1 c.at_once.result c.if-done.true at_once may.called)
+    let sizes1 = sizes_of homes Acts0 O cpu t call talk (C.seen m) (C.seen m1) own own1 under1 one.result later1 turned1 talks talks1
+    one.ensures.talks c.requires.fits.1.sizes in
+    let others1 = others_after (C.opening m) Acts0 cpu t home call talk may.called (C.seen m) (C.seen m1) own own1 under1 one.result later1 turned1
+    talks talks1 refl same1 first.1 in
+    let at_once = (ap (λ (s : Stage). is_at_once s c.at_once.result) (sym c.next_stage-stage.ensures) ∙ sym c.answers_at_once-at_once.ensures)
+    ∙ c.if-at_once.true in
+    let next_is : going later1 call ≡ later1 = next_going homes Acts0 O cpu t call talk (C.seen m)
+    (C.seen m1) own own1 under1 one.result later1 turned1 c.at_once.result c.if-done.true at_once may.called in
+    rw one.ensures.opening
+    (subst (λ (x : Talk). MayTurn O (buffer_sections (C.seen m1)) t call x own1 under1) (sym next_is)
+    (next_may homes Acts0 O cpu t call talk (C.seen m) (C.seen m1) own own1 under1 one.result later1 turned1 c.at_once.result c.if-done.true at_once
+    may.called))
 
 pub returns-clause-runs : goal.returns-clause-runs
 returns-clause-runs g c =
@@ -106,10 +120,12 @@ returns-clause-runs g c =
     let O = inner (C.opening m) in
     let homes = homes_in (C.opening m) in
     let acts = law.own_cpu p.lower m c.requires.fits.0 in
-    let home = runs_home (C.opening m) cpu (C.seen m) own.lock.sleep.threads t (law.moving m cpu acts) (law.stands p.lower m c.requires.fits.0) c.requires.runs in
-    let first = first_may homes cpu O (buffer_sections (C.seen m)) own talks (C.under_way p.lower) p.calling t call home c.requires.fits.1.calls c.requires.runs c.requires.hand c.requires.same c.requires.goes_on in
-    let talk = c.begin-talk.result in
-    let talk_is : talk ≡ going (talk_of talks t) call = c.begin-talk.ensures ∙ ap (λ x. going x call) c.get.ensures in
+    let home = runs_home (C.opening m) cpu (C.seen m) own.lock.sleep.threads t (law.moving m cpu acts)
+    (law.stands p.lower m c.requires.fits.0) c.requires.runs in
+    let first = first_may homes cpu O (buffer_sections (C.seen m)) own talks (C.under_way p.lower) p.calling t call home c.requires.fits.1.calls
+    c.requires.runs c.requires.hand c.requires.same c.requires.goes_on in
+    let talk = going (talk_of talks t) call in
+    let talk_is : talk ≡ going (talk_of talks t) call = refl in
     let may = subst (λ x. MayTurn O (buffer_sections (C.seen m)) t call x own (C.under_way p.lower)) (sym talk_is) first.0 in
     let one = c.turn-done in
     let m1 = one.new.m in
@@ -120,9 +136,13 @@ returns-clause-runs g c =
     let Acts0 : CpuId → Type 0 = λ d. C.ActsFor m d in
     let turned1 = one.ensures.turned in
     let same1 : (u : Tid) → same_tid t u ≡ false → talk_of talks1 u ≡ talk_of talks u = λ u other. other_talk talks talks1 t u later1 one.ensures.talks other in
-    let sizes1 = sizes_of homes Acts0 O cpu t call talk (C.seen m) (C.seen m1) own own1 under1 one.result later1 turned1 talks talks1 one.ensures.talks c.requires.fits.1.sizes in
-    let others1 = others_after (C.opening m) Acts0 cpu t home call talk may.called (C.seen m) (C.seen m1) own own1 under1 one.result later1 turned1 talks talks1 refl same1 first.1 in
-    rw c.told-2.ensures.lower (runs_by homes Acts0 O cpu t call talk (C.seen m) (C.seen m1) own own1 under1 one.result later1 turned1 c.told-2.result c.told-2.ensures.answer)
+    let sizes1 = sizes_of homes Acts0 O cpu t call talk (C.seen m) (C.seen m1) own own1 under1 one.result later1 turned1 talks talks1
+    one.ensures.talks c.requires.fits.1.sizes in
+    let others1 = others_after (C.opening m) Acts0 cpu t home call talk may.called (C.seen m) (C.seen m1) own own1 under1 one.result later1 turned1
+    talks talks1 refl same1 first.1 in
+    rw c.told-2.ensures.lower (runs_by homes Acts0 O cpu t call talk (C.seen m) (C.seen m1) own own1 under1 one.result later1 turned1 c.told-2.result
+    (told_as homes Acts0 O cpu t call talk (C.seen m) (C.seen m1) own own1 under1 one.result later1 turned1 c.next_stage-stage.result
+    c.next_stage-stage.ensures c.told-2.result c.told-2.ensures.answer))
 
 pub returns-clause-doing : goal.returns-clause-doing
 returns-clause-doing g c =
@@ -138,10 +158,12 @@ returns-clause-doing g c =
     let O = inner (C.opening m) in
     let homes = homes_in (C.opening m) in
     let acts = law.own_cpu p.lower m c.requires.fits.0 in
-    let home = runs_home (C.opening m) cpu (C.seen m) own.lock.sleep.threads t (law.moving m cpu acts) (law.stands p.lower m c.requires.fits.0) c.requires.runs in
-    let first = first_may homes cpu O (buffer_sections (C.seen m)) own talks (C.under_way p.lower) p.calling t call home c.requires.fits.1.calls c.requires.runs c.requires.hand c.requires.same c.requires.goes_on in
-    let talk = c.begin-talk.result in
-    let talk_is : talk ≡ going (talk_of talks t) call = c.begin-talk.ensures ∙ ap (λ x. going x call) c.get.ensures in
+    let home = runs_home (C.opening m) cpu (C.seen m) own.lock.sleep.threads t (law.moving m cpu acts)
+    (law.stands p.lower m c.requires.fits.0) c.requires.runs in
+    let first = first_may homes cpu O (buffer_sections (C.seen m)) own talks (C.under_way p.lower) p.calling t call home c.requires.fits.1.calls
+    c.requires.runs c.requires.hand c.requires.same c.requires.goes_on in
+    let talk = going (talk_of talks t) call in
+    let talk_is : talk ≡ going (talk_of talks t) call = refl in
     let may = subst (λ x. MayTurn O (buffer_sections (C.seen m)) t call x own (C.under_way p.lower)) (sym talk_is) first.0 in
     let one = c.turn-done in
     let m1 = one.new.m in
@@ -152,9 +174,14 @@ returns-clause-doing g c =
     let Acts0 : CpuId → Type 0 = λ d. C.ActsFor m d in
     let turned1 = one.ensures.turned in
     let same1 : (u : Tid) → same_tid t u ≡ false → talk_of talks1 u ≡ talk_of talks u = λ u other. other_talk talks talks1 t u later1 one.ensures.talks other in
-    let sizes1 = sizes_of homes Acts0 O cpu t call talk (C.seen m) (C.seen m1) own own1 under1 one.result later1 turned1 talks talks1 one.ensures.talks c.requires.fits.1.sizes in
-    let others1 = others_after (C.opening m) Acts0 cpu t home call talk may.called (C.seen m) (C.seen m1) own own1 under1 one.result later1 turned1 talks talks1 refl same1 first.1 in
-    rw (c.told-2.ensures.calling, c.told-2.ensures.lower) (doing_by homes Acts0 O cpu t call talk (C.seen m) (C.seen m1) own own1 under1 one.result later1 turned1 c.told-2.result c.told-2.ensures.answer)
+    let sizes1 = sizes_of homes Acts0 O cpu t call talk (C.seen m) (C.seen m1) own own1 under1 one.result later1 turned1 talks talks1
+    one.ensures.talks c.requires.fits.1.sizes in
+    let others1 = others_after (C.opening m) Acts0 cpu t home call talk may.called (C.seen m) (C.seen m1) own own1 under1 one.result later1 turned1
+    talks talks1 refl same1 first.1 in
+    rw (c.told-2.ensures.calling, c.told-2.ensures.lower)
+    (doing_by homes Acts0 O cpu t call talk (C.seen m) (C.seen m1) own own1 under1 one.result later1 turned1 c.told-2.result
+    (told_as homes Acts0 O cpu t call talk (C.seen m) (C.seen m1) own own1 under1 one.result later1 turned1 c.next_stage-stage.result
+    c.next_stage-stage.ensures c.told-2.result c.told-2.ensures.answer))
 
 pub returns-clause-moves : goal.returns-clause-moves
 returns-clause-moves g c =
@@ -170,10 +197,12 @@ returns-clause-moves g c =
     let O = inner (C.opening m) in
     let homes = homes_in (C.opening m) in
     let acts = law.own_cpu p.lower m c.requires.fits.0 in
-    let home = runs_home (C.opening m) cpu (C.seen m) own.lock.sleep.threads t (law.moving m cpu acts) (law.stands p.lower m c.requires.fits.0) c.requires.runs in
-    let first = first_may homes cpu O (buffer_sections (C.seen m)) own talks (C.under_way p.lower) p.calling t call home c.requires.fits.1.calls c.requires.runs c.requires.hand c.requires.same c.requires.goes_on in
-    let talk = c.begin-talk.result in
-    let talk_is : talk ≡ going (talk_of talks t) call = c.begin-talk.ensures ∙ ap (λ x. going x call) c.get.ensures in
+    let home = runs_home (C.opening m) cpu (C.seen m) own.lock.sleep.threads t (law.moving m cpu acts)
+    (law.stands p.lower m c.requires.fits.0) c.requires.runs in
+    let first = first_may homes cpu O (buffer_sections (C.seen m)) own talks (C.under_way p.lower) p.calling t call home c.requires.fits.1.calls
+    c.requires.runs c.requires.hand c.requires.same c.requires.goes_on in
+    let talk = going (talk_of talks t) call in
+    let talk_is : talk ≡ going (talk_of talks t) call = refl in
     let may = subst (λ x. MayTurn O (buffer_sections (C.seen m)) t call x own (C.under_way p.lower)) (sym talk_is) first.0 in
     let one = c.turn-done in
     let m1 = one.new.m in
@@ -184,9 +213,12 @@ returns-clause-moves g c =
     let Acts0 : CpuId → Type 0 = λ d. C.ActsFor m d in
     let turned1 = one.ensures.turned in
     let same1 : (u : Tid) → same_tid t u ≡ false → talk_of talks1 u ≡ talk_of talks u = λ u other. other_talk talks talks1 t u later1 one.ensures.talks other in
-    let sizes1 = sizes_of homes Acts0 O cpu t call talk (C.seen m) (C.seen m1) own own1 under1 one.result later1 turned1 talks talks1 one.ensures.talks c.requires.fits.1.sizes in
-    let others1 = others_after (C.opening m) Acts0 cpu t home call talk may.called (C.seen m) (C.seen m1) own own1 under1 one.result later1 turned1 talks talks1 refl same1 first.1 in
-    rw one.ensures.opening (moves_grown (C.opening m) Acts0 _ cpu turned1.mine turned1.others (C.seen m) (C.seen m1) (λ d both. both.0) turned1.foreign turned1.own_events turned1.is)
+    let sizes1 = sizes_of homes Acts0 O cpu t call talk (C.seen m) (C.seen m1) own own1 under1 one.result later1 turned1 talks talks1
+    one.ensures.talks c.requires.fits.1.sizes in
+    let others1 = others_after (C.opening m) Acts0 cpu t home call talk may.called (C.seen m) (C.seen m1) own own1 under1 one.result later1 turned1
+    talks talks1 refl same1 first.1 in
+    rw one.ensures.opening (moves_grown (C.opening m) Acts0 _ cpu turned1.mine turned1.others (C.seen m) (C.seen m1)
+    (λ d both. both.0) turned1.foreign turned1.own_events turned1.is)
 
 pub returns-clause-fits : goal.returns-clause-fits
 returns-clause-fits g c =
@@ -202,10 +234,12 @@ returns-clause-fits g c =
     let O = inner (C.opening m) in
     let homes = homes_in (C.opening m) in
     let acts = law.own_cpu p.lower m c.requires.fits.0 in
-    let home = runs_home (C.opening m) cpu (C.seen m) own.lock.sleep.threads t (law.moving m cpu acts) (law.stands p.lower m c.requires.fits.0) c.requires.runs in
-    let first = first_may homes cpu O (buffer_sections (C.seen m)) own talks (C.under_way p.lower) p.calling t call home c.requires.fits.1.calls c.requires.runs c.requires.hand c.requires.same c.requires.goes_on in
-    let talk = c.begin-talk.result in
-    let talk_is : talk ≡ going (talk_of talks t) call = c.begin-talk.ensures ∙ ap (λ x. going x call) c.get.ensures in
+    let home = runs_home (C.opening m) cpu (C.seen m) own.lock.sleep.threads t (law.moving m cpu acts)
+    (law.stands p.lower m c.requires.fits.0) c.requires.runs in
+    let first = first_may homes cpu O (buffer_sections (C.seen m)) own talks (C.under_way p.lower) p.calling t call home c.requires.fits.1.calls
+    c.requires.runs c.requires.hand c.requires.same c.requires.goes_on in
+    let talk = going (talk_of talks t) call in
+    let talk_is : talk ≡ going (talk_of talks t) call = refl in
     let may = subst (λ x. MayTurn O (buffer_sections (C.seen m)) t call x own (C.under_way p.lower)) (sym talk_is) first.0 in
     let one = c.turn-done in
     let m1 = one.new.m in
@@ -216,15 +250,20 @@ returns-clause-fits g c =
     let Acts0 : CpuId → Type 0 = λ d. C.ActsFor m d in
     let turned1 = one.ensures.turned in
     let same1 : (u : Tid) → same_tid t u ≡ false → talk_of talks1 u ≡ talk_of talks u = λ u other. other_talk talks talks1 t u later1 one.ensures.talks other in
-    let sizes1 = sizes_of homes Acts0 O cpu t call talk (C.seen m) (C.seen m1) own own1 under1 one.result later1 turned1 talks talks1 one.ensures.talks c.requires.fits.1.sizes in
-    let others1 = others_after (C.opening m) Acts0 cpu t home call talk may.called (C.seen m) (C.seen m1) own own1 under1 one.result later1 turned1 talks talks1 refl same1 first.1 in (
+    let sizes1 = sizes_of homes Acts0 O cpu t call talk (C.seen m) (C.seen m1) own own1 under1 one.result later1 turned1 talks talks1
+    one.ensures.talks c.requires.fits.1.sizes in
+    let others1 = others_after (C.opening m) Acts0 cpu t home call talk may.called (C.seen m) (C.seen m1) own own1 under1 one.result later1 turned1
+    talks talks1 refl same1 first.1 in (
       rw c.told-2.ensures.lower one.ensures.fits,
       rw (c.told-2.ensures.lower, c.told-2.ensures.talks, c.told-2.ensures.calling, one.ensures.opening, one.ensures.cpu)
           (record {
             boots = c.requires.fits.1.boots;
             sizes = sizes1;
-            calls = finish (C.opening m) Acts0 cpu t home call talk may.called (C.seen m) (C.seen m1) own own1 under1 one.result later1 turned1 talks talks1 refl same1 first.1
-                c.told-2.result c.told-2.ensures.answer;
+            calls =
+                finish (C.opening m) Acts0 cpu t home call talk may.called (C.seen m) (C.seen m1) own own1 under1 one.result later1 turned1 talks
+                talks1 refl same1 first.1
+                c.told-2.result (told_as homes Acts0 O cpu t call talk (C.seen m) (C.seen m1) own own1 under1 one.result later1 turned1
+                c.next_stage-stage.result c.next_stage-stage.ensures c.told-2.result c.told-2.ensures.answer);
           }),
     )
 
@@ -242,10 +281,12 @@ returns-clause-called g c =
     let O = inner (C.opening m) in
     let homes = homes_in (C.opening m) in
     let acts = law.own_cpu p.lower m c.requires.fits.0 in
-    let home = runs_home (C.opening m) cpu (C.seen m) own.lock.sleep.threads t (law.moving m cpu acts) (law.stands p.lower m c.requires.fits.0) c.requires.runs in
-    let first = first_may homes cpu O (buffer_sections (C.seen m)) own talks (C.under_way p.lower) p.calling t call home c.requires.fits.1.calls c.requires.runs c.requires.hand c.requires.same c.requires.goes_on in
-    let talk = c.begin-talk.result in
-    let talk_is : talk ≡ going (talk_of talks t) call = c.begin-talk.ensures ∙ ap (λ x. going x call) c.get.ensures in
+    let home = runs_home (C.opening m) cpu (C.seen m) own.lock.sleep.threads t (law.moving m cpu acts)
+    (law.stands p.lower m c.requires.fits.0) c.requires.runs in
+    let first = first_may homes cpu O (buffer_sections (C.seen m)) own talks (C.under_way p.lower) p.calling t call home c.requires.fits.1.calls
+    c.requires.runs c.requires.hand c.requires.same c.requires.goes_on in
+    let talk = going (talk_of talks t) call in
+    let talk_is : talk ≡ going (talk_of talks t) call = refl in
     let may = subst (λ x. MayTurn O (buffer_sections (C.seen m)) t call x own (C.under_way p.lower)) (sym talk_is) first.0 in
     let one = c.turn-done in
     let m1 = one.new.m in
@@ -256,12 +297,17 @@ returns-clause-called g c =
     let Acts0 : CpuId → Type 0 = λ d. C.ActsFor m d in
     let turned1 = one.ensures.turned in
     let same1 : (u : Tid) → same_tid t u ≡ false → talk_of talks1 u ≡ talk_of talks u = λ u other. other_talk talks talks1 t u later1 one.ensures.talks other in
-    let sizes1 = sizes_of homes Acts0 O cpu t call talk (C.seen m) (C.seen m1) own own1 under1 one.result later1 turned1 talks talks1 one.ensures.talks c.requires.fits.1.sizes in
-    let others1 = others_after (C.opening m) Acts0 cpu t home call talk may.called (C.seen m) (C.seen m1) own own1 under1 one.result later1 turned1 talks talks1 refl same1 first.1 in
+    let sizes1 = sizes_of homes Acts0 O cpu t call talk (C.seen m) (C.seen m1) own own1 under1 one.result later1 turned1 talks talks1
+    one.ensures.talks c.requires.fits.1.sizes in
+    let others1 = others_after (C.opening m) Acts0 cpu t home call talk may.called (C.seen m) (C.seen m1) own own1 under1 one.result later1 turned1
+    talks talks1 refl same1 first.1 in
     rw (one.ensures.opening, c.told-2.ensures.talks)
-    (called_by (C.opening m) Acts0 cpu t home call talk may.called (C.seen m) (C.seen m1) own own1 under1 one.result later1 turned1 talks talks1 refl same1 _ (λ d both. both.0) talks
+    (called_by (C.opening m) Acts0 cpu t home call talk may.called (C.seen m) (C.seen m1) own own1 under1 one.result later1 turned1 talks talks1 refl
+    same1 _ (λ d both. both.0) talks
     (ap (λ (x : Talk). x.effect) talk_is) (λ u other. apart_talk talks talks1 t u later1 one.ensures.talks other)
-    (goes_called O (buffer_sections (C.seen m)) t call talk own (C.under_way p.lower) may.goes) c.told-2.result c.told-2.ensures.answer)
+    (goes_called O (buffer_sections (C.seen m)) t call talk own (C.under_way p.lower) may.goes) c.told-2.result
+    (told_as homes Acts0 O cpu t call talk (C.seen m) (C.seen m1) own own1 under1 one.result later1 turned1 c.next_stage-stage.result
+    c.next_stage-stage.ensures c.told-2.result c.told-2.ensures.answer))
 
 pub returns-clause-others : goal.returns-clause-others
 returns-clause-others g c q other fits =
@@ -277,10 +323,12 @@ returns-clause-others g c q other fits =
     let O = inner (C.opening m) in
     let homes = homes_in (C.opening m) in
     let acts = law.own_cpu p.lower m c.requires.fits.0 in
-    let home = runs_home (C.opening m) cpu (C.seen m) own.lock.sleep.threads t (law.moving m cpu acts) (law.stands p.lower m c.requires.fits.0) c.requires.runs in
-    let first = first_may homes cpu O (buffer_sections (C.seen m)) own talks (C.under_way p.lower) p.calling t call home c.requires.fits.1.calls c.requires.runs c.requires.hand c.requires.same c.requires.goes_on in
-    let talk = c.begin-talk.result in
-    let talk_is : talk ≡ going (talk_of talks t) call = c.begin-talk.ensures ∙ ap (λ x. going x call) c.get.ensures in
+    let home = runs_home (C.opening m) cpu (C.seen m) own.lock.sleep.threads t (law.moving m cpu acts)
+    (law.stands p.lower m c.requires.fits.0) c.requires.runs in
+    let first = first_may homes cpu O (buffer_sections (C.seen m)) own talks (C.under_way p.lower) p.calling t call home c.requires.fits.1.calls
+    c.requires.runs c.requires.hand c.requires.same c.requires.goes_on in
+    let talk = going (talk_of talks t) call in
+    let talk_is : talk ≡ going (talk_of talks t) call = refl in
     let may = subst (λ x. MayTurn O (buffer_sections (C.seen m)) t call x own (C.under_way p.lower)) (sym talk_is) first.0 in
     let one = c.turn-done in
     let m1 = one.new.m in
@@ -291,13 +339,16 @@ returns-clause-others g c q other fits =
     let Acts0 : CpuId → Type 0 = λ d. C.ActsFor m d in
     let turned1 = one.ensures.turned in
     let same1 : (u : Tid) → same_tid t u ≡ false → talk_of talks1 u ≡ talk_of talks u = λ u other. other_talk talks talks1 t u later1 one.ensures.talks other in
-    let sizes1 = sizes_of homes Acts0 O cpu t call talk (C.seen m) (C.seen m1) own own1 under1 one.result later1 turned1 talks talks1 one.ensures.talks c.requires.fits.1.sizes in
-    let others1 = others_after (C.opening m) Acts0 cpu t home call talk may.called (C.seen m) (C.seen m1) own own1 under1 one.result later1 turned1 talks talks1 refl same1 first.1 in
+    let sizes1 = sizes_of homes Acts0 O cpu t call talk (C.seen m) (C.seen m1) own own1 under1 one.result later1 turned1 talks talks1
+    one.ensures.talks c.requires.fits.1.sizes in
+    let others1 = others_after (C.opening m) Acts0 cpu t home call talk may.called (C.seen m) (C.seen m1) own own1 under1 one.result later1 turned1
+    talks talks1 refl same1 first.1 in
     let lawful = rw one.ensures.opening at (law.lawful m1 cpu (one.ensures.acts cpu acts)) in (
       one.ensures.others q.lower other fits.0,
       rw one.ensures.opening
           (other_part (C.opening m) cpu (C.cpu_of q.lower) other turned1.mine turned1.others (C.seen m) (C.seen m1) turned1.own_events
-          (turned1.foreign (C.cpu_of q.lower) (law.own_cpu q.lower m fits.0)) turned1.is lawful (C.own q.lower) q.talks.talks (C.under_way q.lower) q.calling fits.1),
+          (turned1.foreign (C.cpu_of q.lower) (law.own_cpu q.lower m fits.0)) turned1.is lawful (C.own q.lower) q.talks.talks
+          (C.under_way q.lower) q.calling fits.1),
     )
 
 pub returns-then-at_once-clause-room : goal.returns-then-at_once-clause-room
@@ -314,10 +365,12 @@ returns-then-at_once-clause-room g c =
     let O = inner (C.opening m) in
     let homes = homes_in (C.opening m) in
     let acts = law.own_cpu p.lower m c.requires.fits.0 in
-    let home = runs_home (C.opening m) cpu (C.seen m) own.lock.sleep.threads t (law.moving m cpu acts) (law.stands p.lower m c.requires.fits.0) c.requires.runs in
-    let first = first_may homes cpu O (buffer_sections (C.seen m)) own talks (C.under_way p.lower) p.calling t call home c.requires.fits.1.calls c.requires.runs c.requires.hand c.requires.same c.requires.goes_on in
-    let talk = c.begin-talk.result in
-    let talk_is : talk ≡ going (talk_of talks t) call = c.begin-talk.ensures ∙ ap (λ x. going x call) c.get.ensures in
+    let home = runs_home (C.opening m) cpu (C.seen m) own.lock.sleep.threads t (law.moving m cpu acts)
+    (law.stands p.lower m c.requires.fits.0) c.requires.runs in
+    let first = first_may homes cpu O (buffer_sections (C.seen m)) own talks (C.under_way p.lower) p.calling t call home c.requires.fits.1.calls
+    c.requires.runs c.requires.hand c.requires.same c.requires.goes_on in
+    let talk = going (talk_of talks t) call in
+    let talk_is : talk ≡ going (talk_of talks t) call = refl in
     let may = subst (λ x. MayTurn O (buffer_sections (C.seen m)) t call x own (C.under_way p.lower)) (sym talk_is) first.0 in
     let one = c.turn-done in
     let m1 = one.new.m in
@@ -328,22 +381,30 @@ returns-then-at_once-clause-room g c =
     let Acts0 : CpuId → Type 0 = λ d. C.ActsFor m d in
     let turned1 = one.ensures.turned in
     let same1 : (u : Tid) → same_tid t u ≡ false → talk_of talks1 u ≡ talk_of talks u = λ u other. other_talk talks talks1 t u later1 one.ensures.talks other in
-    let sizes1 = sizes_of homes Acts0 O cpu t call talk (C.seen m) (C.seen m1) own own1 under1 one.result later1 turned1 talks talks1 one.ensures.talks c.requires.fits.1.sizes in
-    let others1 = others_after (C.opening m) Acts0 cpu t home call talk may.called (C.seen m) (C.seen m1) own own1 under1 one.result later1 turned1 talks talks1 refl same1 first.1 in
-    let at_once = sym c.answers_at_once-at_once.ensures ∙ c.if-at_once.true in
+    let sizes1 = sizes_of homes Acts0 O cpu t call talk (C.seen m) (C.seen m1) own own1 under1 one.result later1 turned1 talks talks1
+    one.ensures.talks c.requires.fits.1.sizes in
+    let others1 = others_after (C.opening m) Acts0 cpu t home call talk may.called (C.seen m) (C.seen m1) own own1 under1 one.result later1 turned1
+    talks talks1 refl same1 first.1 in
+    let at_once = (ap (λ (s : Stage). is_at_once s c.at_once.result) (sym c.next_stage-stage.ensures) ∙ sym c.answers_at_once-at_once.ensures)
+    ∙ c.if-at_once.true in
     let two = c.turn-last in
     let m2 = two.new.m in
     let own2 = C.own two.new.self.lower in
     let under2 = C.under_way two.new.self.lower in
     let talks2 = two.new.self.talks.talks in
     let later2 = talk_of talks2 t in
-    let next = c.get-next.result in
-    let called1 = later_call homes Acts0 O cpu t call talk (C.seen m) (C.seen m1) own own1 under1 one.result later1 turned1 c.at_once.result c.if-done.true at_once may.called in
-    let called2 : next.call ≡ Some call = ap (λ (x : Talk). x.call) c.get-next.ensures ∙ called1 in
+    let next = going later1 call in
+    let next_is : going later1 call ≡ later1 = next_going homes Acts0 O cpu t call talk (C.seen m)
+    (C.seen m1) own own1 under1 one.result later1 turned1 c.at_once.result c.if-done.true at_once may.called in
+    let called1 = later_call homes Acts0 O cpu t call talk (C.seen m) (C.seen m1) own own1 under1 one.result later1 turned1 c.at_once.result
+    c.if-done.true at_once may.called in
+    let called2 : next.call ≡ Some call = ap (λ (x : Talk). x.call) next_is ∙ called1 in
     let Acts1 : CpuId → Type 0 = λ d. C.ActsFor m1 d in
     let turned2 = rw (one.ensures.opening, one.ensures.cpu) at two.ensures.turned in
-    let same2 : (u : Tid) → same_tid t u ≡ false → talk_of talks2 u ≡ talk_of talks1 u = λ u other. other_talk talks1 talks2 t u later2 two.ensures.talks other in
-    let sm : m1 ≡ m = elim (why homes Acts0 O cpu t call talk (C.seen m) (C.seen m1) own own1 under1 one.result later1 turned1 c.at_once.result c.if-done.true at_once may.called c.requires.runs
+    let same2 : (u : Tid) → same_tid t u ≡ false → talk_of talks2 u ≡ talk_of talks1 u
+    = λ u other. other_talk talks1 talks2 t u later2 two.ensures.talks other in
+    let sm : m1 ≡ m = elim (why homes Acts0 O cpu t call talk (C.seen m) (C.seen m1) own own1 under1 one.result later1 turned1 c.at_once.result
+    c.if-done.true at_once may.called c.requires.runs
     c.at_once.ensures) [ inl some ↦ one.ensures.woken some | inr some ↦ one.ensures.handed some ] in
     subst (λ x. C.room x ≤ C.room m2 + 1) sm two.ensures.room
 
@@ -361,10 +422,12 @@ returns-then-at_once-clause-runs g c =
     let O = inner (C.opening m) in
     let homes = homes_in (C.opening m) in
     let acts = law.own_cpu p.lower m c.requires.fits.0 in
-    let home = runs_home (C.opening m) cpu (C.seen m) own.lock.sleep.threads t (law.moving m cpu acts) (law.stands p.lower m c.requires.fits.0) c.requires.runs in
-    let first = first_may homes cpu O (buffer_sections (C.seen m)) own talks (C.under_way p.lower) p.calling t call home c.requires.fits.1.calls c.requires.runs c.requires.hand c.requires.same c.requires.goes_on in
-    let talk = c.begin-talk.result in
-    let talk_is : talk ≡ going (talk_of talks t) call = c.begin-talk.ensures ∙ ap (λ x. going x call) c.get.ensures in
+    let home = runs_home (C.opening m) cpu (C.seen m) own.lock.sleep.threads t (law.moving m cpu acts)
+    (law.stands p.lower m c.requires.fits.0) c.requires.runs in
+    let first = first_may homes cpu O (buffer_sections (C.seen m)) own talks (C.under_way p.lower) p.calling t call home c.requires.fits.1.calls
+    c.requires.runs c.requires.hand c.requires.same c.requires.goes_on in
+    let talk = going (talk_of talks t) call in
+    let talk_is : talk ≡ going (talk_of talks t) call = refl in
     let may = subst (λ x. MayTurn O (buffer_sections (C.seen m)) t call x own (C.under_way p.lower)) (sym talk_is) first.0 in
     let one = c.turn-done in
     let m1 = one.new.m in
@@ -375,24 +438,34 @@ returns-then-at_once-clause-runs g c =
     let Acts0 : CpuId → Type 0 = λ d. C.ActsFor m d in
     let turned1 = one.ensures.turned in
     let same1 : (u : Tid) → same_tid t u ≡ false → talk_of talks1 u ≡ talk_of talks u = λ u other. other_talk talks talks1 t u later1 one.ensures.talks other in
-    let sizes1 = sizes_of homes Acts0 O cpu t call talk (C.seen m) (C.seen m1) own own1 under1 one.result later1 turned1 talks talks1 one.ensures.talks c.requires.fits.1.sizes in
-    let others1 = others_after (C.opening m) Acts0 cpu t home call talk may.called (C.seen m) (C.seen m1) own own1 under1 one.result later1 turned1 talks talks1 refl same1 first.1 in
-    let at_once = sym c.answers_at_once-at_once.ensures ∙ c.if-at_once.true in
+    let sizes1 = sizes_of homes Acts0 O cpu t call talk (C.seen m) (C.seen m1) own own1 under1 one.result later1 turned1 talks talks1
+    one.ensures.talks c.requires.fits.1.sizes in
+    let others1 = others_after (C.opening m) Acts0 cpu t home call talk may.called (C.seen m) (C.seen m1) own own1 under1 one.result later1 turned1
+    talks talks1 refl same1 first.1 in
+    let at_once = (ap (λ (s : Stage). is_at_once s c.at_once.result) (sym c.next_stage-stage.ensures) ∙ sym c.answers_at_once-at_once.ensures)
+    ∙ c.if-at_once.true in
     let two = c.turn-last in
     let m2 = two.new.m in
     let own2 = C.own two.new.self.lower in
     let under2 = C.under_way two.new.self.lower in
     let talks2 = two.new.self.talks.talks in
     let later2 = talk_of talks2 t in
-    let next = c.get-next.result in
-    let called1 = later_call homes Acts0 O cpu t call talk (C.seen m) (C.seen m1) own own1 under1 one.result later1 turned1 c.at_once.result c.if-done.true at_once may.called in
-    let called2 : next.call ≡ Some call = ap (λ (x : Talk). x.call) c.get-next.ensures ∙ called1 in
+    let next = going later1 call in
+    let next_is : going later1 call ≡ later1 = next_going homes Acts0 O cpu t call talk (C.seen m)
+    (C.seen m1) own own1 under1 one.result later1 turned1 c.at_once.result c.if-done.true at_once may.called in
+    let called1 = later_call homes Acts0 O cpu t call talk (C.seen m) (C.seen m1) own own1 under1 one.result later1 turned1 c.at_once.result
+    c.if-done.true at_once may.called in
+    let called2 : next.call ≡ Some call = ap (λ (x : Talk). x.call) next_is ∙ called1 in
     let Acts1 : CpuId → Type 0 = λ d. C.ActsFor m1 d in
     let turned2 = rw (one.ensures.opening, one.ensures.cpu) at two.ensures.turned in
-    let same2 : (u : Tid) → same_tid t u ≡ false → talk_of talks2 u ≡ talk_of talks1 u = λ u other. other_talk talks1 talks2 t u later2 two.ensures.talks other in
-    let sm : m1 ≡ m = elim (why homes Acts0 O cpu t call talk (C.seen m) (C.seen m1) own own1 under1 one.result later1 turned1 c.at_once.result c.if-done.true at_once may.called c.requires.runs
+    let same2 : (u : Tid) → same_tid t u ≡ false → talk_of talks2 u ≡ talk_of talks1 u
+    = λ u other. other_talk talks1 talks2 t u later2 two.ensures.talks other in
+    let sm : m1 ≡ m = elim (why homes Acts0 O cpu t call talk (C.seen m) (C.seen m1) own own1 under1 one.result later1 turned1 c.at_once.result
+    c.if-done.true at_once may.called c.requires.runs
     c.at_once.ensures) [ inl some ↦ one.ensures.woken some | inr some ↦ one.ensures.handed some ] in
-    let run = runs_by homes Acts1 O cpu t call next (C.seen m1) (C.seen m2) own1 own2 under2 two.result later2 turned2 c.told.result c.told.ensures.answer in
+    let run = runs_by homes Acts1 O cpu t call next (C.seen m1) (C.seen m2) own1 own2 under2 two.result later2 turned2 c.told.result
+    (told_as homes Acts1 O cpu t call next (C.seen m1) (C.seen m2) own1 own2 under2 two.result later2 turned2 c.next_stage-next.result
+    c.next_stage-next.ensures c.told.result c.told.ensures.answer) in
     rw c.told.ensures.lower (record { current = run.current; hand = run.hand; ended = run.ended ∙ turned1.ended })
 
 pub returns-then-at_once-clause-doing : goal.returns-then-at_once-clause-doing
@@ -409,10 +482,12 @@ returns-then-at_once-clause-doing g c =
     let O = inner (C.opening m) in
     let homes = homes_in (C.opening m) in
     let acts = law.own_cpu p.lower m c.requires.fits.0 in
-    let home = runs_home (C.opening m) cpu (C.seen m) own.lock.sleep.threads t (law.moving m cpu acts) (law.stands p.lower m c.requires.fits.0) c.requires.runs in
-    let first = first_may homes cpu O (buffer_sections (C.seen m)) own talks (C.under_way p.lower) p.calling t call home c.requires.fits.1.calls c.requires.runs c.requires.hand c.requires.same c.requires.goes_on in
-    let talk = c.begin-talk.result in
-    let talk_is : talk ≡ going (talk_of talks t) call = c.begin-talk.ensures ∙ ap (λ x. going x call) c.get.ensures in
+    let home = runs_home (C.opening m) cpu (C.seen m) own.lock.sleep.threads t (law.moving m cpu acts)
+    (law.stands p.lower m c.requires.fits.0) c.requires.runs in
+    let first = first_may homes cpu O (buffer_sections (C.seen m)) own talks (C.under_way p.lower) p.calling t call home c.requires.fits.1.calls
+    c.requires.runs c.requires.hand c.requires.same c.requires.goes_on in
+    let talk = going (talk_of talks t) call in
+    let talk_is : talk ≡ going (talk_of talks t) call = refl in
     let may = subst (λ x. MayTurn O (buffer_sections (C.seen m)) t call x own (C.under_way p.lower)) (sym talk_is) first.0 in
     let one = c.turn-done in
     let m1 = one.new.m in
@@ -423,24 +498,35 @@ returns-then-at_once-clause-doing g c =
     let Acts0 : CpuId → Type 0 = λ d. C.ActsFor m d in
     let turned1 = one.ensures.turned in
     let same1 : (u : Tid) → same_tid t u ≡ false → talk_of talks1 u ≡ talk_of talks u = λ u other. other_talk talks talks1 t u later1 one.ensures.talks other in
-    let sizes1 = sizes_of homes Acts0 O cpu t call talk (C.seen m) (C.seen m1) own own1 under1 one.result later1 turned1 talks talks1 one.ensures.talks c.requires.fits.1.sizes in
-    let others1 = others_after (C.opening m) Acts0 cpu t home call talk may.called (C.seen m) (C.seen m1) own own1 under1 one.result later1 turned1 talks talks1 refl same1 first.1 in
-    let at_once = sym c.answers_at_once-at_once.ensures ∙ c.if-at_once.true in
+    let sizes1 = sizes_of homes Acts0 O cpu t call talk (C.seen m) (C.seen m1) own own1 under1 one.result later1 turned1 talks talks1
+    one.ensures.talks c.requires.fits.1.sizes in
+    let others1 = others_after (C.opening m) Acts0 cpu t home call talk may.called (C.seen m) (C.seen m1) own own1 under1 one.result later1 turned1
+    talks talks1 refl same1 first.1 in
+    let at_once = (ap (λ (s : Stage). is_at_once s c.at_once.result) (sym c.next_stage-stage.ensures) ∙ sym c.answers_at_once-at_once.ensures)
+    ∙ c.if-at_once.true in
     let two = c.turn-last in
     let m2 = two.new.m in
     let own2 = C.own two.new.self.lower in
     let under2 = C.under_way two.new.self.lower in
     let talks2 = two.new.self.talks.talks in
     let later2 = talk_of talks2 t in
-    let next = c.get-next.result in
-    let called1 = later_call homes Acts0 O cpu t call talk (C.seen m) (C.seen m1) own own1 under1 one.result later1 turned1 c.at_once.result c.if-done.true at_once may.called in
-    let called2 : next.call ≡ Some call = ap (λ (x : Talk). x.call) c.get-next.ensures ∙ called1 in
+    let next = going later1 call in
+    let next_is : going later1 call ≡ later1 = next_going homes Acts0 O cpu t call talk (C.seen m)
+    (C.seen m1) own own1 under1 one.result later1 turned1 c.at_once.result c.if-done.true at_once may.called in
+    let called1 = later_call homes Acts0 O cpu t call talk (C.seen m) (C.seen m1) own own1 under1 one.result later1 turned1 c.at_once.result
+    c.if-done.true at_once may.called in
+    let called2 : next.call ≡ Some call = ap (λ (x : Talk). x.call) next_is ∙ called1 in
     let Acts1 : CpuId → Type 0 = λ d. C.ActsFor m1 d in
     let turned2 = rw (one.ensures.opening, one.ensures.cpu) at two.ensures.turned in
-    let same2 : (u : Tid) → same_tid t u ≡ false → talk_of talks2 u ≡ talk_of talks1 u = λ u other. other_talk talks1 talks2 t u later2 two.ensures.talks other in
-    let sm : m1 ≡ m = elim (why homes Acts0 O cpu t call talk (C.seen m) (C.seen m1) own own1 under1 one.result later1 turned1 c.at_once.result c.if-done.true at_once may.called c.requires.runs
+    let same2 : (u : Tid) → same_tid t u ≡ false → talk_of talks2 u ≡ talk_of talks1 u
+    = λ u other. other_talk talks1 talks2 t u later2 two.ensures.talks other in
+    let sm : m1 ≡ m = elim (why homes Acts0 O cpu t call talk (C.seen m) (C.seen m1) own own1 under1 one.result later1 turned1 c.at_once.result
+    c.if-done.true at_once may.called c.requires.runs
     c.at_once.ensures) [ inl some ↦ one.ensures.woken some | inr some ↦ one.ensures.handed some ] in
-    rw (c.told.ensures.calling, c.told.ensures.lower) (doing_by homes Acts1 O cpu t call next (C.seen m1) (C.seen m2) own1 own2 under2 two.result later2 turned2 c.told.result c.told.ensures.answer)
+    rw (c.told.ensures.calling, c.told.ensures.lower)
+    (doing_by homes Acts1 O cpu t call next (C.seen m1) (C.seen m2) own1 own2 under2 two.result later2 turned2 c.told.result
+    (told_as homes Acts1 O cpu t call next (C.seen m1) (C.seen m2) own1 own2 under2 two.result later2 turned2 c.next_stage-next.result
+    c.next_stage-next.ensures c.told.result c.told.ensures.answer))
 
 pub returns-then-at_once-clause-moves : goal.returns-then-at_once-clause-moves
 returns-then-at_once-clause-moves g c =
@@ -456,10 +542,12 @@ returns-then-at_once-clause-moves g c =
     let O = inner (C.opening m) in
     let homes = homes_in (C.opening m) in
     let acts = law.own_cpu p.lower m c.requires.fits.0 in
-    let home = runs_home (C.opening m) cpu (C.seen m) own.lock.sleep.threads t (law.moving m cpu acts) (law.stands p.lower m c.requires.fits.0) c.requires.runs in
-    let first = first_may homes cpu O (buffer_sections (C.seen m)) own talks (C.under_way p.lower) p.calling t call home c.requires.fits.1.calls c.requires.runs c.requires.hand c.requires.same c.requires.goes_on in
-    let talk = c.begin-talk.result in
-    let talk_is : talk ≡ going (talk_of talks t) call = c.begin-talk.ensures ∙ ap (λ x. going x call) c.get.ensures in
+    let home = runs_home (C.opening m) cpu (C.seen m) own.lock.sleep.threads t (law.moving m cpu acts)
+    (law.stands p.lower m c.requires.fits.0) c.requires.runs in
+    let first = first_may homes cpu O (buffer_sections (C.seen m)) own talks (C.under_way p.lower) p.calling t call home c.requires.fits.1.calls
+    c.requires.runs c.requires.hand c.requires.same c.requires.goes_on in
+    let talk = going (talk_of talks t) call in
+    let talk_is : talk ≡ going (talk_of talks t) call = refl in
     let may = subst (λ x. MayTurn O (buffer_sections (C.seen m)) t call x own (C.under_way p.lower)) (sym talk_is) first.0 in
     let one = c.turn-done in
     let m1 = one.new.m in
@@ -470,25 +558,35 @@ returns-then-at_once-clause-moves g c =
     let Acts0 : CpuId → Type 0 = λ d. C.ActsFor m d in
     let turned1 = one.ensures.turned in
     let same1 : (u : Tid) → same_tid t u ≡ false → talk_of talks1 u ≡ talk_of talks u = λ u other. other_talk talks talks1 t u later1 one.ensures.talks other in
-    let sizes1 = sizes_of homes Acts0 O cpu t call talk (C.seen m) (C.seen m1) own own1 under1 one.result later1 turned1 talks talks1 one.ensures.talks c.requires.fits.1.sizes in
-    let others1 = others_after (C.opening m) Acts0 cpu t home call talk may.called (C.seen m) (C.seen m1) own own1 under1 one.result later1 turned1 talks talks1 refl same1 first.1 in
-    let at_once = sym c.answers_at_once-at_once.ensures ∙ c.if-at_once.true in
+    let sizes1 = sizes_of homes Acts0 O cpu t call talk (C.seen m) (C.seen m1) own own1 under1 one.result later1 turned1 talks talks1
+    one.ensures.talks c.requires.fits.1.sizes in
+    let others1 = others_after (C.opening m) Acts0 cpu t home call talk may.called (C.seen m) (C.seen m1) own own1 under1 one.result later1 turned1
+    talks talks1 refl same1 first.1 in
+    let at_once = (ap (λ (s : Stage). is_at_once s c.at_once.result) (sym c.next_stage-stage.ensures) ∙ sym c.answers_at_once-at_once.ensures)
+    ∙ c.if-at_once.true in
     let two = c.turn-last in
     let m2 = two.new.m in
     let own2 = C.own two.new.self.lower in
     let under2 = C.under_way two.new.self.lower in
     let talks2 = two.new.self.talks.talks in
     let later2 = talk_of talks2 t in
-    let next = c.get-next.result in
-    let called1 = later_call homes Acts0 O cpu t call talk (C.seen m) (C.seen m1) own own1 under1 one.result later1 turned1 c.at_once.result c.if-done.true at_once may.called in
-    let called2 : next.call ≡ Some call = ap (λ (x : Talk). x.call) c.get-next.ensures ∙ called1 in
+    let next = going later1 call in
+    let next_is : going later1 call ≡ later1 = next_going homes Acts0 O cpu t call talk (C.seen m)
+    (C.seen m1) own own1 under1 one.result later1 turned1 c.at_once.result c.if-done.true at_once may.called in
+    let called1 = later_call homes Acts0 O cpu t call talk (C.seen m) (C.seen m1) own own1 under1 one.result later1 turned1 c.at_once.result
+    c.if-done.true at_once may.called in
+    let called2 : next.call ≡ Some call = ap (λ (x : Talk). x.call) next_is ∙ called1 in
     let Acts1 : CpuId → Type 0 = λ d. C.ActsFor m1 d in
     let turned2 = rw (one.ensures.opening, one.ensures.cpu) at two.ensures.turned in
-    let same2 : (u : Tid) → same_tid t u ≡ false → talk_of talks2 u ≡ talk_of talks1 u = λ u other. other_talk talks1 talks2 t u later2 two.ensures.talks other in
-    let sm : m1 ≡ m = elim (why homes Acts0 O cpu t call talk (C.seen m) (C.seen m1) own own1 under1 one.result later1 turned1 c.at_once.result c.if-done.true at_once may.called c.requires.runs
+    let same2 : (u : Tid) → same_tid t u ≡ false → talk_of talks2 u ≡ talk_of talks1 u
+    = λ u other. other_talk talks1 talks2 t u later2 two.ensures.talks other in
+    let sm : m1 ≡ m = elim (why homes Acts0 O cpu t call talk (C.seen m) (C.seen m1) own own1 under1 one.result later1 turned1 c.at_once.result
+    c.if-done.true at_once may.called c.requires.runs
     c.at_once.ensures) [ inl some ↦ one.ensures.woken some | inr some ↦ one.ensures.handed some ] in
     let is : C.seen m2 ≡ turned2.mine ++ (turned2.others ++ C.seen m) = turned2.is ∙ ap (λ l. turned2.mine ++ (turned2.others ++ l)) (ap C.seen sm) in
-    rw (two.ensures.opening, one.ensures.opening) (moves_grown (C.opening m) Acts1 _ cpu turned2.mine turned2.others (C.seen m) (C.seen m2) (λ d both. one.ensures.acts d both.0) turned2.foreign turned2.own_events is)
+    rw (two.ensures.opening, one.ensures.opening)
+    (moves_grown (C.opening m) Acts1 _ cpu turned2.mine turned2.others (C.seen m) (C.seen m2) (λ d both. one.ensures.acts d both.0) turned2.foreign
+    turned2.own_events is)
 
 pub returns-then-at_once-clause-fits : goal.returns-then-at_once-clause-fits
 returns-then-at_once-clause-fits g c =
@@ -504,10 +602,12 @@ returns-then-at_once-clause-fits g c =
     let O = inner (C.opening m) in
     let homes = homes_in (C.opening m) in
     let acts = law.own_cpu p.lower m c.requires.fits.0 in
-    let home = runs_home (C.opening m) cpu (C.seen m) own.lock.sleep.threads t (law.moving m cpu acts) (law.stands p.lower m c.requires.fits.0) c.requires.runs in
-    let first = first_may homes cpu O (buffer_sections (C.seen m)) own talks (C.under_way p.lower) p.calling t call home c.requires.fits.1.calls c.requires.runs c.requires.hand c.requires.same c.requires.goes_on in
-    let talk = c.begin-talk.result in
-    let talk_is : talk ≡ going (talk_of talks t) call = c.begin-talk.ensures ∙ ap (λ x. going x call) c.get.ensures in
+    let home = runs_home (C.opening m) cpu (C.seen m) own.lock.sleep.threads t (law.moving m cpu acts)
+    (law.stands p.lower m c.requires.fits.0) c.requires.runs in
+    let first = first_may homes cpu O (buffer_sections (C.seen m)) own talks (C.under_way p.lower) p.calling t call home c.requires.fits.1.calls
+    c.requires.runs c.requires.hand c.requires.same c.requires.goes_on in
+    let talk = going (talk_of talks t) call in
+    let talk_is : talk ≡ going (talk_of talks t) call = refl in
     let may = subst (λ x. MayTurn O (buffer_sections (C.seen m)) t call x own (C.under_way p.lower)) (sym talk_is) first.0 in
     let one = c.turn-done in
     let m1 = one.new.m in
@@ -518,30 +618,43 @@ returns-then-at_once-clause-fits g c =
     let Acts0 : CpuId → Type 0 = λ d. C.ActsFor m d in
     let turned1 = one.ensures.turned in
     let same1 : (u : Tid) → same_tid t u ≡ false → talk_of talks1 u ≡ talk_of talks u = λ u other. other_talk talks talks1 t u later1 one.ensures.talks other in
-    let sizes1 = sizes_of homes Acts0 O cpu t call talk (C.seen m) (C.seen m1) own own1 under1 one.result later1 turned1 talks talks1 one.ensures.talks c.requires.fits.1.sizes in
-    let others1 = others_after (C.opening m) Acts0 cpu t home call talk may.called (C.seen m) (C.seen m1) own own1 under1 one.result later1 turned1 talks talks1 refl same1 first.1 in
-    let at_once = sym c.answers_at_once-at_once.ensures ∙ c.if-at_once.true in
+    let sizes1 = sizes_of homes Acts0 O cpu t call talk (C.seen m) (C.seen m1) own own1 under1 one.result later1 turned1 talks talks1
+    one.ensures.talks c.requires.fits.1.sizes in
+    let others1 = others_after (C.opening m) Acts0 cpu t home call talk may.called (C.seen m) (C.seen m1) own own1 under1 one.result later1 turned1
+    talks talks1 refl same1 first.1 in
+    let at_once = (ap (λ (s : Stage). is_at_once s c.at_once.result) (sym c.next_stage-stage.ensures) ∙ sym c.answers_at_once-at_once.ensures)
+    ∙ c.if-at_once.true in
     let two = c.turn-last in
     let m2 = two.new.m in
     let own2 = C.own two.new.self.lower in
     let under2 = C.under_way two.new.self.lower in
     let talks2 = two.new.self.talks.talks in
     let later2 = talk_of talks2 t in
-    let next = c.get-next.result in
-    let called1 = later_call homes Acts0 O cpu t call talk (C.seen m) (C.seen m1) own own1 under1 one.result later1 turned1 c.at_once.result c.if-done.true at_once may.called in
-    let called2 : next.call ≡ Some call = ap (λ (x : Talk). x.call) c.get-next.ensures ∙ called1 in
+    let next = going later1 call in
+    let next_is : going later1 call ≡ later1 = next_going homes Acts0 O cpu t call talk (C.seen m)
+    (C.seen m1) own own1 under1 one.result later1 turned1 c.at_once.result c.if-done.true at_once may.called in
+    let called1 = later_call homes Acts0 O cpu t call talk (C.seen m) (C.seen m1) own own1 under1 one.result later1 turned1 c.at_once.result
+    c.if-done.true at_once may.called in
+    let called2 : next.call ≡ Some call = ap (λ (x : Talk). x.call) next_is ∙ called1 in
     let Acts1 : CpuId → Type 0 = λ d. C.ActsFor m1 d in
     let turned2 = rw (one.ensures.opening, one.ensures.cpu) at two.ensures.turned in
-    let same2 : (u : Tid) → same_tid t u ≡ false → talk_of talks2 u ≡ talk_of talks1 u = λ u other. other_talk talks1 talks2 t u later2 two.ensures.talks other in
-    let sm : m1 ≡ m = elim (why homes Acts0 O cpu t call talk (C.seen m) (C.seen m1) own own1 under1 one.result later1 turned1 c.at_once.result c.if-done.true at_once may.called c.requires.runs
+    let same2 : (u : Tid) → same_tid t u ≡ false → talk_of talks2 u ≡ talk_of talks1 u
+    = λ u other. other_talk talks1 talks2 t u later2 two.ensures.talks other in
+    let sm : m1 ≡ m = elim (why homes Acts0 O cpu t call talk (C.seen m) (C.seen m1) own own1 under1 one.result later1 turned1 c.at_once.result
+    c.if-done.true at_once may.called c.requires.runs
     c.at_once.ensures) [ inl some ↦ one.ensures.woken some | inr some ↦ one.ensures.handed some ] in (
       rw c.told.ensures.lower two.ensures.fits,
       rw (c.told.ensures.lower, c.told.ensures.talks, c.told.ensures.calling, two.ensures.opening, two.ensures.cpu, one.ensures.opening, one.ensures.cpu)
           (record {
             boots = c.requires.fits.1.boots;
-            sizes = sizes_of homes Acts1 O cpu t call next (C.seen m1) (C.seen m2) own1 own2 under2 two.result later2 turned2 talks1 talks2 two.ensures.talks sizes1;
-            calls = finish (C.opening m) Acts1 cpu t home call next called2 (C.seen m1) (C.seen m2) own1 own2 under2 two.result later2 turned2 talks1 talks2 refl same2 others1
-                c.told.result c.told.ensures.answer;
+            sizes =
+                sizes_of homes Acts1 O cpu t call next (C.seen m1) (C.seen m2) own1 own2 under2 two.result later2 turned2 talks1 talks2
+                two.ensures.talks sizes1;
+            calls =
+                finish (C.opening m) Acts1 cpu t home call next called2 (C.seen m1) (C.seen m2) own1 own2 under2 two.result later2 turned2 talks1
+                talks2 refl same2 others1
+                c.told.result (told_as homes Acts1 O cpu t call next (C.seen m1) (C.seen m2) own1 own2 under2 two.result later2 turned2
+                c.next_stage-next.result c.next_stage-next.ensures c.told.result c.told.ensures.answer);
           }),
     )
 
@@ -559,10 +672,12 @@ returns-then-at_once-clause-called g c =
     let O = inner (C.opening m) in
     let homes = homes_in (C.opening m) in
     let acts = law.own_cpu p.lower m c.requires.fits.0 in
-    let home = runs_home (C.opening m) cpu (C.seen m) own.lock.sleep.threads t (law.moving m cpu acts) (law.stands p.lower m c.requires.fits.0) c.requires.runs in
-    let first = first_may homes cpu O (buffer_sections (C.seen m)) own talks (C.under_way p.lower) p.calling t call home c.requires.fits.1.calls c.requires.runs c.requires.hand c.requires.same c.requires.goes_on in
-    let talk = c.begin-talk.result in
-    let talk_is : talk ≡ going (talk_of talks t) call = c.begin-talk.ensures ∙ ap (λ x. going x call) c.get.ensures in
+    let home = runs_home (C.opening m) cpu (C.seen m) own.lock.sleep.threads t (law.moving m cpu acts)
+    (law.stands p.lower m c.requires.fits.0) c.requires.runs in
+    let first = first_may homes cpu O (buffer_sections (C.seen m)) own talks (C.under_way p.lower) p.calling t call home c.requires.fits.1.calls
+    c.requires.runs c.requires.hand c.requires.same c.requires.goes_on in
+    let talk = going (talk_of talks t) call in
+    let talk_is : talk ≡ going (talk_of talks t) call = refl in
     let may = subst (λ x. MayTurn O (buffer_sections (C.seen m)) t call x own (C.under_way p.lower)) (sym talk_is) first.0 in
     let one = c.turn-done in
     let m1 = one.new.m in
@@ -573,32 +688,45 @@ returns-then-at_once-clause-called g c =
     let Acts0 : CpuId → Type 0 = λ d. C.ActsFor m d in
     let turned1 = one.ensures.turned in
     let same1 : (u : Tid) → same_tid t u ≡ false → talk_of talks1 u ≡ talk_of talks u = λ u other. other_talk talks talks1 t u later1 one.ensures.talks other in
-    let sizes1 = sizes_of homes Acts0 O cpu t call talk (C.seen m) (C.seen m1) own own1 under1 one.result later1 turned1 talks talks1 one.ensures.talks c.requires.fits.1.sizes in
-    let others1 = others_after (C.opening m) Acts0 cpu t home call talk may.called (C.seen m) (C.seen m1) own own1 under1 one.result later1 turned1 talks talks1 refl same1 first.1 in
-    let at_once = sym c.answers_at_once-at_once.ensures ∙ c.if-at_once.true in
+    let sizes1 = sizes_of homes Acts0 O cpu t call talk (C.seen m) (C.seen m1) own own1 under1 one.result later1 turned1 talks talks1
+    one.ensures.talks c.requires.fits.1.sizes in
+    let others1 = others_after (C.opening m) Acts0 cpu t home call talk may.called (C.seen m) (C.seen m1) own own1 under1 one.result later1 turned1
+    talks talks1 refl same1 first.1 in
+    let at_once = (ap (λ (s : Stage). is_at_once s c.at_once.result) (sym c.next_stage-stage.ensures) ∙ sym c.answers_at_once-at_once.ensures)
+    ∙ c.if-at_once.true in
     let two = c.turn-last in
     let m2 = two.new.m in
     let own2 = C.own two.new.self.lower in
     let under2 = C.under_way two.new.self.lower in
     let talks2 = two.new.self.talks.talks in
     let later2 = talk_of talks2 t in
-    let next = c.get-next.result in
-    let called1 = later_call homes Acts0 O cpu t call talk (C.seen m) (C.seen m1) own own1 under1 one.result later1 turned1 c.at_once.result c.if-done.true at_once may.called in
-    let called2 : next.call ≡ Some call = ap (λ (x : Talk). x.call) c.get-next.ensures ∙ called1 in
+    let next = going later1 call in
+    let next_is : going later1 call ≡ later1 = next_going homes Acts0 O cpu t call talk (C.seen m)
+    (C.seen m1) own own1 under1 one.result later1 turned1 c.at_once.result c.if-done.true at_once may.called in
+    let called1 = later_call homes Acts0 O cpu t call talk (C.seen m) (C.seen m1) own own1 under1 one.result later1 turned1 c.at_once.result
+    c.if-done.true at_once may.called in
+    let called2 : next.call ≡ Some call = ap (λ (x : Talk). x.call) next_is ∙ called1 in
     let Acts1 : CpuId → Type 0 = λ d. C.ActsFor m1 d in
     let turned2 = rw (one.ensures.opening, one.ensures.cpu) at two.ensures.turned in
-    let same2 : (u : Tid) → same_tid t u ≡ false → talk_of talks2 u ≡ talk_of talks1 u = λ u other. other_talk talks1 talks2 t u later2 two.ensures.talks other in
-    let sm : m1 ≡ m = elim (why homes Acts0 O cpu t call talk (C.seen m) (C.seen m1) own own1 under1 one.result later1 turned1 c.at_once.result c.if-done.true at_once may.called c.requires.runs
+    let same2 : (u : Tid) → same_tid t u ≡ false → talk_of talks2 u ≡ talk_of talks1 u
+    = λ u other. other_talk talks1 talks2 t u later2 two.ensures.talks other in
+    let sm : m1 ≡ m = elim (why homes Acts0 O cpu t call talk (C.seen m) (C.seen m1) own own1 under1 one.result later1 turned1 c.at_once.result
+    c.if-done.true at_once may.called c.requires.runs
     c.at_once.ensures) [ inl some ↦ one.ensures.woken some | inr some ↦ one.ensures.handed some ] in
     let turned2m = subst (λ log. Turned homes Acts1 O cpu t call next log (C.seen m2) own1 own2 under2 two.result later2) (ap C.seen sm) turned2 in
-    let effect1 = later_effect homes Acts0 O cpu t call talk (C.seen m) (C.seen m1) own own1 under1 one.result later1 turned1 c.at_once.result c.if-done.true at_once may.called in
-    let may2 = next_may homes Acts0 O cpu t call talk (C.seen m) (C.seen m1) own own1 under1 one.result later1 turned1 c.at_once.result c.if-done.true at_once may.called in
+    let effect1 = later_effect homes Acts0 O cpu t call talk (C.seen m) (C.seen m1) own own1 under1 one.result later1 turned1 c.at_once.result
+    c.if-done.true at_once may.called in
+    let may2 = next_may homes Acts0 O cpu t call talk (C.seen m) (C.seen m1) own own1 under1 one.result later1 turned1 c.at_once.result c.if-done.true
+    at_once may.called in
     let in_call2 = goes_called O (buffer_sections (C.seen m1)) t call later1 own1 under1 may2.goes in
     rw (two.ensures.opening, one.ensures.opening, c.told.ensures.talks)
-    (called_by (C.opening m) Acts1 cpu t home call next called2 (C.seen m) (C.seen m2) own1 own2 under2 two.result later2 turned2m talks1 talks2 refl same2 _ (λ d both. one.ensures.acts d both.0) talks
-    (ap (λ (x : Talk). x.effect) c.get-next.ensures ∙ effect1 ∙ ap (λ (x : Talk). x.effect) talk_is)
+    (called_by (C.opening m) Acts1 cpu t home call next called2 (C.seen m) (C.seen m2) own1 own2 under2 two.result later2 turned2m talks1 talks2 refl
+    same2 _ (λ d both. one.ensures.acts d both.0) talks
+    (ap (λ (x : Talk). x.effect) next_is ∙ effect1 ∙ ap (λ (x : Talk). x.effect) talk_is)
     (λ u other. apart_talk talks1 talks2 t u later2 two.ensures.talks other ∙ apart_talk talks talks1 t u later1 one.ensures.talks other)
-    (rw c.get-next.ensures in_call2) c.told.result c.told.ensures.answer)
+    (subst (λ (x : Talk). called_at x.stage ≡ true) (sym next_is) in_call2) c.told.result
+    (told_as homes Acts1 O cpu t call next (C.seen m1) (C.seen m2) own1 own2 under2 two.result later2 turned2 c.next_stage-next.result
+    c.next_stage-next.ensures c.told.result c.told.ensures.answer))
 
 pub returns-then-at_once-clause-others : goal.returns-then-at_once-clause-others
 returns-then-at_once-clause-others g c q other fits =
@@ -614,10 +742,12 @@ returns-then-at_once-clause-others g c q other fits =
     let O = inner (C.opening m) in
     let homes = homes_in (C.opening m) in
     let acts = law.own_cpu p.lower m c.requires.fits.0 in
-    let home = runs_home (C.opening m) cpu (C.seen m) own.lock.sleep.threads t (law.moving m cpu acts) (law.stands p.lower m c.requires.fits.0) c.requires.runs in
-    let first = first_may homes cpu O (buffer_sections (C.seen m)) own talks (C.under_way p.lower) p.calling t call home c.requires.fits.1.calls c.requires.runs c.requires.hand c.requires.same c.requires.goes_on in
-    let talk = c.begin-talk.result in
-    let talk_is : talk ≡ going (talk_of talks t) call = c.begin-talk.ensures ∙ ap (λ x. going x call) c.get.ensures in
+    let home = runs_home (C.opening m) cpu (C.seen m) own.lock.sleep.threads t (law.moving m cpu acts)
+    (law.stands p.lower m c.requires.fits.0) c.requires.runs in
+    let first = first_may homes cpu O (buffer_sections (C.seen m)) own talks (C.under_way p.lower) p.calling t call home c.requires.fits.1.calls
+    c.requires.runs c.requires.hand c.requires.same c.requires.goes_on in
+    let talk = going (talk_of talks t) call in
+    let talk_is : talk ≡ going (talk_of talks t) call = refl in
     let may = subst (λ x. MayTurn O (buffer_sections (C.seen m)) t call x own (C.under_way p.lower)) (sym talk_is) first.0 in
     let one = c.turn-done in
     let m1 = one.new.m in
@@ -628,32 +758,42 @@ returns-then-at_once-clause-others g c q other fits =
     let Acts0 : CpuId → Type 0 = λ d. C.ActsFor m d in
     let turned1 = one.ensures.turned in
     let same1 : (u : Tid) → same_tid t u ≡ false → talk_of talks1 u ≡ talk_of talks u = λ u other. other_talk talks talks1 t u later1 one.ensures.talks other in
-    let sizes1 = sizes_of homes Acts0 O cpu t call talk (C.seen m) (C.seen m1) own own1 under1 one.result later1 turned1 talks talks1 one.ensures.talks c.requires.fits.1.sizes in
-    let others1 = others_after (C.opening m) Acts0 cpu t home call talk may.called (C.seen m) (C.seen m1) own own1 under1 one.result later1 turned1 talks talks1 refl same1 first.1 in
-    let at_once = sym c.answers_at_once-at_once.ensures ∙ c.if-at_once.true in
+    let sizes1 = sizes_of homes Acts0 O cpu t call talk (C.seen m) (C.seen m1) own own1 under1 one.result later1 turned1 talks talks1
+    one.ensures.talks c.requires.fits.1.sizes in
+    let others1 = others_after (C.opening m) Acts0 cpu t home call talk may.called (C.seen m) (C.seen m1) own own1 under1 one.result later1 turned1
+    talks talks1 refl same1 first.1 in
+    let at_once = (ap (λ (s : Stage). is_at_once s c.at_once.result) (sym c.next_stage-stage.ensures) ∙ sym c.answers_at_once-at_once.ensures)
+    ∙ c.if-at_once.true in
     let two = c.turn-last in
     let m2 = two.new.m in
     let own2 = C.own two.new.self.lower in
     let under2 = C.under_way two.new.self.lower in
     let talks2 = two.new.self.talks.talks in
     let later2 = talk_of talks2 t in
-    let next = c.get-next.result in
-    let called1 = later_call homes Acts0 O cpu t call talk (C.seen m) (C.seen m1) own own1 under1 one.result later1 turned1 c.at_once.result c.if-done.true at_once may.called in
-    let called2 : next.call ≡ Some call = ap (λ (x : Talk). x.call) c.get-next.ensures ∙ called1 in
+    let next = going later1 call in
+    let next_is : going later1 call ≡ later1 = next_going homes Acts0 O cpu t call talk (C.seen m)
+    (C.seen m1) own own1 under1 one.result later1 turned1 c.at_once.result c.if-done.true at_once may.called in
+    let called1 = later_call homes Acts0 O cpu t call talk (C.seen m) (C.seen m1) own own1 under1 one.result later1 turned1 c.at_once.result
+    c.if-done.true at_once may.called in
+    let called2 : next.call ≡ Some call = ap (λ (x : Talk). x.call) next_is ∙ called1 in
     let Acts1 : CpuId → Type 0 = λ d. C.ActsFor m1 d in
     let turned2 = rw (one.ensures.opening, one.ensures.cpu) at two.ensures.turned in
-    let same2 : (u : Tid) → same_tid t u ≡ false → talk_of talks2 u ≡ talk_of talks1 u = λ u other. other_talk talks1 talks2 t u later2 two.ensures.talks other in
-    let sm : m1 ≡ m = elim (why homes Acts0 O cpu t call talk (C.seen m) (C.seen m1) own own1 under1 one.result later1 turned1 c.at_once.result c.if-done.true at_once may.called c.requires.runs
+    let same2 : (u : Tid) → same_tid t u ≡ false → talk_of talks2 u ≡ talk_of talks1 u
+    = λ u other. other_talk talks1 talks2 t u later2 two.ensures.talks other in
+    let sm : m1 ≡ m = elim (why homes Acts0 O cpu t call talk (C.seen m) (C.seen m1) own own1 under1 one.result later1 turned1 c.at_once.result
+    c.if-done.true at_once may.called c.requires.runs
     c.at_once.ensures) [ inl some ↦ one.ensures.woken some | inr some ↦ one.ensures.handed some ] in
     let lawful1 = rw one.ensures.opening at (law.lawful m1 cpu (one.ensures.acts cpu acts)) in
     let lawful2 = rw (two.ensures.opening, one.ensures.opening) at (law.lawful m2 cpu (two.ensures.acts cpu (one.ensures.acts cpu acts))) in
     let far = one.ensures.others q.lower other fits.0 in
     let part1 = other_part (C.opening m) cpu (C.cpu_of q.lower) other turned1.mine turned1.others (C.seen m) (C.seen m1) turned1.own_events
-    (turned1.foreign (C.cpu_of q.lower) (law.own_cpu q.lower m fits.0)) turned1.is lawful1 (C.own q.lower) q.talks.talks (C.under_way q.lower) q.calling fits.1 in (
+    (turned1.foreign (C.cpu_of q.lower) (law.own_cpu q.lower m fits.0)) turned1.is lawful1 (C.own q.lower) q.talks.talks
+    (C.under_way q.lower) q.calling fits.1 in (
       two.ensures.others q.lower (rw one.ensures.cpu other) far,
       rw (two.ensures.opening, one.ensures.opening)
           (other_part (C.opening m) cpu (C.cpu_of q.lower) other turned2.mine turned2.others (C.seen m1) (C.seen m2) turned2.own_events
-          (turned2.foreign (C.cpu_of q.lower) (law.own_cpu q.lower m1 far)) turned2.is lawful2 (C.own q.lower) q.talks.talks (C.under_way q.lower) q.calling part1),
+          (turned2.foreign (C.cpu_of q.lower) (law.own_cpu q.lower m1 far)) turned2.is lawful2 (C.own q.lower) q.talks.talks
+          (C.under_way q.lower) q.calling part1),
     )
 
 pub returns-clause-follows : goal.returns-clause-follows
@@ -670,10 +810,12 @@ returns-clause-follows g c stepwise =
     let O = inner (C.opening m) in
     let homes = homes_in (C.opening m) in
     let acts = law.own_cpu p.lower m c.requires.fits.0 in
-    let home = runs_home (C.opening m) cpu (C.seen m) own.lock.sleep.threads t (law.moving m cpu acts) (law.stands p.lower m c.requires.fits.0) c.requires.runs in
-    let first = first_may homes cpu O (buffer_sections (C.seen m)) own talks (C.under_way p.lower) p.calling t call home c.requires.fits.1.calls c.requires.runs c.requires.hand c.requires.same c.requires.goes_on in
-    let talk = c.begin-talk.result in
-    let talk_is : talk ≡ going (talk_of talks t) call = c.begin-talk.ensures ∙ ap (λ x. going x call) c.get.ensures in
+    let home = runs_home (C.opening m) cpu (C.seen m) own.lock.sleep.threads t (law.moving m cpu acts)
+    (law.stands p.lower m c.requires.fits.0) c.requires.runs in
+    let first = first_may homes cpu O (buffer_sections (C.seen m)) own talks (C.under_way p.lower) p.calling t call home c.requires.fits.1.calls
+    c.requires.runs c.requires.hand c.requires.same c.requires.goes_on in
+    let talk = going (talk_of talks t) call in
+    let talk_is : talk ≡ going (talk_of talks t) call = refl in
     let may = subst (λ x. MayTurn O (buffer_sections (C.seen m)) t call x own (C.under_way p.lower)) (sym talk_is) first.0 in
     let one = c.turn-done in
     let m1 = one.new.m in
@@ -684,16 +826,29 @@ returns-clause-follows g c stepwise =
     let Acts0 : CpuId → Type 0 = λ d. C.ActsFor m d in
     let turned1 = one.ensures.turned in
     let same1 : (u : Tid) → same_tid t u ≡ false → talk_of talks1 u ≡ talk_of talks u = λ u other. other_talk talks talks1 t u later1 one.ensures.talks other in
-    let sizes1 = sizes_of homes Acts0 O cpu t call talk (C.seen m) (C.seen m1) own own1 under1 one.result later1 turned1 talks talks1 one.ensures.talks c.requires.fits.1.sizes in
-    let others1 = others_after (C.opening m) Acts0 cpu t home call talk may.called (C.seen m) (C.seen m1) own own1 under1 one.result later1 turned1 talks talks1 refl same1 first.1 in
+    let sizes1 = sizes_of homes Acts0 O cpu t call talk (C.seen m) (C.seen m1) own own1 under1 one.result later1 turned1 talks talks1
+    one.ensures.talks c.requires.fits.1.sizes in
+    let others1 = others_after (C.opening m) Acts0 cpu t home call talk may.called (C.seen m) (C.seen m1) own own1 under1 one.result later1 turned1
+    talks talks1 refl same1 first.1 in
     let table = table_of (queue_rules (lock_rules buffer_rules) (lock_moves buffer_rules)) in
     let in_call = goes_called O (buffer_sections (C.seen m)) t call talk own (C.under_way p.lower) may.goes in
     let marks = marks_of O (buffer_sections (C.seen m)) t call talk own (C.under_way p.lower) may.goes in
     let free = exit_free homes Acts0 O cpu t call talk (C.seen m) (C.seen m1) own own1 under1 one.result later1 turned1 c.at_once.result marks
-    (elim c.else-done.either [ inl both ↦ inl (both.0, sym c.answers_at_once-at_once.ensures ∙ both.1) | inr none ↦ inr none ]) c.requires.runs c.at_once.ensures in
-    let done = one_follows Acts0 table (C.opening m) cpu homes t call talk.stage talk (buffering own talks) (C.acts m) (C.acts m1) _ in_call free.0 free.1 (one.ensures.follows stepwise) in
-    rw (← talk_is, c.told-2.ensures.lower, c.told-2.ensures.talks, c.told-2.ensures.answer)
-    (follows_for Acts0 _ (λ d both. both.0) table (C.opening m) cpu (plan_at homes cpu t call talk.stage talk (buffering own talks)) (C.acts m) (C.acts m1) _ done)
+    (elim c.else-done.either [
+      | inl both ↦ inl
+          (both.0, (ap (λ (s : Stage). is_at_once s c.at_once.result) (sym c.next_stage-stage.ensures) ∙ sym c.answers_at_once-at_once.ensures) ∙ both.1)
+      | inr none ↦ inr none
+    ]) c.requires.runs c.at_once.ensures in
+    let done = one_follows Acts0 table (C.opening m) cpu homes t call talk.stage talk (buffering own talks) (C.acts m) (C.acts m1) _
+    in_call free.0 free.1 (one.ensures.follows stepwise) in
+    rw (
+      c.told-2.ensures.lower,
+      c.told-2.ensures.talks,
+      (told_as homes Acts0 O cpu t call talk (C.seen m) (C.seen m1) own own1 under1 one.result later1 turned1 c.next_stage-stage.result
+          c.next_stage-stage.ensures c.told-2.result c.told-2.ensures.answer),
+    )
+    (follows_for Acts0 _ (λ d both. both.0) table (C.opening m) cpu (plan_at homes cpu t call talk.stage talk (buffering own talks)) (C.acts m)
+    (C.acts m1) _ done)
 
 pub returns-then-at_once-clause-follows : goal.returns-then-at_once-clause-follows
 returns-then-at_once-clause-follows g c stepwise =
@@ -709,10 +864,12 @@ returns-then-at_once-clause-follows g c stepwise =
     let O = inner (C.opening m) in
     let homes = homes_in (C.opening m) in
     let acts = law.own_cpu p.lower m c.requires.fits.0 in
-    let home = runs_home (C.opening m) cpu (C.seen m) own.lock.sleep.threads t (law.moving m cpu acts) (law.stands p.lower m c.requires.fits.0) c.requires.runs in
-    let first = first_may homes cpu O (buffer_sections (C.seen m)) own talks (C.under_way p.lower) p.calling t call home c.requires.fits.1.calls c.requires.runs c.requires.hand c.requires.same c.requires.goes_on in
-    let talk = c.begin-talk.result in
-    let talk_is : talk ≡ going (talk_of talks t) call = c.begin-talk.ensures ∙ ap (λ x. going x call) c.get.ensures in
+    let home = runs_home (C.opening m) cpu (C.seen m) own.lock.sleep.threads t (law.moving m cpu acts)
+    (law.stands p.lower m c.requires.fits.0) c.requires.runs in
+    let first = first_may homes cpu O (buffer_sections (C.seen m)) own talks (C.under_way p.lower) p.calling t call home c.requires.fits.1.calls
+    c.requires.runs c.requires.hand c.requires.same c.requires.goes_on in
+    let talk = going (talk_of talks t) call in
+    let talk_is : talk ≡ going (talk_of talks t) call = refl in
     let may = subst (λ x. MayTurn O (buffer_sections (C.seen m)) t call x own (C.under_way p.lower)) (sym talk_is) first.0 in
     let one = c.turn-done in
     let m1 = one.new.m in
@@ -723,11 +880,14 @@ returns-then-at_once-clause-follows g c stepwise =
     let Acts0 : CpuId → Type 0 = λ d. C.ActsFor m d in
     let turned1 = one.ensures.turned in
     let same1 : (u : Tid) → same_tid t u ≡ false → talk_of talks1 u ≡ talk_of talks u = λ u other. other_talk talks talks1 t u later1 one.ensures.talks other in
-    let sizes1 = sizes_of homes Acts0 O cpu t call talk (C.seen m) (C.seen m1) own own1 under1 one.result later1 turned1 talks talks1 one.ensures.talks c.requires.fits.1.sizes in
-    let others1 = others_after (C.opening m) Acts0 cpu t home call talk may.called (C.seen m) (C.seen m1) own own1 under1 one.result later1 turned1 talks talks1 refl same1 first.1 in
+    let sizes1 = sizes_of homes Acts0 O cpu t call talk (C.seen m) (C.seen m1) own own1 under1 one.result later1 turned1 talks talks1
+    one.ensures.talks c.requires.fits.1.sizes in
+    let others1 = others_after (C.opening m) Acts0 cpu t home call talk may.called (C.seen m) (C.seen m1) own own1 under1 one.result later1 turned1
+    talks talks1 refl same1 first.1 in
     let table = table_of (queue_rules (lock_rules buffer_rules) (lock_moves buffer_rules)) in
     let marks = marks_of O (buffer_sections (C.seen m)) t call talk own (C.under_way p.lower) may.goes in
-    let at_once = sym c.answers_at_once-at_once.ensures ∙ c.if-at_once.true in
+    let at_once = (ap (λ (s : Stage). is_at_once s c.at_once.result) (sym c.next_stage-stage.ensures) ∙ sym c.answers_at_once-at_once.ensures)
+    ∙ c.if-at_once.true in
     let two = c.turn-last in
     let m2 = two.new.m in
     let own2 = C.own two.new.self.lower in
@@ -736,18 +896,32 @@ returns-then-at_once-clause-follows g c stepwise =
     let later2 = talk_of talks2 t in
     let end = ended_of homes Acts0 O cpu t call talk (C.seen m) (C.seen m1) own own1 under1 one.result later1 turned1 c.if-done.true in
     let got1 : Left Buffering Reply = record { own = buffering own1 talks1; answer = if one.result then replied call talk talk.stage else None } in
-    let next = c.get-next.result in
+    let next = going later1 call in
+    let next_is : going later1 call ≡ later1 = next_going homes Acts0 O cpu t call talk (C.seen m)
+    (C.seen m1) own own1 under1 one.result later1 turned1 c.at_once.result c.if-done.true at_once may.called in
     let cpu1 = C.cpu_of one.new.self.lower in
+    let Acts1 : CpuId → Type 0 = λ d. C.ActsFor m1 d in
+    let turned2 = rw (one.ensures.opening, one.ensures.cpu) at two.ensures.turned in
     let got2n : Left Buffering Reply = record { own = buffering own2 talks2; answer = if two.result then replied call next next.stage else None } in
     let second = follows_for (λ d. C.ActsFor m1 d) Acts0 (λ d a. one.ensures.acts d a) table (C.opening m1) cpu1
     (plan_of (homes_in (C.opening m1)) cpu1 t call next.stage next (buffering own1 talks1)) (C.acts m1) (C.acts m2) got2n (two.ensures.follows stepwise) in
-    let next_is : next ≡ later1 = c.get-next.ensures in
-    let second1 = subst (λ (x : Talk). Follows Acts0 table (C.opening m1) cpu1 (plan_of (homes_in (C.opening m1)) cpu1 t call x.stage x (buffering own1 talks1)) (C.acts m1) (C.acts m2) got2n)
+    let second1 = subst (λ (x : Talk). Follows Acts0 table (C.opening m1) cpu1
+    (plan_of (homes_in (C.opening m1)) cpu1 t call x.stage x (buffering own1 talks1)) (C.acts m1) (C.acts m2) got2n)
     next_is second in
-    let second0 = subst (λ o. Follows Acts0 table o cpu (plan_of (homes_in o) cpu t call later1.stage later1 (buffering own1 talks1)) (C.acts m1) (C.acts m2) got2n) one.ensures.opening
-    (subst (λ d. Follows Acts0 table (C.opening m1) d (plan_of (homes_in (C.opening m1)) d t call later1.stage later1 (buffering own1 talks1)) (C.acts m1) (C.acts m2) got2n) one.ensures.cpu second1) in
-    let both = two_follows Acts0 table (C.opening m) cpu homes t call talk.stage talk (buffering own talks) (C.acts m) (C.acts m1) (C.acts m2) got1 got2n c.at_once.result end.heard_is.0
-    at_once end.heard_is.1 (λ w. sym (turned1.over w) ∙ c.if-done.true) (why_slept t talk.stage own c.at_once.result at_once marks c.requires.runs c.at_once.ensures)
+    let second0 = subst (λ o. Follows Acts0 table o cpu (plan_of (homes_in o) cpu t call later1.stage later1 (buffering own1 talks1)) (C.acts m1)
+    (C.acts m2) got2n) one.ensures.opening
+    (subst (λ d. Follows Acts0 table (C.opening m1) d (plan_of (homes_in (C.opening m1)) d t call later1.stage later1 (buffering own1 talks1))
+    (C.acts m1) (C.acts m2) got2n) one.ensures.cpu second1) in
+    let both = two_follows Acts0 table (C.opening m) cpu homes t call talk.stage talk (buffering own talks) (C.acts m) (C.acts m1)
+    (C.acts m2) got1 got2n c.at_once.result end.heard_is.0
+    at_once end.heard_is.1 (λ w. sym (turned1.over w) ∙ c.if-done.true)
+    (why_slept t talk.stage own c.at_once.result at_once marks c.requires.runs c.at_once.ensures)
     end.free.0 end.free.1 (one.ensures.follows stepwise) second0 in
-    rw (← talk_is, c.told.ensures.lower, c.told.ensures.talks, c.told.ensures.answer)
-    (follows_for Acts0 _ (λ d both. both.0) table (C.opening m) cpu (plan_at homes cpu t call talk.stage talk (buffering own talks)) (C.acts m) (C.acts m2) got2n both)
+    rw (
+      c.told.ensures.lower,
+      c.told.ensures.talks,
+      (told_as homes Acts1 O cpu t call next (C.seen m1) (C.seen m2) own1 own2 under2 two.result later2 turned2 c.next_stage-next.result
+          c.next_stage-next.ensures c.told.result c.told.ensures.answer),
+    )
+    (follows_for Acts0 _ (λ d both. both.0) table (C.opening m) cpu (plan_at homes cpu t call talk.stage talk (buffering own talks)) (C.acts m)
+    (C.acts m2) got2n both)
