@@ -12,3 +12,4 @@ pub mod Twice
 pub mod Starting
 pub mod Chains
 pub mod Opening
+pub mod PositionLemmas

@@ -4,3 +4,4 @@ pub mod FifoFits
 pub mod Tallies
 pub mod FifoLaws
 pub mod OwnedLaws
+pub mod Positions

@@ -75,7 +75,7 @@ module _ (opening : LockId → Option (QueueBlock BufferLock)) (boots : BootsSo 
       go (Some block) some = refl
 
   -- and after any events
-  found : (past : List BufferEvent) → (lock : BufferLock) × (lock_of opening past b ≡ Some lock)
+  pub found : (past : List BufferEvent) → (lock : BufferLock) × (lock_of opening past b ≡ Some lock)
   found past = go (lock_of opening past b) refl (stays_there (inner opening) (buffer_sections past) (Buffer b) inner_there)
     where
       go : (o : Option BufferLock) → lock_of opening past b ≡ o → IsSome o → (lock : BufferLock) × (lock_of opening past b ≡ Some lock)

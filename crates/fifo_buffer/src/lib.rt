@@ -4,8 +4,10 @@
 
 mod blocks;
 mod fifo;
+mod laws;
 mod sections;
 mod talk_table;
 
 pub use blocks::empty_blocks;
 pub use fifo::Fifo;
+pub use laws::positions_are_counts;

@@ -1,0 +1,42 @@
+-- Positions in a line: what a line's counter counts.
+use Rattle.std.specs.Prelude.{◌≡◌, ℕ, ◌%◌, ◌^◌, ◌<◌, Bool, false, ◌&&◌, List, length, Option}
+use Rattle.event_log.specs.declared.ids.BufId.{BufId}
+use Rattle.event_log.specs.declared.ids.LockId.{LockId}
+use Rattle.event_log.specs.declared.ids.LockId.TheVariants.{Buffer}
+use Rattle.event_log.specs.History.{IsLawful, how_many, same_lock}
+use Rattle.layer_traits.specs.declared.buffer_edits.BufferEdit.{BufferEdit}
+use Rattle.layer_traits.specs.declared.buffer_edits.BufferEdit.TheVariants.{Enter, TryPut, TryTake}
+use Rattle.layer_traits.specs.declared.conditions.CvEdit.TheVariants.{Edit, SignalFront}
+use Rattle.layer_traits.specs.declared.locked.QEdit.TheVariants.{Acquire, Inside, Release}
+use Rattle.layer_traits.specs.declared.locked.Side.{Side}
+use Rattle.layer_traits.specs.declared.locked.Side.TheVariants.{Receivers, Senders}
+use Rattle.layer_traits.specs.declared.queue_edits.QueueBlock.{QueueBlock}
+use Rattle.layer_traits.specs.BufferEffects.{places_in}
+use Rattle.layer_traits.specs.BufferProtocol.{BufferLock, BufferSection, buffer_at, buffer_deeds}
+use Rattle.layer_traits.specs.Conditions.{CvCall, cv_rules}
+use Rattle.layer_traits.specs.LockLaw.{lock_kernel}
+use Rattle.layer_traits.specs.QueueBlocks.{StartsWell, inner}
+use Rattle.layer_traits.specs.Queues.{QueueAllowed, buffer_sections}
+use Rattle.fifo_buffer.specs.FifoFits.{BootsSo, caps_in}
+use Rattle.fifo_buffer.specs.Stances.{same_side}
+use Rattle.fifo_buffer.specs.Turns.{BufferEvent}
+
+-- whether a call enters this side's line
+abbrev pub enters : Side → CvCall BufferEdit → Bool
+enters side (Acquire t) = false
+enters side (Inside (Edit (Enter t at))) = same_side side at
+enters side (Inside (Edit (TryPut t m))) = false
+enters side (Inside (Edit (TryTake t))) = false
+enters side (Inside (SignalFront t at)) = false
+enters side (Release leave) = false
+
+-- how many of these sections entered this side's line of a lock's buffer
+abbrev pub entries_of : Side → LockId → List BufferSection → ℕ
+entries_of side lock past = how_many (λ s. same_lock lock s.lock && enters side s.edit) past
+
+-- after lawful events a line's counter, which is the position of the next thread that enters, is the number of threads that entered it
+abbrev pub PositionsAreCounts : Type 0
+PositionsAreCounts = (opening : LockId → Option (QueueBlock BufferLock)) (past : List BufferEvent) → StartsWell opening → BootsSo opening
+    → IsLawful (QueueAllowed (lock_kernel (cv_rules buffer_deeds) opening)) past → (b : BufId) (side : Side) → b.0 < length (caps_in opening)
+    → places_in side (buffer_at (inner opening) (buffer_sections past) (Buffer b))
+    ≡ entries_of side (Buffer b) (buffer_sections past) % 2 ^ 64
