@@ -13,3 +13,5 @@ pub mod Starting
 pub mod Chains
 pub mod Opening
 pub mod PositionLemmas
+pub mod TowerOpening
+pub mod Rows

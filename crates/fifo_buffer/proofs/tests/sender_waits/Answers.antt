@@ -1,0 +1,7 @@
+use Rattle.fifo_buffer.proofs.tests.sender_waits.Goals as goal
+
+pub takes-requires-clause-same : goal.takes-requires-clause-same
+takes-requires-clause-same g c = rw c.switch.ensures.talks (c.requires.home_free _)
+
+pub goes_on-got-requires-clause-away_same : goal.goes_on-got-requires-clause-away_same
+goes_on-got-requires-clause-away_same g c = rw c.switch-else-not-switch.ensures.talks (c.requires.away_free _)
