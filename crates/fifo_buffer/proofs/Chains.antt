@@ -28,7 +28,7 @@ use Rattle.layer_traits.specs.Scheds.{sched_plan}
 use Rattle.layer_traits.specs.SleepLaw.{due, sleep_plan}
 use Rattle.fifo_buffer.specs.Stances.{called_at, waits_at}
 use Rattle.fifo_buffer.specs.Turns.{BufferOutcome, is_at_once}
-use Rattle.fifo_buffer.proofs.Polls.{caller_is}
+use Rattle.fifo_buffer.proofs.Events.{caller_is}
 
 some_of : {A : Type 0} (x : Option A) → is_some x ≡ true → (a : A) × (x ≡ Some a)
 some_of None is = absurd cc

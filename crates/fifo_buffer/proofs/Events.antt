@@ -75,6 +75,20 @@ module _ (opening : LockId → Option (QueueBlock BufferLock)) where
       one_event (more ++ past) e u lawful.0 (λ t there. home_apart c e u t home others.0 there) of slept waits talk
       (keeps_fits c u home more past others.1 lawful.1 of slept waits talk fits)
 
+-- the thread that calls
+pub caller_is : (t : Tid) (call : Call) (stage : Stage) → lock_caller (cv_rules buffer_deeds) (section_at t call stage) ≡ t
+caller_is t call Between = refl
+caller_is t call Acquires = refl
+caller_is t (Send b m) Enters = refl
+caller_is t (Recv b) Enters = refl
+caller_is t (Send b m) Tries = refl
+caller_is t (Recv b) Tries = refl
+caller_is t call Waits = refl
+caller_is t call AcquiresAgain = refl
+caller_is t call Signals = refl
+caller_is t call SignalsOwn = refl
+caller_is t call Releases = refl
+
 -- what a stance lets its thread do
 module _ (O : LockId → Option BufferLock) (past : List BufferSection) (t : Tid) where
   grip_here : (b : BufId) (side : Side) (holds asks lined : Bool) (position : ℕ) → Stance O past t b side holds asks lined position

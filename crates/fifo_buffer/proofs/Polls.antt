@@ -38,7 +38,7 @@ use Rattle.layer_traits.specs.BufferProtocol.{BufferLock, BufferSection, buffer_
 use Rattle.layer_traits.specs.Conditions.{CvCall, cv_rules}
 use Rattle.layer_traits.specs.CvLaw.{MayWait, Waiting, left_waiting}
 use Rattle.layer_traits.specs.LockLaw.{MayGo, MayLock, Locking, left_after, lock_kernel, slept_for}
-use Rattle.layer_traits.specs.Locking.{line_asked, line_slept, lock_answer, lock_caller, lock_out, told_asker}
+use Rattle.layer_traits.specs.Locking.{line_asked, line_slept, lock_answer, lock_out, told_asker}
 use Rattle.layer_traits.specs.Passes.{own_slept, own_woken, passed_on, queue_for}
 use Rattle.layer_traits.specs.Places.{Threads, home_of}
 use Rattle.layer_traits.specs.Plans.{Left}
@@ -50,22 +50,8 @@ use Rattle.thread_blocks.specs.Queues.{same_tid}
 use Rattle.fifo_buffer.specs.Stances.{InCall, IsMark, TalkFits, asks_at, heard_by, slept_by, talk_in, waits_at, waits_by}
 use Rattle.fifo_buffer.specs.Turns.{After, BufferEvent, BufferOutcome, Goes, Kept, MayTurn, Midway, Turned, heard_if, is_plain}
 use Rattle.fifo_buffer.proofs.Apart.{fits_apart}
-use Rattle.fifo_buffer.proofs.Events.{due_now, keeps_fits, owner_due}
+use Rattle.fifo_buffer.proofs.Events.{caller_is, due_now, keeps_fits, owner_due}
 use Rattle.fifo_buffer.proofs.OwnSteps.{Stepped, own_step}
-
--- the thread that calls
-pub caller_is : (t : Tid) (call : Call) (stage : Stage) → lock_caller (cv_rules buffer_deeds) (section_at t call stage) ≡ t
-caller_is t call Between = refl
-caller_is t call Acquires = refl
-caller_is t (Send b m) Enters = refl
-caller_is t (Recv b) Enters = refl
-caller_is t (Send b m) Tries = refl
-caller_is t (Recv b) Tries = refl
-caller_is t call Waits = refl
-caller_is t call AcquiresAgain = refl
-caller_is t call Signals = refl
-caller_is t call SignalsOwn = refl
-caller_is t call Releases = refl
 
 pub waits_section : (t : Tid) (call : Call) (stage : Stage) → waits_at stage ≡ true → section_at t call stage ≡ Release (Wait t (side_of call))
 waits_section t call Between is = absurd cc

@@ -37,7 +37,8 @@ use Rattle.layer_traits.specs.SleepLaw.{Sleeping}
 use Rattle.thread_blocks.specs.Queues.{same_tid, is_in}
 use Rattle.fifo_buffer.specs.Stances.{Grip, Holds, InCall, Stance, TalkFits, talk_in, waits_at}
 use Rattle.fifo_buffer.specs.Turns.{Begins, BufferEvent, BufferOutcome, Ended, Goes, Turned, heard_if}
-use Rattle.fifo_buffer.proofs.Polls.{caller_is, locks_turn, other_mark, own_mark}
+use Rattle.fifo_buffer.proofs.Events.{caller_is}
+use Rattle.fifo_buffer.proofs.Polls.{locks_turn, other_mark, own_mark}
 
 -- a thread that was woken out of its wait asks for the lock again
 waited_on : (O : LockId → Option BufferLock) (past : List BufferSection) (t : Tid) (call : Call) (at : BufId) (slept : Option BufId)

@@ -12,7 +12,8 @@ use Rattle.layer_traits.specs.QueueRules.{queue_rules}
 use Rattle.layer_traits.proofs.CallLemmas.{follows_raised}
 use Rattle.fifo_buffer.specs.Turns.{heard_if}
 use Rattle.fifo_buffer.proofs.Heard.{heard_left, runs_awake, runs_home}
-use Rattle.fifo_buffer.proofs.Polls.{caller_is, may_turn}
+use Rattle.fifo_buffer.proofs.Events.{caller_is}
+use Rattle.fifo_buffer.proofs.Polls.{may_turn}
 use Rattle.fifo_buffer.proofs.Turning.{polled_turn}
 use Rattle.fifo_buffer.proofs.fifo.Fifo.turn.Goals as goal
 

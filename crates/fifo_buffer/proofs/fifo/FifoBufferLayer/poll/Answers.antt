@@ -59,8 +59,7 @@ turn-done-requires-clause-may g c =
     let first = first_may homes cpu O (buffer_sections (C.seen m)) own talks (C.under_way p.lower) p.calling t call home c.requires.fits.1.calls
     c.requires.runs c.requires.hand c.requires.same c.requires.goes_on in
     let talk = going (talk_of talks t) call in
-    let talk_is : talk ≡ going (talk_of talks t) call = refl in
-    let may = subst (λ x. MayTurn O (buffer_sections (C.seen m)) t call x own (C.under_way p.lower)) (sym talk_is) first.0 in
+    let may = first.0 in
     may
 
 pub turn-last-requires-clause-may : goal.turn-last-requires-clause-may
@@ -82,8 +81,7 @@ turn-last-requires-clause-may g c =
     let first = first_may homes cpu O (buffer_sections (C.seen m)) own talks (C.under_way p.lower) p.calling t call home c.requires.fits.1.calls
     c.requires.runs c.requires.hand c.requires.same c.requires.goes_on in
     let talk = going (talk_of talks t) call in
-    let talk_is : talk ≡ going (talk_of talks t) call = refl in
-    let may = subst (λ x. MayTurn O (buffer_sections (C.seen m)) t call x own (C.under_way p.lower)) (sym talk_is) first.0 in
+    let may = first.0 in
     let one = c.turn-done in
     let m1 = one.new.m in
     let own1 = C.own one.new.self.lower in
@@ -92,11 +90,6 @@ turn-last-requires-clause-may g c =
     let later1 = talk_of talks1 t in
     let Acts0 : CpuId → Type 0 = λ d. C.ActsFor m d in
     let turned1 = one.ensures.turned in
-    let same1 : (u : Tid) → same_tid t u ≡ false → talk_of talks1 u ≡ talk_of talks u = λ u other. other_talk talks talks1 t u later1 one.ensures.talks other in
-    let sizes1 = sizes_of homes Acts0 O cpu t call talk (C.seen m) (C.seen m1) own own1 under1 one.result later1 turned1 talks talks1
-    one.ensures.talks c.requires.fits.1.sizes in
-    let others1 = others_after (C.opening m) Acts0 cpu t home call talk may.called (C.seen m) (C.seen m1) own own1 under1 one.result later1 turned1
-    talks talks1 refl same1 first.1 in
     let at_once = (ap (λ (s : Stage). is_at_once s c.at_once.result) (sym c.next_stage-stage.ensures) ∙ sym c.answers_at_once-at_once.ensures)
     ∙ c.if-at_once.true in
     let next_is : going later1 call ≡ later1 = next_going homes Acts0 O cpu t call talk (C.seen m)
@@ -109,7 +102,6 @@ turn-last-requires-clause-may g c =
 pub returns-clause-runs : goal.returns-clause-runs
 returns-clause-runs g c =
     let C = g.C.CvLayer in
-    let law = g.met.C.CvLayer in
     let m = c.args.m.now in
     let p = c.args.self.now in
     let cpu = C.cpu_of p.lower in
@@ -119,14 +111,7 @@ returns-clause-runs g c =
     let own = C.own p.lower in
     let O = inner (C.opening m) in
     let homes = homes_in (C.opening m) in
-    let acts = law.own_cpu p.lower m c.requires.fits.0 in
-    let home = runs_home (C.opening m) cpu (C.seen m) own.lock.sleep.threads t (law.moving m cpu acts)
-    (law.stands p.lower m c.requires.fits.0) c.requires.runs in
-    let first = first_may homes cpu O (buffer_sections (C.seen m)) own talks (C.under_way p.lower) p.calling t call home c.requires.fits.1.calls
-    c.requires.runs c.requires.hand c.requires.same c.requires.goes_on in
     let talk = going (talk_of talks t) call in
-    let talk_is : talk ≡ going (talk_of talks t) call = refl in
-    let may = subst (λ x. MayTurn O (buffer_sections (C.seen m)) t call x own (C.under_way p.lower)) (sym talk_is) first.0 in
     let one = c.turn-done in
     let m1 = one.new.m in
     let own1 = C.own one.new.self.lower in
@@ -135,11 +120,6 @@ returns-clause-runs g c =
     let later1 = talk_of talks1 t in
     let Acts0 : CpuId → Type 0 = λ d. C.ActsFor m d in
     let turned1 = one.ensures.turned in
-    let same1 : (u : Tid) → same_tid t u ≡ false → talk_of talks1 u ≡ talk_of talks u = λ u other. other_talk talks talks1 t u later1 one.ensures.talks other in
-    let sizes1 = sizes_of homes Acts0 O cpu t call talk (C.seen m) (C.seen m1) own own1 under1 one.result later1 turned1 talks talks1
-    one.ensures.talks c.requires.fits.1.sizes in
-    let others1 = others_after (C.opening m) Acts0 cpu t home call talk may.called (C.seen m) (C.seen m1) own own1 under1 one.result later1 turned1
-    talks talks1 refl same1 first.1 in
     rw c.told-2.ensures.lower (runs_by homes Acts0 O cpu t call talk (C.seen m) (C.seen m1) own own1 under1 one.result later1 turned1 c.told-2.result
     (told_as homes Acts0 O cpu t call talk (C.seen m) (C.seen m1) own own1 under1 one.result later1 turned1 c.next_stage-stage.result
     c.next_stage-stage.ensures c.told-2.result c.told-2.ensures.answer))
@@ -147,7 +127,6 @@ returns-clause-runs g c =
 pub returns-clause-doing : goal.returns-clause-doing
 returns-clause-doing g c =
     let C = g.C.CvLayer in
-    let law = g.met.C.CvLayer in
     let m = c.args.m.now in
     let p = c.args.self.now in
     let cpu = C.cpu_of p.lower in
@@ -157,14 +136,7 @@ returns-clause-doing g c =
     let own = C.own p.lower in
     let O = inner (C.opening m) in
     let homes = homes_in (C.opening m) in
-    let acts = law.own_cpu p.lower m c.requires.fits.0 in
-    let home = runs_home (C.opening m) cpu (C.seen m) own.lock.sleep.threads t (law.moving m cpu acts)
-    (law.stands p.lower m c.requires.fits.0) c.requires.runs in
-    let first = first_may homes cpu O (buffer_sections (C.seen m)) own talks (C.under_way p.lower) p.calling t call home c.requires.fits.1.calls
-    c.requires.runs c.requires.hand c.requires.same c.requires.goes_on in
     let talk = going (talk_of talks t) call in
-    let talk_is : talk ≡ going (talk_of talks t) call = refl in
-    let may = subst (λ x. MayTurn O (buffer_sections (C.seen m)) t call x own (C.under_way p.lower)) (sym talk_is) first.0 in
     let one = c.turn-done in
     let m1 = one.new.m in
     let own1 = C.own one.new.self.lower in
@@ -173,11 +145,6 @@ returns-clause-doing g c =
     let later1 = talk_of talks1 t in
     let Acts0 : CpuId → Type 0 = λ d. C.ActsFor m d in
     let turned1 = one.ensures.turned in
-    let same1 : (u : Tid) → same_tid t u ≡ false → talk_of talks1 u ≡ talk_of talks u = λ u other. other_talk talks talks1 t u later1 one.ensures.talks other in
-    let sizes1 = sizes_of homes Acts0 O cpu t call talk (C.seen m) (C.seen m1) own own1 under1 one.result later1 turned1 talks talks1
-    one.ensures.talks c.requires.fits.1.sizes in
-    let others1 = others_after (C.opening m) Acts0 cpu t home call talk may.called (C.seen m) (C.seen m1) own own1 under1 one.result later1 turned1
-    talks talks1 refl same1 first.1 in
     rw (c.told-2.ensures.calling, c.told-2.ensures.lower)
     (doing_by homes Acts0 O cpu t call talk (C.seen m) (C.seen m1) own own1 under1 one.result later1 turned1 c.told-2.result
     (told_as homes Acts0 O cpu t call talk (C.seen m) (C.seen m1) own own1 under1 one.result later1 turned1 c.next_stage-stage.result
@@ -186,37 +153,13 @@ returns-clause-doing g c =
 pub returns-clause-moves : goal.returns-clause-moves
 returns-clause-moves g c =
     let C = g.C.CvLayer in
-    let law = g.met.C.CvLayer in
     let m = c.args.m.now in
     let p = c.args.self.now in
     let cpu = C.cpu_of p.lower in
-    let t = c.args.t in
-    let call = c.args.call.now in
-    let talks = p.talks.talks in
-    let own = C.own p.lower in
-    let O = inner (C.opening m) in
-    let homes = homes_in (C.opening m) in
-    let acts = law.own_cpu p.lower m c.requires.fits.0 in
-    let home = runs_home (C.opening m) cpu (C.seen m) own.lock.sleep.threads t (law.moving m cpu acts)
-    (law.stands p.lower m c.requires.fits.0) c.requires.runs in
-    let first = first_may homes cpu O (buffer_sections (C.seen m)) own talks (C.under_way p.lower) p.calling t call home c.requires.fits.1.calls
-    c.requires.runs c.requires.hand c.requires.same c.requires.goes_on in
-    let talk = going (talk_of talks t) call in
-    let talk_is : talk ≡ going (talk_of talks t) call = refl in
-    let may = subst (λ x. MayTurn O (buffer_sections (C.seen m)) t call x own (C.under_way p.lower)) (sym talk_is) first.0 in
     let one = c.turn-done in
     let m1 = one.new.m in
-    let own1 = C.own one.new.self.lower in
-    let under1 = C.under_way one.new.self.lower in
-    let talks1 = one.new.self.talks.talks in
-    let later1 = talk_of talks1 t in
     let Acts0 : CpuId → Type 0 = λ d. C.ActsFor m d in
     let turned1 = one.ensures.turned in
-    let same1 : (u : Tid) → same_tid t u ≡ false → talk_of talks1 u ≡ talk_of talks u = λ u other. other_talk talks talks1 t u later1 one.ensures.talks other in
-    let sizes1 = sizes_of homes Acts0 O cpu t call talk (C.seen m) (C.seen m1) own own1 under1 one.result later1 turned1 talks talks1
-    one.ensures.talks c.requires.fits.1.sizes in
-    let others1 = others_after (C.opening m) Acts0 cpu t home call talk may.called (C.seen m) (C.seen m1) own own1 under1 one.result later1 turned1
-    talks talks1 refl same1 first.1 in
     rw one.ensures.opening (moves_grown (C.opening m) Acts0 _ cpu turned1.mine turned1.others (C.seen m) (C.seen m1)
     (λ d both. both.0) turned1.foreign turned1.own_events turned1.is)
 
@@ -239,8 +182,7 @@ returns-clause-fits g c =
     let first = first_may homes cpu O (buffer_sections (C.seen m)) own talks (C.under_way p.lower) p.calling t call home c.requires.fits.1.calls
     c.requires.runs c.requires.hand c.requires.same c.requires.goes_on in
     let talk = going (talk_of talks t) call in
-    let talk_is : talk ≡ going (talk_of talks t) call = refl in
-    let may = subst (λ x. MayTurn O (buffer_sections (C.seen m)) t call x own (C.under_way p.lower)) (sym talk_is) first.0 in
+    let may = first.0 in
     let one = c.turn-done in
     let m1 = one.new.m in
     let own1 = C.own one.new.self.lower in
@@ -286,8 +228,7 @@ returns-clause-called g c =
     let first = first_may homes cpu O (buffer_sections (C.seen m)) own talks (C.under_way p.lower) p.calling t call home c.requires.fits.1.calls
     c.requires.runs c.requires.hand c.requires.same c.requires.goes_on in
     let talk = going (talk_of talks t) call in
-    let talk_is : talk ≡ going (talk_of talks t) call = refl in
-    let may = subst (λ x. MayTurn O (buffer_sections (C.seen m)) t call x own (C.under_way p.lower)) (sym talk_is) first.0 in
+    let may = first.0 in
     let one = c.turn-done in
     let m1 = one.new.m in
     let own1 = C.own one.new.self.lower in
@@ -297,14 +238,10 @@ returns-clause-called g c =
     let Acts0 : CpuId → Type 0 = λ d. C.ActsFor m d in
     let turned1 = one.ensures.turned in
     let same1 : (u : Tid) → same_tid t u ≡ false → talk_of talks1 u ≡ talk_of talks u = λ u other. other_talk talks talks1 t u later1 one.ensures.talks other in
-    let sizes1 = sizes_of homes Acts0 O cpu t call talk (C.seen m) (C.seen m1) own own1 under1 one.result later1 turned1 talks talks1
-    one.ensures.talks c.requires.fits.1.sizes in
-    let others1 = others_after (C.opening m) Acts0 cpu t home call talk may.called (C.seen m) (C.seen m1) own own1 under1 one.result later1 turned1
-    talks talks1 refl same1 first.1 in
     rw (one.ensures.opening, c.told-2.ensures.talks)
     (called_by (C.opening m) Acts0 cpu t home call talk may.called (C.seen m) (C.seen m1) own own1 under1 one.result later1 turned1 talks talks1 refl
     same1 _ (λ d both. both.0) talks
-    (ap (λ (x : Talk). x.effect) talk_is) (λ u other. apart_talk talks talks1 t u later1 one.ensures.talks other)
+    refl (λ u other. apart_talk talks talks1 t u later1 one.ensures.talks other)
     (goes_called O (buffer_sections (C.seen m)) t call talk own (C.under_way p.lower) may.goes) c.told-2.result
     (told_as homes Acts0 O cpu t call talk (C.seen m) (C.seen m1) own own1 under1 one.result later1 turned1 c.next_stage-stage.result
     c.next_stage-stage.ensures c.told-2.result c.told-2.ensures.answer))
@@ -316,33 +253,12 @@ returns-clause-others g c q other fits =
     let m = c.args.m.now in
     let p = c.args.self.now in
     let cpu = C.cpu_of p.lower in
-    let t = c.args.t in
-    let call = c.args.call.now in
     let talks = p.talks.talks in
     let own = C.own p.lower in
-    let O = inner (C.opening m) in
-    let homes = homes_in (C.opening m) in
     let acts = law.own_cpu p.lower m c.requires.fits.0 in
-    let home = runs_home (C.opening m) cpu (C.seen m) own.lock.sleep.threads t (law.moving m cpu acts)
-    (law.stands p.lower m c.requires.fits.0) c.requires.runs in
-    let first = first_may homes cpu O (buffer_sections (C.seen m)) own talks (C.under_way p.lower) p.calling t call home c.requires.fits.1.calls
-    c.requires.runs c.requires.hand c.requires.same c.requires.goes_on in
-    let talk = going (talk_of talks t) call in
-    let talk_is : talk ≡ going (talk_of talks t) call = refl in
-    let may = subst (λ x. MayTurn O (buffer_sections (C.seen m)) t call x own (C.under_way p.lower)) (sym talk_is) first.0 in
     let one = c.turn-done in
     let m1 = one.new.m in
-    let own1 = C.own one.new.self.lower in
-    let under1 = C.under_way one.new.self.lower in
-    let talks1 = one.new.self.talks.talks in
-    let later1 = talk_of talks1 t in
-    let Acts0 : CpuId → Type 0 = λ d. C.ActsFor m d in
     let turned1 = one.ensures.turned in
-    let same1 : (u : Tid) → same_tid t u ≡ false → talk_of talks1 u ≡ talk_of talks u = λ u other. other_talk talks talks1 t u later1 one.ensures.talks other in
-    let sizes1 = sizes_of homes Acts0 O cpu t call talk (C.seen m) (C.seen m1) own own1 under1 one.result later1 turned1 talks talks1
-    one.ensures.talks c.requires.fits.1.sizes in
-    let others1 = others_after (C.opening m) Acts0 cpu t home call talk may.called (C.seen m) (C.seen m1) own own1 under1 one.result later1 turned1
-    talks talks1 refl same1 first.1 in
     let lawful = rw one.ensures.opening at (law.lawful m1 cpu (one.ensures.acts cpu acts)) in (
       one.ensures.others q.lower other fits.0,
       rw one.ensures.opening
@@ -370,8 +286,7 @@ returns-then-at_once-clause-room g c =
     let first = first_may homes cpu O (buffer_sections (C.seen m)) own talks (C.under_way p.lower) p.calling t call home c.requires.fits.1.calls
     c.requires.runs c.requires.hand c.requires.same c.requires.goes_on in
     let talk = going (talk_of talks t) call in
-    let talk_is : talk ≡ going (talk_of talks t) call = refl in
-    let may = subst (λ x. MayTurn O (buffer_sections (C.seen m)) t call x own (C.under_way p.lower)) (sym talk_is) first.0 in
+    let may = first.0 in
     let one = c.turn-done in
     let m1 = one.new.m in
     let own1 = C.own one.new.self.lower in
@@ -380,29 +295,10 @@ returns-then-at_once-clause-room g c =
     let later1 = talk_of talks1 t in
     let Acts0 : CpuId → Type 0 = λ d. C.ActsFor m d in
     let turned1 = one.ensures.turned in
-    let same1 : (u : Tid) → same_tid t u ≡ false → talk_of talks1 u ≡ talk_of talks u = λ u other. other_talk talks talks1 t u later1 one.ensures.talks other in
-    let sizes1 = sizes_of homes Acts0 O cpu t call talk (C.seen m) (C.seen m1) own own1 under1 one.result later1 turned1 talks talks1
-    one.ensures.talks c.requires.fits.1.sizes in
-    let others1 = others_after (C.opening m) Acts0 cpu t home call talk may.called (C.seen m) (C.seen m1) own own1 under1 one.result later1 turned1
-    talks talks1 refl same1 first.1 in
     let at_once = (ap (λ (s : Stage). is_at_once s c.at_once.result) (sym c.next_stage-stage.ensures) ∙ sym c.answers_at_once-at_once.ensures)
     ∙ c.if-at_once.true in
     let two = c.turn-last in
     let m2 = two.new.m in
-    let own2 = C.own two.new.self.lower in
-    let under2 = C.under_way two.new.self.lower in
-    let talks2 = two.new.self.talks.talks in
-    let later2 = talk_of talks2 t in
-    let next = going later1 call in
-    let next_is : going later1 call ≡ later1 = next_going homes Acts0 O cpu t call talk (C.seen m)
-    (C.seen m1) own own1 under1 one.result later1 turned1 c.at_once.result c.if-done.true at_once may.called in
-    let called1 = later_call homes Acts0 O cpu t call talk (C.seen m) (C.seen m1) own own1 under1 one.result later1 turned1 c.at_once.result
-    c.if-done.true at_once may.called in
-    let called2 : next.call ≡ Some call = ap (λ (x : Talk). x.call) next_is ∙ called1 in
-    let Acts1 : CpuId → Type 0 = λ d. C.ActsFor m1 d in
-    let turned2 = rw (one.ensures.opening, one.ensures.cpu) at two.ensures.turned in
-    let same2 : (u : Tid) → same_tid t u ≡ false → talk_of talks2 u ≡ talk_of talks1 u
-    = λ u other. other_talk talks1 talks2 t u later2 two.ensures.talks other in
     let sm : m1 ≡ m = elim (why homes Acts0 O cpu t call talk (C.seen m) (C.seen m1) own own1 under1 one.result later1 turned1 c.at_once.result
     c.if-done.true at_once may.called c.requires.runs
     c.at_once.ensures) [ inl some ↦ one.ensures.woken some | inr some ↦ one.ensures.handed some ] in
@@ -411,7 +307,6 @@ returns-then-at_once-clause-room g c =
 pub returns-then-at_once-clause-runs : goal.returns-then-at_once-clause-runs
 returns-then-at_once-clause-runs g c =
     let C = g.C.CvLayer in
-    let law = g.met.C.CvLayer in
     let m = c.args.m.now in
     let p = c.args.self.now in
     let cpu = C.cpu_of p.lower in
@@ -421,29 +316,12 @@ returns-then-at_once-clause-runs g c =
     let own = C.own p.lower in
     let O = inner (C.opening m) in
     let homes = homes_in (C.opening m) in
-    let acts = law.own_cpu p.lower m c.requires.fits.0 in
-    let home = runs_home (C.opening m) cpu (C.seen m) own.lock.sleep.threads t (law.moving m cpu acts)
-    (law.stands p.lower m c.requires.fits.0) c.requires.runs in
-    let first = first_may homes cpu O (buffer_sections (C.seen m)) own talks (C.under_way p.lower) p.calling t call home c.requires.fits.1.calls
-    c.requires.runs c.requires.hand c.requires.same c.requires.goes_on in
-    let talk = going (talk_of talks t) call in
-    let talk_is : talk ≡ going (talk_of talks t) call = refl in
-    let may = subst (λ x. MayTurn O (buffer_sections (C.seen m)) t call x own (C.under_way p.lower)) (sym talk_is) first.0 in
     let one = c.turn-done in
     let m1 = one.new.m in
     let own1 = C.own one.new.self.lower in
-    let under1 = C.under_way one.new.self.lower in
     let talks1 = one.new.self.talks.talks in
     let later1 = talk_of talks1 t in
-    let Acts0 : CpuId → Type 0 = λ d. C.ActsFor m d in
     let turned1 = one.ensures.turned in
-    let same1 : (u : Tid) → same_tid t u ≡ false → talk_of talks1 u ≡ talk_of talks u = λ u other. other_talk talks talks1 t u later1 one.ensures.talks other in
-    let sizes1 = sizes_of homes Acts0 O cpu t call talk (C.seen m) (C.seen m1) own own1 under1 one.result later1 turned1 talks talks1
-    one.ensures.talks c.requires.fits.1.sizes in
-    let others1 = others_after (C.opening m) Acts0 cpu t home call talk may.called (C.seen m) (C.seen m1) own own1 under1 one.result later1 turned1
-    talks talks1 refl same1 first.1 in
-    let at_once = (ap (λ (s : Stage). is_at_once s c.at_once.result) (sym c.next_stage-stage.ensures) ∙ sym c.answers_at_once-at_once.ensures)
-    ∙ c.if-at_once.true in
     let two = c.turn-last in
     let m2 = two.new.m in
     let own2 = C.own two.new.self.lower in
@@ -451,18 +329,8 @@ returns-then-at_once-clause-runs g c =
     let talks2 = two.new.self.talks.talks in
     let later2 = talk_of talks2 t in
     let next = going later1 call in
-    let next_is : going later1 call ≡ later1 = next_going homes Acts0 O cpu t call talk (C.seen m)
-    (C.seen m1) own own1 under1 one.result later1 turned1 c.at_once.result c.if-done.true at_once may.called in
-    let called1 = later_call homes Acts0 O cpu t call talk (C.seen m) (C.seen m1) own own1 under1 one.result later1 turned1 c.at_once.result
-    c.if-done.true at_once may.called in
-    let called2 : next.call ≡ Some call = ap (λ (x : Talk). x.call) next_is ∙ called1 in
     let Acts1 : CpuId → Type 0 = λ d. C.ActsFor m1 d in
     let turned2 = rw (one.ensures.opening, one.ensures.cpu) at two.ensures.turned in
-    let same2 : (u : Tid) → same_tid t u ≡ false → talk_of talks2 u ≡ talk_of talks1 u
-    = λ u other. other_talk talks1 talks2 t u later2 two.ensures.talks other in
-    let sm : m1 ≡ m = elim (why homes Acts0 O cpu t call talk (C.seen m) (C.seen m1) own own1 under1 one.result later1 turned1 c.at_once.result
-    c.if-done.true at_once may.called c.requires.runs
-    c.at_once.ensures) [ inl some ↦ one.ensures.woken some | inr some ↦ one.ensures.handed some ] in
     let run = runs_by homes Acts1 O cpu t call next (C.seen m1) (C.seen m2) own1 own2 under2 two.result later2 turned2 c.told.result
     (told_as homes Acts1 O cpu t call next (C.seen m1) (C.seen m2) own1 own2 under2 two.result later2 turned2 c.next_stage-next.result
     c.next_stage-next.ensures c.told.result c.told.ensures.answer) in
@@ -471,7 +339,6 @@ returns-then-at_once-clause-runs g c =
 pub returns-then-at_once-clause-doing : goal.returns-then-at_once-clause-doing
 returns-then-at_once-clause-doing g c =
     let C = g.C.CvLayer in
-    let law = g.met.C.CvLayer in
     let m = c.args.m.now in
     let p = c.args.self.now in
     let cpu = C.cpu_of p.lower in
@@ -481,29 +348,11 @@ returns-then-at_once-clause-doing g c =
     let own = C.own p.lower in
     let O = inner (C.opening m) in
     let homes = homes_in (C.opening m) in
-    let acts = law.own_cpu p.lower m c.requires.fits.0 in
-    let home = runs_home (C.opening m) cpu (C.seen m) own.lock.sleep.threads t (law.moving m cpu acts)
-    (law.stands p.lower m c.requires.fits.0) c.requires.runs in
-    let first = first_may homes cpu O (buffer_sections (C.seen m)) own talks (C.under_way p.lower) p.calling t call home c.requires.fits.1.calls
-    c.requires.runs c.requires.hand c.requires.same c.requires.goes_on in
-    let talk = going (talk_of talks t) call in
-    let talk_is : talk ≡ going (talk_of talks t) call = refl in
-    let may = subst (λ x. MayTurn O (buffer_sections (C.seen m)) t call x own (C.under_way p.lower)) (sym talk_is) first.0 in
     let one = c.turn-done in
     let m1 = one.new.m in
     let own1 = C.own one.new.self.lower in
-    let under1 = C.under_way one.new.self.lower in
     let talks1 = one.new.self.talks.talks in
     let later1 = talk_of talks1 t in
-    let Acts0 : CpuId → Type 0 = λ d. C.ActsFor m d in
-    let turned1 = one.ensures.turned in
-    let same1 : (u : Tid) → same_tid t u ≡ false → talk_of talks1 u ≡ talk_of talks u = λ u other. other_talk talks talks1 t u later1 one.ensures.talks other in
-    let sizes1 = sizes_of homes Acts0 O cpu t call talk (C.seen m) (C.seen m1) own own1 under1 one.result later1 turned1 talks talks1
-    one.ensures.talks c.requires.fits.1.sizes in
-    let others1 = others_after (C.opening m) Acts0 cpu t home call talk may.called (C.seen m) (C.seen m1) own own1 under1 one.result later1 turned1
-    talks talks1 refl same1 first.1 in
-    let at_once = (ap (λ (s : Stage). is_at_once s c.at_once.result) (sym c.next_stage-stage.ensures) ∙ sym c.answers_at_once-at_once.ensures)
-    ∙ c.if-at_once.true in
     let two = c.turn-last in
     let m2 = two.new.m in
     let own2 = C.own two.new.self.lower in
@@ -511,18 +360,8 @@ returns-then-at_once-clause-doing g c =
     let talks2 = two.new.self.talks.talks in
     let later2 = talk_of talks2 t in
     let next = going later1 call in
-    let next_is : going later1 call ≡ later1 = next_going homes Acts0 O cpu t call talk (C.seen m)
-    (C.seen m1) own own1 under1 one.result later1 turned1 c.at_once.result c.if-done.true at_once may.called in
-    let called1 = later_call homes Acts0 O cpu t call talk (C.seen m) (C.seen m1) own own1 under1 one.result later1 turned1 c.at_once.result
-    c.if-done.true at_once may.called in
-    let called2 : next.call ≡ Some call = ap (λ (x : Talk). x.call) next_is ∙ called1 in
     let Acts1 : CpuId → Type 0 = λ d. C.ActsFor m1 d in
     let turned2 = rw (one.ensures.opening, one.ensures.cpu) at two.ensures.turned in
-    let same2 : (u : Tid) → same_tid t u ≡ false → talk_of talks2 u ≡ talk_of talks1 u
-    = λ u other. other_talk talks1 talks2 t u later2 two.ensures.talks other in
-    let sm : m1 ≡ m = elim (why homes Acts0 O cpu t call talk (C.seen m) (C.seen m1) own own1 under1 one.result later1 turned1 c.at_once.result
-    c.if-done.true at_once may.called c.requires.runs
-    c.at_once.ensures) [ inl some ↦ one.ensures.woken some | inr some ↦ one.ensures.handed some ] in
     rw (c.told.ensures.calling, c.told.ensures.lower)
     (doing_by homes Acts1 O cpu t call next (C.seen m1) (C.seen m2) own1 own2 under2 two.result later2 turned2 c.told.result
     (told_as homes Acts1 O cpu t call next (C.seen m1) (C.seen m2) own1 own2 under2 two.result later2 turned2 c.next_stage-next.result
@@ -547,8 +386,7 @@ returns-then-at_once-clause-moves g c =
     let first = first_may homes cpu O (buffer_sections (C.seen m)) own talks (C.under_way p.lower) p.calling t call home c.requires.fits.1.calls
     c.requires.runs c.requires.hand c.requires.same c.requires.goes_on in
     let talk = going (talk_of talks t) call in
-    let talk_is : talk ≡ going (talk_of talks t) call = refl in
-    let may = subst (λ x. MayTurn O (buffer_sections (C.seen m)) t call x own (C.under_way p.lower)) (sym talk_is) first.0 in
+    let may = first.0 in
     let one = c.turn-done in
     let m1 = one.new.m in
     let own1 = C.own one.new.self.lower in
@@ -557,29 +395,12 @@ returns-then-at_once-clause-moves g c =
     let later1 = talk_of talks1 t in
     let Acts0 : CpuId → Type 0 = λ d. C.ActsFor m d in
     let turned1 = one.ensures.turned in
-    let same1 : (u : Tid) → same_tid t u ≡ false → talk_of talks1 u ≡ talk_of talks u = λ u other. other_talk talks talks1 t u later1 one.ensures.talks other in
-    let sizes1 = sizes_of homes Acts0 O cpu t call talk (C.seen m) (C.seen m1) own own1 under1 one.result later1 turned1 talks talks1
-    one.ensures.talks c.requires.fits.1.sizes in
-    let others1 = others_after (C.opening m) Acts0 cpu t home call talk may.called (C.seen m) (C.seen m1) own own1 under1 one.result later1 turned1
-    talks talks1 refl same1 first.1 in
     let at_once = (ap (λ (s : Stage). is_at_once s c.at_once.result) (sym c.next_stage-stage.ensures) ∙ sym c.answers_at_once-at_once.ensures)
     ∙ c.if-at_once.true in
     let two = c.turn-last in
     let m2 = two.new.m in
-    let own2 = C.own two.new.self.lower in
-    let under2 = C.under_way two.new.self.lower in
-    let talks2 = two.new.self.talks.talks in
-    let later2 = talk_of talks2 t in
-    let next = going later1 call in
-    let next_is : going later1 call ≡ later1 = next_going homes Acts0 O cpu t call talk (C.seen m)
-    (C.seen m1) own own1 under1 one.result later1 turned1 c.at_once.result c.if-done.true at_once may.called in
-    let called1 = later_call homes Acts0 O cpu t call talk (C.seen m) (C.seen m1) own own1 under1 one.result later1 turned1 c.at_once.result
-    c.if-done.true at_once may.called in
-    let called2 : next.call ≡ Some call = ap (λ (x : Talk). x.call) next_is ∙ called1 in
     let Acts1 : CpuId → Type 0 = λ d. C.ActsFor m1 d in
     let turned2 = rw (one.ensures.opening, one.ensures.cpu) at two.ensures.turned in
-    let same2 : (u : Tid) → same_tid t u ≡ false → talk_of talks2 u ≡ talk_of talks1 u
-    = λ u other. other_talk talks1 talks2 t u later2 two.ensures.talks other in
     let sm : m1 ≡ m = elim (why homes Acts0 O cpu t call talk (C.seen m) (C.seen m1) own own1 under1 one.result later1 turned1 c.at_once.result
     c.if-done.true at_once may.called c.requires.runs
     c.at_once.ensures) [ inl some ↦ one.ensures.woken some | inr some ↦ one.ensures.handed some ] in
@@ -607,8 +428,7 @@ returns-then-at_once-clause-fits g c =
     let first = first_may homes cpu O (buffer_sections (C.seen m)) own talks (C.under_way p.lower) p.calling t call home c.requires.fits.1.calls
     c.requires.runs c.requires.hand c.requires.same c.requires.goes_on in
     let talk = going (talk_of talks t) call in
-    let talk_is : talk ≡ going (talk_of talks t) call = refl in
-    let may = subst (λ x. MayTurn O (buffer_sections (C.seen m)) t call x own (C.under_way p.lower)) (sym talk_is) first.0 in
+    let may = first.0 in
     let one = c.turn-done in
     let m1 = one.new.m in
     let own1 = C.own one.new.self.lower in
@@ -677,8 +497,7 @@ returns-then-at_once-clause-called g c =
     let first = first_may homes cpu O (buffer_sections (C.seen m)) own talks (C.under_way p.lower) p.calling t call home c.requires.fits.1.calls
     c.requires.runs c.requires.hand c.requires.same c.requires.goes_on in
     let talk = going (talk_of talks t) call in
-    let talk_is : talk ≡ going (talk_of talks t) call = refl in
-    let may = subst (λ x. MayTurn O (buffer_sections (C.seen m)) t call x own (C.under_way p.lower)) (sym talk_is) first.0 in
+    let may = first.0 in
     let one = c.turn-done in
     let m1 = one.new.m in
     let own1 = C.own one.new.self.lower in
@@ -687,11 +506,6 @@ returns-then-at_once-clause-called g c =
     let later1 = talk_of talks1 t in
     let Acts0 : CpuId → Type 0 = λ d. C.ActsFor m d in
     let turned1 = one.ensures.turned in
-    let same1 : (u : Tid) → same_tid t u ≡ false → talk_of talks1 u ≡ talk_of talks u = λ u other. other_talk talks talks1 t u later1 one.ensures.talks other in
-    let sizes1 = sizes_of homes Acts0 O cpu t call talk (C.seen m) (C.seen m1) own own1 under1 one.result later1 turned1 talks talks1
-    one.ensures.talks c.requires.fits.1.sizes in
-    let others1 = others_after (C.opening m) Acts0 cpu t home call talk may.called (C.seen m) (C.seen m1) own own1 under1 one.result later1 turned1
-    talks talks1 refl same1 first.1 in
     let at_once = (ap (λ (s : Stage). is_at_once s c.at_once.result) (sym c.next_stage-stage.ensures) ∙ sym c.answers_at_once-at_once.ensures)
     ∙ c.if-at_once.true in
     let two = c.turn-last in
@@ -722,7 +536,7 @@ returns-then-at_once-clause-called g c =
     rw (two.ensures.opening, one.ensures.opening, c.told.ensures.talks)
     (called_by (C.opening m) Acts1 cpu t home call next called2 (C.seen m) (C.seen m2) own1 own2 under2 two.result later2 turned2m talks1 talks2 refl
     same2 _ (λ d both. one.ensures.acts d both.0) talks
-    (ap (λ (x : Talk). x.effect) next_is ∙ effect1 ∙ ap (λ (x : Talk). x.effect) talk_is)
+    (ap (λ (x : Talk). x.effect) next_is ∙ effect1)
     (λ u other. apart_talk talks1 talks2 t u later2 two.ensures.talks other ∙ apart_talk talks talks1 t u later1 one.ensures.talks other)
     (subst (λ (x : Talk). called_at x.stage ≡ true) (sym next_is) in_call2) c.told.result
     (told_as homes Acts1 O cpu t call next (C.seen m1) (C.seen m2) own1 own2 under2 two.result later2 turned2 c.next_stage-next.result
@@ -735,54 +549,15 @@ returns-then-at_once-clause-others g c q other fits =
     let m = c.args.m.now in
     let p = c.args.self.now in
     let cpu = C.cpu_of p.lower in
-    let t = c.args.t in
-    let call = c.args.call.now in
     let talks = p.talks.talks in
     let own = C.own p.lower in
-    let O = inner (C.opening m) in
-    let homes = homes_in (C.opening m) in
     let acts = law.own_cpu p.lower m c.requires.fits.0 in
-    let home = runs_home (C.opening m) cpu (C.seen m) own.lock.sleep.threads t (law.moving m cpu acts)
-    (law.stands p.lower m c.requires.fits.0) c.requires.runs in
-    let first = first_may homes cpu O (buffer_sections (C.seen m)) own talks (C.under_way p.lower) p.calling t call home c.requires.fits.1.calls
-    c.requires.runs c.requires.hand c.requires.same c.requires.goes_on in
-    let talk = going (talk_of talks t) call in
-    let talk_is : talk ≡ going (talk_of talks t) call = refl in
-    let may = subst (λ x. MayTurn O (buffer_sections (C.seen m)) t call x own (C.under_way p.lower)) (sym talk_is) first.0 in
     let one = c.turn-done in
     let m1 = one.new.m in
-    let own1 = C.own one.new.self.lower in
-    let under1 = C.under_way one.new.self.lower in
-    let talks1 = one.new.self.talks.talks in
-    let later1 = talk_of talks1 t in
-    let Acts0 : CpuId → Type 0 = λ d. C.ActsFor m d in
     let turned1 = one.ensures.turned in
-    let same1 : (u : Tid) → same_tid t u ≡ false → talk_of talks1 u ≡ talk_of talks u = λ u other. other_talk talks talks1 t u later1 one.ensures.talks other in
-    let sizes1 = sizes_of homes Acts0 O cpu t call talk (C.seen m) (C.seen m1) own own1 under1 one.result later1 turned1 talks talks1
-    one.ensures.talks c.requires.fits.1.sizes in
-    let others1 = others_after (C.opening m) Acts0 cpu t home call talk may.called (C.seen m) (C.seen m1) own own1 under1 one.result later1 turned1
-    talks talks1 refl same1 first.1 in
-    let at_once = (ap (λ (s : Stage). is_at_once s c.at_once.result) (sym c.next_stage-stage.ensures) ∙ sym c.answers_at_once-at_once.ensures)
-    ∙ c.if-at_once.true in
     let two = c.turn-last in
     let m2 = two.new.m in
-    let own2 = C.own two.new.self.lower in
-    let under2 = C.under_way two.new.self.lower in
-    let talks2 = two.new.self.talks.talks in
-    let later2 = talk_of talks2 t in
-    let next = going later1 call in
-    let next_is : going later1 call ≡ later1 = next_going homes Acts0 O cpu t call talk (C.seen m)
-    (C.seen m1) own own1 under1 one.result later1 turned1 c.at_once.result c.if-done.true at_once may.called in
-    let called1 = later_call homes Acts0 O cpu t call talk (C.seen m) (C.seen m1) own own1 under1 one.result later1 turned1 c.at_once.result
-    c.if-done.true at_once may.called in
-    let called2 : next.call ≡ Some call = ap (λ (x : Talk). x.call) next_is ∙ called1 in
-    let Acts1 : CpuId → Type 0 = λ d. C.ActsFor m1 d in
     let turned2 = rw (one.ensures.opening, one.ensures.cpu) at two.ensures.turned in
-    let same2 : (u : Tid) → same_tid t u ≡ false → talk_of talks2 u ≡ talk_of talks1 u
-    = λ u other. other_talk talks1 talks2 t u later2 two.ensures.talks other in
-    let sm : m1 ≡ m = elim (why homes Acts0 O cpu t call talk (C.seen m) (C.seen m1) own own1 under1 one.result later1 turned1 c.at_once.result
-    c.if-done.true at_once may.called c.requires.runs
-    c.at_once.ensures) [ inl some ↦ one.ensures.woken some | inr some ↦ one.ensures.handed some ] in
     let lawful1 = rw one.ensures.opening at (law.lawful m1 cpu (one.ensures.acts cpu acts)) in
     let lawful2 = rw (two.ensures.opening, one.ensures.opening) at (law.lawful m2 cpu (two.ensures.acts cpu (one.ensures.acts cpu acts))) in
     let far = one.ensures.others q.lower other fits.0 in
@@ -815,8 +590,7 @@ returns-clause-follows g c stepwise =
     let first = first_may homes cpu O (buffer_sections (C.seen m)) own talks (C.under_way p.lower) p.calling t call home c.requires.fits.1.calls
     c.requires.runs c.requires.hand c.requires.same c.requires.goes_on in
     let talk = going (talk_of talks t) call in
-    let talk_is : talk ≡ going (talk_of talks t) call = refl in
-    let may = subst (λ x. MayTurn O (buffer_sections (C.seen m)) t call x own (C.under_way p.lower)) (sym talk_is) first.0 in
+    let may = first.0 in
     let one = c.turn-done in
     let m1 = one.new.m in
     let own1 = C.own one.new.self.lower in
@@ -825,11 +599,6 @@ returns-clause-follows g c stepwise =
     let later1 = talk_of talks1 t in
     let Acts0 : CpuId → Type 0 = λ d. C.ActsFor m d in
     let turned1 = one.ensures.turned in
-    let same1 : (u : Tid) → same_tid t u ≡ false → talk_of talks1 u ≡ talk_of talks u = λ u other. other_talk talks talks1 t u later1 one.ensures.talks other in
-    let sizes1 = sizes_of homes Acts0 O cpu t call talk (C.seen m) (C.seen m1) own own1 under1 one.result later1 turned1 talks talks1
-    one.ensures.talks c.requires.fits.1.sizes in
-    let others1 = others_after (C.opening m) Acts0 cpu t home call talk may.called (C.seen m) (C.seen m1) own own1 under1 one.result later1 turned1
-    talks talks1 refl same1 first.1 in
     let table = table_of (queue_rules (lock_rules buffer_rules) (lock_moves buffer_rules)) in
     let in_call = goes_called O (buffer_sections (C.seen m)) t call talk own (C.under_way p.lower) may.goes in
     let marks = marks_of O (buffer_sections (C.seen m)) t call talk own (C.under_way p.lower) may.goes in
@@ -869,8 +638,7 @@ returns-then-at_once-clause-follows g c stepwise =
     let first = first_may homes cpu O (buffer_sections (C.seen m)) own talks (C.under_way p.lower) p.calling t call home c.requires.fits.1.calls
     c.requires.runs c.requires.hand c.requires.same c.requires.goes_on in
     let talk = going (talk_of talks t) call in
-    let talk_is : talk ≡ going (talk_of talks t) call = refl in
-    let may = subst (λ x. MayTurn O (buffer_sections (C.seen m)) t call x own (C.under_way p.lower)) (sym talk_is) first.0 in
+    let may = first.0 in
     let one = c.turn-done in
     let m1 = one.new.m in
     let own1 = C.own one.new.self.lower in
@@ -879,11 +647,6 @@ returns-then-at_once-clause-follows g c stepwise =
     let later1 = talk_of talks1 t in
     let Acts0 : CpuId → Type 0 = λ d. C.ActsFor m d in
     let turned1 = one.ensures.turned in
-    let same1 : (u : Tid) → same_tid t u ≡ false → talk_of talks1 u ≡ talk_of talks u = λ u other. other_talk talks talks1 t u later1 one.ensures.talks other in
-    let sizes1 = sizes_of homes Acts0 O cpu t call talk (C.seen m) (C.seen m1) own own1 under1 one.result later1 turned1 talks talks1
-    one.ensures.talks c.requires.fits.1.sizes in
-    let others1 = others_after (C.opening m) Acts0 cpu t home call talk may.called (C.seen m) (C.seen m1) own own1 under1 one.result later1 turned1
-    talks talks1 refl same1 first.1 in
     let table = table_of (queue_rules (lock_rules buffer_rules) (lock_moves buffer_rules)) in
     let marks = marks_of O (buffer_sections (C.seen m)) t call talk own (C.under_way p.lower) may.goes in
     let at_once = (ap (λ (s : Stage). is_at_once s c.at_once.result) (sym c.next_stage-stage.ensures) ∙ sym c.answers_at_once-at_once.ensures)
