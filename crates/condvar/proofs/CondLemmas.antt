@@ -27,9 +27,10 @@ use Rattle.layer_traits.specs.Locking.{LockState, lock_after, lock_caller, line_
 use Rattle.layer_traits.specs.LockLaw.{Locking, LockPolled, LocksAgree, lock_kernel, lock_plan, slept_for}
 use Rattle.layer_traits.specs.MoveRules.{MoveRules}
 use Rattle.layer_traits.specs.Places.{AreMoves, Stands, Threads, home_of, one_if, place_of}
-use Rattle.layer_traits.specs.Plans.{Follows, Left, Plan, Now, Act, Table, raised}
+use Rattle.layer_traits.specs.Plans.{Follows, Table}
 use Rattle.layer_traits.specs.QueueBlocks.{homes_in, inner}
 use Rattle.layer_traits.specs.Queues.{Kernel, buffer_sections, moves_in}
+use Rattle.layer_traits.proofs.CallLemmas.{follows_raised}
 use Rattle.layer_traits.proofs.CountLemmas.{not_counted}
 use Rattle.layer_traits.proofs.PlaceLemmas.{current_at}
 use Rattle.thread_blocks.specs.Queues.{is_in}
@@ -117,13 +118,6 @@ waits_polled deeds k ActsFor c b call old new own under_way lock waits answer re
   leaves = told_left (lock_caller (cv_rules deeds) call) b own.waits waits lock answer result same told;
 }
 
-follows_of : {N B R S T A Q : Type 0} (ActsFor : CpuId → Type 0) (table : Table N B R) (opening : LockId → Option B) (cpu : CpuId) (f : Left S A → Left T Q)
-    (plan : Plan N R S A) (old new : List (Action N)) (got : Left S A) → Follows ActsFor table opening cpu plan old new got
-    → Follows ActsFor table opening cpu (raised f plan) old new (f got)
-follows_of ActsFor table opening cpu f (Now left) old new got follows = (follows.0, ap f follows.1)
-follows_of ActsFor table opening cpu f (Act lock name react) old new got follows =
-    record { past = follows.past; acted = follows.acted; moves = ap f follows.moves }
-
 -- it follows its plan where the lock's poll follows its own
 pub waits_follow : {G B O : Type 0} (ActsFor : CpuId → Type 0) (table : Table (QueueEdit (CvCall G)) B (QueueAnswer (Outcome (QOut (CvOut O)))))
     (opening : LockId → Option B) (mv : MoveRules (CvCall G) (Outcome (QOut (CvOut O)))) (homes : List CpuId) (c : CpuId) (b : BufId) (call : CvCall G)
@@ -136,5 +130,5 @@ pub waits_follow : {G B O : Type 0} (ActsFor : CpuId → Type 0) (table : Table 
 waits_follow ActsFor table opening mv homes c b call own old new lock waits answer result (Some at) none follows same told = absurd cc
 waits_follow ActsFor table opening mv homes c b call own old new lock waits answer result None none follows same told =
     rw (told_left (mv.caller call) b own.waits waits lock answer result same told)
-    (follows_of ActsFor table opening c (λ l. left_waiting (mv.caller call) b own.waits l.own l.answer) (lock_plan mv homes c b call own.lock) old new
+    (follows_raised ActsFor table opening c (λ l. left_waiting (mv.caller call) b own.waits l.own l.answer) (lock_plan mv homes c b call own.lock) old new
     (record { own = lock; answer = answer }) follows)
