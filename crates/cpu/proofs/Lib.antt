@@ -10,6 +10,7 @@ pub mod Orders
 pub mod Onces
 pub mod Advances
 pub mod Tellers
+pub mod TableSystems
 pub mod Booting
 pub mod PlanGuests
 pub mod TableRows

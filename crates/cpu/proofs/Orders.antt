@@ -15,7 +15,7 @@ use Rattle.guest.specs.State.{State}
 use Rattle.layer_traits.specs.declared.calls.Call.{Call}
 use Rattle.layer_traits.specs.declared.calls.Effect.{Effect}
 use Rattle.layer_traits.specs.declared.talks.Talk.{Talk}
-use Rattle.layer_traits.specs.BufferLaw.{Doing, begun_of, talk_of}
+use Rattle.layer_traits.specs.BufferLaw.{Buffering, Doing, begun_of, talk_of}
 use Rattle.layer_traits.specs.OnePlace.{cpu_at}
 use Rattle.layer_traits.specs.Places.{Stands, Step, Threads}
 use Rattle.cpu.specs.declared.guests.Guest.{Guest}
@@ -135,20 +135,20 @@ module _ (homes : List CpuId) (buffers : ℕ) (seen : List Entry) (moves : List 
 
 -- from what always holds of each CPU to what is shown of it
 pub each_has : {X : Type 0} (Tabled IsFit : X → Type 0) (number cpu : X → CpuId) (own : X → Threads) (talks : X → List Talk) (doing : X → Option Doing)
-    (guests : X → List (Option Guest)) (trace : X → List Entry) (limit capacity : X → ℕ) (busy : X → Bool) (homes : List CpuId) (buffers : ℕ) (seen : List Entry)
+    (guests : X → List (Option Guest)) (trace : X → List Entry) (limit capacity : X → ℕ) (busy : X → Bool) (parts : X → Buffering) (homes : List CpuId) (buffers : ℕ) (seen : List Entry)
     (moves : List Step) (cpus : List X)
     → ((k : ℕ) (x : X) → slice_get cpus k ≡ Some x
     → IsAt (λ y. IsFit y × (cpu y ≡ number y) × IsCpu homes buffers seen (own y) (talks y) (doing y) (number y) (guests y) (trace y) (limit y) (capacity y)
     × Tabled y) number k x)
     → ((x : X) → IsFit x → Stands homes (cpu x) moves (own x)) → (k : ℕ) (p : CpuShown)
-    → slice_get (map (λ x. cpu_shown (own x) (guests x) (trace x) (limit x) (busy x)) cpus) k ≡ Some p → Has homes buffers seen moves k p
-each_has {X = X} Tabled IsFit number cpu own talks doing guests trace limit capacity busy homes buffers seen moves cpus each stand =
-    shown_at (λ x. cpu_shown (own x) (guests x) (trace x) (limit x) (busy x)) (λ k p. Has homes buffers seen moves k p) cpus
+    → slice_get (map (λ x. cpu_shown (own x) (guests x) (trace x) (limit x) (busy x) (parts x)) cpus) k ≡ Some p → Has homes buffers seen moves k p
+each_has {X = X} Tabled IsFit number cpu own talks doing guests trace limit capacity busy parts homes buffers seen moves cpus each stand =
+    shown_at (λ x. cpu_shown (own x) (guests x) (trace x) (limit x) (busy x) (parts x)) (λ k p. Has homes buffers seen moves k p) cpus
     (λ k x at. has_of k x (each k x at).number_is (each k x at).holds)
   where
     has_of : (k : ℕ) (x : X) → number x ≡ cpu_at k
         → IsFit x × (cpu x ≡ number x) × IsCpu homes buffers seen (own x) (talks x) (doing x) (number x) (guests x) (trace x) (limit x) (capacity x)
-        × Tabled x → Has homes buffers seen moves k (cpu_shown (own x) (guests x) (trace x) (limit x) (busy x))
+        × Tabled x → Has homes buffers seen moves k (cpu_shown (own x) (guests x) (trace x) (limit x) (busy x) (parts x))
     has_of k x at holds = record {
       talks = talks x;
       doing = doing x;

@@ -6,14 +6,12 @@ use Rattle.std.proofs.lemmas.List.{get_or_past, length-map, map-append, take_mor
 use Rattle.std.proofs.lemmas.List.Elements.{All-from_get_or, All-get_or, All-map}
 use Rattle.std.proofs.lemmas.Option.{get_or_from_slice_get, slice_get_within, unwrap_or-slice_get}
 use Rattle.event_log.specs.declared.ids.CpuId.{CpuId}
-use Rattle.event_log.specs.declared.ids.Tid.{Tid}
 use Rattle.guest.specs.declared.instructions.Instruction.{Instruction}
 use Rattle.guest.specs.declared.instructions.Instruction.TheVariants.{Exit}
-use Rattle.guest.specs.Instructions.{instruction_at, names_below}
+use Rattle.guest.specs.Instructions.{names_below}
 use Rattle.boot.specs.Plan.{IsPlan, IsTask, Plan, Task, home_of as plan_home, program_of}
 use Rattle.layer_traits.specs.OnePlace.{cpu_at}
 use Rattle.layer_traits.specs.Openings.{AreOpenable}
-use Rattle.layer_traits.specs.Places.{home_of}
 use Rattle.cpu.specs.declared.guests.Guest.{Guest}
 use Rattle.cpu.specs.Guests.{new_guest}
 use Rattle.cpu.specs.Boots.{AreGuests, AreTables, guest_for, guests_for, homes_for, tables_for}

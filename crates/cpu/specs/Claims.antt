@@ -5,6 +5,7 @@ use Rattle.event_log.specs.declared.entries.Entry.{Entry}
 use Rattle.event_log.specs.declared.ids.BufId.{BufId}
 use Rattle.event_log.specs.declared.ids.CpuId.{CpuId}
 use Rattle.event_log.specs.declared.ids.Tid.{Tid}
+use Rattle.event_log.specs.Actions.{Action}
 use Rattle.event_log.specs.Messages.{Message}
 use Rattle.event_log.specs.Runs.{IsRun}
 use Rattle.event_log.specs.Traces.{IsInterleaving}
@@ -14,11 +15,17 @@ use Rattle.layer_traits.specs.declared.calls.Place.{Place}
 use Rattle.layer_traits.specs.declared.moves.Line.{Line}
 use Rattle.layer_traits.specs.declared.moves.Line.TheVariants.{Sleepers, Receivers, Senders}
 use Rattle.layer_traits.specs.BufferEffects.{contents_of}
+use Rattle.layer_traits.specs.BufferLaw.{Buffering}
 use Rattle.layer_traits.specs.OnePlace.{StandsOnce as InOnePlace, total}
 use Rattle.layer_traits.specs.Places.{Step, Threads, count_in, where_is}
 use Rattle.layer_traits.specs.Told.{IsOwnPlace, queue_place}
 use Rattle.cpu.specs.declared.guests.Guest.{Guest}
 use Rattle.cpu.specs.Guests.{is_ended}
+use Rattle.cpu.specs.Table.Blocks.{Name}
+use Rattle.cpu.specs.Table.Setups.{Private}
+use Rattle.cpu.specs.Tables.{private}
+use Rattle.cpu.specs.Tower.Composed.{named}
+use Rattle.cpu.specs.Tower.Views.{TowerName}
 use Rattle.cpu.specs.Cpus.{IsOfHome, guest_at, of_thread, programs_of}
 
 -- who sleeps at a buffer: for its lock, for a message, for room
@@ -35,6 +42,8 @@ pub record CpuShown : Type 0 where
   pub trace : List Entry
   pub limit : ℕ
   pub busy : Bool
+  -- the same as the step table's private state, where the machine does one action a step
+  pub private : Private
 
 -- a system as plain data: the capacity of each buffer, the home of each thread, what each buffer holds, who sleeps at it and who owns its
 -- lock, as its last section left it, how threads came to where they stand, newest first, the CPUs, for how many steps there is room, and
@@ -46,6 +55,8 @@ pub record Shown : Type 0 where
   pub beds : List Beds
   pub owners : List (Option Tid)
   pub moves : List Step
+  -- the actions of all CPUs, newest first, by the names of the step table, where the machine does one action a step
+  pub log : List (Action Name)
   pub cpus : List CpuShown
   pub room : ℕ
   pub taken : ℕ
@@ -62,18 +73,27 @@ buffer_at b = record { 0 = b }
 abbrev pub beds_by : (BufId → Line → List Tid) → ℕ → Beds
 beds_by lines b = record { sleepers = lines (buffer_at b) Sleepers; receivers = lines (buffer_at b) Receivers; senders = lines (buffer_at b) Senders }
 
-abbrev pub cpu_shown : Threads → List (Option Guest) → List Entry → ℕ → Bool → CpuShown
-cpu_shown own guests trace limit busy = record { own = own; guests = guests; trace = trace; limit = limit; busy = busy }
+abbrev pub cpu_shown : Threads → List (Option Guest) → List Entry → ℕ → Bool → Buffering → CpuShown
+cpu_shown own guests trace limit busy part = record {
+  own = own;
+  guests = guests;
+  trace = trace;
+  limit = limit;
+  busy = busy;
+  private = private part guests trace;
+}
 
 -- what a machine shows with its CPUs
-abbrev pub shown_of : List ℕ → List CpuId → List Entry → (BufId → Line → List Tid) → (BufId → Option Tid) → List Step → List CpuShown → ℕ → ℕ → Shown
-shown_of caps homes seen lines owner moves cpus room taken = record {
+abbrev pub shown_of : List ℕ → List CpuId → List Entry → (BufId → Line → List Tid) → (BufId → Option Tid) → List Step → List (Action TowerName)
+    → List CpuShown → ℕ → ℕ → Shown
+shown_of caps homes seen lines owner moves acts cpus room taken = record {
   caps = caps;
   homes = homes;
   contents = contents_of caps seen;
   beds = listed (beds_by lines) 0 (length caps);
   owners = listed (λ b. owner (buffer_at b)) 0 (length caps);
   moves = moves;
+  log = named acts;
   cpus = cpus;
   room = room;
   taken = taken;

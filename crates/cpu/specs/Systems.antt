@@ -8,7 +8,11 @@ use Rattle.event_log.specs.declared.ids.TheConstants.{CPUS}
 use Rattle.event_log.specs.Actions.{Action, Rests, phase}
 use Rattle.layer_traits.specs.declared.steps.Reason.{Reason}
 use Rattle.layer_traits.specs.declared.steps.Reason.TheVariants.{StepsUsed}
+use Rattle.layer_traits.specs.declared.steps.Step.{Step}
 use Rattle.layer_traits.specs.Places.{home_of}
+use Rattle.cpu.specs.Table.Setups.{Setup}
+use Rattle.cpu.specs.Table.Steps.{Stepping, Whole, system_step}
+use Rattle.cpu.specs.Tables.{IsSetupOf}
 use Rattle.cpu.specs.Cpus.{halted_at, reason_in}
 use Rattle.cpu.specs.Claims.{CpuShown, Shown, programs_in}
 
@@ -64,3 +68,16 @@ pub record IsSystem {X N : Type 0} (IsOne : X → Type 0) (number : X → CpuId)
   pub used : taken ≤ room
   pub small : room < 2 ^ 64
   pub enough : room ≤ taken + left
+
+-- a system as the step table has it
+abbrev pub whole_of : Shown → Whole
+whole_of s = record { cpus = map (λ p. p.private) s.cpus; log = s.log; room = s.room; taken = s.taken }
+
+-- a setup of the step table is this system's: one that agrees with each of its CPUs
+pub record GoesBy (setup : Setup) (s : Shown) : Type 0 where
+  pub each : (k : ℕ) (p : CpuShown) → slice_get s.cpus k ≡ Some p → IsSetupOf setup s.homes s.caps p.guests p.limit
+
+-- the system went from old to new by one step of CPU c in the step table
+abbrev pub SteppedByTable : CpuId → Shown → Shown → Step → Type 0
+SteppedByTable c old new answer = (setup : Setup) → GoesBy setup old
+    → ◌≡◌ {A = Stepping} (record { next = whole_of new; answer = answer }) (system_step setup c (whole_of old))

@@ -42,8 +42,8 @@ where
 
     ghost Value = { Shown };
 
-    ghost view = { λ s. shown_of (I.caps s.machine) (I.homes_of s.machine) (I.seen s.machine) (I.lines s.machine) (I.owner s.machine) (I.moves s.machine)
-        (map (λ c. cpu_shown (I.threads c.part) c.guests.items c.trace.items c.limit (I.is_inside c.part)) s.cpus.items) s.room s.taken };
+    ghost view = { λ s. shown_of (I.caps s.machine) (I.homes_of s.machine) (I.seen s.machine) (I.lines s.machine) (I.owner s.machine) (I.moves s.machine) (I.acts s.machine)
+        (map (λ c. cpu_shown (I.threads c.part) c.guests.items c.trace.items c.limit (I.is_inside c.part) (I.own c.part)) s.cpus.items) s.room s.taken };
 
     ghost invariant = { λ s. IsSystem (λ c. I.Fits c.part s.machine × (I.cpu_of c.part ≡ c.number)
         × IsCpu (I.homes_of s.machine) (length (I.caps s.machine)) (I.seen s.machine) (I.threads c.part) (I.talks c.part) (I.doing c.part) c.number c.guests.items c.trace.items c.limit (vec_capacity c.trace)
@@ -56,11 +56,11 @@ where
     I::Machine: Drop,
 {
     ghost use Rattle.layer_traits.specs.declared.steps.Reason.{Reason};
-    ghost use Rattle.layer_traits.specs.declared.steps.Step.TheVariants.{Halted};
+    ghost use Rattle.layer_traits.specs.declared.steps.Step.TheVariants.{Halted, Stepped};
     ghost use Rattle.event_log.specs.Buffers.{items_of};
     ghost use Rattle.cpu.specs.Cpus.{step_answer};
     ghost use Rattle.cpu.specs.Claims.{FollowPrograms, HasOneOrder, IsPlaceOf, StandsOnce, StayHome, traces_of};
-    ghost use Rattle.cpu.specs.Systems.{SamePlan, halted_in, reason_of};
+    ghost use Rattle.cpu.specs.Systems.{SamePlan, SteppedByTable, halted_in, reason_of};
 
     /// Takes one step of `cpu`, which must exist: one local action or one atomic action.
     ///
@@ -73,6 +73,8 @@ where
         ensures answer { result ≡ step_answer (reason_of cpu self.old) }
         ensures still { (r : Reason) → result ≡ Halted r → self.new ≡ self.old }
         ensures plan { SamePlan self.old self.new }
+        // Each step that is taken is the one of the step table.
+        ensures steps { I.IsStepwise → result ≡ Stepped → SteppedByTable cpu self.old self.new Stepped }
 
         // What holds after every list of steps.
         ensures one_order { HasOneOrder self.new }
@@ -99,6 +101,7 @@ where
         ensures still { result ≡ false → self.new ≡ self.old }
         ensures live { result ≡ true → reason_of cpu self.old ≡ None }
         ensures plan { SamePlan self.old self.new }
+        ensures steps { I.IsStepwise → result ≡ true → SteppedByTable cpu self.old self.new Stepped }
     {
         if self.taken == self.room {
             return false;
@@ -140,6 +143,7 @@ where
         requires exists { cpu.0 < length self.old.cpus }
         requires live { reason_of cpu self.old ≡ None }
         ensures plan { SamePlan self.old self.new }
+        ensures steps { I.IsStepwise → SteppedByTable cpu self.old self.new Stepped }
     {
         self.taken += 1;
         let at = &mut self.cpus[usize::from(cpu.0)];

@@ -18,7 +18,7 @@ reason-requires g c =
     let m = c.self.inside.machine in
     let items = c.self.inside.cpus.items in
     let p = c.index-at.result.now in
-    let shown = λ (x : Cpu g.row.I.Denot g.row.I-Machine.Denot). cpu_shown (I.threads x.part) x.guests.items x.trace.items x.limit (I.is_inside x.part) in
+    let shown = λ (x : Cpu g.row.I.Denot g.row.I-Machine.Denot). cpu_shown (I.threads x.part) x.guests.items x.trace.items x.limit (I.is_inside x.part) (I.own x.part) in
     let at = read_at shown items c.args.self.now.cpus c.from.result c.args.cpu.0 p (ap (λ (s : Shown). s.cpus) c.self.view_is) c.from.ensures c.requires
     c.index-at.ensures in
     let is = (c.self.invariant.each c.from.result p at).holds in
@@ -32,7 +32,7 @@ returns g c =
     let I = g.I.IpcLayer in
     let items = c.self.inside.cpus.items in
     let p = c.index-at.result.now in
-    let shown = λ (x : Cpu g.row.I.Denot g.row.I-Machine.Denot). cpu_shown (I.threads x.part) x.guests.items x.trace.items x.limit (I.is_inside x.part) in
+    let shown = λ (x : Cpu g.row.I.Denot g.row.I-Machine.Denot). cpu_shown (I.threads x.part) x.guests.items x.trace.items x.limit (I.is_inside x.part) (I.own x.part) in
     let at = read_at shown items c.args.self.now.cpus c.from.result c.args.cpu.0 p (ap (λ (s : Shown). s.cpus) c.self.view_is) c.from.ensures c.requires
     c.index-at.ensures in
     let there = subst (λ (k : ℕ). slice_get (map shown items) k ≡ Some (shown p)) c.from.ensures (shows_at shown items c.from.result p at) in

@@ -18,8 +18,8 @@ returns-clause-one_order g c =
     let is = c.self.invariant in
     let some : 0 < CPUS = let least = is.some in let most = is.most in omega (arith, least, most) in
     let acts = is.acts_for (record { 0 = 0 }) some in
-    let each = each_has _ _ _ _ _ _ _ _ _ _ _ (λ x. I.is_inside x.part) _ _ _ (I.moves m) c.self.inside.cpus.items is.each (λ x fits. law.stands x.part m fits) in
-    let count = length-map c.self.inside.cpus.items (λ x. cpu_shown (I.threads x.part) x.guests.items x.trace.items x.limit (I.is_inside x.part)) in
+    let each = each_has _ _ _ _ _ _ _ _ _ _ _ (λ x. I.is_inside x.part) (λ x. I.own x.part) _ _ _ (I.moves m) c.self.inside.cpus.items is.each (λ x fits. law.stands x.part m fits) in
+    let count = length-map c.self.inside.cpus.items (λ x. cpu_shown (I.threads x.part) x.guests.items x.trace.items x.limit (I.is_inside x.part) (I.own x.part)) in
     let few : length (I.seen m) < 2 ^ 64 = let short = is.short in let used = is.used in let small = is.small in omega (arith, short, used, small) in
     subst (λ (s : Shown). HasOneOrder s) c.self.view_is (record {
       order = reverse (I.seen m);
@@ -33,7 +33,7 @@ returns-clause-follow g c =
     let law = g.met.I.IpcLayer in
     let m = c.self.inside.machine in
     let is = c.self.invariant in
-    let each = each_has _ _ _ _ _ _ _ _ _ _ _ (λ x. I.is_inside x.part) _ _ _ (I.moves m) c.self.inside.cpus.items is.each (λ x fits. law.stands x.part m fits) in
+    let each = each_has _ _ _ _ _ _ _ _ _ _ _ (λ x. I.is_inside x.part) (λ x. I.own x.part) _ _ _ (I.moves m) c.self.inside.cpus.items is.each (λ x fits. law.stands x.part m fits) in
     subst (λ (s : Shown). FollowPrograms s) c.self.view_is (λ k p t guest at there. follow_programs _ _ _ _ k p (each k p at) t guest there)
 
 pub returns-clause-stay : goal.returns-clause-stay
@@ -42,7 +42,7 @@ returns-clause-stay g c =
     let law = g.met.I.IpcLayer in
     let m = c.self.inside.machine in
     let is = c.self.invariant in
-    let each = each_has _ _ _ _ _ _ _ _ _ _ _ (λ x. I.is_inside x.part) _ _ _ (I.moves m) c.self.inside.cpus.items is.each (λ x fits. law.stands x.part m fits) in
+    let each = each_has _ _ _ _ _ _ _ _ _ _ _ (λ x. I.is_inside x.part) (λ x. I.own x.part) _ _ _ (I.moves m) c.self.inside.cpus.items is.each (λ x fits. law.stands x.part m fits) in
     subst (λ (s : Shown). StayHome s) c.self.view_is (λ k p at. stay_home _ _ _ _ k p (each k p at))
 
 pub returns-clause-once : goal.returns-clause-once
@@ -53,14 +53,14 @@ returns-clause-once g c =
     let is = c.self.invariant in
     let some : 0 < CPUS = let least = is.some in let most = is.most in omega (arith, least, most) in
     let acts = is.acts_for (record { 0 = 0 }) some in
-    let each = each_has _ _ _ _ _ _ _ _ _ _ _ (λ x. I.is_inside x.part) _ _ _ (I.moves m) c.self.inside.cpus.items is.each (λ x fits. law.stands x.part m fits) in
-    let count = length-map c.self.inside.cpus.items (λ x. cpu_shown (I.threads x.part) x.guests.items x.trace.items x.limit (I.is_inside x.part)) in
+    let each = each_has _ _ _ _ _ _ _ _ _ _ _ (λ x. I.is_inside x.part) (λ x. I.own x.part) _ _ _ (I.moves m) c.self.inside.cpus.items is.each (λ x fits. law.stands x.part m fits) in
+    let count = length-map c.self.inside.cpus.items (λ x. cpu_shown (I.threads x.part) x.guests.items x.trace.items x.limit (I.is_inside x.part) (I.own x.part)) in
     let first = there_is c.self.inside.cpus.items 0 is.some in
     let fits = (is.each 0 first.0 first.1).holds.0 in
     subst (λ (s : Shown). StandsOnce s) c.self.view_is
     (once_of
-    (shown_of (I.caps m) (I.homes_of m) (I.seen m) (I.lines m) (g.I.Owned.owner m) (I.moves m)
-    (map (λ x. cpu_shown (I.threads x.part) x.guests.items x.trace.items x.limit (I.is_inside x.part)) c.self.inside.cpus.items)
+    (shown_of (I.caps m) (I.homes_of m) (I.seen m) (I.lines m) (g.I.Owned.owner m) (I.moves m) (I.acts m)
+    (map (λ x. cpu_shown (I.threads x.part) x.guests.items x.trace.items x.limit (I.is_inside x.part) (I.own x.part)) c.self.inside.cpus.items)
     c.self.inside.room c.self.inside.taken)
     (length (I.caps m)) (I.lines m) refl (law.lists first.0.part m fits)
     (λ t home at. let inside = is.within t home at in omega (arith, inside, count)) (law.moved m (record { 0 = 0 }) acts) (λ k p at. (each k p at).stands))

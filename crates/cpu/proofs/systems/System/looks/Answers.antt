@@ -1,6 +1,13 @@
-use Rattle.std.proofs.Common.{rules, ◌≡◌, ◌<◌, ℕ, map, Some, None, refl, ap, subst, arith, vec_capacity}
+use Rattle.std.proofs.Common.{rules, ◌≡◌, ◌<◌, ℕ, map, Some, None, refl, ap, ◌∙◌, subst, arith, vec_capacity}
 use Rattle.std.specs.Prelude.{slice_get}
+use Rattle.event_log.specs.declared.ids.CpuId.{CpuId}
+use Rattle.layer_traits.specs.declared.steps.Step.TheVariants.{Stepped}
+use Rattle.layer_traits.specs.Along.{IsStep}
+use Rattle.layer_traits.specs.OnePlace.{cpu_at}
 use Rattle.cpu.specs.declared.cpus.Cpu.{Cpu}
+use Rattle.cpu.specs.Table.Steps.{cpu_step}
+use Rattle.cpu.specs.Tower.Composed.{named}
+use Rattle.cpu.proofs.TableSystems.{shown_step}
 use Rattle.cpu.specs.Cpus.{programs_of}
 use Rattle.cpu.specs.Tables.{IsTabled}
 use Rattle.cpu.specs.Claims.{CpuShown, Shown, cpu_shown}
@@ -13,7 +20,7 @@ pub look-requires-clause-number : goal.look-requires-clause-number
 look-requires-clause-number g c =
     let I = g.I.IpcLayer in
     let items = c.self.inside.cpus.items in
-    let shown = λ (x : Cpu g.row.I.Denot g.row.I-Machine.Denot). cpu_shown (I.threads x.part) x.guests.items x.trace.items x.limit (I.is_inside x.part) in
+    let shown = λ (x : Cpu g.row.I.Denot g.row.I-Machine.Denot). cpu_shown (I.threads x.part) x.guests.items x.trace.items x.limit (I.is_inside x.part) (I.own x.part) in
     let at = read_at shown items c.args.self.now.cpus c.from.result c.args.cpu.0 c.index_mut-at.result.now (ap (λ (s : Shown). s.cpus) c.self.view_is)
     c.from.ensures c.requires c.index_mut-at.ensures.value in
     (c.self.invariant.each c.from.result c.index_mut-at.result.now at).holds.1
@@ -22,7 +29,7 @@ pub look-requires-clause-is : goal.look-requires-clause-is
 look-requires-clause-is g c =
     let I = g.I.IpcLayer in
     let items = c.self.inside.cpus.items in
-    let shown = λ (x : Cpu g.row.I.Denot g.row.I-Machine.Denot). cpu_shown (I.threads x.part) x.guests.items x.trace.items x.limit (I.is_inside x.part) in
+    let shown = λ (x : Cpu g.row.I.Denot g.row.I-Machine.Denot). cpu_shown (I.threads x.part) x.guests.items x.trace.items x.limit (I.is_inside x.part) (I.own x.part) in
     let at = read_at shown items c.args.self.now.cpus c.from.result c.args.cpu.0 c.index_mut-at.result.now (ap (λ (s : Shown). s.cpus) c.self.view_is)
     c.from.ensures c.requires c.index_mut-at.ensures.value in
     (c.self.invariant.each c.from.result c.index_mut-at.result.now at).holds.2
@@ -31,7 +38,7 @@ pub look-requires-clause-table : goal.look-requires-clause-table
 look-requires-clause-table g c =
     let I = g.I.IpcLayer in
     let items = c.self.inside.cpus.items in
-    let shown = λ (x : Cpu g.row.I.Denot g.row.I-Machine.Denot). cpu_shown (I.threads x.part) x.guests.items x.trace.items x.limit (I.is_inside x.part) in
+    let shown = λ (x : Cpu g.row.I.Denot g.row.I-Machine.Denot). cpu_shown (I.threads x.part) x.guests.items x.trace.items x.limit (I.is_inside x.part) (I.own x.part) in
     let at = read_at shown items c.args.self.now.cpus c.from.result c.args.cpu.0 c.index_mut-at.result.now (ap (λ (s : Shown). s.cpus) c.self.view_is)
     c.from.ensures c.requires c.index_mut-at.ensures.value in
     (c.self.invariant.each c.from.result c.index_mut-at.result.now at).holds.3
@@ -41,7 +48,7 @@ invariant_of-self g c =
     let I = g.I.IpcLayer in
     let m = c.self.inside.machine in
     let items = c.self.inside.cpus.items in
-    let shown = λ (x : Cpu g.row.I.Denot g.row.I-Machine.Denot). cpu_shown (I.threads x.part) x.guests.items x.trace.items x.limit (I.is_inside x.part) in
+    let shown = λ (x : Cpu g.row.I.Denot g.row.I-Machine.Denot). cpu_shown (I.threads x.part) x.guests.items x.trace.items x.limit (I.is_inside x.part) (I.own x.part) in
     let at = read_at shown items c.args.self.now.cpus c.from.result c.args.cpu.0 c.index_mut-at.result.now (ap (λ (s : Shown). s.cpus) c.self.view_is)
     c.from.ensures c.requires c.index_mut-at.ensures.value in
     let still = c.look.ensures.still c.if-not-look.true in
@@ -57,7 +64,7 @@ invariant_of-self-2 g c =
     let m = c.self.inside.machine in
     let is = c.self.invariant in
     let items = c.self.inside.cpus.items in
-    let shown = λ (x : Cpu g.row.I.Denot g.row.I-Machine.Denot). cpu_shown (I.threads x.part) x.guests.items x.trace.items x.limit (I.is_inside x.part) in
+    let shown = λ (x : Cpu g.row.I.Denot g.row.I-Machine.Denot). cpu_shown (I.threads x.part) x.guests.items x.trace.items x.limit (I.is_inside x.part) (I.own x.part) in
     let at = read_at shown items c.args.self.now.cpus c.from.result c.args.cpu.0 c.index_mut-at.result.now (ap (λ (s : Shown). s.cpus) c.self.view_is)
     c.from.ensures c.requires c.index_mut-at.ensures.value in
     let e = c.look.ensures in
@@ -75,7 +82,7 @@ pub returns-clause-live : goal.returns-clause-live
 returns-clause-live g c = λ looked.
     let I = g.I.IpcLayer in
     let items = c.self.inside.cpus.items in
-    let shown = λ (x : Cpu g.row.I.Denot g.row.I-Machine.Denot). cpu_shown (I.threads x.part) x.guests.items x.trace.items x.limit (I.is_inside x.part) in
+    let shown = λ (x : Cpu g.row.I.Denot g.row.I-Machine.Denot). cpu_shown (I.threads x.part) x.guests.items x.trace.items x.limit (I.is_inside x.part) (I.own x.part) in
     let at = read_at shown items c.args.self.now.cpus c.from.result c.args.cpu.0 c.index_mut-at.result.now (ap (λ (s : Shown). s.cpus) c.self.view_is)
     c.from.ensures c.requires c.index_mut-at.ensures.value in
     let there = subst (λ (k : ℕ). slice_get (map shown items) k ≡ Some (shown c.index_mut-at.result.now)) c.from.ensures
@@ -87,7 +94,7 @@ pub returns-clause-plan : goal.returns-clause-plan
 returns-clause-plan g c =
     let I = g.I.IpcLayer in
     let items = c.self.inside.cpus.items in
-    let shown = λ (x : Cpu g.row.I.Denot g.row.I-Machine.Denot). cpu_shown (I.threads x.part) x.guests.items x.trace.items x.limit (I.is_inside x.part) in
+    let shown = λ (x : Cpu g.row.I.Denot g.row.I-Machine.Denot). cpu_shown (I.threads x.part) x.guests.items x.trace.items x.limit (I.is_inside x.part) (I.own x.part) in
     let at = read_at shown items c.args.self.now.cpus c.from.result c.args.cpu.0 c.index_mut-at.result.now (ap (λ (s : Shown). s.cpus) c.self.view_is)
     c.from.ensures c.requires c.index_mut-at.ensures.value in
     let k = c.from.result in
@@ -101,3 +108,24 @@ returns-clause-plan g c =
       limits = shown_same shown (λ (p : CpuShown). p.limit) items k x y at c.look.ensures.limit;
       room = refl;
     })
+
+pub returns-clause-steps : goal.returns-clause-steps
+returns-clause-steps g c = λ step looked setup goes.
+    let I = g.I.IpcLayer in
+    let m = c.self.inside.machine in
+    let is = c.self.invariant in
+    let items = c.self.inside.cpus.items in
+    let k = c.from.result in
+    let x = c.index_mut-at.result.now in
+    let y = c.look.new.self in
+    let shown = λ (z : Cpu g.row.I.Denot g.row.I-Machine.Denot). cpu_shown (I.threads z.part) z.guests.items z.trace.items z.limit (I.is_inside z.part) (I.own z.part) in
+    let at = read_at shown items c.args.self.now.cpus k c.args.cpu.0 x (ap (λ (s : Shown). s.cpus) c.self.view_is) c.from.ensures c.requires c.index_mut-at.ensures.value in
+    let e = c.look.ensures in
+    let legal = g.met.I.IpcLayer.legal c.look.new.m (I.cpu_of y.part) (g.met.I.IpcLayer.own_cpu y.part c.look.new.m e.fits) in
+    let number : x.number ≡ c.args.cpu = (is.each k x at).number_is ∙ ap (λ (j : ℕ). cpu_at j) c.from.ensures in
+    let of = (rw (← c.self.view_is) at goes).each k (shown x) (shows_at shown items k x at) in
+    let went : IsStep (λ d. I.ActsFor m d) (cpu_step setup c.args.cpu) (shown x).private (shown y).private (named (I.acts m)) (named (I.acts c.look.new.m)) Stepped =
+    subst (λ (d : CpuId). IsStep (λ a. I.ActsFor m a) (cpu_step setup d) (shown x).private (shown y).private (named (I.acts m)) (named (I.acts c.look.new.m)) Stepped) number
+    (e.steps step (search rules) setup of) in
+    rw (← c.self.view_is) (shown_step shown (λ d. I.ActsFor m d) setup c.args.cpu items k x y (I.acts m) (I.acts c.look.new.m) c.self.inside.room c.self.inside.taken at
+    c.from.ensures went is.acts_for legal c.if-self.false)

@@ -1,8 +1,6 @@
-use Rattle.std.proofs.Common.{◌∷◌, [], length, ap, ◌∙◌, arith, map, List, Option, ◌≡◌}
+use Rattle.std.proofs.Common.{◌∷◌, [], length, ap, ◌∙◌, arith, map}
 use Rattle.std.proofs.lemmas.List.{length-append}
 use Rattle.cpu.specs.Boots.{guests_for}
-use Rattle.cpu.specs.Claims.{listed}
-use Rattle.cpu.specs.declared.guests.Guest.{Guest}
 use Rattle.cpu.proofs.PlanGuests.{tables_more}
 use Rattle.cpu.proofs.systems.plans.tables_of.Goals as goal
 
