@@ -1,3 +1,4 @@
 pub mod TableLemmas
 pub mod KernelLemmas
 pub mod WholeLemmas
+pub mod FifoLemmas

@@ -1,5 +1,5 @@
 -- The polls of a whole section: the first does it, and answers unless the woken thread is still to be sent home; the second does that.
-use Rattle.std.proofs.Common.{◌≡◌, ◌<◌, ◌⊎◌, inl, inr, Bool, true, false, List, [], ◌∷◌, ◌++◌, Option, Some, None, IsSome, is_some, if◌then◌else◌, refl, ap}
+use Rattle.std.proofs.Common.{◌≡◌, ◌<◌, Bool, true, false, List, [], ◌∷◌, ◌++◌, Option, Some, None, IsSome, if◌then◌else◌, refl, ap}
 use Rattle.std.proofs.Common.{sym, ◌∙◌, subst, unwrap_or}
 use Rattle.event_log.specs.declared.ids.BufId.{BufId}
 use Rattle.event_log.specs.declared.ids.CpuId.{CpuId}
@@ -15,8 +15,8 @@ use Rattle.layer_traits.specs.Places.{Threads}
 use Rattle.layer_traits.specs.Plans.{Left}
 use Rattle.layer_traits.specs.Queues.{IsKnownEvent, Kernel, event, event_actor, out_at}
 use Rattle.layer_traits.specs.Scheds.{own_answered}
-use Rattle.layer_traits.specs.SleepLaw.{Deed, Does, MayDo, MustSend, Sends, SleepPolled, Sleeping, Waits, left_done, left_with, must_send, seen_with}
-use Rattle.plain_layers.specs.Wholes.{DoneAlone, DoneSending, IsDoneWhole, own_done}
+use Rattle.layer_traits.specs.SleepLaw.{Deed, Does, MayDo, Sends, SleepPolled, Sleeping, Waits, left_with, must_send, seen_with}
+use Rattle.plain_layers.specs.Wholes.{DoneAlone, DoneSending}
 
 -- who acts for every CPU sees no event of another
 pub no_foreign_events : {E : Type 0} (ActsFor : CpuId → Type 0) → ((c : CpuId) → c.0 < CPUS → ActsFor c) → (others old : List (QueueEvent E))

@@ -8,7 +8,6 @@ use Rattle.thread_blocks.specs.Queues.{first, rest}
 use Rattle.layer_traits.specs.declared.calls.Effect.{Effect}
 use Rattle.layer_traits.specs.declared.locked.Side.{Side}
 use Rattle.layer_traits.specs.declared.locked.Side.TheVariants.{Receivers, Senders}
-use Rattle.layer_traits.specs.declared.moves.Line.{Line}
 use Rattle.layer_traits.specs.declared.sleeps.Leave.{Leave}
 use Rattle.layer_traits.specs.declared.sleeps.Leave.TheVariants as leave
 use Rattle.layer_traits.specs.BufferBlocks.{counted, first_item, other_items}

@@ -3,6 +3,7 @@
 #![tactic(auto)]
 
 mod attempts;
+mod fifos;
 mod kernel;
 mod lock_table;
 mod locks;
@@ -12,6 +13,7 @@ mod sleepers;
 mod wholes;
 
 pub use attempts::{Attempt, PlainBuffer, Tried};
+pub use fifos::PlainFifo;
 pub use kernel::{Lists, Opening, PlainKernel};
 pub use lock_table::{LockTable, Noted};
 pub use locks::PlainLock;

@@ -1,6 +1,4 @@
-use Rattle.std.proofs.Common.{◌<◌, IsSome, Option, Some, None, inl, inr, refl, ap, subst, sym, ◌∙◌}
-use Rattle.event_log.specs.declared.ids.CpuId.{CpuId}
-use Rattle.event_log.specs.declared.ids.TheConstants.{CPUS}
+use Rattle.std.proofs.Common.{inl, inr, refl, ap, subst}
 use Rattle.layer_traits.specs.SleepLaw.{SleepPolled, Sleeping, sleep_kernel}
 use Rattle.plain_layers.proofs.WholeLemmas.{first_answers, first_sends, second_sends, both_polls}
 use Rattle.plain_layers.proofs.wholes.whole.Goals as goal

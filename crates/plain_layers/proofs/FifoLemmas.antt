@@ -1,0 +1,411 @@
+-- Polls of buffers in one section a call: what they add to the effects and to the moves, and what they leave of the parts.
+use Rattle.std.proofs.Common.{◌≡◌, ◌≢◌, ℕ, ◌<◌, inl, inr, Bool, true, false, List, [], ◌∷◌, ◌++◌, length, Option, Some, None, IsSome, is_some, option_map}
+use Rattle.std.proofs.Common.{if◌then◌else◌, refl, ap, sym, ◌∙◌, subst, slice_get, option_to_list}
+use Rattle.std.proofs.Common.{slice_index, zero, suc, ◌≤◌, ◌==◌, get_or, replicate, slice_set, arith, subst₂, unwrap_or}
+use Rattle.std.proofs.lemmas.Bool.{eqb-true, eqb-false, lt-ltb}
+use Rattle.std.proofs.lemmas.List.{get_or-set_same, get_or-set_other}
+use Rattle.std.proofs.lemmas.Option.{slice_get-get_or, slice_get_within}
+use Rattle.event_log.specs.declared.entries.Kind.TheVariants as kind
+use Rattle.event_log.specs.declared.ids.Tid.{Tid}
+use Rattle.event_log.specs.declared.ids.TheConstants.{THREADS}
+use Rattle.event_log.specs.Messages.{Message, no_message}
+use Rattle.layer_traits.specs.declared.calls.Call.{Call}
+use Rattle.layer_traits.specs.declared.calls.Call.TheVariants.{Send, Recv}
+use Rattle.layer_traits.specs.declared.calls.Effect.{Effect}
+use Rattle.layer_traits.specs.declared.calls.Reply.{Reply}
+use Rattle.layer_traits.specs.declared.locked.Side.{Side}
+use Rattle.layer_traits.specs.declared.locked.Side.TheVariants.{Receivers, Senders}
+use Rattle.layer_traits.specs.declared.queues.QueueCall.TheVariants.{OnBuffer}
+use Rattle.layer_traits.specs.declared.talks.Stage.{Stage}
+use Rattle.layer_traits.specs.declared.talks.Stage.TheVariants.{Between, Acquires, Enters, Tries, Waits, AcquiresAgain, Signals, SignalsOwn, Releases}
+use Rattle.layer_traits.specs.declared.talks.Talk.{Talk}
+use Rattle.layer_traits.specs.BufferLaw.{Answered, Called, IsEffectOf, IsRefused, MayTalk, buffer_of, entry_of, going, going_at, quiet, talk_of}
+use Rattle.layer_traits.specs.Passes.{own_slept, own_woken, queue_for}
+use Rattle.layer_traits.specs.Places.{AreMoves, Pushed, Stands, Step, step}
+use Rattle.layer_traits.specs.Protocol.{section}
+use Rattle.layer_traits.specs.Queues.{call_move, out_at}
+use Rattle.layer_traits.specs.Sleeping.{sleep_answer, sleep_moves}
+use Rattle.layer_traits.specs.SleepLaw.{Sleeping}
+use Rattle.layer_traits.proofs.PlaceLemmas.{current_at}
+use Rattle.sleep_wakeup.proofs.BootLemmas.{there_inside}
+use Rattle.plain_layers.specs.Attempts.{PlainState, allows, effect_at, told, wakes}
+use Rattle.plain_layers.specs.Fifos.{attempt_of, effect_by, locked_after, reply_to, talk_after}
+use Rattle.event_log.specs.declared.entries.Entry.{Entry}
+use Rattle.plain_layers.specs.FifoTallies.{Tally, plain_tally}
+use Rattle.event_log.specs.Buffers.{items_of}
+use Rattle.layer_traits.specs.BufferEffects.{contents_of}
+use Rattle.layer_traits.specs.Locking.{line_for}
+use Rattle.plain_layers.specs.Wholes.{IsDoneWhole}
+use Rattle.event_log.specs.declared.ids.BufId.{BufId}
+use Rattle.event_log.specs.declared.ids.CpuId.{CpuId}
+use Rattle.event_log.specs.declared.ids.LockId.{LockId}
+use Rattle.event_log.specs.declared.ids.LockId.TheVariants.{Pending, Buffer}
+use Rattle.event_log.specs.declared.ids.TheConstants.{CPUS}
+use Rattle.event_log.specs.History.{IsLawful}
+use Rattle.layer_traits.specs.declared.moves.Line.{Line}
+use Rattle.layer_traits.specs.declared.moves.Line.TheVariants as line
+use Rattle.layer_traits.specs.declared.passes.Pass.{Pass}
+use Rattle.layer_traits.specs.declared.passes.Pass.TheVariants.{Switch, YieldNow, Drain, MakeReady, End}
+use Rattle.layer_traits.specs.declared.queue_edits.QueueBlock.{QueueBlock}
+use Rattle.layer_traits.specs.declared.queues.QueueEvent.{QueueEvent}
+use Rattle.layer_traits.specs.declared.scheds.SchedCall.TheVariants as sched
+use Rattle.layer_traits.specs.declared.sleeps.Outcome.{Outcome}
+use Rattle.layer_traits.specs.BufferLaw.{MovesGrow, OthersSeen}
+use Rattle.layer_traits.specs.Passes.{PassPolled}
+use Rattle.layer_traits.specs.Places.{Threads}
+use Rattle.layer_traits.specs.QueueBlocks.{homes_in, inner}
+use Rattle.layer_traits.specs.Queues.{IsKnownEvent, Kernel, buffer_sections, moves_in}
+use Rattle.layer_traits.specs.Scheds.{SchedPolled, events_of, own_answered, pass_call}
+use Rattle.layer_traits.specs.Sleeping.{NobodySleeps, line_at}
+use Rattle.layer_traits.specs.SleepLaw.{done_if, sleep_kernel}
+use Rattle.layer_traits.proofs.CallLemmas.{pass_polled}
+use Rattle.plain_layers.specs.declared.attempts.Attempt.{Attempt}
+use Rattle.plain_layers.specs.declared.attempts.Tried.{Tried}
+use Rattle.plain_layers.specs.Attempts.{attempts}
+use Rattle.plain_layers.specs.Fifos.{IsOwned, PlainLocked, caps_in, entries_in, fresh_buffer, fresh_buffers}
+use Rattle.plain_layers.proofs.WholeLemmas.{no_foreign_events}
+
+-- A machine at the start.
+
+-- where there was no move there was no event
+pub no_events : {E B O : Type 0} (k : Kernel E B O) (past : List (QueueEvent E)) → moves_in k past ≡ [] → past ≡ []
+no_events k [] none = refl
+no_events k (e ∷ past) none = absurd (cc none)
+
+no_line : (line : Line) (o : Option ℕ) → line_at line (option_map fresh_buffer o) ≡ []
+no_line line None = refl
+no_line line.Sleepers (Some n) = refl
+no_line line.Receivers (Some n) = refl
+no_line line.Senders (Some n) = refl
+
+-- nobody waits at fresh buffers
+pub nobody_waits : (locks : LockId → Option PlainLocked) → locks ≡ fresh_buffers (caps_in locks) → NobodySleeps locks
+nobody_waits locks fresh lock line = ap (λ (o : LockId → Option PlainLocked). line_at line (o lock)) fresh ∙ go lock
+  where
+    go : (l : LockId) → line_at line (fresh_buffers (caps_in locks) l) ≡ []
+    go (Pending d) = refl
+    go (Buffer b) = no_line line (slice_get (caps_in locks) b.0)
+
+-- a machine keeps its one holder
+pub owned_after : (ActsFor Acts : CpuId → Type 0) (opening opening' : LockId → Option (QueueBlock PlainLocked)) → opening' ≡ opening
+    → ((c : CpuId) → ActsFor c → Acts c) → IsOwned ActsFor (inner opening) → IsOwned Acts (inner opening')
+owned_after ActsFor Acts opening opening' same acts owned = record {
+  all = λ c small. acts c (owned.all c small);
+  fresh = subst (λ (o : LockId → Option (QueueBlock PlainLocked)). inner o ≡ fresh_buffers (caps_in (inner o))) (sym same) owned.fresh;
+}
+
+-- A pass.
+
+-- no pass is a section
+no_section : (homes : List CpuId) (c : CpuId) (p : Pass) (past : List (QueueEvent Attempt))
+    → buffer_sections (events_of c (pass_call homes c p) ++ past) ≡ buffer_sections past
+no_section homes c Switch past = refl
+no_section homes c YieldNow past = refl
+no_section homes c Drain past = refl
+no_section homes c (MakeReady t) past = refl
+no_section homes c End past = refl
+
+lawful_rest : {E : Type 0} (P : List E → E → Type 0) (mine past : List E) → IsLawful P (mine ++ past) → IsLawful P past
+lawful_rest P [] past lawful = lawful
+lawful_rest P (e ∷ mine) past lawful = lawful_rest P mine past lawful.1
+
+done_same : (O : Type 0) (result : Option (Unit {0})) → is_some (done_if {O = O} result) ≡ is_some result
+done_same O None = refl
+done_same O (Some u) = refl
+
+module _ (opening : LockId → Option (QueueBlock PlainLocked)) (ActsFor Acts : CpuId → Type 0) (weaker : (d : CpuId) → Acts d → ActsFor d)
+    (all : (d : CpuId) → d.0 < CPUS → ActsFor d) (c : CpuId) (p : Pass) (result : Option (Unit {0})) (old new : List (QueueEvent Attempt))
+    (own own' : Threads) (known : IsLawful IsKnownEvent new)
+    (polled : SchedPolled (sleep_kernel attempts opening) ActsFor c (sched.Pass p) (done_if result) old new own own') where
+  nobody : (b : Bool) → new ≡ (if b then events_of c (pass_call (homes_in opening) c p) ++ (polled.others ++ old) else polled.others ++ old)
+      → polled.others ≡ []
+  nobody true is = no_foreign_events ActsFor all polled.others old
+      (lawful_rest IsKnownEvent (events_of c (pass_call (homes_in opening) c p)) (polled.others ++ old) (subst (IsLawful IsKnownEvent) is known)) polled.foreign
+  nobody false is = no_foreign_events ActsFor all polled.others old (subst (IsLawful IsKnownEvent) is known) polled.foreign
+
+  same_sections : (b : Bool) → polled.others ≡ []
+      → new ≡ (if b then events_of c (pass_call (homes_in opening) c p) ++ (polled.others ++ old) else polled.others ++ old)
+      → buffer_sections new ≡ buffer_sections old
+  same_sections true none is = ap buffer_sections is ∙ no_section (homes_in opening) c p (polled.others ++ old) ∙ ap (λ more. buffer_sections (more ++ old)) none
+  same_sections false none is = ap buffer_sections is ∙ ap (λ more. buffer_sections (more ++ old)) none
+
+  -- a pass adds no effect
+  pub passed_seen : OthersSeen Acts (entries_in (inner opening) (buffer_sections old)) (entries_in (inner opening) (buffer_sections new))
+  passed_seen = record {
+    others = [];
+    foreign = λ d acts. tt;
+    is = ap (entries_in (inner opening)) (same_sections _ (nobody _ polled.is) polled.is);
+  }
+
+  -- and is a pass in moves
+  pub passed_moves : PassPolled (homes_in opening) Acts c p result (moves_in (sleep_kernel attempts opening) old) (moves_in (sleep_kernel attempts opening) new)
+      own own'
+  passed_moves =
+      let moved = pass_polled (sleep_kernel attempts opening) ActsFor c p (done_if result) old new own own' polled in
+      let same : is_some (done_if {O = Outcome Tried} result) ≡ is_some result = done_same (Outcome Tried) result in
+      record {
+        others = moved.others;
+        foreign = λ d acts. moved.foreign d (weaker d acts);
+        is = rw (← same) moved.is;
+        after = rw (← same) moved.after;
+        at_once = λ local. sym same ∙ moved.at_once local;
+      }
+
+-- a poll that answered leaves nothing under way
+pub nothing_under : {A B : Type 0} (r : Option A) (under x : Option B) → IsSome r → under ≡ (if is_some r then None else x) → under ≡ None
+nothing_under None under x answered is = absurd cc
+nothing_under (Some a) under x answered is = is
+
+-- The talks.
+
+pub every_same : {X : Type 0} (n i : ℕ) (x : X) → get_or (replicate n x) i x ≡ x
+every_same zero i x = refl
+every_same (suc n) zero x = refl
+every_same (suc n) (suc i) x = every_same n i x
+
+-- at the start no thread has an effect
+pub quiet_waits : (t : Tid) → (talk_of (replicate THREADS quiet) t).stage ≢ Between → (talk_of (replicate THREADS quiet) t).effect ≡ None
+quiet_waits t other = ap (λ (x : Talk). x.effect) (every_same THREADS t.0 quiet)
+
+talk_here : (talks : List Talk) (t : ℕ) (x : Talk) → t < length talks → get_or (slice_set talks t x) t quiet ≡ x
+talk_here talks t x within = get_or-set_same talks t x quiet within
+
+talk_there : (talks : List Talk) (t u : ℕ) (x : Talk) → u ≢ t → get_or (slice_set talks t x) u quiet ≡ get_or talks u quiet
+talk_there talks t u x other = get_or-set_other talks t u x quiet other
+
+-- a thread has an effect only once its call is over
+after_waits : (call : Call) (effect : Option Effect) → (talk_after call effect).stage ≢ Between → (talk_after call effect).effect ≡ None
+after_waits call None other = refl
+after_waits call (Some f) other = absurd (other refl)
+
+pub set_waits : (talks : List Talk) (t : Tid) (call : Call) (effect : Option Effect) → t.0 < length talks
+    → ((u : Tid) → (talk_of talks u).stage ≢ Between → (talk_of talks u).effect ≡ None)
+    → (u : Tid) → (talk_of (slice_set talks t.0 (talk_after call effect)) u).stage ≢ Between
+    → (talk_of (slice_set talks t.0 (talk_after call effect)) u).effect ≡ None
+set_waits talks t call effect within waits u = go (u.0 == t.0) refl
+  where
+    P : Talk → Type 0
+    P x = x.stage ≢ Between → x.effect ≡ None
+
+    go : (b : Bool) → (u.0 == t.0) ≡ b → P (get_or (slice_set talks t.0 (talk_after call effect)) u.0 quiet)
+    go true same =
+        let one : t.0 ≡ u.0 = sym (eqb-true u.0 t.0 same) in
+        subst (λ n. P (get_or (slice_set talks t.0 (talk_after call effect)) n quiet)) one
+        (subst P (sym (talk_here talks t.0 (talk_after call effect) within)) (after_waits call effect))
+    go false other = subst P (sym (talk_there talks t.0 u.0 (talk_after call effect) (eqb-false u.0 t.0 other))) (waits u)
+
+-- A poll of a call.
+
+-- the buffer of a call is there
+pub buffer_there : (opening : LockId → Option (QueueBlock PlainLocked)) (b : BufId) → inner opening ≡ fresh_buffers (caps_in (inner opening))
+    → b.0 < length (caps_in (inner opening)) → IsSome (opening (Buffer b))
+buffer_there opening b fresh within =
+    let has = slice_get-get_or (caps_in (inner opening)) b.0 0 within in
+    let found : inner opening (Buffer b) ≡ Some (fresh_buffer (get_or (caps_in (inner opening)) b.0 0))
+    = ap (λ (o : LockId → Option PlainLocked). o (Buffer b)) fresh ∙ ap (option_map fresh_buffer) has in
+    there_inside (opening (Buffer b)) (subst (λ x. IsSome x) (sym found) refl)
+
+-- who runs is one of the threads that a machine may have
+pub runs_small : (homes : List CpuId) (c : CpuId) (moves : List Step) (own : Threads) → AreMoves homes moves → Stands homes c moves own
+    → length homes ≤ THREADS → (t : Tid) → own.current ≡ Some t → t.0 < THREADS
+runs_small homes c moves own legal stands room t runs =
+    let within = slice_get_within homes t.0 c (current_at homes c moves own legal stands t runs).0 in
+    omega (arith, within, room)
+
+-- what an attempt answers that the buffer allows, or does not
+abbrev told_if : Bool → Message → Side → PlainState → Tried
+told_if allowed m side x =
+    if allowed then record { side = side; effect = Some (effect_at m side x); woke = wakes side x } else record { side = side; effect = None; woke = None }
+
+effect_kinds : (t : Tid) (call : Call) (x : PlainState) (f : Effect) → (told (attempt_of t call) x).effect ≡ Some f → IsEffectOf call f
+effect_kinds t (Send b m) x f is = go (allows Senders x) is
+  where
+    go : (y : Bool) → (told_if y m Senders x).effect ≡ Some f → (f.kind ≡ kind.Send) × (f.value ≡ m)
+    go false is = absurd cc
+    go true is =
+        let one : effect_at m Senders x ≡ f = ap (λ o. unwrap_or o f) is in
+        (sym (ap (λ (e : Effect). e.kind) one), sym (ap (λ (e : Effect). e.value) one))
+effect_kinds t (Recv b) x f is = go (allows Receivers x) is
+  where
+    go : (y : Bool) → (told_if y no_message Receivers x).effect ≡ Some f → f.kind ≡ kind.Recv
+    go false is = absurd cc
+    go true is =
+        let one : effect_at no_message Receivers x ≡ f = ap (λ o. unwrap_or o f) is in
+        sym (ap (λ (e : Effect). e.kind) one)
+
+woken_current : (homes : List CpuId) (c : CpuId) (w : Option Tid) (x : Threads) → (own_woken homes c w x).current ≡ x.current
+woken_current homes c None x = refl
+woken_current homes c (Some u) x = refl
+
+slept_current : (side : Side) (own : Threads) → (own_slept (line_for (Some side)) own).current ≡ None
+slept_current Receivers own = refl
+slept_current Senders own = refl
+
+-- a call that answers nothing had no effect
+pub reply_none : (call : Call) (effect : Option Effect) → reply_to call effect ≡ None → effect ≡ None
+reply_none call None none = refl
+reply_none call (Some f) none = absurd (cc none)
+
+module _ (opening : LockId → Option (QueueBlock PlainLocked)) (c : CpuId) (b : BufId) (a : Attempt) (old new : List (QueueEvent Attempt)) (own : Threads)
+    (left : Sleeping Tried) (outcome : Outcome Tried) (done : IsDoneWhole (sleep_kernel attempts opening) c b a old new own left outcome) where
+  out_is : IsDoneWhole (sleep_kernel attempts opening) c b a old new own left outcome → out_at (sleep_kernel attempts opening) old b a ≡ Some outcome
+  out_is (inl alone) = alone.out
+  out_is (inr sending) = sending.out
+
+  sections_are : IsDoneWhole (sleep_kernel attempts opening) c b a old new own left outcome
+      → buffer_sections new ≡ section c (Buffer b) a ∷ buffer_sections old
+  sections_are (inl alone) = ap buffer_sections alone.seen
+  sections_are (inr sending) = ap buffer_sections sending.seen
+
+  effect_is : (x : Option PlainLocked) → option_map (sleep_answer attempts a) x ≡ Some outcome → effect_by a x ≡ outcome.out.effect
+  effect_is None is = absurd cc
+  effect_is (Some state) is = ap (λ (o : Option (Outcome Tried)). (unwrap_or o outcome).out.effect) is
+
+  -- the effects grow by the call's own, if it has one
+  pub done_entries : entries_in (inner opening) (buffer_sections new)
+      ≡ option_to_list (option_map (entry_of c a.thread b) outcome.out.effect) ++ entries_in (inner opening) (buffer_sections old)
+  done_entries = ap (entries_in (inner opening)) (sections_are done)
+      ∙ ap (λ f. option_to_list (option_map (entry_of c a.thread b) f) ++ entries_in (inner opening) (buffer_sections old))
+      (effect_is (locked_after (inner opening) (Buffer b) (buffer_sections old)) (out_is done))
+
+  -- and it is one of the call
+  pub done_kind : (t : Tid) (call : Call) → a ≡ attempt_of t call → (f : Effect) → outcome.out.effect ≡ Some f → IsEffectOf call f
+  done_kind t call is f has = go (locked_after (inner opening) (Buffer b) (buffer_sections old)) (out_is done)
+    where
+      go : (x : Option PlainLocked) → option_map (sleep_answer attempts a) x ≡ Some outcome → IsEffectOf call f
+      go None out = absurd cc
+      go (Some state) out = effect_kinds t call state.above f
+          (subst (λ e. (told e state.above).effect ≡ Some f) is (effect_is (Some state) out ∙ has))
+
+  pub done_kept : left.kept ≡ None
+  done_kept = go done
+    where
+      go : IsDoneWhole (sleep_kernel attempts opening) c b a old new own left outcome → left.kept ≡ None
+      go (inl alone) = ap (λ (s : Sleeping Tried). s.kept) alone.leaves
+      go (inr sending) = ap (λ (s : Sleeping Tried). s.kept) sending.leaves
+
+  -- the moves grow by this CPU's own
+  pub done_moves : (Acts : CpuId → Type 0) → MovesGrow Acts c (moves_in (sleep_kernel attempts opening) old) (moves_in (sleep_kernel attempts opening) new)
+  done_moves Acts = go done
+    where
+      K : Kernel Attempt PlainLocked (Outcome Tried)
+      K = sleep_kernel attempts opening
+
+      go : IsDoneWhole (sleep_kernel attempts opening) c b a old new own left outcome
+          → MovesGrow Acts c (moves_in (sleep_kernel attempts opening) old) (moves_in (sleep_kernel attempts opening) new)
+      go (inl alone) = record {
+        others = [];
+        mine = step c (call_move (sleep_kernel attempts opening) old (OnBuffer b a)) ∷ [];
+        foreign = λ d acts. tt;
+        own = (refl, tt);
+        is = ap (moves_in (sleep_kernel attempts opening)) alone.seen;
+      }
+      go (inr sending) = record {
+        others = [];
+        mine = step c (Pushed (queue_for (homes_in opening) c sending.woken) sending.woken)
+            ∷ step c (call_move (sleep_kernel attempts opening) old (OnBuffer b a)) ∷ [];
+        foreign = λ d acts. tt;
+        own = (refl, (refl, tt));
+        is = ap (moves_in (sleep_kernel attempts opening)) sending.seen;
+      }
+
+  -- what the call did
+  pub done_called : (Acts : CpuId → Type 0) (t : Tid) (call : Call) (talks now : List Talk) → a ≡ attempt_of t call → b ≡ buffer_of call
+      → t.0 < length talks → MayTalk (talk_of talks t) call
+      → ((u : Tid) → (talk_of talks u).stage ≢ Between → (talk_of talks u).effect ≡ None)
+      → now ≡ slice_set talks t.0 (talk_after call outcome.out.effect) → (answer : Option Reply) → answer ≡ reply_to call outcome.out.effect
+      → Called Acts c t call talks now (entries_in (inner opening) (buffer_sections old)) (entries_in (inner opening) (buffer_sections new)) answer
+  done_called Acts t call talks now attempt at within may waits set answer replies = record {
+    others = [];
+    mine = outcome.out.effect;
+    foreign = λ d acts. tt;
+    is = done_entries ∙ ap (λ u. option_to_list (option_map (entry_of c u b) outcome.out.effect) ++ entries_in (inner opening) (buffer_sections old)) (by_caller call attempt)
+        ∙ ap (λ x. option_to_list (option_map (entry_of c t x) outcome.out.effect) ++ entries_in (inner opening) (buffer_sections old)) at;
+    fresh = λ f has. (none_before (talk_of talks t) (waits t), ap (λ (x : Talk). x.effect) mine_now ∙ after_effect outcome.out.effect f has, done_kind t call attempt f has);
+    stays = λ none. ap (λ (x : Talk). x.effect) mine_now ∙ after_none outcome.out.effect none ∙ sym (none_before (talk_of talks t) (waits t));
+    answers = subst₂ (λ x r. Answered call x r) (sym mine_now) (sym replies) (answered outcome.out.effect);
+    apart = λ u other. ap (λ l. talk_of l u) set ∙ talk_there talks t.0 u.0 (talk_after call outcome.out.effect) other;
+  }
+    where
+      by_caller : (k : Call) → a ≡ attempt_of t k → a.thread ≡ t
+      by_caller (Send at m) is = ap (λ (e : Attempt). e.thread) is
+      by_caller (Recv at) is = ap (λ (e : Attempt). e.thread) is
+
+      mine_now : talk_of now t ≡ talk_after call outcome.out.effect
+      mine_now = ap (λ l. talk_of l t) set ∙ talk_here talks t.0 (talk_after call outcome.out.effect) within
+
+      none_before : (talk : Talk) → (talk.stage ≢ Between → talk.effect ≡ None) → (going talk call).effect ≡ None
+      none_before talk rests = by_stage talk.stage rests
+        where
+          by_stage : (stage : Stage) → (stage ≢ Between → talk.effect ≡ None) → (going_at stage talk call).effect ≡ None
+          by_stage Between rests = refl
+          by_stage Acquires rests = rests (λ is. absurd (cc is))
+          by_stage Enters rests = rests (λ is. absurd (cc is))
+          by_stage Tries rests = rests (λ is. absurd (cc is))
+          by_stage Waits rests = rests (λ is. absurd (cc is))
+          by_stage AcquiresAgain rests = rests (λ is. absurd (cc is))
+          by_stage Signals rests = rests (λ is. absurd (cc is))
+          by_stage SignalsOwn rests = rests (λ is. absurd (cc is))
+          by_stage Releases rests = rests (λ is. absurd (cc is))
+
+      after_effect : (effect : Option Effect) (f : Effect) → effect ≡ Some f → (talk_after call effect).effect ≡ Some f
+      after_effect None f has = has
+      after_effect (Some g) f has = has
+
+      after_none : (effect : Option Effect) → effect ≡ None → (talk_after call effect).effect ≡ None
+      after_none None none = refl
+      after_none (Some g) none = none
+
+      answered : (effect : Option Effect) → Answered call (talk_after call effect) (reply_to call effect)
+      answered None = refl
+      answered (Some f) = (refl, (f, refl, refl))
+
+  -- a call without an effect was refused: the buffer allows it none, and its thread sleeps
+  pub done_refused : (t : Tid) (call : Call) → a ≡ attempt_of t call → b ≡ buffer_of call
+      → inner opening ≡ fresh_buffers (caps_in (inner opening)) → outcome.out.effect ≡ None
+      → IsRefused call (caps_in (inner opening)) (entries_in (inner opening) (buffer_sections new))
+  done_refused t call attempt at fresh none =
+      subst (λ l. IsRefused call (caps_in (inner opening)) l)
+      (sym (done_entries ∙ ap (λ f. option_to_list (option_map (entry_of c a.thread b) f) ++ entries_in (inner opening) (buffer_sections old)) none))
+      (go (locked_after (inner opening) (Buffer b) (buffer_sections old)) refl (out_is done))
+    where
+      refused : (k : Call) (x : PlainState) (b : ℕ) (es : List Entry) → b ≡ (buffer_of k).0 → Tally (caps_in (inner opening)) b es x
+          → (told (attempt_of t k) x).effect ≡ None → IsRefused k (caps_in (inner opening)) es
+      refused (Send at m) x n es is tally nothing = by_room (allows Senders x) refl nothing
+        where
+          by_room : (y : Bool) → allows Senders x ≡ y → (told_if y m Senders x).effect ≡ None → IsRefused (Send at m) (caps_in (inner opening)) es
+          by_room true allowed nothing = absurd (cc nothing)
+          by_room false full nothing = λ room.
+              let here = subst (λ k. length (items_of (contents_of (caps_in (inner opening)) es) k) < slice_index (caps_in (inner opening)) k) (sym is) room in
+              let low : length x.items < x.capacity = subst₂ (λ (l : List Message) (n : ℕ). length l < n) tally.items tally.capacity here in
+              let yes : allows Senders x ≡ true = lt-ltb (length x.items) x.capacity low in
+              absurd (cc (yes, full))
+      refused (Recv at) x n es is tally nothing = by_item (allows Receivers x) refl nothing
+        where
+          by_item : (y : Bool) → allows Receivers x ≡ y → (told_if y no_message Receivers x).effect ≡ None → IsRefused (Recv at) (caps_in (inner opening)) es
+          by_item true allowed nothing = absurd (cc nothing)
+          by_item false empty nothing = λ m first.
+              let here = subst (λ k. slice_get (items_of (contents_of (caps_in (inner opening)) es) k) 0 ≡ Some m) (sym is) first in
+              let some : slice_get x.items 0 ≡ Some m = subst (λ (l : List Message). slice_get l 0 ≡ Some m) tally.items here in
+              let yes : allows Receivers x ≡ true = lt-ltb 0 (length x.items) (slice_get_within x.items 0 m some) in
+              absurd (cc (yes, empty))
+
+      go : (x : Option PlainLocked) → locked_after (inner opening) (Buffer b) (buffer_sections old) ≡ x → option_map (sleep_answer attempts a) x ≡ Some outcome
+          → IsRefused call (caps_in (inner opening)) (entries_in (inner opening) (buffer_sections old))
+      go None is out = absurd cc
+      go (Some state) is out = refused call state.above b.0 (entries_in (inner opening) (buffer_sections old)) (ap (λ (d : BufId). d.0) at)
+          (plain_tally (inner opening) (caps_in (inner opening)) (buffer_sections old) fresh b state is)
+          (subst (λ e. (told e state.above).effect ≡ None) attempt (effect_is (Some state) out ∙ none))
+
+  -- and its thread sleeps
+  pub done_sleeps : outcome.out.effect ≡ None → left.threads.current ≡ None
+  done_sleeps none = go done
+    where
+      asleep : (own_answered (sleep_moves attempts) (homes_in opening) c (Some outcome) own).current ≡ None
+      asleep = woken_current (homes_in opening) c outcome.woke (own_slept (attempts.joins outcome.out) own)
+          ∙ ap (λ (e : Option Effect). (own_slept (if is_some e then None else line_for (Some outcome.out.side)) own).current) none
+          ∙ slept_current outcome.out.side own
+
+      go : IsDoneWhole (sleep_kernel attempts opening) c b a old new own left outcome → left.threads.current ≡ None
+      go (inl alone) = ap (λ (s : Sleeping Tried). s.threads.current) alone.leaves ∙ asleep
+      go (inr sending) = ap (λ (s : Sleeping Tried). s.threads.current) sending.leaves ∙ asleep

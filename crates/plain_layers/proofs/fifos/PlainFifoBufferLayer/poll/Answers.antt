@@ -1,0 +1,140 @@
+use Rattle.std.proofs.Common.{◌≡◌, ◌≢◌, ◌<◌, List, None, length, slice_set, subst, sym, ◌∙◌}
+use Rattle.std.proofs.Math.ListN.{length-set}
+use Rattle.event_log.specs.declared.ids.CpuId.{CpuId}
+use Rattle.event_log.specs.declared.ids.Tid.{Tid}
+use Rattle.event_log.specs.declared.ids.TheConstants.{THREADS}
+use Rattle.layer_traits.specs.BufferLaw.{Called, IsRefused, MovesGrow, talk_of}
+use Rattle.layer_traits.specs.declared.talks.Stage.TheVariants.{Between}
+use Rattle.layer_traits.specs.declared.talks.Talk.{Talk}
+use Rattle.layer_traits.specs.Plans.{IsWhole}
+use Rattle.layer_traits.specs.QueueBlocks.{homes_in, inner}
+use Rattle.layer_traits.specs.Queues.{buffer_sections, moves_in}
+use Rattle.layer_traits.specs.SleepLaw.{sleep_kernel}
+use Rattle.plain_layers.specs.Attempts.{attempts}
+use Rattle.plain_layers.specs.Fifos.{IsOwned, caps_in, entries_in, talk_after}
+use Rattle.plain_layers.proofs.FifoLemmas.{buffer_there, done_called, done_kept, done_moves, done_refused, done_sleeps, owned_after, reply_none, runs_small, set_waits}
+use Rattle.plain_layers.proofs.fifos.PlainFifoBufferLayer.poll.Goals as goal
+
+pub whole-outcome-requires-clause-buffer : goal.whole-outcome-requires-clause-buffer
+whole-outcome-requires-clause-buffer g c =
+    let S = g.S.SleepLayer in
+    let m = c.args.m.now in
+    let fits = c.requires.fits in
+    buffer_there (S.opening m) c.buffer_in.result fits.2.fresh (subst (λ b. b.0 < length (caps_in (inner (S.opening m)))) (sym c.buffer_in.ensures) c.requires.buffer)
+
+pub bounds-self-from : goal.bounds-self-from
+bounds-self-from g c =
+    let S = g.S.SleepLayer in
+    let m = c.args.m.now in
+    let n = c.whole-outcome.new.m in
+    let lower = c.args.self.now.lower in
+    let fits = c.requires.fits in
+    let said = c.whole-outcome.ensures in
+    let small = runs_small (homes_in (S.opening m)) (S.cpu_of lower) (moves_in (sleep_kernel attempts (S.opening m)) (S.seen m)) (S.own lower).threads
+    (g.met.S.SleepLayer.moving m (S.cpu_of lower) (g.met.S.SleepLayer.own_cpu lower m fits.0)) (g.met.S.SleepLayer.stands lower m fits.0)
+    (g.met.S.SleepLayer.opens m (S.cpu_of lower) (g.met.S.SleepLayer.own_cpu lower m fits.0)).room c.args.t c.requires.runs in
+    subst (λ k. k < THREADS) (sym c.from.ensures) small
+
+pub returns-clause-called : goal.returns-clause-called
+returns-clause-called g c =
+    let S = g.S.SleepLayer in
+    let m = c.args.m.now in
+    let n = c.whole-outcome.new.m in
+    let lower = c.args.self.now.lower in
+    let fits = c.requires.fits in
+    let said = c.whole-outcome.ensures in
+    let Acts = λ (d : CpuId). S.ActsFor m d × IsWhole S.IsStepwise × IsOwned (λ e. S.ActsFor m e) (inner (S.opening m)) in
+    let small = runs_small (homes_in (S.opening m)) (S.cpu_of lower) (moves_in (sleep_kernel attempts (S.opening m)) (S.seen m)) (S.own lower).threads
+    (g.met.S.SleepLayer.moving m (S.cpu_of lower) (g.met.S.SleepLayer.own_cpu lower m fits.0)) (g.met.S.SleepLayer.stands lower m fits.0)
+    (g.met.S.SleepLayer.opens m (S.cpu_of lower) (g.met.S.SleepLayer.own_cpu lower m fits.0)).room c.args.t c.requires.runs in
+    let set : slice_set c.args.self.now.talks c.from.result c.next.result
+    ≡ slice_set c.args.self.now.talks c.args.t.0 (talk_after c.args.call.now c.whole-outcome.result.out.effect)
+    = λ i. slice_set c.args.self.now.talks (c.from.ensures i) (c.next.ensures i) in
+    let within : c.args.t.0 < length c.args.self.now.talks = subst (λ k. c.args.t.0 < k) (sym fits.3.places) small in
+    subst (λ o. Called Acts (S.cpu_of lower) c.args.t c.args.call.now c.args.self.now.talks (slice_set c.args.self.now.talks c.from.result c.next.result)
+    (entries_in (inner (S.opening m)) (buffer_sections (S.seen m))) (entries_in (inner o) (buffer_sections (S.seen n))) c.reply.result) (sym said.opening)
+    (done_called (S.opening m) (S.cpu_of lower) c.buffer_in.result c.attempt_in.result (S.seen m) (S.seen n) (S.own lower).threads
+    (S.own c.whole-outcome.new.part) c.whole-outcome.result said.done Acts c.args.t c.args.call.now c.args.self.now.talks
+    (slice_set c.args.self.now.talks c.from.result c.next.result) c.attempt_in.ensures c.buffer_in.ensures within c.requires.same fits.3.waits set
+    c.reply.result c.reply.ensures)
+
+pub returns-clause-moves : goal.returns-clause-moves
+returns-clause-moves g c =
+    let S = g.S.SleepLayer in
+    let m = c.args.m.now in
+    let n = c.whole-outcome.new.m in
+    let lower = c.args.self.now.lower in
+    let fits = c.requires.fits in
+    let said = c.whole-outcome.ensures in
+    let Acts = λ (d : CpuId). S.ActsFor m d × IsWhole S.IsStepwise × IsOwned (λ e. S.ActsFor m e) (inner (S.opening m)) in
+    subst (λ o. MovesGrow Acts (S.cpu_of lower) (moves_in (sleep_kernel attempts (S.opening m)) (S.seen m)) (moves_in (sleep_kernel attempts o) (S.seen n)))
+    (sym said.opening) (done_moves (S.opening m) (S.cpu_of lower) c.buffer_in.result c.attempt_in.result (S.seen m) (S.seen n) (S.own lower).threads
+    (S.own c.whole-outcome.new.part) c.whole-outcome.result said.done Acts)
+
+pub returns-clause-fits : goal.returns-clause-fits
+returns-clause-fits g c =
+    let S = g.S.SleepLayer in
+    let m = c.args.m.now in
+    let n = c.whole-outcome.new.m in
+    let lower = c.args.self.now.lower in
+    let fits = c.requires.fits in
+    let said = c.whole-outcome.ensures in
+    let small = runs_small (homes_in (S.opening m)) (S.cpu_of lower) (moves_in (sleep_kernel attempts (S.opening m)) (S.seen m)) (S.own lower).threads
+    (g.met.S.SleepLayer.moving m (S.cpu_of lower) (g.met.S.SleepLayer.own_cpu lower m fits.0)) (g.met.S.SleepLayer.stands lower m fits.0)
+    (g.met.S.SleepLayer.opens m (S.cpu_of lower) (g.met.S.SleepLayer.own_cpu lower m fits.0)).room c.args.t c.requires.runs in
+    let set : slice_set c.args.self.now.talks c.from.result c.next.result
+    ≡ slice_set c.args.self.now.talks c.args.t.0 (talk_after c.args.call.now c.whole-outcome.result.out.effect)
+    = λ i. slice_set c.args.self.now.talks (c.from.ensures i) (c.next.ensures i) in
+    let within : c.args.t.0 < length c.args.self.now.talks = subst (λ k. c.args.t.0 < k) (sym fits.3.places) small in (
+      said.fits,
+      fits.1,
+      owned_after (λ e. S.ActsFor m e) (λ e. S.ActsFor n e) (S.opening m) (S.opening n) said.opening said.acts fits.2,
+      record {
+        none = said.none;
+        kept = done_kept (S.opening m) (S.cpu_of lower) c.buffer_in.result c.attempt_in.result (S.seen m) (S.seen n) (S.own lower).threads
+            (S.own c.whole-outcome.new.part) c.whole-outcome.result said.done;
+        waits = subst (λ (l : List Talk). (u : Tid) → (talk_of l u).stage ≢ Between → (talk_of l u).effect ≡ None) (sym set)
+            (set_waits c.args.self.now.talks c.args.t c.args.call.now c.whole-outcome.result.out.effect within fits.3.waits);
+        places = length-set c.args.self.now.talks c.from.result c.next.result ∙ fits.3.places;
+      },
+    )
+
+pub returns-clause-acts : goal.returns-clause-acts
+returns-clause-acts g c = λ d acts.
+    let S = g.S.SleepLayer in
+    let m = c.args.m.now in
+    let n = c.whole-outcome.new.m in
+    let lower = c.args.self.now.lower in
+    let fits = c.requires.fits in
+    let said = c.whole-outcome.ensures in
+    (said.acts d acts.0, acts.1, owned_after (λ e. S.ActsFor m e) (λ e. S.ActsFor n e) (S.opening m) (S.opening n) said.opening said.acts acts.2)
+
+pub returns-clause-others : goal.returns-clause-others
+returns-clause-others g c = λ p other theirs.
+    let S = g.S.SleepLayer in
+    let m = c.args.m.now in
+    let n = c.whole-outcome.new.m in
+    let lower = c.args.self.now.lower in
+    let fits = c.requires.fits in
+    let said = c.whole-outcome.ensures in (
+      said.others p.lower other theirs.0,
+      theirs.1,
+      owned_after (λ e. S.ActsFor m e) (λ e. S.ActsFor n e) (S.opening m) (S.opening n) said.opening said.acts theirs.2,
+      theirs.3,
+    )
+
+pub returns-clause-prompt : goal.returns-clause-prompt
+returns-clause-prompt g c = λ whole none.
+    let S = g.S.SleepLayer in
+    let m = c.args.m.now in
+    let n = c.whole-outcome.new.m in
+    let lower = c.args.self.now.lower in
+    let fits = c.requires.fits in
+    let said = c.whole-outcome.ensures in
+    let nothing = reply_none c.args.call.now c.whole-outcome.result.out.effect (sym c.reply.ensures ∙ none) in (
+      subst (λ o. IsRefused c.args.call.now (caps_in (inner (S.opening m))) (entries_in (inner o) (buffer_sections (S.seen n)))) (sym said.opening)
+          (done_refused (S.opening m) (S.cpu_of lower) c.buffer_in.result c.attempt_in.result (S.seen m) (S.seen n) (S.own lower).threads
+          (S.own c.whole-outcome.new.part) c.whole-outcome.result said.done c.args.t c.args.call.now c.attempt_in.ensures c.buffer_in.ensures fits.2.fresh nothing),
+      done_sleeps (S.opening m) (S.cpu_of lower) c.buffer_in.result c.attempt_in.result (S.seen m) (S.seen n) (S.own lower).threads
+          (S.own c.whole-outcome.new.part) c.whole-outcome.result said.done nothing,
+    )

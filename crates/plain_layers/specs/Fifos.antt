@@ -1,0 +1,130 @@
+-- Buffers in one section a call: which section a call is, what it leaves, and what a machine of such sections shows.
+use Rattle.std.specs.Prelude.{◌≡◌, ◌≢◌, ℕ, ◌+◌, ◌<◌, List, [], ◌∷◌, ◌++◌, length, Option, Some, None, option_map, option_to_list, replicate, slice_get}
+use Rattle.std.proofs.Common.{zero, suc}
+use Rattle.event_log.specs.declared.entries.Entry.{Entry}
+use Rattle.event_log.specs.declared.ids.BufId.{BufId}
+use Rattle.event_log.specs.declared.ids.CpuId.{CpuId}
+use Rattle.event_log.specs.declared.ids.LockId.{LockId}
+use Rattle.event_log.specs.declared.ids.LockId.TheVariants.{Pending, Buffer}
+use Rattle.event_log.specs.declared.ids.Tid.{Tid}
+use Rattle.event_log.specs.declared.ids.TheConstants.{CPUS, THREADS}
+use Rattle.event_log.specs.Messages.{no_message}
+use Rattle.event_log.specs.Sections.{Section, block_after}
+use Rattle.layer_traits.specs.declared.calls.Call.{Call}
+use Rattle.layer_traits.specs.declared.calls.Call.TheVariants.{Send, Recv}
+use Rattle.layer_traits.specs.declared.calls.Effect.{Effect}
+use Rattle.layer_traits.specs.declared.calls.Reply.{Reply}
+use Rattle.layer_traits.specs.declared.locked.Side.TheVariants.{Receivers, Senders}
+use Rattle.layer_traits.specs.declared.moves.Line.{Line}
+use Rattle.layer_traits.specs.declared.scheds.SchedCall.{SchedCall}
+use Rattle.layer_traits.specs.declared.talks.Stage.TheVariants.{Between, Waits}
+use Rattle.layer_traits.specs.declared.talks.Talk.{Talk}
+use Rattle.layer_traits.specs.BufferLaw.{Buffering, buffering, entry_of, reply_of, talk_of}
+use Rattle.layer_traits.specs.BufferProtocol.{BufferLock}
+use Rattle.layer_traits.specs.Places.{Threads}
+use Rattle.layer_traits.specs.Sleeping.{SleepState, line_at, sleep_edited}
+use Rattle.layer_traits.specs.SleepLaw.{Sleeping}
+use Rattle.plain_layers.specs.declared.attempts.Attempt.{Attempt}
+use Rattle.plain_layers.specs.declared.attempts.Tried.{Tried}
+use Rattle.plain_layers.specs.Attempts.{PlainState, attempts, empty_buffer, told}
+
+-- a buffer with the waiting lists of its lock
+abbrev pub PlainLocked : Type 0
+PlainLocked = SleepState PlainState
+
+-- the section of a call
+abbrev pub attempt_of : Tid → Call → Attempt
+attempt_of t (Send b m) = record { thread = t; side = Senders; message = m }
+attempt_of t (Recv b) = record { thread = t; side = Receivers; message = no_message }
+
+-- the talk of a thread after its section: in no call with its effect, or it waits
+abbrev pub talk_after : Call → Option Effect → Talk
+talk_after call None = record { stage = Waits; call = Some call; position = 0; effect = None }
+talk_after call (Some f) = record { stage = Between; call = None; position = 0; effect = Some f }
+
+-- the reply of a call after this effect, or none
+abbrev pub reply_to : Call → Option Effect → Option Reply
+reply_to call effect = option_map (reply_of call) effect
+
+-- a lock after these sections
+abbrev pub locked_after : (LockId → Option PlainLocked) → LockId → List (Section Attempt) → Option PlainLocked
+locked_after opening lock past = block_after (sleep_edited attempts) opening lock past
+
+-- the effect of an attempt at a buffer, if the buffer allows one
+abbrev pub effect_by : Attempt → Option PlainLocked → Option Effect
+effect_by a None = None
+effect_by a (Some state) = (told a state.above).effect
+
+-- the entry of a section at a lock
+abbrev pub entry_at : CpuId → LockId → Attempt → Option PlainLocked → Option Entry
+entry_at c (Pending d) a state = None
+entry_at c (Buffer b) a state = option_map (entry_of c a.thread b) (effect_by a state)
+
+-- the effects of these sections
+abbrev pub entries_in : (LockId → Option PlainLocked) → List (Section Attempt) → List Entry
+entries_in opening [] = []
+entries_in opening (s ∷ past) = option_to_list (entry_at s.cpu s.lock s.edit (locked_after opening s.lock past)) ++ entries_in opening past
+
+-- the capacity of a buffer before those of the next ones, while there is one
+abbrev pub caps_at : Option PlainLocked → List ℕ → List ℕ
+caps_at None rest = []
+caps_at (Some state) rest = state.above.capacity ∷ rest
+
+-- the capacities of buffers n, n + 1 and so on, while there is one, at most so many
+unfoldable pub caps_from : ℕ → ℕ → (LockId → Option PlainLocked) → List ℕ
+caps_from zero n locks = []
+caps_from (suc more) n locks = caps_at (locks (Buffer (record { 0 = n }))) (caps_from more (n + 1) locks)
+
+-- the capacities of the buffers: a buffer's number is less than 256
+unfoldable pub caps_in : (LockId → Option PlainLocked) → List ℕ
+caps_in locks = caps_from 256 0 locks
+
+-- a buffer with room for so many items, at which nobody waits
+abbrev pub fresh_buffer : ℕ → PlainLocked
+fresh_buffer capacity = record { sleepers = []; receivers = []; senders = []; above = empty_buffer capacity }
+
+-- the buffers of these capacities
+abbrev pub fresh_buffers : List ℕ → LockId → Option PlainLocked
+fresh_buffers caps (Pending d) = None
+fresh_buffers caps (Buffer b) = option_map fresh_buffer (slice_get caps b.0)
+
+-- who waits at a buffer
+abbrev pub lines_in : (LockId → Option PlainLocked) → List (Section Attempt) → BufId → Line → List Tid
+lines_in opening past b line = line_at line (locked_after opening (Buffer b) past)
+
+-- a buffer as the layer's trait shows it: its lock has no owner, and nobody stands in the lines of the block
+abbrev pub shown : PlainLocked → BufferLock
+shown state = record {
+  owner = None;
+  sleepers = state.sleepers;
+  receivers = state.receivers;
+  senders = state.senders;
+  above = record {
+    receive_line = [];
+    send_line = [];
+    items = state.above.items;
+    capacity = state.above.capacity;
+    effects = state.above.effects;
+    sends = state.above.sends;
+    receives = state.above.receives;
+  };
+}
+
+-- the machine has one holder for all CPUs, and opened with fresh buffers
+pub record IsOwned (ActsFor : CpuId → Type 0) (locks : LockId → Option PlainLocked) : Type 0 where
+  pub all : (c : CpuId) → c.0 < CPUS → ActsFor c
+  pub fresh : locks ≡ fresh_buffers (caps_in locks)
+
+-- between its polls a part has nothing begun; and a thread has an effect only once its call is over
+pub record Rests (under : Option (SchedCall Attempt)) (own : Sleeping Tried) (talks : List Talk) : Type 0 where
+  pub none : under ≡ None
+  pub kept : own.kept ≡ None
+  pub waits : (t : Tid) → (talk_of talks t).stage ≢ Between → (talk_of talks t).effect ≡ None
+  pub places : length talks ≡ THREADS
+
+-- what a part has of its own, as the layer's trait shows it
+abbrev pub own_of : Threads → List Talk → Buffering
+own_of threads talks = buffering (record {
+  lock = record { sleep = record { threads = threads; kept = None }; slept = replicate THREADS None };
+  waits = replicate THREADS None;
+}) talks

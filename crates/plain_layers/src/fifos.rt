@@ -1,0 +1,206 @@
+//! First-in first-out buffers in one section.
+
+ghost use Rattle.std.specs.Prelude.{◌≡◌, ◌<◌, [], None, Some, false, replicate, slice_set};
+ghost use Rattle.event_log.specs.declared.ids.TheConstants.{THREADS};
+ghost use Rattle.layer_traits.specs.BufferLaw.{buffer_of, quiet, talk_of};
+ghost use Rattle.plain_layers.specs.Fifos.{attempt_of, reply_to, talk_after};
+
+use crate::attempts::{Attempt, Tried};
+use crate::wholes::whole;
+use event_log::{BufId, CpuId, Msg, THREADS, Tid};
+use layer_traits::{
+    BufferLayer, Call, Effect, Outcome, Pass, Reply, Side, SleepLayer, Stage, Talk,
+};
+
+/// One CPU's part of first-in first-out blocking buffers as they are meant, over a part `S` of sleep
+/// and wakeup: a message call is one section. It takes effect if the buffer allows it, and else its
+/// thread sleeps and calls again once it is woken. A thread that comes anew may take what one was
+/// woken for, which then sleeps again.
+#[derive(Drop)]
+pub struct PlainFifo<S> {
+    lower: S,
+    talks: [Talk; THREADS],
+}
+
+/// The buffer of a call.
+fn buffer_in(call: &Call) -> BufId
+    ensures { result ≡ buffer_of call.now }
+{
+    match *call {
+        Call::Send(buffer, _) | Call::Recv(buffer) => buffer,
+    }
+}
+
+/// The section of a call.
+fn attempt_in(t: Tid, call: &Call) -> Attempt
+    ensures { result ≡ attempt_of t call.now }
+{
+    match *call {
+        Call::Send(_, message) => Attempt {
+            thread: t,
+            side: Side::Senders,
+            message,
+        },
+        Call::Recv(_) => Attempt {
+            thread: t,
+            side: Side::Receivers,
+            message: 0,
+        },
+    }
+}
+
+/// The talk of a thread after its section had this effect, or none.
+fn next(call: &Call, effect: Option<Effect>) -> Talk
+    ensures { result ≡ talk_after call.now effect }
+{
+    match effect {
+        Some(_) => Talk {
+            stage: Stage::Between,
+            call: None,
+            position: 0,
+            effect,
+        },
+        None => Talk {
+            stage: Stage::Waits,
+            call: Some(*call),
+            position: 0,
+            effect: None,
+        },
+    }
+}
+
+/// The reply of a call after this effect, or none.
+fn reply(call: &Call, effect: Option<Effect>) -> Option<Reply>
+    ensures { result ≡ reply_to call.now effect }
+{
+    match *call {
+        Call::Send(_, _) => effect.map(|_| Reply::Sent),
+        Call::Recv(_) => effect.map(|effect| Reply::Got(effect.value)),
+    }
+}
+
+impl<S: SleepLayer<Attempt>> BufferLayer for PlainFifo<S> {
+    ghost use Rattle.std.specs.Prelude.{◌/◌, length, refl};
+    ghost use Rattle.layer_traits.specs.IpcLaw.{LinesAgree};
+    ghost use Rattle.plain_layers.specs.FifoLaws.{plain_lines};
+    ghost use Rattle.plain_layers.specs.FifoTallies.{plain_lawful};
+    ghost use Rattle.std.proofs.Common.{subst, sym};
+    ghost use Rattle.layer_traits.proofs.KernelRenaming.{homes_viewed, starts_viewed};
+    ghost use Rattle.layer_traits.specs.Places.{AreMoves, Stands};
+    ghost use Rattle.layer_traits.specs.BufferLaw.{buffering};
+    ghost use Rattle.layer_traits.specs.Plans.{IsWhole as IsWholeOf};
+    ghost use Rattle.layer_traits.specs.QueueBlocks.{inner};
+    ghost use Rattle.layer_traits.specs.Queues.{buffer_sections, moves_in};
+    ghost use Rattle.layer_traits.specs.Renaming.{viewed};
+    ghost use Rattle.layer_traits.specs.SleepLaw.{sleep_kernel};
+    ghost use Rattle.plain_layers.specs.Attempts.{attempts};
+    ghost use Rattle.plain_layers.specs.Fifos.{IsOwned, Rests, caps_in, entries_in, lines_in, own_of, shown};
+
+    type Machine = S::Machine;
+
+    ghost opening = { λ m. viewed shown (S.opening m) };
+
+    ghost caps = { λ m. caps_in (inner (S.opening m)) };
+
+    ghost seen = { λ m. entries_in (inner (S.opening m)) (buffer_sections (S.seen m)) };
+
+    ghost moves = { λ m. moves_in (sleep_kernel attempts (S.opening m)) (S.seen m) };
+
+    ghost lines = { λ m b line. lines_in (inner (S.opening m)) (buffer_sections (S.seen m)) b line };
+
+    ghost ActsFor = { λ m c. S.ActsFor m c × IsWholeOf S.IsStepwise × IsOwned (λ d. S.ActsFor m d) (inner (S.opening m)) };
+
+    ghost room = { λ m. S.room m / 2 };
+
+    ghost site = { λ m. S.site m };
+
+    ghost IsOutside = { λ m c. S.IsOutside m c };
+
+    ghost cpu_of = { λ p. S.cpu_of p.lower };
+
+    ghost own = { λ p. own_of (S.own p.lower).threads p.talks };
+
+    ghost is_inside = { λ p. false };
+
+    ghost doing = { λ p. None };
+
+    ghost Fits = { λ p m. S.Fits p.lower m × IsWholeOf S.IsStepwise × IsOwned (λ d. S.ActsFor m d) (inner (S.opening m))
+        × Rests (S.under_way p.lower) (S.own p.lower) p.talks };
+
+    ghost IsWhole = { Unit {0} };
+
+    ghost IsStepwise = { ⊥ };
+
+    ghost acts = { λ m. [] };
+
+    fn part(cpu: CpuId, homes: &[CpuId], buffers: u8) -> Self {
+        PlainFifo {
+            lower: S::part(cpu, homes, buffers),
+            talks: [Talk {
+                stage: Stage::Between,
+                call: None,
+                position: 0,
+                effect: None,
+            }; THREADS],
+        }
+    }
+
+    fn is_busy(&self) -> bool {
+        false
+    }
+
+    fn current(&self) -> Option<Tid> {
+        self.lower.current()
+    }
+
+    fn hand(&self) -> Option<Tid> {
+        self.lower.hand()
+    }
+
+    fn has_ready(&self) -> bool {
+        self.lower.has_ready()
+    }
+
+    fn effect(&self, t: Tid) -> Option<Effect> {
+        self.talks[usize::from(t.0)].effect
+    }
+
+    fn look(&mut self, _m: &mut S::Machine) -> bool {
+        false
+    }
+
+    fn poll(&mut self, m: &mut S::Machine, t: Tid, call: &Call) -> Option<Reply> {
+        let outcome = whole(&mut self.lower, m, buffer_in(call), attempt_in(t, call));
+        let effect = outcome.out.effect;
+        self.talks[usize::from(t.0)] = next(call, effect);
+        reply(call, effect)
+    }
+
+    fn pass(&mut self, m: &mut S::Machine, call: Pass) -> Option<()> {
+        self.lower.pass(m, call)
+    }
+
+    ghost own_cpu = { λ p m fits. (S.own_cpu p.lower m fits.0, fits.1, fits.2) };
+
+    ghost lawful = { λ m c acts. plain_lawful (inner (S.opening m)) (caps_in (inner (S.opening m))) (buffer_sections (S.seen m)) acts.2.fresh };
+
+    ghost stands = { λ p m fits. subst (λ h. Stands h (S.cpu_of p.lower) (moves_in (sleep_kernel attempts (S.opening m)) (S.seen m)) (S.own p.lower).threads)
+        (sym (homes_viewed shown (S.opening m))) (S.stands p.lower m fits.0) };
+
+    ghost moved = { λ m c acts. subst (λ h. AreMoves h (moves_in (sleep_kernel attempts (S.opening m)) (S.seen m)))
+        (sym (homes_viewed shown (S.opening m))) (S.moving m c acts.0) };
+
+    ghost lists = { λ p m fits. subst (λ h. LinesAgree (length (caps_in (inner (S.opening m)))) h (moves_in (sleep_kernel attempts (S.opening m)) (S.seen m))
+        (lines_in (inner (S.opening m)) (buffer_sections (S.seen m)))) (sym (homes_viewed shown (S.opening m)))
+        (plain_lines (S.opening m) (S.seen m) fits.2.fresh (S.lists p.lower m fits.0)) };
+
+    ghost opens = { λ m c acts. starts_viewed shown (S.opening m) (S.opens m c acts.0) };
+
+    ghost legal = { λ m c acts. tt };
+
+    ghost seen_is = { λ step m. absurd step };
+
+    ghost busy = { λ p m fits step. absurd step };
+
+    ghost rests = { λ p m fits none. refl };
+}
