@@ -1,9 +1,9 @@
 -- A step of a system that is taken is the step table's.
-use Rattle.std.proofs.Common.{◌≡◌, ◌≢◌, ℕ, ◌+◌, ◌<◌, Bool, true, List, [], ◌∷◌, ◌++◌, map, Option, Some, None, refl, ap, sym, ◌∙◌, subst, slice_set}
-use Rattle.std.specs.Prelude.{slice_get}
+use Rattle.std.proofs.Common.{◌≡◌, ◌≢◌, ℕ, ◌+◌, ◌<◌, Bool, true, List, [], ◌∷◌, ◌++◌, length, map, take, Option, Some, None, refl, ap, sym, ◌∙◌, subst, slice_set}
+use Rattle.std.specs.Prelude.{slice_get, slice_index_or}
 use Rattle.std.specs.List.{AllByRecursion}
 use Rattle.std.proofs.lemmas.Bool.{ne_eqb}
-use Rattle.std.proofs.lemmas.List.{map-set}
+use Rattle.std.proofs.lemmas.List.{map-set, take_more}
 use Rattle.event_log.specs.declared.ids.CpuId.{CpuId}
 use Rattle.event_log.specs.declared.ids.TheConstants.{CPUS}
 use Rattle.event_log.specs.Actions.{Action, Take, Try, Give, AreLegal, doer}
@@ -12,7 +12,7 @@ use Rattle.event_log.proofs.Foreign.{doers_known}
 use Rattle.event_log.proofs.Same.{same_cpu_self}
 use Rattle.layer_traits.specs.declared.steps.Reason.{Reason}
 use Rattle.layer_traits.specs.declared.steps.Step.{Step}
-use Rattle.layer_traits.specs.declared.steps.Step.TheVariants.{Stepped}
+use Rattle.layer_traits.specs.declared.steps.Step.TheVariants.{Stepped, Halted}
 use Rattle.layer_traits.specs.Along.{IsStep}
 use Rattle.cpu.specs.Table.Blocks.{Name}
 use Rattle.cpu.specs.Table.Setups.{Setup, Private}
@@ -20,7 +20,8 @@ use Rattle.cpu.specs.Table.Steps.{Stepping, Whole, answered_by, cpu_step, roomy,
 use Rattle.cpu.specs.Tower.Composed.{named}
 use Rattle.cpu.specs.Tower.Views.{TowerName}
 use Rattle.cpu.specs.Claims.{CpuShown, Shown}
-use Rattle.cpu.specs.Systems.{reason_or}
+use Rattle.cpu.specs.Cpus.{step_answer}
+use Rattle.cpu.specs.Systems.{Ran, SamePlan, SteppedByTable, WentOn, goes, reason_of, reason_or, stayed, took}
 use Rattle.cpu.proofs.ListReads.{all_left, all_right, shows_at}
 
 -- where the holder acts for each CPU that there may be, no action is foreign
@@ -103,3 +104,29 @@ shown_step shown ActsFor setup c xs k x y acts acts2 room taken at same step all
 pub own_live : (r : Option Reason) (s : Shown) → reason_or r s ≡ None → r ≡ None
 own_live None s live = refl
 own_live (Some reason) s live = absurd (cc live)
+
+-- what a step does, by what it answers
+pub went_on : (IsStepwise : Type 0) (c : CpuId) (old new : Shown) (answer : Step) → answer ≡ step_answer (reason_of c old)
+    → ((r : Reason) → answer ≡ Halted r → new ≡ old) → (IsStepwise → answer ≡ Stepped → SteppedByTable c old new Stepped) → WentOn IsStepwise c old new
+went_on IsStepwise c old new answer answered still steps = go (reason_of c old) refl
+  where
+    go : (r : Option Reason) → reason_of c old ≡ r → WentOn IsStepwise c old new
+    go None is = took is (λ step. steps step (answered ∙ ap step_answer is))
+    go (Some reason) is = stayed reason is (still reason (answered ∙ ap step_answer is))
+
+-- one step more has run
+pub ran_more : (IsStepwise : Type 0) (start s r : Shown) (all : List CpuId) (i : ℕ) (d : CpuId) → i < length all → Ran IsStepwise start (take i all) s
+    → WentOn IsStepwise (slice_index_or all i d) s r → Ran IsStepwise start (take (i + 1) all) r
+ran_more IsStepwise start s r all i d within ran went =
+    subst (λ (l : List CpuId). Ran IsStepwise start l r) (sym (take_more all i d within)) (goes (slice_index_or all i d) r ran went)
+
+-- what two steps leave as it was
+pub same_plans : {s r t : Shown} → SamePlan s r → SamePlan r t → SamePlan s t
+same_plans one two = record {
+  caps = two.caps ∙ one.caps;
+  homes = two.homes ∙ one.homes;
+  programs = two.programs ∙ one.programs;
+  count = two.count ∙ one.count;
+  limits = two.limits ∙ one.limits;
+  room = two.room ∙ one.room;
+}

@@ -1,5 +1,5 @@
 -- What always holds of a system, what its steps leave as it was, and why a CPU of it takes no step.
-use Rattle.std.specs.Prelude.{◌≡◌, ℕ, ◌+◌, ◌^◌, ◌<◌, ◌≤◌, ◌==◌, List, length, map, Option, Some, None, slice_get, if◌then◌else◌}
+use Rattle.std.specs.Prelude.{◌≡◌, ℕ, ◌+◌, ◌^◌, ◌<◌, ◌≤◌, ◌==◌, List, [], ◌∷◌, ◌++◌, length, map, Option, Some, None, slice_get, if◌then◌else◌}
 use Rattle.std.specs.List.{AllByRecursion}
 use Rattle.event_log.specs.declared.entries.Entry.{Entry}
 use Rattle.event_log.specs.declared.ids.CpuId.{CpuId}
@@ -9,6 +9,7 @@ use Rattle.event_log.specs.Actions.{Action, Rests, phase}
 use Rattle.layer_traits.specs.declared.steps.Reason.{Reason}
 use Rattle.layer_traits.specs.declared.steps.Reason.TheVariants.{StepsUsed}
 use Rattle.layer_traits.specs.declared.steps.Step.{Step}
+use Rattle.layer_traits.specs.declared.steps.Step.TheVariants.{Stepped}
 use Rattle.layer_traits.specs.Places.{home_of}
 use Rattle.cpu.specs.Table.Setups.{Setup}
 use Rattle.cpu.specs.Table.Steps.{Stepping, Whole, system_step}
@@ -81,3 +82,15 @@ pub record GoesBy (setup : Setup) (s : Shown) : Type 0 where
 abbrev pub SteppedByTable : CpuId → Shown → Shown → Step → Type 0
 SteppedByTable c old new answer = (setup : Setup) → GoesBy setup old
     → ◌≡◌ {A = Stepping} (record { next = whole_of new; answer = answer }) (system_step setup c (whole_of old))
+
+-- what a step of CPU c does: where the CPU has no reason against it, it is taken, by the step table where the machine does one action a
+-- step; else nothing changes
+pub data WentOn (IsStepwise : Type 0) (c : CpuId) (old new : Shown) : Type 0 where
+  took : reason_of c old ≡ None → (IsStepwise → SteppedByTable c old new Stepped) → WentOn IsStepwise c old new
+  stayed : (reason : Reason) → reason_of c old ≡ Some reason → new ≡ old → WentOn IsStepwise c old new
+
+-- what the steps of these CPUs do, one after the other
+pub data Ran (IsStepwise : Type 0) (start : Shown) : List CpuId → Shown → Type 0 where
+  starts : Ran IsStepwise start [] start
+  goes : {steps : List CpuId} {s : Shown} (c : CpuId) (r : Shown) → Ran IsStepwise start steps s → WentOn IsStepwise c s r
+      → Ran IsStepwise start (steps ++ c ∷ []) r

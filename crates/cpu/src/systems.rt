@@ -4,7 +4,7 @@ mod calm;
 mod opening;
 mod plans;
 
-ghost use Rattle.std.specs.Prelude.{◌≡◌, ◌<◌, ◌↔◌, true, false, All, IsOk, OnErr, Some, None, [], length, map, slice_index_or};
+ghost use Rattle.std.specs.Prelude.{◌≡◌, ◌<◌, ◌↔◌, true, false, All, IsOk, OnErr, OnOk, Some, None, [], length, map, slice_index_or};
 
 use crate::cpus::Cpu;
 use arrayvec::ArrayVec;
@@ -60,7 +60,7 @@ where
     ghost use Rattle.event_log.specs.Buffers.{items_of};
     ghost use Rattle.cpu.specs.Cpus.{step_answer};
     ghost use Rattle.cpu.specs.Claims.{FollowPrograms, HasOneOrder, IsPlaceOf, StandsOnce, StayHome, traces_of};
-    ghost use Rattle.cpu.specs.Systems.{SamePlan, SteppedByTable, halted_in, reason_of};
+    ghost use Rattle.cpu.specs.Systems.{Ran, SamePlan, SteppedByTable, halted_in, reason_of};
 
     /// Takes one step of `cpu`, which must exist: one local action or one atomic action.
     ///
@@ -156,6 +156,7 @@ where
     pub fn run(&mut self, steps: &[CpuId]) -> Result<(), BadCpu>
         ensures kept { OnErr result (self.new ≡ self.old) }
         ensures known { IsOk result ↔ All (λ c. c.0 < length self.old.cpus) steps.now }
+        ensures ran { OnOk result (Ran I.IsStepwise self.old steps.now self.new) }
         ensures plan { SamePlan self.old self.new }
 
         // What holds after every list of steps.

@@ -1,5 +1,9 @@
-use Rattle.cpu.specs.Systems.{SamePlan}
+use Rattle.std.proofs.Common.{take}
+use Rattle.cpu.specs.Systems.{Ran, SamePlan}
 use Rattle.cpu.proofs.systems.System.run.Given as goal
 
 abbrev pub invariant-loop-cpu : goal.invariant-loop-cpu
-invariant-loop-cpu g l = SamePlan l.fn.self l.self
+invariant-loop-cpu g l = record {
+  plan : SamePlan l.fn.self l.self;
+  ran : Ran g.I.IpcLayer.IsStepwise l.fn.self (take l.cpu-index l.steps) l.self;
+}

@@ -1,0 +1,21 @@
+use Rattle.std.proofs.Common.{refl}
+use Rattle.cpu.specs.Systems.{starts}
+use Rattle.cpu.proofs.TableSystems.{ran_more, same_plans, went_on}
+use Rattle.cpu.proofs.systems.System.run.Goals as goal
+
+pub loop-cpu-init : goal.loop-cpu-init
+loop-cpu-init g c = record {
+  plan = record { caps = refl; homes = refl; programs = refl; count = refl; limits = refl; room = refl };
+  ran = starts;
+}
+
+pub loop-cpu-preserved : goal.loop-cpu-preserved
+loop-cpu-preserved g c =
+    let before = c.loop-cpu.invariant.plan in
+    let more = c.step.ensures.plan in
+    record {
+      plan = same_plans before more;
+      ran = ran_more g.I.IpcLayer.IsStepwise c.args.self.now c.loop-cpu.self c.step.new.self c.args.steps.now c.loop-cpu.cpu-index _ c.loop-cpu-test.true
+          c.loop-cpu.invariant.ran
+          (went_on g.I.IpcLayer.IsStepwise _ c.loop-cpu.self c.step.new.self c.step.result c.step.ensures.answer c.step.ensures.still c.step.ensures.steps);
+    }
