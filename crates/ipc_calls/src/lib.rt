@@ -8,7 +8,7 @@ mod tower;
 
 pub use ipc::Ipc;
 pub use opening::{OpensBuffers, OpensLocks};
-pub use tower::{LockEdit, Over, TowerBlock, TowerEdit, tower_blocks};
+pub use tower::{LockEdit, Over, TowerBlock, TowerEdit, part_over, tower_blocks};
 
 #[cfg(test)]
 mod tests;

@@ -4,10 +4,10 @@ ghost use Rattle.std.specs.Prelude.{◌≡◌, ◌+◌, ◌<◌, ◌≤◌, None
 ghost use Rattle.event_log.specs.declared.ids.TheConstants.{THREADS};
 ghost use Rattle.layer_traits.specs.BufferLaw.{Calling, MayGoOn, MayTalk, buffer_of, quiet, talk_of};
 
-use crate::{Ipc, Over, TowerEdit};
+use crate::{Ipc, Over, TowerEdit, part_over, tower_blocks};
 use arrayvec::ArrayVec;
 use event_log::{BufId, CAPACITY, CpuId, Msg, NoMemory, Tid};
-use layer_traits::{Call, IpcLayer, Owned, Pass, Place, Reply};
+use layer_traits::{Call, IpcLayer, Owned, OwnedLocks, Pass, Place, Reply};
 use plain_machine::Plain;
 use spinlock::Ticket;
 use std::alloc::Global;
@@ -112,6 +112,27 @@ where
     assert!(rt; I::busy_in(&m, BufId(1)) == Some(None));
     assert!(rt; part.buffer_here(BufId(1)).is_none() && part.busy_here(BufId(1)).is_none());
     assert!(rt; part.place_at(&m, Tid(0)) == Some(Place::Running(CpuId(0))));
+    Ok(())
+}
+
+/// The part of the second of two CPUs at boot: its one thread is ready.
+fn is_ready_at_boot<L: OwnedLocks<TowerEdit> + Drop>(
+    rt: &impl Abort,
+    alloc: Global,
+) -> Result<(), NoMemory>
+where
+    L::Machine: Drop,
+{
+    let homes = [CpuId(0), CpuId(1)];
+    let m = L::open(alloc, tower_blocks(alloc, 2, &[1], &homes)?, 8)?;
+    let part: Ipc<Over<L>> = part_over(&m, CpuId(1), &[1], &homes);
+    assert!(rt; part.has_ready() && part.current().is_none() && !part.is_busy());
+    Ok(())
+}
+
+#[test]
+fn a_part_over_fresh_locks(rt: HostRuntime) -> Result<(), Fail> {
+    is_ready_at_boot::<Ticket<Plain<TowerEdit>>>(&rt, rt.alloc())?;
     Ok(())
 }
 

@@ -1,8 +1,9 @@
 //! The tower of layers, from buffers down to critical sections, over one machine.
 
-ghost use Rattle.std.specs.Prelude.{◌≡◌, ◌<◌, IsSome, IfOk};
+ghost use Rattle.std.specs.Prelude.{◌≡◌, ◌<◌, ◌≤◌, [], IsSome, IfOk, length};
 ghost use Rattle.event_log.specs.declared.ids.CpuId.{CpuId};
 ghost use Rattle.event_log.specs.declared.ids.LockId.TheVariants.{Pending};
+ghost use Rattle.event_log.specs.declared.ids.TheConstants.{BUFFERS};
 ghost use Rattle.layer_traits.specs.BufferEffects.{opening_locks};
 ghost use Rattle.layer_traits.specs.OneLock.{AreDistinct, opened};
 ghost use Rattle.layer_traits.specs.Openings.{AreOpenable};
@@ -11,11 +12,15 @@ ghost use Rattle.layer_traits.specs.Renaming.{viewed};
 ghost use Rattle.queuing_lock.specs.Nested.{lock_of};
 ghost use Rattle.sleep_wakeup.specs.Nested.{state_of};
 
+use crate::ipc::Ipc;
 use crate::opening::{OpensBuffers, OpensLocks};
 use condvar::Cond;
 use event_log::{CpuId, LockId, NoMemory};
 use fifo_buffer::{Fifo, empty_blocks};
-use layer_traits::{BufferBlock, BufferEdit, CvEdit, CvLeave, OwnedLocks, QueueBlock, QueueEdit};
+use layer_traits::{
+    BufferBlock, BufferEdit, CvEdit, CvLeave, IpcLayer, LockLayer, OwnedLocks, QueueBlock,
+    QueueEdit,
+};
 use queuing_lock::{QBlock, QLock, QLockEdit, lock_blocks};
 use scheduler::Sched;
 use shared_queue::{SharedQueues, queue_blocks};
@@ -56,6 +61,29 @@ pub fn tower_blocks(
     let buffers = empty_blocks(alloc, caps)?;
     let blocks = sleep_blocks(alloc, lock_blocks(alloc, buffers)?)?;
     queue_blocks(alloc, blocks, cpus, homes)
+}
+
+/// The part of `cpu` at boot, over a machine that has the locks of the tower, with a buffer of each of
+/// these capacities and a thread of each of these homes, and in which nothing was done.
+pub fn part_over<L: LockLayer<TowerEdit>>(
+    m: &L::Machine,
+    cpu: CpuId,
+    caps: &[u8],
+    homes: &[CpuId],
+) -> Ipc<Over<L>>
+    requires buffers { length caps.now ≤ BUFFERS }
+    requires acts { L.ActsFor m.now cpu }
+    requires outside { L.IsOutside m.now cpu }
+    requires fresh { L.seen m.now ≡ [] }
+    requires starts { StartsWell (L.opening m.now) }
+    requires homes { homes_in (L.opening m.now) ≡ homes.now }
+    requires queue { IsSome (L.opening m.now (Pending cpu)) }
+    requires locks { inner (viewed lock_of (viewed state_of (L.opening m.now))) ≡ opening_locks caps.now }
+    ensures cpu { ⟦<Ipc<Over<L>> as IpcLayer>⟧.cpu_of result ≡ cpu }
+    ensures fits { ⟦<Ipc<Over<L>> as IpcLayer>⟧.Fits result m.now }
+{
+    let _ = m;
+    Ipc::part(cpu, homes, caps.len() as u8)
 }
 
 impl<L: OwnedLocks<TowerEdit>> OpensLocks for Sleeper<LockEdit, Sched<SharedQueues<L>>> {

@@ -1,0 +1,28 @@
+use Rattle.std.proofs.Common.{◌≤◌, length, refl, ap, ◌∙◌, arith}
+use Rattle.fifo_buffer.proofs.Opening.{boots_well, caps_are}
+use Rattle.layer_traits.specs.Renaming.{viewed}
+use Rattle.layer_traits.proofs.KernelRenaming.{homes_viewed, viewed_there}
+use Rattle.event_log.specs.declared.ids.LockId.TheVariants.{Pending}
+use Rattle.queuing_lock.specs.Nested.{lock_of}
+use Rattle.sleep_wakeup.specs.Nested.{state_of}
+use Rattle.ipc_calls.proofs.tower.part_over.Goals as goal
+
+-- nothing was done in the machine, and its locks are the tower's
+pub returns-clause-fits : goal.returns-clause-fits
+returns-clause-fits g c =
+    let m = c.args.m.now in
+    let opening = g.L.LockLayer.opening m in
+    let most = c.requires.buffers in
+    let few : length c.args.caps.now ≤ 256 = omega (arith, most) in
+    let boots = boots_well (viewed lock_of (viewed state_of opening)) c.args.caps.now c.requires.locks few in
+    let caps = caps_are (viewed lock_of (viewed state_of opening)) c.args.caps.now c.requires.locks few in
+    c.part.ensures.fits m (
+      ((c.requires.acts, c.requires.starts), boots),
+      c.requires.outside,
+      rw c.requires.fresh refl,
+      rw c.requires.fresh refl,
+      homes_viewed lock_of (viewed state_of opening) ∙ homes_viewed state_of opening ∙ c.requires.homes,
+      viewed_there lock_of (viewed state_of opening) (Pending c.args.cpu) (viewed_there state_of opening (Pending c.args.cpu) c.requires.queue),
+      boots,
+    )
+    (ap length caps)
