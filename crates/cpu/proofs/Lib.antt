@@ -17,3 +17,4 @@ pub mod TableRows
 pub mod TablePolls
 pub mod TablePasses
 pub mod TableCalls
+pub mod TableHalts

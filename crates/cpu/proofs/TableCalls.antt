@@ -31,15 +31,18 @@ use Rattle.layer_traits.proofs.PlaceLemmas.{away_known}
 use Rattle.cpu.specs.declared.cpus.Choice.TheVariants.{Polls, Passes, Computes}
 use Rattle.cpu.specs.declared.guests.Guest.{Guest}
 use Rattle.cpu.specs.Guests.{computed, entries_of, is_ended, polled}
-use Rattle.cpu.specs.Cpus.{IsCpu, chosen, fresh_at, guest_at, halted_at, passed_by, reason_in, with_guest}
+use Rattle.cpu.specs.Cpus.{IsCpu, chosen, fresh_at, guest_at, halted_at, passed_by, reason_in, step_answer, with_guest}
 use Rattle.cpu.specs.Boots.{AreGuests}
-use Rattle.cpu.specs.Table.Setups.{opening_buffer}
+use Rattle.cpu.specs.Table.Setups.{Setup, opening_buffer}
 use Rattle.cpu.specs.Table.Steps.{cpu_step}
-use Rattle.cpu.specs.Tower.Views.{TowerBlock, TowerName, tower, view}
+use Rattle.cpu.specs.Tower.Views.{TowerBlock, TowerName, name_of, tower, view}
 use Rattle.cpu.specs.Tower.Privates.{threads_in}
 use Rattle.cpu.specs.Tower.Composed.{OpensAs, named}
 use Rattle.cpu.specs.Tables.{IsSetupOf, IsTabled, WentByTable, bare, private}
 use Rattle.cpu.proofs.Steps.{poll_buffer}
+use Rattle.event_log.proofs.Renaming.{phase_renamed}
+use Rattle.cpu.proofs.TableRows.{halted_same}
+use Rattle.cpu.proofs.TableHalts.{answers_so}
 use Rattle.cpu.proofs.TablePolls.{poll_steps, poll_tabled}
 use Rattle.cpu.proofs.TablePasses.{compute_steps, compute_tabled, halted_steps, pass_steps, pass_tabled, passed_if, threads_if}
 use Rattle.cpu.proofs.Tower.Passed.{boots_part}
@@ -57,8 +60,10 @@ pub hand_known : (homes : List CpuId) (c : CpuId) (moves : List Step) (own : Thr
 hand_known homes c moves own stands lawful u has =
     away_known homes moves u lawful (hand_away c (where_is homes moves u) (sym (stands.hand u) ∙ (ap (is_thread u) has ∙ same_tid_self u)))
 
-module _ (homes : List CpuId) (caps : List ℕ) (buffers : ℕ) (seen : List Entry) (own : Buffering) (threads : Threads) (talks : List Talk) (doing : Option Doing)
-    (cpu number : CpuId) (guests : List (Option Guest)) (trace : List Entry) (limit capacity : ℕ) (opening : LockId → Option TowerBlock) (cpu_is : cpu ≡ number)
+module _ (homes : List CpuId) (caps : List ℕ) (buffers : ℕ) (seen : List Entry) (own : Buffering) (threads : Threads) (talks : List Talk)
+    (doing : Option Doing)
+    (cpu number : CpuId) (guests : List (Option Guest)) (trace : List Entry) (limit capacity : ℕ) (opening : LockId → Option TowerBlock)
+    (cpu_is : cpu ≡ number)
     (tells : (threads_in own ≡ threads) × (own.talks ≡ talks))
     (is : IsCpu homes buffers seen threads talks doing number guests trace limit capacity) (tabled : IsTabled homes caps number own doing guests opening)
     (home : (u : Tid) → threads.current ≡ Some u → home_of homes u ≡ Some number) where
@@ -81,7 +86,8 @@ module _ (homes : List CpuId) (caps : List ℕ) (buffers : ℕ) (seen : List Ent
     busy_own = busy ∙ ap (λ d. is_in_section (phase d old)) cpu_is
 
     -- a poll of a call
-    module _ (t : Tid) (c : Call) (chose : chosen threads guests ≡ Polls t c) (live : reason_in inside (halted_at threads guests trace limit) ≡ None) (hs : List CpuId)
+    module _ (t : Tid) (c : Call) (chose : chosen threads guests ≡ Polls t c) (live : reason_in inside (halted_at threads guests trace limit) ≡ None)
+        (hs : List CpuId)
         (hs_are : hs ≡ homes) (own2 : Buffering) (threads2 : Threads) (talks2 : List Talk) (tells2 : (threads_in own2 ≡ threads2) × (own2.talks ≡ talks2))
         (doing2 : Option Doing) (guests2 : List (Option Guest)) (trace2 : List Entry) (new : List (Action TowerName)) (result : Option Reply)
         (known2 : (u : Tid) → threads2.hand ≡ Some u → IsSome (slice_get homes u.0))
@@ -99,8 +105,10 @@ module _ (homes : List CpuId) (caps : List ℕ) (buffers : ℕ) (seen : List Ent
       follows_own =
           subst (λ p. Follows ActsFor tower opening number p old new (record { own = own2; answer = result }))
           (ap (λ b. if b then fifo_plan homes number t c own else Now (record { own = own; answer = Some NoBuffer }))
-          (lt-ltb (buffer_of c).0 buffers (poll_buffer homes buffers seen (threads_in own) own.talks doing number guests trace limit capacity is_own t c chose_own)))
-          (subst (λ x. x) (λ i. Follows ActsFor tower opening (cpu_is i) (ipc_plan buffers (hs_are i) (cpu_is i) t c own) old new (record { own = own2; answer = result })) follows)
+          (lt-ltb (buffer_of c).0 buffers (poll_buffer homes buffers seen
+          (threads_in own) own.talks doing number guests trace limit capacity is_own t c chose_own)))
+          (subst (λ x. x) (λ i. Follows ActsFor tower opening (cpu_is i) (ipc_plan buffers (hs_are i) (cpu_is i) t c own) old new
+          (record { own = own2; answer = result })) follows)
 
       ended_own : (threads_in own2).ended ≡ (threads_in own).ended
       ended_own = ap (λ (x : Threads). x.ended) tells2.0 ∙ (ended_is ∙ sym (ap (λ (x : Threads). x.ended) tells.0))
@@ -117,15 +125,18 @@ module _ (homes : List CpuId) (caps : List ℕ) (buffers : ℕ) (seen : List Ent
       pub call_tabled : IsTabled homes caps number own2 doing2 guests2 opening
       call_tabled =
           poll_tabled homes caps buffers seen own doing number guests trace limit capacity opening is_own tabled t c chose_own ActsFor own2 doing2 guests2 trace2 old new
-          result inside acts rests busy_own (halted_own inside None live) home_own (known_own known) known2_own follows_own ended_own doing_own guests_own trace_own
+          result inside acts rests busy_own (halted_own inside None live) home_own
+          (known_own known) known2_own follows_own ended_own doing_own guests_own trace_own
 
       pub call_steps : WentByTable ActsFor homes caps number limit own own2 guests guests2 trace trace2 old new Stepped
       call_steps setup of =
           poll_steps homes caps buffers seen own doing number guests trace limit capacity opening is_own tabled t c chose_own ActsFor own2 doing2 guests2 trace2 old new
-          result inside acts rests busy_own (halted_own inside None live) home_own (known_own known) known2_own follows_own ended_own doing_own guests_own trace_own setup of
+          result inside acts rests busy_own (halted_own inside None live) home_own
+          (known_own known) known2_own follows_own ended_own doing_own guests_own trace_own setup of
 
     -- a poll of a pass
-    module _ (pass : Pass) (chose : chosen threads guests ≡ Passes pass) (live : reason_in inside (halted_at threads guests trace limit) ≡ None) (hs : List CpuId)
+    module _ (pass : Pass) (chose : chosen threads guests ≡ Passes pass) (live : reason_in inside (halted_at threads guests trace limit) ≡ None)
+        (hs : List CpuId)
         (hs_are : hs ≡ homes) (own2 : Buffering) (threads2 : Threads) (tells2 : threads_in own2 ≡ threads2) (doing2 : Option Doing)
         (guests2 : List (Option Guest)) (new : List (Action TowerName)) (result : Option (Unit {0})) (before after : List Step)
         (known2 : (u : Tid) → threads2.hand ≡ Some u → IsSome (slice_get homes u.0))
@@ -140,7 +151,8 @@ module _ (homes : List CpuId) (caps : List ℕ) (buffers : ℕ) (seen : List Ent
 
       follows_pass : Follows ActsFor tower opening number (fifo_pass_plan homes number pass own) old new (record { own = own2; answer = result })
       follows_pass =
-          subst (λ x. x) (λ i. Follows ActsFor tower opening (cpu_is i) (fifo_pass_plan (hs_are i) (cpu_is i) pass own) old new (record { own = own2; answer = result })) follows
+          subst (λ x. x) (λ i. Follows ActsFor tower opening (cpu_is i) (fifo_pass_plan (hs_are i) (cpu_is i) pass own) old new
+          (record { own = own2; answer = result })) follows
 
       abbrev queue : List Tid
       queue = pending_by (passed.others ++ before) cpu
@@ -170,7 +182,8 @@ module _ (homes : List CpuId) (caps : List ℕ) (buffers : ℕ) (seen : List Ent
       pub passed_steps : WentByTable ActsFor homes caps number limit own own2 guests guests2 trace trace old new Stepped
       passed_steps setup of =
           pass_steps homes caps buffers seen own doing number guests trace limit capacity opening is_own tabled home_own pass chose_pass ActsFor own2 doing2 guests2 old new
-          result queue follows_pass threads_own doing_is passed.at_once guests_pass setup of inside acts rests busy_own (halted_own inside None live) (known_own known)
+          result queue follows_pass threads_own doing_is passed.at_once guests_pass setup of inside acts rests busy_own (halted_own inside None live)
+          (known_own known)
           known2_pass
 
     -- an instruction of a thread's own
@@ -187,17 +200,28 @@ module _ (homes : List CpuId) (caps : List ℕ) (buffers : ℕ) (seen : List Ent
         halted_steps homes caps buffers seen own doing number guests trace limit capacity opening is_own tabled home_own ActsFor old setup of inside reason busy_own
         (halted_own inside (Some reason) halted)
 
+    -- what the table's step answers, by the CPU's own reason to take none
+    pub answers_step : (setup : Setup) → IsSetupOf setup homes caps guests limit
+        → (cpu_step setup number (private own guests trace) (named old)).answer ≡ step_answer (reason_in inside (halted_at threads guests trace limit))
+    answers_step setup of =
+        answers_so setup number (private own guests trace) (named old) inside (halted_at (threads_in own) guests trace limit)
+        (busy_own ∙ sym (ap is_in_section (phase_renamed name_of number old)))
+        (halted_same homes caps buffers seen own doing number guests trace limit capacity opening is_own tabled setup of home_own)
+        ∙ ap (λ (x : Threads). step_answer (reason_in inside (halted_at x guests trace limit))) tells.0
+
   pub computed_tabled : (t : Tid) → chosen threads guests ≡ Computes t → IsTabled homes caps number own doing (with_guest guests t.0 computed) opening
   computed_tabled t chose =
       compute_tabled homes caps buffers seen own doing number guests trace limit capacity opening is_own tabled home_own t
       (ap (λ (x : Threads). chosen x guests) tells.0 ∙ chose)
 
 -- a look
-pub looked_steps : (ActsFor : CpuId → Type 0) (homes : List CpuId) (caps : List ℕ) (cpu number : CpuId) (limit : ℕ) (own own2 : Buffering) (guests : List (Option Guest))
+pub looked_steps : (ActsFor : CpuId → Type 0) (homes : List CpuId) (caps : List ℕ) (cpu number : CpuId) (limit : ℕ) (own own2 : Buffering)
+    (guests : List (Option Guest))
     (trace : List Entry) (old new : List (Action TowerName)) → cpu ≡ number → own2 ≡ own → Tries ActsFor cpu old new
     → WentByTable ActsFor homes caps number limit own own2 guests guests trace trace old new Stepped
 looked_steps ActsFor homes caps cpu number limit own own2 guests trace old new cpu_is same tries setup of =
-    subst (λ (o : Buffering). IsStep ActsFor (cpu_step setup number) (private own guests trace) (private o guests trace) (named old) (named new) Stepped) (sym same)
+    subst (λ (o : Buffering). IsStep ActsFor (cpu_step setup number) (private own guests trace) (private o guests trace) (named old) (named new) Stepped)
+    (sym same)
     (look_is_step ActsFor setup number (private own guests trace) old new (subst (λ d. Tries ActsFor d old new) cpu_is tries))
 
 -- At boot.

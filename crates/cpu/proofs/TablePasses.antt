@@ -90,7 +90,8 @@ states_changed : (guests : List (Option Guest)) (t : ℕ) (f : Guest → Guest) 
 states_changed guests t f g at =
     map-set state_of guests t (option_map f (guest_at guests t)) ∙ ap (λ o. slice_set (states guests) t (state_of (option_map f o))) at
 
-passing_none : (pass p : Pass) (result : Option (Unit {0})) → (IsLocalPass pass → IsSome result) → still_passing pass result ≡ Some (Passing p) → IsLocalPass p → ⊥
+passing_none : (pass p : Pass) (result : Option (Unit {0})) → (IsLocalPass pass → IsSome result) → still_passing pass result ≡ Some (Passing p)
+    → IsLocalPass p → ⊥
 passing_none pass p (Some x) at_once does local = absurd (cc does)
 passing_none pass p None at_once does local =
     let same : p ≡ pass = cc does in
@@ -118,14 +119,16 @@ module _ (homes : List CpuId) (caps : List ℕ) (buffers : ℕ) (seen : List Ent
   free_between : (t : Tid) (g : Guest) → guest_at guests t.0 ≡ Some g → is_calling g.stage ≡ false → (talk_of own.talks t).stage ≡ at_stage.Between
   free_between t g at free =
       let follows = is.follow t g at in
-      let none = call_is g.stage g.program g.thread (of_thread t.0 (of_cpu number seen)) (begun_of (talk_of own.talks t)) (talk_of own.talks t).effect follows.1 ∙ free in
+      let none = call_is g.stage g.program g.thread (of_thread t.0 (of_cpu number seen)) (begun_of (talk_of own.talks t))
+      (talk_of own.talks t).effect follows.1 ∙ free in
       follows.0 (no_call (begun_of (talk_of own.talks t)) none)
     where
       no_call : (o : Option Call) → is_some o ≡ false → o ≡ None
       no_call None so = refl
       no_call (Some c) so = absurd (cc so)
 
-  not_calling : (t : Tid) (g : Guest) (todo : Todo) → guest_at guests t.0 ≡ Some g → todo_of g ≡ todo → ((c : Call) → todo ≡ Calls c → ⊥) → is_calling g.stage ≡ false
+  not_calling : (t : Tid) (g : Guest) (todo : Todo) → guest_at guests t.0 ≡ Some g → todo_of g ≡ todo → ((c : Call) → todo ≡ Calls c → ⊥)
+      → is_calling g.stage ≡ false
   not_calling t g todo at asks none =
       (in_no_call g (of_thread t.0 (of_cpu number seen)) (begun_of (talk_of own.talks t)) (talk_of own.talks t).effect todo (is.follow t g at).1 asks none).0
 
@@ -134,7 +137,8 @@ module _ (homes : List CpuId) (caps : List ℕ) (buffers : ℕ) (seen : List Ent
       → chosen (threads_in own) guests ≡ Passes (MakeReady s) → ⊥
   sends_alone s t g runs has at chose =
       by_calling (is_calling g.stage) refl
-      (sym (ap (λ o. chosen_for t (threads_in own).hand o) at) ∙ (sym (ap (λ o. chosen_at o (threads_in own).hand (threads_in own).ready guests) runs) ∙ chose))
+      (sym (ap (λ o. chosen_for t (threads_in own).hand o) at)
+      ∙ (sym (ap (λ o. chosen_at o (threads_in own).hand (threads_in own).ready guests) runs) ∙ chose))
     where
       by_calling : (b : Bool) → is_calling g.stage ≡ b → chosen_by t (is_calling g.stage) (threads_in own).hand (todo_of g) ≡ Passes (MakeReady s) → ⊥
       by_calling true calling sends = never_sends t s (todo_of g) (sym (ap (λ x. chosen_by t x (threads_in own).hand (todo_of g)) calling) ∙ sends)
@@ -216,7 +220,8 @@ module _ (homes : List CpuId) (caps : List ℕ) (buffers : ℕ) (seen : List Ent
             ∙ (ap (λ b. is_in t (threads_in own).ended || (b || false)) (same_tid_self t) ∙ or_true (is_in t (threads_in own).ended))))
             (λ u other before. subst (λ l. is_in u l ≡ true) (sym ended_is) (ended_more u t before)) quick2)
 
-        go : (r : Option (Unit {0})) → threads_in own2 ≡ threads_if (threads_in own) pass queue r → IsTabled homes caps number own2 doing2 (passed_if (threads_in own).current guests pass r) opening
+        go : (r : Option (Unit {0})) → threads_in own2 ≡ threads_if (threads_in own) pass queue r
+            → IsTabled homes caps number own2 doing2 (passed_if (threads_in own).current guests pass r) opening
         go None same =
             tabled_same homes caps buffers seen own doing number guests trace limit capacity opening is tabled own2 doing2 part2
             (λ u before. abbrev_same u _ same refl before) quick2
@@ -257,15 +262,18 @@ module _ (homes : List CpuId) (caps : List ℕ) (buffers : ℕ) (seen : List Ent
           → private_passed setup own (states guests) trace pass (record { own = own2; answer = result }) ≡ private own2 guests2 trace → Goal
       by_line line goes after =
           subst (λ q. IsStep ActsFor (cpu_step setup number) p q (named old) (named new) Stepped) after
-          (line_is_step ActsFor setup opening number own2 p p (fifo_pass_plan setup.homes number pass own) (private_passed setup own (states guests) trace pass) old new result
+          (line_is_step ActsFor setup opening number own2 p p (fifo_pass_plan setup.homes number pass own)
+          (private_passed setup own (states guests) trace pass) old new result
           acts opens line known_so (λ past same. step_goes setup number p p old past same (λ inside. refl) goes)
-          (subst (λ h. Follows ActsFor tower opening number (fifo_pass_plan h number pass own) old new (record { own = own2; answer = result })) (sym of.homes_are) follows))
+          (subst (λ h. Follows ActsFor tower opening number (fifo_pass_plan h number pass own) old new (record { own = own2; answer = result }))
+          (sym of.homes_are) follows))
 
       -- a pass that is done alone
       by_alone : is_in_section (phase number old) ≡ false → new ≡ old → choice setup number p ≡ Alone (private own2 guests2 trace) → Goal
       by_alone outside same chosen_alone =
           subst (λ l. IsStep ActsFor (cpu_step setup number) p (private own2 guests2 trace) (named old) (named l) Stepped) (sym same)
-          (alone_is_step ActsFor setup number p (private own2 guests2 trace) (named old) (ap is_in_section (phase_renamed name_of number old) ∙ outside) chosen_alone)
+          (alone_is_step ActsFor setup number p (private own2 guests2 trace) (named old)
+          (ap is_in_section (phase_renamed name_of number old) ∙ outside) chosen_alone)
 
       -- where nobody runs, the guests stay
       idle_guests : (threads_in own).current ≡ None → private own2 guests trace ≡ private own2 guests2 trace
@@ -293,7 +301,8 @@ module _ (homes : List CpuId) (caps : List ℕ) (buffers : ℕ) (seen : List Ent
       send_step : (s : Tid) → pass ≡ MakeReady s → (threads_in own).current ≡ None → (threads_in own).hand ≡ Some s → Goal
       send_step s pass_is runs has =
           by_line (line_by (own_at None (Some s) (threads_in own).ready (threads_in own).ended None own.cv.lock.slept own.cv.waits own.talks)
-          (λ i. own_at (runs i) (has i) (threads_in own).ready (threads_in own).ended (tabled.part.idle runs i) own.cv.lock.slept own.cv.waits own.talks) (MakeReady s) pass_is
+          (λ i. own_at (runs i) (has i) (threads_in own).ready (threads_in own).ended (tabled.part.idle runs i) own.cv.lock.slept own.cv.waits own.talks)
+          (MakeReady s) pass_is
           (make_ready_line setup number (states guests) trace (threads_in own).ended own.cv.lock.slept own.cv.waits own.talks s (threads_in own).ready
           (subst (λ h. IsSome (slice_get h s.0)) (sym of.homes_are) (known s has))))
           (λ outside. choice_hand setup number p s has)
@@ -310,12 +319,14 @@ module _ (homes : List CpuId) (caps : List ℕ) (buffers : ℕ) (seen : List Ent
           go [] queue_is = absurd (some queue_is)
           go (t ∷ ready) queue_is =
               let o : Buffering = own_at None None (t ∷ ready) (threads_in own).ended None own.cv.lock.slept own.cv.waits own.talks in
-              let own_so : own ≡ o = λ i. own_at (runs i) (has i) (queue_is i) (threads_in own).ended (tabled.part.idle runs i) own.cv.lock.slept own.cv.waits own.talks in
+              let own_so : own ≡ o = λ i. own_at (runs i) (has i) (queue_is i) (threads_in own).ended
+              (tabled.part.idle runs i) own.cv.lock.slept own.cv.waits own.talks in
               let next : private own2 guests trace ≡ record p { current = Some t; ready = ready }
               = ap (λ x. private x guests trace) (now ∙ ap (λ x. with_threads x (switched (threads_in x))) own_so)
               ∙ (switched_now setup number (states guests) trace (threads_in own).ended own.cv.lock.slept own.cv.waits own.talks t ready
               ∙ sym (ap (λ x. record (private x guests trace) { current = Some t; ready = ready }) own_so)) in
-              by_alone outside same (choice_idle setup number p has runs (not_halted outside) ∙ (ap (at_ready p) queue_is ∙ ap Alone (sym next ∙ idle_guests runs)))
+              by_alone outside same (choice_idle setup number p has runs (not_halted outside)
+              ∙ (ap (at_ready p) queue_is ∙ ap Alone (sym next ∙ idle_guests runs)))
 
       -- A thread runs that is in no call.
 
@@ -354,21 +365,25 @@ module _ (homes : List CpuId) (caps : List ℕ) (buffers : ℕ) (seen : List Ent
         yield_step : pass ≡ YieldNow → todo_of g ≡ PassOn → Goal
         yield_step pass_is asks =
             by_line (line_by running own_so YieldNow pass_is
-            (yield_line setup number (states guests) trace (threads_in own).ended own.cv.lock.slept own.cv.waits own.talks t (threads_in own).ready between long_guests long_talks))
+            (yield_line setup number (states guests) trace (threads_in own).ended own.cv.lock.slept own.cv.waits own.talks t
+            (threads_in own).ready between long_guests long_talks))
             (λ outside. chosen_line outside ∙ ap (at_instruction setup number p t) (yield_line_is g.thread (next_of g.program g.thread) asks))
             (λ i. private_of own2 (states_so i) trace)
           where
-            by_result : (r : Option (Unit {0})) → guests_passed setup YieldNow (Some t) r (states guests) ≡ states (passed_if (threads_in own).current guests pass r)
+            by_result : (r : Option (Unit {0})) → guests_passed setup YieldNow (Some t) r (states guests)
+                ≡ states (passed_if (threads_in own).current guests pass r)
             by_result None = refl
             by_result (Some x) =
-                (λ i. slice_set (states guests) t.0 (after_yield (next_of (of.programs_are t g at i) (states_at guests t.0 g at at_start i)) (states_at guests t.0 g at at_start i)))
+                (λ i. slice_set (states guests) t.0
+                (after_yield (next_of (of.programs_are t g at i) (states_at guests t.0 g at at_start i)) (states_at guests t.0 g at at_start i)))
                 ∙ sym (ap (λ o. states (passed_by o guests pass)) runs
                 ∙ (ap (λ q. states (with_guest guests t.0 (after_pass q))) pass_is ∙ states_changed guests t.0 passed g at))
 
             states_so : guests_passed setup pass (threads_in own).current result (states guests) ≡ states guests2
             states_so = (λ i. guests_passed setup (pass_is i) (runs i) result (states guests)) ∙ (by_result result ∙ sym (ap states guests_are))
 
-        end_step : pass ≡ End → todo_of g ≡ Finish → new ≡ old → own2 ≡ with_threads own (pass_after End queue (threads_in own)) → (x : Unit {0}) → result ≡ Some x → Goal
+        end_step : pass ≡ End → todo_of g ≡ Finish → new ≡ old → own2 ≡ with_threads own (pass_after End queue (threads_in own)) → (x : Unit {0}) → result
+            ≡ Some x → Goal
         end_step pass_is asks same now x done =
             by_alone outside same
             (chosen_line outside ∙ (ap (at_instruction setup number p t) (finish_exit g.thread (next_of g.program g.thread) asks) ∙ ap Alone (sym next)))
@@ -385,14 +400,17 @@ module _ (homes : List CpuId) (caps : List ℕ) (buffers : ℕ) (seen : List Ent
             next : private own2 guests2 trace ≡ ends p t
             next =
                 (λ i. private_of ((now ∙ ap (λ y. with_threads y (pass_after End queue (threads_in y))) own_so) i) (states_so i) trace)
-                ∙ (ended_now setup number (states guests) trace (threads_in own).ended own.cv.lock.slept own.cv.waits own.talks t (threads_in own).ready between long_guests long_talks
+                ∙ (ended_now setup number (states guests) trace (threads_in own).ended own.cv.lock.slept own.cv.waits own.talks t
+                (threads_in own).ready between long_guests long_talks
                 ∙ sym (ap (λ y. ends (private y guests trace) t) own_so))
 
       pub pass_steps : Goal
       pass_steps = go pass refl case_is
         where
-          follows_at : (q : Pass) → pass ≡ q → Follows ActsFor tower opening number (fifo_pass_plan homes number q own) old new (record { own = own2; answer = result })
-          follows_at q same = subst (λ x. Follows ActsFor tower opening number (fifo_pass_plan homes number x own) old new (record { own = own2; answer = result })) same follows
+          follows_at : (q : Pass) → pass ≡ q → Follows ActsFor tower opening number (fifo_pass_plan homes number q own) old new
+              (record { own = own2; answer = result })
+          follows_at q same = subst (λ x. Follows ActsFor tower opening number (fifo_pass_plan homes number x own) old new
+              (record { own = own2; answer = result })) same follows
 
           go : (q : Pass) → pass ≡ q → Case q → Goal
           go Switch same (switches runs has some) =
@@ -424,7 +442,8 @@ module _ (homes : List CpuId) (caps : List ℕ) (buffers : ℕ) (seen : List Ent
         tabled_with homes caps buffers seen own doing number guests trace limit capacity opening is tabled t g computed own doing at tabled.part
         (λ over. tabled.ends t g at over) (λ u other before. before) tabled.quick
 
-    pub compute_steps : (ActsFor : CpuId → Type 0) (old : List (Action TowerName)) (setup : Setup) (of : IsSetupOf setup homes caps guests limit) (inside : Bool)
+    pub compute_steps : (ActsFor : CpuId → Type 0) (old : List (Action TowerName)) (setup : Setup) (of : IsSetupOf setup homes caps guests limit)
+        (inside : Bool)
         → (doing ≡ None → inside ≡ false) → inside ≡ is_in_section (phase number old)
         → reason_in inside (cpu_halted (threads_in own) guests trace limit) ≡ None
         → IsStep ActsFor (cpu_step setup number) p (private own (with_guest guests t.0 computed) trace) (named old) (named old) Stepped
@@ -435,7 +454,8 @@ module _ (homes : List CpuId) (caps : List ℕ) (buffers : ℕ) (seen : List Ent
         let outside : is_in_section (phase number old) ≡ false = sym busy ∙ rests (idle doing refl) in
         let live_now = halted_same homes caps buffers seen own doing number guests trace limit capacity opening is tabled setup of home
         ∙ not_halted_so inside (is_in_section (phase number old)) (cpu_halted (threads_in own) guests trace limit) busy live outside in
-        let quiet = call_of homes caps buffers seen own doing number guests trace limit capacity opening is tabled setup of t g at ∙ unbegun _ (talk_of own.talks t) between in
+        let quiet = call_of homes caps buffers seen own doing number guests trace limit capacity opening is tabled setup of t g at
+        ∙ unbegun _ (talk_of own.talks t) between in
         let there = guest_there homes caps buffers seen own doing number guests trace limit capacity opening is tabled t g at in
         let i : Instruction = next_of g.program g.thread in
         let within : t.0 < length (states guests) = subst (λ n. t.0 < n) (sym (states_long guests)) (guest_within guests t.0 g at) in
@@ -454,7 +474,8 @@ module _ (homes : List CpuId) (caps : List ℕ) (buffers : ℕ) (seen : List Ent
 
   -- A CPU that is halted, and a look.
 
-  pub halted_steps : (ActsFor : CpuId → Type 0) (old : List (Action TowerName)) (setup : Setup) (of : IsSetupOf setup homes caps guests limit) (inside : Bool) (reason : Reason)
+  pub halted_steps : (ActsFor : CpuId → Type 0) (old : List (Action TowerName)) (setup : Setup) (of : IsSetupOf setup homes caps guests limit)
+      (inside : Bool) (reason : Reason)
       → inside ≡ is_in_section (phase number old) → reason_in inside (cpu_halted (threads_in own) guests trace limit) ≡ Some reason
       → IsStep ActsFor (cpu_step setup number) p p (named old) (named old) (Halted reason)
   halted_steps ActsFor old setup of true reason busy halted = absurd (cc halted)

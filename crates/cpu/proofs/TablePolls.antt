@@ -53,7 +53,8 @@ use Rattle.cpu.proofs.Tower.Kept.{IsFree, begins_keep, kept_by, plans_keep}
 use Rattle.cpu.proofs.Tower.Passed.{at_rest, in_call}
 
 -- the opening blocks are the table's, of whatever programs
-pub opens_as : (setup : Setup) (homes : List CpuId) (caps : List ℕ) (number : CpuId) (opening : LockId → Option TowerBlock) → setup.homes ≡ homes → setup.caps ≡ caps
+pub opens_as : (setup : Setup) (homes : List CpuId) (caps : List ℕ) (number : CpuId) (opening : LockId → Option TowerBlock) → setup.homes ≡ homes
+    → setup.caps ≡ caps
     → OpensAs (bare homes caps) number opening → OpensAs setup number opening
 opens_as setup homes caps number opening homes_are caps_are opens lock used = opens lock (used_so lock used) ∙ alike lock
   where
@@ -125,7 +126,8 @@ with_each guests t f g at P here there u x found = go (cases_eq u t)
   where
     go : (u ≡ t) ⊎ (u ≡ t → ⊥) → P u x
     go (inl equal) =
-        let new : guest_at (with_guest guests t f) u ≡ Some (f g) = subst (λ (k : ℕ). guest_at (with_guest guests t f) k ≡ Some (f g)) (sym equal) (at_same guests t f g at) in
+        let new : guest_at (with_guest guests t f) u
+        ≡ Some (f g) = subst (λ (k : ℕ). guest_at (with_guest guests t f) k ≡ Some (f g)) (sym equal) (at_same guests t f g at) in
         let one : f g ≡ x = cc (found, new) in
         subst (λ (k : ℕ). P k x) (sym equal) (subst (λ (y : Guest). P t y) one here)
     go (inr other) = there u x other (sym (at_other guests t u f other) ∙ found)
@@ -300,14 +302,16 @@ module _ (homes : List CpuId) (caps : List ℕ) (buffers : ℕ) (seen : List Ent
         states_after (Some r) =
             map-set state_of guests t.0 (option_map (λ x. polled x effect2 (Some r)) (guest_at guests t.0))
             ∙ (ap (λ o. slice_set (states guests) t.0 (state_of (option_map (λ x. polled x effect2 (Some r)) o))) polls.at
-            ∙ (λ i. slice_set (states guests) t.0 (after_answer (Some r) (next_of (sym (of.programs_are t g polls.at) i) (sym (states_at guests t.0 g polls.at at_start) i))
+            ∙ (λ i. slice_set (states guests) t.0 (after_answer (Some r)
+            (next_of (sym (of.programs_are t g polls.at) i) (sym (states_at guests t.0 g polls.at at_start) i))
             (sym (states_at guests t.0 g polls.at at_start) i))))
 
         trace_so : trace2 ≡ trace_after number t (buffer_of c) (going talk c).effect effect2 trace
         trace_so =
             trace_is
             ∙ (ap (λ o. trace ++ entries_of number t (buffer_of c) (fresh_at o effect2)) polls.at
-            ∙ trace_by number t (buffer_of c) trace g.stage g.program g.thread (of_thread t.0 (of_cpu number seen)) (begun_of talk) talk.effect (going talk c).effect effect2
+            ∙ trace_by number t (buffer_of c) trace g.stage g.program g.thread (of_thread t.0 (of_cpu number seen)) (begun_of talk) talk.effect
+            (going talk c).effect effect2
             follows_g (had_going talk c (poll_talks homes buffers seen (threads_in own) own.talks doing number guests trace limit capacity is t c chose)))
 
         private_so : private_after setup number t c own (states guests) trace (record { own = own2; answer = result }) ≡ private own2 guests2 trace2
@@ -322,10 +326,12 @@ module _ (homes : List CpuId) (caps : List ℕ) (buffers : ℕ) (seen : List Ent
         known_in o hand u has = subst (λ h. IsSome (slice_get h u.0)) (sym of.homes_are) (hand u has)
 
         follows_so : Follows ActsFor tower opening number (fifo_plan setup.homes number t c own) old new (record { own = own2; answer = result })
-        follows_so = subst (λ h. Follows ActsFor tower opening number (fifo_plan h number t c own) old new (record { own = own2; answer = result })) (sym of.homes_are) follows
+        follows_so = subst (λ h. Follows ActsFor tower opening number (fifo_plan h number t c own) old new (record { own = own2; answer = result }))
+            (sym of.homes_are) follows
 
         pub poll_steps : IsStep ActsFor (cpu_step setup number) (private own guests trace) (private own2 guests2 trace2) (named old) (named new) Stepped
-        poll_steps = subst (λ q. IsStep ActsFor (cpu_step setup number) (private own guests trace) q (named old) (named new) Stepped) private_so (go (is_between talk.stage))
+        poll_steps = subst (λ q. IsStep ActsFor (cpu_step setup number) (private own guests trace) q (named old) (named new) Stepped) private_so
+            (go (is_between talk.stage))
           where
             opens : OpensAs setup number opening
             opens = opens_as setup homes caps number opening of.homes_are of.caps_are tabled.opens
@@ -338,5 +344,6 @@ module _ (homes : List CpuId) (caps : List ℕ) (buffers : ℕ) (seen : List Ent
                 first_polls_are_steps ActsFor setup opening number own own2 (states guests) trace t c old new result acts opens (begins_so setup of between)
                 (known_in own2 known2) outside (not_halted outside) follows_so
             go (inr calls) =
-                polls_are_steps ActsFor setup opening number own own2 (states guests) trace t c old new result acts opens (going_so calls) (known_in own known)
+                polls_are_steps ActsFor setup opening number own own2 (states guests) trace t c old new result acts opens (going_so calls)
+                (known_in own known)
                 (known_in own2 known2) not_halted follows_so

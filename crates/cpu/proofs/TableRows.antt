@@ -109,7 +109,8 @@ rows_open c p (h ∷ homes) (o ∷ guests) n long rows =
     first_row = row_first c p h homes o guests n rows
 
     go : (b : Bool) → same_cpu h c ≡ b → open_calls p (home_threads_from c homes (n + 1)) ≡ begun_count guests
-        → open_calls p (if b then tid n ∷ home_threads_from c homes (n + 1) else home_threads_from c homes (n + 1)) ≡ cond (is_begun_guest o) 1 0 + begun_count guests
+        → open_calls p (if b then tid n ∷ home_threads_from c homes (n + 1) else home_threads_from c homes (n + 1))
+        ≡ cond (is_begun_guest o) 1 0 + begun_count guests
     go true is more =
         let mine = first_row.mine is in
         let same : is_open_call (thread_at p (tid n)).call ≡ is_begun_guest o = mine.3 ∙ sym (ap is_begun_guest mine.1) in
@@ -226,7 +227,8 @@ module _ (homes : List CpuId) (caps : List ℕ) (buffers : ℕ) (seen : List Ent
     no_begin t g at calling PassOn = refl
     no_begin t g at calling Compute = refl
 
-    calling_rest : (t : Tid) (g : Guest) (hand : Option Tid) → guest_at guests t.0 ≡ Some g → is_calling g.stage ≡ true → rest_by (Some t) hand (threads_in own).ready ≡ None
+    calling_rest : (t : Tid) (g : Guest) (hand : Option Tid) → guest_at guests t.0 ≡ Some g → is_calling g.stage ≡ true
+        → rest_by (Some t) hand (threads_in own).ready ≡ None
     calling_rest t g hand at calling =
         ap (λ o. if begins (chosen_for t hand o) guests && full then Some TraceFull else None) at
         ∙ (ap (λ b. if begins (chosen_by t b hand (todo_of g)) guests && full then Some TraceFull else None) calling
@@ -300,11 +302,13 @@ module _ (homes : List CpuId) (caps : List ℕ) (buffers : ℕ) (seen : List Ent
         by_hand : (hand : Option Tid) → (threads_in own).hand ≡ hand → table_halted setup number p ≡ cpu_halted (threads_in own) guests trace limit
         by_hand (Some s) has =
             ap (λ h. halted_by (at_hand setup number p h)) has
-            ∙ sym (ap (λ h. if not (is_some h) && list_all is_over guests then Some AllEnded else rest_by (threads_in own).current h (threads_in own).ready) has
+            ∙ sym (ap (λ h. if not (is_some h) && list_all is_over guests then Some AllEnded else rest_by (threads_in own).current h
+            (threads_in own).ready) has
             ∙ hand_rest s (threads_in own).current)
         by_hand None has =
             ap (λ h. halted_by (at_hand setup number p h)) has
             ∙ (ap (λ b. halted_by (if b then Halts AllEnded else at_current setup number p (threads_in own).current)) all_ended
             ∙ (halts_if (list_all is_over guests) (at_current setup number p (threads_in own).current)
             (rest_by (threads_in own).current None (threads_in own).ready) (by_current (threads_in own).current refl)
-            ∙ sym (ap (λ h. if not (is_some h) && list_all is_over guests then Some AllEnded else rest_by (threads_in own).current h (threads_in own).ready) has)))
+            ∙ sym (ap (λ h. if not (is_some h) && list_all is_over guests then Some AllEnded else rest_by (threads_in own).current h
+            (threads_in own).ready) has)))

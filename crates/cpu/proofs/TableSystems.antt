@@ -75,9 +75,11 @@ table_step ActsFor setup c cpus log log2 room taken p q at step all known live =
     answers : (cpu_step setup c p log).answer ≡ Stepped
     answers = sym (step.answers ∙ ap (λ (l : List (Action Name)). (cpu_step setup c p (l ++ log)).answer) none)
 
-    step_is : system_step setup c (whole cpus log room taken) ≡ left (slice_set cpus c.0 (cpu_step setup c p log).next) ((cpu_step setup c p log).acts ++ log) room (taken + 1)
+    step_is : system_step setup c (whole cpus log room taken)
+        ≡ left (slice_set cpus c.0 (cpu_step setup c p log).next) ((cpu_step setup c p log).acts ++ log) room (taken + 1)
     step_is =
-        ap (λ (x : Option Private). step_at setup c (whole cpus log room taken) x) at ∙ ap (λ (a : Step). answered_by c (whole cpus log room taken) (cpu_step setup c p log) a) answers
+        ap (λ (x : Option Private). step_at setup c (whole cpus log room taken) x) at
+        ∙ ap (λ (a : Step). answered_by c (whole cpus log room taken) (cpu_step setup c p log) a) answers
         ∙ ap (λ (b : Bool). roomy c (whole cpus log room taken) (cpu_step setup c p log) b) (ne_eqb taken room live)
 
 -- a step of one CPU among those that are shown
@@ -97,7 +99,8 @@ shown_step shown ActsFor setup c xs k x y acts acts2 room taken at same step all
     ∙ map-set (λ (p : CpuShown). p.private) (map shown xs) k (shown y)
     ∙ ap (λ (j : ℕ). slice_set (map (λ (p : CpuShown). p.private) (map shown xs)) j (shown y).private) same in
     ap (λ (l : List Private). left l (named acts2) room (taken + 1)) written
-    ∙ table_step ActsFor setup c (map (λ (p : CpuShown). p.private) (map shown xs)) (named acts) (named acts2) room taken (shown x).private (shown y).private there
+    ∙ table_step ActsFor setup c (map (λ (p : CpuShown). p.private) (map shown xs)) (named acts) (named acts2) room taken (shown x).private
+    (shown y).private there
     step all (acts_known acts2 legal) live
 
 -- a CPU that takes a step has no reason of its own

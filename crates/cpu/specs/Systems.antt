@@ -12,9 +12,9 @@ use Rattle.layer_traits.specs.declared.steps.Step.{Step}
 use Rattle.layer_traits.specs.declared.steps.Step.TheVariants.{Stepped}
 use Rattle.layer_traits.specs.Places.{home_of}
 use Rattle.cpu.specs.Table.Setups.{Setup}
-use Rattle.cpu.specs.Table.Steps.{Stepping, Whole, system_step}
+use Rattle.cpu.specs.Table.Steps.{Stepping, Whole, system_step, cpu_step}
 use Rattle.cpu.specs.Tables.{IsSetupOf}
-use Rattle.cpu.specs.Cpus.{halted_at, reason_in}
+use Rattle.cpu.specs.Cpus.{halted_at, reason_in, step_answer}
 use Rattle.cpu.specs.Claims.{CpuShown, Shown, programs_in}
 
 -- what no step changes: capacities, homes, programs, the number of CPUs, the room of each trace, and the room for steps
@@ -94,3 +94,8 @@ pub data Ran (IsStepwise : Type 0) (start : Shown) : List CpuId → Shown → Ty
   starts : Ran IsStepwise start [] start
   goes : {steps : List CpuId} {s : Shown} (c : CpuId) (r : Shown) → Ran IsStepwise start steps s → WentOn IsStepwise c s r
       → Ran IsStepwise start (steps ++ c ∷ []) r
+
+-- the table's step of CPU c answers by this reason of the CPU's own to take none
+abbrev pub HaltsByTable : CpuId → Shown → Option Reason → Type 0
+HaltsByTable c s own = (setup : Setup) → GoesBy setup s → (p : CpuShown) → slice_get s.cpus c.0 ≡ Some p
+    → (cpu_step setup c p.private s.log).answer ≡ step_answer own

@@ -60,7 +60,7 @@ where
     ghost use Rattle.event_log.specs.Buffers.{items_of};
     ghost use Rattle.cpu.specs.Cpus.{step_answer};
     ghost use Rattle.cpu.specs.Claims.{FollowPrograms, HasOneOrder, IsPlaceOf, StandsOnce, StayHome, traces_of};
-    ghost use Rattle.cpu.specs.Systems.{Ran, SamePlan, SteppedByTable, halted_in, reason_of};
+    ghost use Rattle.cpu.specs.Systems.{HaltsByTable, Ran, SamePlan, SteppedByTable, halted_in, reason_of};
 
     /// Takes one step of `cpu`, which must exist: one local action or one atomic action.
     ///
@@ -75,6 +75,8 @@ where
         ensures plan { SamePlan self.old self.new }
         // Each step that is taken is the one of the step table.
         ensures steps { I.IsStepwise → result ≡ Stepped → SteppedByTable cpu self.old self.new Stepped }
+        // And where none is taken, the step table takes none for the same reason.
+        ensures halts { I.IsStepwise → (r : Reason) → result ≡ Halted r → SteppedByTable cpu self.old self.new (Halted r) }
 
         // What holds after every list of steps.
         ensures one_order { HasOneOrder self.new }
@@ -118,6 +120,7 @@ where
     fn reason(&self, cpu: CpuId) -> Option<Reason>
         requires { cpu.0 < length self.now.cpus }
         ensures is { result ≡ reason_of cpu self.now }
+        ensures table { I.IsStepwise → HaltsByTable cpu self.now (halted_in cpu self.now) }
     {
         if let Some(reason) = self.halted(cpu) {
             return Some(reason);
@@ -132,7 +135,8 @@ where
     /// `TraceFull`, and neither while it has a section under way.
     pub fn halted(&self, cpu: CpuId) -> Option<Reason>
         requires { cpu.0 < length self.now.cpus }
-        ensures { result ≡ halted_in cpu self.now }
+        ensures is { result ≡ halted_in cpu self.now }
+        ensures table { I.IsStepwise → HaltsByTable cpu self.now (halted_in cpu self.now) }
     {
         let at = &self.cpus[usize::from(cpu.0)];
         at.reason()

@@ -82,9 +82,11 @@ polls_are_steps ActsFor setup opening c own own' guests trace t call old new res
     let talk_now : Talk = talk_of own.talks t in
     let begun : begun_at talk_now.stage talk_now.call ≡ Some call
     = ap (begun_at talk_now.stage) going.begun
-    ∙ begun_stands talk_now.stage (threads_in own).hand own.cv.lock.sleep.kept (slept_for own.cv.lock.slept t) (slept_for own.cv.waits t) talk_now.effect call going.stands in
+    ∙ begun_stands talk_now.stage (threads_in own).hand own.cv.lock.sleep.kept (slept_for own.cv.lock.slept t)
+    (slept_for own.cv.waits t) talk_now.effect call going.stands in
     let is = ap (λ x. x.call) (thread_here own guests trace t going.in_guests) ∙ ap (option_map _) begun in
-    line_is_step ActsFor setup opening c own' p p (fifo_plan setup.homes c t call own) (private_after setup c t call own guests trace) old new result acts opens
+    line_is_step ActsFor setup opening c own' p p (fifo_plan setup.homes c t call own)
+    (private_after setup c t call own guests trace) old new result acts opens
     (plans_are_lines setup c own guests trace t call going known) known'
     (λ past same. step_goes setup c p p old past same (λ inside. refl) (λ outside. going_goes setup c p t _ going.current is (live outside))) follows
 
@@ -132,7 +134,8 @@ module _ (site : Site) (had : HasHad site None) (first_position : site.position 
       → halted_at site.setup site.c p ≡ None → choice site.setup site.c p ≡ Goes (from site None had Acquires)
   choice_begins between begins_here halted =
       let quiet : (thread_at p site.t).call ≡ None
-      = ap (λ x. x.call) there ∙ ap (λ s. (thread_from (record (talk_of site.talks site.t) { stage = s }) (slept_for site.slept site.t) (slept_for site.waits site.t)
+      = ap (λ x. x.call) there ∙ ap (λ s. (thread_from (record (talk_of site.talks site.t) { stage = s }) (slept_for site.slept site.t)
+      (slept_for site.waits site.t)
       (is_thread site.t (Some site.t) && false) (is_in site.t site.ended) g).call) between in
       let way = choice_current site.setup site.c p site.t None refl refl quiet halted
       ∙ ap (λ x. at_instruction site.setup site.c p site.t (next_of (program_of site.setup site.t) x.guest)) there in
@@ -181,9 +184,11 @@ module _ (ActsFor : CpuId → Type 0) (setup : Setup) (opening : LockId → Opti
       let p : Private = private_of pieces guests trace in
       let q : Private = from site None had Acquires in
       let plan : fifo_plan setup.homes c t call pieces ≡ plan_at setup.homes c t call at.Acquires (talk site None had at.Acquires) pieces
-      = ap (λ s. plan_at setup.homes c t call (going_at s (talk_of own.talks t) call).stage (going_at s (talk_of own.talks t) call) pieces) beginning.between in
+      = ap (λ s. plan_at setup.homes c t call (going_at s (talk_of own.talks t) call).stage
+      (going_at s (talk_of own.talks t) call) pieces) beginning.between in
       let line = subst (λ x. IsLine setup c q x (private_after setup c t call pieces guests trace)) (sym plan) (asks_line site had) in
-      line_is_step ActsFor setup opening c own2 p q (fifo_plan setup.homes c t call pieces) (private_after setup c t call pieces guests trace) old new result acts opens
+      line_is_step ActsFor setup opening c own2 p q (fifo_plan setup.homes c t call pieces)
+      (private_after setup c t call pieces guests trace) old new result acts opens
       line known
       (λ past same. step_goes setup c p q old past same (λ inside. absurd (cc (inside, outside)))
       (λ out. choice_begins site had refl beginning.between beginning.at halted)) follow

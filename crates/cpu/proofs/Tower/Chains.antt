@@ -52,7 +52,8 @@ pub private_here : (t : Tid) (hand : Option Tid) (ready ended : List Tid) (kept 
     ≡ parts (Some t) ready hand (slice_set (threads_at (own_at (Some t) hand ready ended kept slept waits talks) guests) t.0
     (thread_from talk s w (is_some kept) (is_in t ended) (guest_at guests t))) trace
 private_here t hand ready ended kept slept waits talks guests trace in_guests in_talks talk s w is is_s is_w =
-    (λ i. private_of (own_at (Some t) hand ready ended kept slept waits (put_same talks t.0 talk quiet is i)) (put_same guests t.0 (guest_at guests t) at_start refl i) trace)
+    (λ i. private_of (own_at (Some t) hand ready ended kept slept waits (put_same talks t.0 talk quiet is i))
+    (put_same guests t.0 (guest_at guests t) at_start refl i) trace)
     ∙ goes t hand ready ended kept slept waits talks guests in_guests in_talks hand ready kept talk (guest_at guests t) trace s w is_s is_w
 
 -- the plan of a poll, where the talk is this
@@ -61,10 +62,13 @@ pub fifo_at : (setup : Setup) (c : CpuId) (t : Tid) (call : TowerCall) (own : Bu
 fifo_at setup c t call own talk is = ap (λ x. plan_at setup.homes c t call (going x call).stage (going x call) own) is
 
 -- a line of a begun call
-module _ (site : Site) (effect : Option Effect) (had : HasHad site effect) (stage : TowerStage) (is : talk_of site.talks site.t ≡ talk site effect had stage) where
-  pub going_line : (at : Stage) → thread_from (talk site effect had stage) None None false (e site effect had) (g site effect had) ≡ with_call site effect had (k site effect had at)
+module _ (site : Site) (effect : Option Effect) (had : HasHad site effect) (stage : TowerStage)
+    (is : talk_of site.talks site.t ≡ talk site effect had stage) where
+  pub going_line : (at : Stage) → thread_from (talk site effect had stage) None None false (e site effect had) (g site effect had)
+      ≡ with_call site effect had (k site effect had at)
       → (plan : BufferPlan Reply)
-      → plan_at site.setup.homes site.c site.t site.call (going (talk site effect had stage) site.call).stage (going (talk site effect had stage) site.call) (own site effect had) ≡ plan
+      → plan_at site.setup.homes site.c site.t site.call (going (talk site effect had stage) site.call).stage (going (talk site effect had stage) site.call)
+      (own site effect had) ≡ plan
       → IsLine site.setup site.c (from site effect had at) plan (after site effect had)
       → LineOf site.setup site.c site.t site.call (own site effect had) site.guests site.trace
   going_line at same plan is_plan line =
@@ -79,7 +83,8 @@ module _ (site : Site) where
   talk_at stage effect = record { stage = stage; call = Some site.call; position = site.position; effect = effect }
 
   abbrev pub SiteLine : Type 0
-  SiteLine = LineOf site.setup site.c site.t site.call (own_at (Some site.t) None site.ready site.ended None site.slept site.waits site.talks) site.guests site.trace
+  SiteLine = LineOf site.setup site.c site.t site.call
+      (own_at (Some site.t) None site.ready site.ended None site.slept site.waits site.talks) site.guests site.trace
 
   had_none : (stage : TowerStage) → (going (talk_at stage None) site.call).effect ≡ None → talk_of site.talks site.t ≡ talk_at stage None → HasHad site None
   had_none stage so is = ap (λ x. (going x site.call).effect) is ∙ so
@@ -144,7 +149,8 @@ module _ (setup : Setup) (c : CpuId) (t : Tid) (ready ended : List Tid) (slept w
       → private_of (then_own slept2 waits2 next) guests trace ≡ private_of was guests trace
   same_private stage next slept2 waits2 s w is is_s is_w slept_same waits_same s2 w2 same =
       (λ i. private_of (then_own slept2 waits2 next) (put_same guests t.0 (guest_at guests t) at_start refl i) trace)
-      ∙ (changed t None ready ended None slept waits talks guests in_guests in_talks (Some t) None ready None slept2 waits2 (so next) (guest_at guests t) trace None None false
+      ∙ (changed t None ready ended None slept waits talks guests in_guests in_talks (Some t) None ready None slept2 waits2 (so next)
+      (guest_at guests t) trace None None false
       (λ j other. ap (λ b. b && false) (ne_eqb t.0 j (λ e. other (sym e)))) slept_same waits_same s2 w2 (ap (λ b. b && false) (same_tid_self t))
       ∙ (ap (λ x. parts (Some t) ready None (slice_set (threads_at was guests) t.0 x) trace) same
       ∙ sym (private_here t None ready ended None slept waits talks guests trace in_guests in_talks (so stage) s w is is_s is_w)))
@@ -213,11 +219,13 @@ module _ (setup : Setup) (c : CpuId) (t : Tid) (ready ended : List Tid) (slept w
   handed_plan b is s w =
       let own2 = then_own (slice_set slept t.0 None) waits at.Enters in
       fifo_at setup c t call was (so at.Acquires) is
-      ∙ (ap (chained (λ left. plan_of setup.homes c t call at.Enters (talk_of left.talks t) left) (left_heard t call (so at.Acquires) talks at.Acquires)) (handed_now b w s)
+      ∙ (ap (chained (λ left. plan_of setup.homes c t call at.Enters (talk_of left.talks t) left) (left_heard t call (so at.Acquires) talks at.Acquires))
+      (handed_now b w s)
       ∙ (ap (λ x. plan_of setup.homes c t call at.Enters x own2) (now_talk at.Enters)
       ∙ sym (fifo_at setup c t call own2 (so at.Enters) (now_talk at.Enters))))
 
-  pub handed_line : (b : BufId) → talk_of talks t ≡ so at.Acquires → slept_for slept t ≡ Some b → slept_for waits t ≡ None → LineOf setup c t call was guests trace
+  pub handed_line : (b : BufId) → talk_of talks t ≡ so at.Acquires → slept_for slept t ≡ Some b → slept_for waits t ≡ None
+      → LineOf setup c t call was guests trace
   handed_line b is s w =
       let own2 = then_own (slice_set slept t.0 None) waits at.Enters in
       chained_line at.Acquires at.Enters own2 is (now_talk at.Enters) refl refl
@@ -231,7 +239,8 @@ module _ (setup : Setup) (c : CpuId) (t : Tid) (ready ended : List Tid) (slept w
   handed_again_plan b is s w =
       let own2 = then_own (slice_set slept t.0 None) waits at.Tries in
       fifo_at setup c t call was (so at.AcquiresAgain) is
-      ∙ (ap (chained (λ left. plan_of setup.homes c t call at.Tries (talk_of left.talks t) left) (left_heard t call (so at.AcquiresAgain) talks at.AcquiresAgain)) (handed_now b w s)
+      ∙ (ap (chained (λ left. plan_of setup.homes c t call at.Tries (talk_of left.talks t) left)
+      (left_heard t call (so at.AcquiresAgain) talks at.AcquiresAgain)) (handed_now b w s)
       ∙ (ap (λ x. plan_of setup.homes c t call at.Tries x own2) (now_talk at.Tries)
       ∙ sym (fifo_at setup c t call own2 (so at.Tries) (now_talk at.Tries))))
 
@@ -257,7 +266,8 @@ module _ (setup : Setup) (c : CpuId) (t : Tid) (ready ended : List Tid) (slept w
       ∙ (ap (λ x. plan_on setup.homes c t call at.AcquiresAgain (plan_of setup.homes c t call at.Tries) x own2) (now_talk at.AcquiresAgain)
       ∙ sym (fifo_at setup c t call own2 (so at.AcquiresAgain) (now_talk at.AcquiresAgain))))
 
-  pub woken_line : (b : BufId) → talk_of talks t ≡ so at.Waits → slept_for slept t ≡ None → slept_for waits t ≡ Some b → LineOf setup c t call was guests trace
+  pub woken_line : (b : BufId) → talk_of talks t ≡ so at.Waits → slept_for slept t ≡ None → slept_for waits t ≡ Some b
+      → LineOf setup c t call was guests trace
   woken_line b is s w =
       let own2 = then_own slept (slice_set waits t.0 None) at.AcquiresAgain in
       chained_line at.Waits at.AcquiresAgain own2 is (now_talk at.AcquiresAgain) refl refl

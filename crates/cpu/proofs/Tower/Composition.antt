@@ -127,7 +127,8 @@ module _ (site : Site) (had : HasHad site None) where
       refl (runs_on site None had None site.ready None (talk site None had at.AcquiresAgain) None) (λ x known. ask_again x.owner)
 
   -- it enters its line
-  enter : (pos : ℕ) → after site None had (react site None had at.Enters (Inside (Edit (first_of site.t site.call))) (Some (told.Answer (did_out (Entered pos)))))
+  enter : (pos : ℕ) → after site None had (react site None had at.Enters (Inside (Edit (first_of site.t site.call)))
+      (Some (told.Answer (did_out (Entered pos)))))
       ≡ after_section site.setup site.c (from site None had Enters) (answer_view (told.Answer (did_out (Entered pos))))
   enter pos =
       runs_on site None had None site.ready None (record { stage = at.Tries; call = Some site.call; position = pos; effect = None }) None
@@ -225,8 +226,10 @@ module _ (site : Site) (had : HasHad site None) where
       ∙ sym (by_table site None had Waits (answer_view (told.Answer (wait_out Senders (Some u)))) (k site None had AcquiresAgain) site.trace refl)
 
   waits_at : (side : Side) (x : LockState BufferState)
-      → HandIsKnown site.setup (react site None had at.Waits (Release (Wait site.t side)) (Some (told.Answer (lock_answer buffer_rules (Release (Wait site.t side)) x)))).own
-      → after site None had (react site None had at.Waits (Release (Wait site.t side)) (Some (told.Answer (lock_answer buffer_rules (Release (Wait site.t side)) x))))
+      → HandIsKnown site.setup (react site None had at.Waits (Release (Wait site.t side))
+      (Some (told.Answer (lock_answer buffer_rules (Release (Wait site.t side)) x)))).own
+      → after site None had (react site None had at.Waits (Release (Wait site.t side))
+      (Some (told.Answer (lock_answer buffer_rules (Release (Wait site.t side)) x))))
       ≡ after_section site.setup site.c (from site None had Waits) (answer_view (told.Answer (lock_answer buffer_rules (Release (Wait site.t side)) x)))
   waits_at Receivers x known = wait_now Receivers (first x.sleepers) known
   waits_at Senders x known = wait_now Senders (first x.sleepers) known
@@ -334,7 +337,8 @@ module _ (site : Site) (f : Effect) (had : HasHad site (Some f)) where
       ≡ settled site.setup (stands site (Some f) had ready2 None (k site (Some f) had Returns) site.trace)
   returned_so ready2 =
       runs_on site (Some f) had None ready2 None over (Some (reply_of site.call f))
-      ∙ (ap (λ x. parts (Some site.t) ready2 None (slice_set (threads site (Some f) had) site.t.0 (record { guest = x; call = None; ended = e site (Some f) had })) site.trace)
+      ∙ (ap (λ x. parts (Some site.t) ready2 None (slice_set (threads site (Some f) had) site.t.0
+      (record { guest = x; call = None; ended = e site (Some f) had })) site.trace)
       (reply_guest site.call f (next_of (program_of site.setup site.t) (g site (Some f) had)) (g site (Some f) had))
       ∙ sym (has_returned site (Some f) had (k site (Some f) had Releases) ready2 site.trace))
 

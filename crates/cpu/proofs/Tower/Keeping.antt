@@ -121,7 +121,8 @@ pub rest_set : (t : Tid) (slept waits slept2 waits2 : List (Option BufId)) (talk
     → ((j : ℕ) → j ≢ t.0 → slept_for slept2 (tid j) ≡ slept_for slept (tid j)) → ((j : ℕ) → j ≢ t.0 → slept_for waits2 (tid j) ≡ slept_for waits (tid j))
     → length slept2 ≡ length slept → length waits2 ≡ length waits → Rest t slept2 waits2 (slice_set talks t.0 talk2)
 rest_set t slept waits slept2 waits2 talks talk2 others same_s same_w long_s long_w = record {
-  others = λ u other. stand_is None None _ _ _ _ _ _ (get_or-set_other talks t.0 u.0 talk2 quiet other) (same_s u.0 other) (same_w u.0 other) (others.others u other);
+  others = λ u other. stand_is None None _ _ _ _ _ _ (get_or-set_other talks t.0 u.0 talk2 quiet other) (same_s u.0 other) (same_w u.0 other)
+      (others.others u other);
   long_talks = length-set talks t.0 talk2 ∙ others.long_talks;
   long_slept = long_s ∙ others.long_slept;
   long_waits = long_w ∙ others.long_waits;
@@ -148,7 +149,8 @@ module _ (site : Site) (effect : Option Effect) (had : HasHad site effect) (othe
 
   -- it sleeps for the lock
   pub asleep : (stage : TowerStage) → MayStand stage None None (Some (buffer_of site.call)) None effect
-      → IsPart (own_at None None site.ready site.ended None (slice_set site.slept site.t.0 (Some (buffer_of site.call))) site.waits (slice_set site.talks site.t.0 (talk site effect had stage)))
+      → IsPart (own_at None None site.ready site.ended None (slice_set site.slept site.t.0 (Some (buffer_of site.call))) site.waits
+      (slice_set site.talks site.t.0 (talk site effect had stage)))
   asleep stage may =
       let slept2 : List (Option BufId) = slice_set site.slept site.t.0 (Some (buffer_of site.call)) in
       gone_part site.t site.ready site.ended slept2 site.waits (slice_set site.talks site.t.0 (talk site effect had stage))
@@ -161,7 +163,8 @@ module _ (site : Site) (effect : Option Effect) (had : HasHad site effect) (othe
 
   -- it waits
   pub waiting : (hand2 : Option Tid) (ready2 : List Tid) (stage : TowerStage) → MayStand stage None None None (Some (buffer_of site.call)) effect
-      → IsPart (own_at None hand2 ready2 site.ended None site.slept (slice_set site.waits site.t.0 (Some (buffer_of site.call))) (slice_set site.talks site.t.0 (talk site effect had stage)))
+      → IsPart (own_at None hand2 ready2 site.ended None site.slept (slice_set site.waits site.t.0 (Some (buffer_of site.call)))
+      (slice_set site.talks site.t.0 (talk site effect had stage)))
   waiting hand2 ready2 stage may =
       let waits2 : List (Option BufId) = slice_set site.waits site.t.0 (Some (buffer_of site.call)) in
       gone_part site.t ready2 site.ended site.slept waits2 (slice_set site.talks site.t.0 (talk site effect had stage))
@@ -175,7 +178,8 @@ module _ (site : Site) (effect : Option Effect) (had : HasHad site effect) (othe
   -- a section of the call
   pub keeps : (stage : TowerStage) (s : CvCall BufferEdit) (p : BufferPlan Reply) → p ≡ fresh site effect had stage s
       → Stands stage None None None None effect
-      → ((x : LockState BufferState) → IsPart (react site effect had stage s (Some (told.Answer (lock_answer buffer_rules s x)))).own) → IsKept site.setup site.c p
+      → ((x : LockState BufferState) → IsPart (react site effect had stage s (Some (told.Answer (lock_answer buffer_rules s x)))).own)
+      → IsKept site.setup site.c p
   keeps stage s p is may gives = record {
     lock = Buffer (buffer_of site.call);
     name = queue.Above s;
@@ -186,7 +190,8 @@ module _ (site : Site) (effect : Option Effect) (had : HasHad site effect) (othe
     gives = by_block;
   }
     where
-      by_block : (x : TowerBlock) → IsKind (Buffer (buffer_of site.call)) x → IsPart (react site effect had stage s (Some (tower.answer (queue.Above s) x))).own
+      by_block : (x : TowerBlock) → IsKind (Buffer (buffer_of site.call)) x
+          → IsPart (react site effect had stage s (Some (tower.answer (queue.Above s) x))).own
       by_block (block.Above x) kind = gives x
       by_block (block.Queue queue homes) kind = absurd kind
 
@@ -206,7 +211,8 @@ module _ (site : Site) (had : HasHad site None) (others : Rest site.t site.slept
 
   pub asks_again_keeps : IsKept site.setup site.c (plan site had at.AcquiresAgain)
   asks_again_keeps =
-      keeps site None had others at.AcquiresAgain (Acquire site.t) (plan site had at.AcquiresAgain) (asks_again_plan site had) asks_again (λ x. asks_again_by x.owner)
+      keeps site None had others at.AcquiresAgain (Acquire site.t) (plan site had at.AcquiresAgain) (asks_again_plan site had) asks_again
+      (λ x. asks_again_by x.owner)
 
   pub enters_keeps : IsKept site.setup site.c (plan site had at.Enters)
   enters_keeps =
@@ -217,7 +223,8 @@ module _ (site : Site) (had : HasHad site None) (others : Rest site.t site.slept
       (inside at.Tries None None None None None tries)))
 
   tries_by : (x : BufferState) → (buffer_answer (try_of site.t site.call) x ≡ NotYet) ⊎ Tried site.t site.call x
-      → IsPart (react site None had at.Tries (Inside (Edit (try_of site.t site.call))) (Some (told.Answer (did_out (buffer_answer (try_of site.t site.call) x))))).own
+      → IsPart (react site None had at.Tries (Inside (Edit (try_of site.t site.call)))
+      (Some (told.Answer (did_out (buffer_answer (try_of site.t site.call) x))))).own
   tries_by x (inl vain) =
       subst (λ o. IsPart (react site None had at.Tries (Inside (Edit (try_of site.t site.call))) (Some (told.Answer (did_out o)))).own) (sym vain)
       (on site None had others None site.ready None (talk site None had at.Waits) (inside at.Waits None None None None None stands_waits))
@@ -254,7 +261,8 @@ module _ (site : Site) (f : Effect) (had : HasHad site (Some f)) (others : Rest 
   signals_woke : (v : CvOut BufferOut) (u : Tid) (b : Bool)
       → IsPart (lift site (Some f) had at.Signals (signal_out v (Some u)) (waking site (Some f) had (Some site.t) u b)).own
   signals_woke v u true =
-      on site (Some f) had others None (site.ready ++ u ∷ []) None (talk site (Some f) had at.SignalsOwn) (inside at.SignalsOwn None None None None (Some f) (signals_own f))
+      on site (Some f) had others None (site.ready ++ u ∷ []) None (talk site (Some f) had at.SignalsOwn)
+      (inside at.SignalsOwn None None None None (Some f) (signals_own f))
   signals_woke v u false =
       on site (Some f) had others (Some u) site.ready (Some (signal_out v (Some u))) (talk site (Some f) had at.Signals)
       (inside at.Signals (Some u) (Some (signal_out v (Some u))) None None (Some f) (has_signalled u v f))
@@ -262,18 +270,21 @@ module _ (site : Site) (f : Effect) (had : HasHad site (Some f)) (others : Rest 
   signals_by : (side : Side) (v : CvOut BufferOut) (o : Option Tid)
       → IsPart (react site (Some f) had at.Signals (Inside (SignalFront site.t side)) (Some (told.Answer (signal_out v o)))).own
   signals_by side v None =
-      on site (Some f) had others None site.ready None (talk site (Some f) had at.SignalsOwn) (inside at.SignalsOwn None None None None (Some f) (signals_own f))
+      on site (Some f) had others None site.ready None (talk site (Some f) had at.SignalsOwn)
+      (inside at.SignalsOwn None None None None (Some f) (signals_own f))
   signals_by side v (Some u) = signals_woke v u (is_cpu site.c (slice_get site.setup.homes u.0))
 
   pub signals_keeps : IsKept site.setup site.c (plan_to site f had at.Signals)
   signals_keeps =
-      keeps site (Some f) had others at.Signals (Inside (SignalFront site.t (other_side site.call))) (plan_to site f had at.Signals) (signals_plan site f had) (signals f)
+      keeps site (Some f) had others at.Signals (Inside (SignalFront site.t (other_side site.call))) (plan_to site f had at.Signals)
+      (signals_plan site f had) (signals f)
       (λ x. signals_by (other_side site.call) _ _)
 
   own_signals_woke : (v : CvOut BufferOut) (u : Tid) (b : Bool)
       → IsPart (lift site (Some f) had at.SignalsOwn (signal_out v (Some u)) (waking site (Some f) had (Some site.t) u b)).own
   own_signals_woke v u true =
-      on site (Some f) had others None (site.ready ++ u ∷ []) None (talk site (Some f) had at.Releases) (inside at.Releases None None None None (Some f) (releases f))
+      on site (Some f) had others None (site.ready ++ u ∷ []) None (talk site (Some f) had at.Releases)
+      (inside at.Releases None None None None (Some f) (releases f))
   own_signals_woke v u false =
       on site (Some f) had others (Some u) site.ready (Some (signal_out v (Some u))) (talk site (Some f) had at.SignalsOwn)
       (inside at.SignalsOwn (Some u) (Some (signal_out v (Some u))) None None (Some f) (has_signalled_own u v f))
@@ -286,10 +297,12 @@ module _ (site : Site) (f : Effect) (had : HasHad site (Some f)) (others : Rest 
 
   pub own_signals_keeps : IsKept site.setup site.c (plan_to site f had at.SignalsOwn)
   own_signals_keeps =
-      keeps site (Some f) had others at.SignalsOwn (Inside (SignalFront site.t (tower_side site.call))) (plan_to site f had at.SignalsOwn) (own_signals_plan site f had) (signals_own f)
+      keeps site (Some f) had others at.SignalsOwn (Inside (SignalFront site.t (tower_side site.call))) (plan_to site f had at.SignalsOwn)
+      (own_signals_plan site f had) (signals_own f)
       (λ x. own_signals_by (tower_side site.call) _ _)
 
-  returned_now : (ready2 : List Tid) → IsPart (own_at (Some site.t) None ready2 site.ended None site.slept site.waits (slice_set site.talks site.t.0 (over site f had)))
+  returned_now : (ready2 : List Tid) → IsPart (own_at (Some site.t) None ready2 site.ended None site.slept site.waits
+      (slice_set site.talks site.t.0 (over site f had)))
   returned_now ready2 = on site (Some f) had others None ready2 None (over site f had) (outside (Some f))
 
   releases_woke : (u : Tid) (b : Bool) → IsPart (lift site (Some f) had at.Releases (left_out (Some u)) (waking site (Some f) had (Some site.t) u b)).own

@@ -125,7 +125,8 @@ module _ (setup : Setup) (c : CpuId) (t : Tid) (ready ended : List Tid) (slept w
   here_keeps hand kept stage effect p is so keep =
       subst (λ x. IsKept setup c x) (sym (fifo_at setup c t call (pieces hand kept slept waiting talks) (here stage effect) is ∙ so)) keep
 
-  had_none : (stage : TowerStage) → (going (here stage None) call).effect ≡ None → talk_of talks t ≡ here stage None → (going (talk_of talks t) call).effect ≡ None
+  had_none : (stage : TowerStage) → (going (here stage None) call).effect ≡ None → talk_of talks t ≡ here stage None → (going (talk_of talks t) call).effect
+      ≡ None
   had_none stage so is = ap (λ x. (going x call).effect) is ∙ so
 
   had_some : (stage : TowerStage) (f : Effect) → (going (here stage (Some f)) call).effect ≡ Some f → talk_of talks t ≡ here stage (Some f)
@@ -207,8 +208,10 @@ module _ (setup : Setup) (c : CpuId) (t : Tid) (ready ended : List Tid) (slept w
     abbrev sending : TowerOut → TowerStage → CvCall BufferEdit → BufferPlan Reply
     sending out stage e = sends setup c t u ready ended slept waiting talks guests trace call position f in_guests in_talks s w known out stage e
 
-    send_keeps : (out : TowerOut) (stage : TowerStage) (e : CvCall BufferEdit) (had : HasHad (site s w) (Some f)) (next : Talk) → talk_of talks t ≡ here stage (Some f)
-        → plan_at setup.homes c t call (going (here stage (Some f)) call).stage (going (here stage (Some f)) call) (pieces (Some u) (Some out) slept waiting talks)
+    send_keeps : (out : TowerOut) (stage : TowerStage) (e : CvCall BufferEdit) (had : HasHad (site s w) (Some f)) (next : Talk) → talk_of talks t
+        ≡ here stage (Some f)
+        → plan_at setup.homes c t call (going (here stage (Some f)) call).stage (going (here stage (Some f)) call)
+        (pieces (Some u) (Some out) slept waiting talks)
         ≡ sending out stage e
         → (react_in (sending out stage e) None).own ≡ pieces (Some u) (Some out) slept waiting (slice_set talks t.0 (here stage (Some f)))
         → (react_in (sending out stage e) (Some told.Done)).own ≡ pieces None None slept waiting (slice_set talks t.0 next)
@@ -225,9 +228,11 @@ module _ (setup : Setup) (c : CpuId) (t : Tid) (ready ended : List Tid) (slept w
           gives = λ x kind. subst IsPart (sym done) (on (site s w) (Some f) had others None ready None next may_next);
         })
 
-    signalled_keeps : (v : CvOut BufferOut) → talk_of talks t ≡ here at.Signals (Some f) → Keeps (pieces (Some u) (Some (outcome_of (lock.Did v) u)) slept waiting talks)
+    signalled_keeps : (v : CvOut BufferOut) → talk_of talks t ≡ here at.Signals (Some f)
+        → Keeps (pieces (Some u) (Some (outcome_of (lock.Did v) u)) slept waiting talks)
     signalled_keeps v is =
-        send_keeps (outcome_of (lock.Did v) u) at.Signals (Inside (SignalFront t (other_side call))) (had_some at.Signals f refl is) (here at.SignalsOwn (Some f)) is
+        send_keeps (outcome_of (lock.Did v) u) at.Signals (Inside (SignalFront t (other_side call))) (had_some at.Signals f refl is)
+        (here at.SignalsOwn (Some f)) is
         (ap (raised (left_heard t call (here at.Signals (Some f)) talks at.Signals))
         (beneath_sends setup c t u ready ended slept waiting talks guests trace call position f in_guests in_talks s w known (outcome_of (lock.Did v) u)
         (Inside (SignalFront t (other_side call))) w s))
@@ -237,7 +242,8 @@ module _ (setup : Setup) (c : CpuId) (t : Tid) (ready ended : List Tid) (slept w
     own_signalled_keeps : (v : CvOut BufferOut) → talk_of talks t ≡ here at.SignalsOwn (Some f)
         → Keeps (pieces (Some u) (Some (outcome_of (lock.Did v) u)) slept waiting talks)
     own_signalled_keeps v is =
-        send_keeps (outcome_of (lock.Did v) u) at.SignalsOwn (Inside (SignalFront t (tower_side call))) (had_some at.SignalsOwn f refl is) (here at.Releases (Some f)) is
+        send_keeps (outcome_of (lock.Did v) u) at.SignalsOwn (Inside (SignalFront t (tower_side call))) (had_some at.SignalsOwn f refl is)
+        (here at.Releases (Some f)) is
         (ap (raised (left_heard t call (here at.SignalsOwn (Some f)) talks at.SignalsOwn))
         (beneath_sends setup c t u ready ended slept waiting talks guests trace call position f in_guests in_talks s w known (outcome_of (lock.Did v) u)
         (Inside (SignalFront t (tower_side call))) w s))
@@ -249,12 +255,15 @@ module _ (setup : Setup) (c : CpuId) (t : Tid) (ready ended : List Tid) (slept w
         send_keeps (outcome_of (lock.Released cv.Left) u) at.Releases (Release (Leave t)) (had_some at.Releases f refl is)
         (record { stage = at.Between; call = None; position = position; effect = Some f }) is
         (ap (raised (left_heard t call (here at.Releases (Some f)) talks at.Releases))
-        (beneath_sends setup c t u ready ended slept waiting talks guests trace call position f in_guests in_talks s w known (outcome_of (lock.Released cv.Left) u)
+        (beneath_sends setup c t u ready ended slept waiting talks guests trace call position f in_guests in_talks s w known
+        (outcome_of (lock.Released cv.Left) u)
         (Release (Leave t)) w s))
         refl refl (inside at.Releases (Some u) (Some (outcome_of (lock.Released cv.Left) u)) None None (Some f) (has_released u f)) (outside (Some f))
 
-  pub by_stands : (stage : TowerStage) (hand : Option Tid) (kept : Option TowerOut) (s w : Option BufId) (effect : Option Effect) → Stands stage hand kept s w effect
-      → talk_of talks t ≡ here stage effect → slept_for slept t ≡ s → slept_for waiting t ≡ w → ((u : Tid) → hand ≡ Some u → IsSome (slice_get setup.homes u.0))
+  pub by_stands : (stage : TowerStage) (hand : Option Tid) (kept : Option TowerOut) (s w : Option BufId) (effect : Option Effect)
+      → Stands stage hand kept s w effect
+      → talk_of talks t ≡ here stage effect → slept_for slept t ≡ s → slept_for waiting t ≡ w
+      → ((u : Tid) → hand ≡ Some u → IsSome (slice_get setup.homes u.0))
       → Keeps (pieces hand kept slept waiting talks)
   by_stands stage hand kept s w effect asks is is_s is_w known =
       here_keeps None None at.Acquires None _ is refl (asks_keeps (site is_s is_w) (had_none at.Acquires refl is) others)
@@ -302,7 +311,8 @@ plans_keep setup c own guests t call going_on known part =
     going_on.in_guests going_on.in_talks going_on.in_slept going_on.in_waits (rest_of own t going_on.current part) talk_now.stage (threads_in own).hand
     own.cv.lock.sleep.kept (slept_for own.cv.lock.slept t) (slept_for own.cv.waits t) talk_now.effect going_on.stands
     (λ i. record { stage = talk_now.stage; call = going_on.begun i; position = talk_now.position; effect = talk_now.effect }) refl refl known in
-    subst (λ o. IsKept setup c (fifo_plan setup.homes c t call (own_at o (threads_in own).hand (threads_in own).ready (threads_in own).ended own.cv.lock.sleep.kept
+    subst (λ o. IsKept setup c (fifo_plan setup.homes c t call
+    (own_at o (threads_in own).hand (threads_in own).ready (threads_in own).ended own.cv.lock.sleep.kept
     own.cv.lock.slept own.cv.waits own.talks))) (sym going_on.current) keep
 
 -- thread t runs and is in no call
@@ -346,7 +356,8 @@ begins_keep setup c own guests t call free part =
     let begins : fifo_plan setup.homes c t call pieces ≡ plan site had at.Acquires
     = ap (λ x. plan_at setup.homes c t call (going_at x (talk_of own.talks t) call).stage (going_at x (talk_of own.talks t) call) pieces) free.between in
     let keep = subst (λ x. IsKept setup c x) (sym begins) (asks_keeps site had (rest_of own t free.current part)) in
-    subst (λ x. x) (λ i. IsKept setup c (fifo_plan setup.homes c t call (own_at (sym free.current i) (sym free.hand i) (threads_in own).ready (threads_in own).ended
+    subst (λ x. x) (λ i. IsKept setup c (fifo_plan setup.homes c t call
+    (own_at (sym free.current i) (sym free.hand i) (threads_in own).ready (threads_in own).ended
     (sym free.kept i) own.cv.lock.slept own.cv.waits own.talks))) keep
 
 -- a poll that followed such a plan
@@ -360,7 +371,8 @@ kept_by {A = A} ActsFor setup opening c p old new left opens keep follows =
     planned : Acting ActsFor tower opening c keep.lock keep.name keep.react old new left
     planned = subst (λ x. Follows ActsFor tower opening c x old new left) keep.is follows
 
-    by_reply : (x : Phase) (o : Option TowerBlock) → IsKindIn keep.lock o → left ≡ keep.react (at_give x (option_map (tower.answer keep.name) o)) → IsPart left.own
+    by_reply : (x : Phase) (o : Option TowerBlock) → IsKindIn keep.lock o → left ≡ keep.react (at_give x (option_map (tower.answer keep.name) o))
+        → IsPart left.own
     by_reply IsResting o kind is = subst (λ (l : Left Buffering A). IsPart l.own) (sym is) keep.stays
     by_reply (IsWaiting l) o kind is = subst (λ (l : Left Buffering A). IsPart l.own) (sym is) keep.stays
     by_reply (Holds l) None kind is = subst (λ (l : Left Buffering A). IsPart l.own) (sym is) keep.stays

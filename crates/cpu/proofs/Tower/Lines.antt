@@ -196,33 +196,53 @@ module _ (site : Site) (effect : Option Effect) (is_effect : HasHad site effect)
 
   -- what a poll leaves after which thread t runs on
   pub runs_on : (hand2 : Option Tid) (ready2 : List Tid) (kept2 : Option TowerOut) (talk2 : Talk) (answer : Option Reply)
-      → after (record { own = own_at (Some site.t) hand2 ready2 site.ended kept2 site.slept site.waits (slice_set site.talks site.t.0 talk2); answer = answer })
+      → after (record {
+        own = own_at (Some site.t) hand2 ready2 site.ended kept2 site.slept site.waits (slice_set site.talks site.t.0 talk2);
+        answer = answer;
+      })
       ≡ parts (Some site.t) ready2 hand2 (slice_set threads site.t.0 (thread_from talk2 None None (is_some kept2) e (guest_by answer)))
       (trace_after site.c site.t buf effect talk2.effect site.trace)
   runs_on hand2 ready2 kept2 talk2 answer =
       (λ i. private_of (own_at (Some site.t) hand2 ready2 site.ended kept2 site.slept site.waits (slice_set site.talks site.t.0 talk2)) (guests_by answer i)
       (trace_after site.c site.t buf (is_effect i) (get_or-set_same site.talks site.t.0 talk2 quiet site.in_talks i).effect site.trace))
-      ∙ goes site.t None site.ready site.ended None site.slept site.waits site.talks site.guests site.in_guests site.in_talks hand2 ready2 kept2 talk2 (guest_by answer)
+      ∙ goes site.t None site.ready site.ended None site.slept site.waits site.talks site.guests site.in_guests site.in_talks hand2 ready2 kept2 talk2
+      (guest_by answer)
       (trace_after site.c site.t buf effect talk2.effect site.trace) None None site.is_slept site.is_waits
 
   -- what a poll leaves after which thread t sleeps for the lock, or waits
-  pub sleeps_now : (stage : TowerStage) → after (record { own = own_at None None site.ready site.ended None (slice_set site.slept site.t.0 (Some buf)) site.waits (slice_set site.talks site.t.0 (talk stage)); answer = None })
-      ≡ parts None site.ready None (slice_set threads site.t.0 (thread_from (talk stage) (Some buf) None false e g)) (trace_after site.c site.t buf effect effect site.trace)
+  pub sleeps_now : (stage : TowerStage) → after (record {
+    own = own_at None None site.ready site.ended None
+        (slice_set site.slept site.t.0 (Some buf)) site.waits (slice_set site.talks site.t.0 (talk stage));
+    answer = None;
+  })
+      ≡ parts None site.ready None (slice_set threads site.t.0 (thread_from (talk stage) (Some buf) None false e g))
+      (trace_after site.c site.t buf effect effect site.trace)
   sleeps_now stage =
-      (λ i. private_of (own_at None None site.ready site.ended None (slice_set site.slept site.t.0 (Some buf)) site.waits (slice_set site.talks site.t.0 (talk stage))) (guests_by None i)
+      (λ i. private_of (own_at None None site.ready site.ended None (slice_set site.slept site.t.0 (Some buf)) site.waits
+      (slice_set site.talks site.t.0 (talk stage))) (guests_by None i)
       (trace_after site.c site.t buf (is_effect i) (get_or-set_same site.talks site.t.0 (talk stage) quiet site.in_talks i).effect site.trace))
-      ∙ gone site.t None site.ready site.ended None site.slept site.waits site.talks site.guests site.in_guests site.in_talks None site.ready (slice_set site.slept site.t.0 (Some buf)) site.waits (talk stage) g
-      (trace_after site.c site.t buf effect effect site.trace) (Some buf) None (λ j other. get_or-set_other site.slept site.t.0 j (Some buf) None other) (λ j other. refl)
+      ∙ gone site.t None site.ready site.ended None site.slept site.waits site.talks site.guests site.in_guests site.in_talks None site.ready
+      (slice_set site.slept site.t.0 (Some buf)) site.waits (talk stage) g
+      (trace_after site.c site.t buf effect effect site.trace) (Some buf) None (λ j other. get_or-set_other site.slept site.t.0 j (Some buf) None other)
+      (λ j other. refl)
       (get_or-set_same site.slept site.t.0 (Some buf) None site.in_slept) site.is_waits
 
   pub waits_now : (hand2 : Option Tid) (ready2 : List Tid) (stage : TowerStage)
-      → after (record { own = own_at None hand2 ready2 site.ended None site.slept (slice_set site.waits site.t.0 (Some buf)) (slice_set site.talks site.t.0 (talk stage)); answer = None })
-      ≡ parts None ready2 hand2 (slice_set threads site.t.0 (thread_from (talk stage) None (Some buf) false e g)) (trace_after site.c site.t buf effect effect site.trace)
+      → after (record {
+        own = own_at None hand2 ready2 site.ended None site.slept (slice_set site.waits site.t.0 (Some buf))
+            (slice_set site.talks site.t.0 (talk stage));
+        answer = None;
+      })
+      ≡ parts None ready2 hand2 (slice_set threads site.t.0 (thread_from (talk stage) None (Some buf) false e g))
+      (trace_after site.c site.t buf effect effect site.trace)
   waits_now hand2 ready2 stage =
-      (λ i. private_of (own_at None hand2 ready2 site.ended None site.slept (slice_set site.waits site.t.0 (Some buf)) (slice_set site.talks site.t.0 (talk stage))) (guests_by None i)
+      (λ i. private_of (own_at None hand2 ready2 site.ended None site.slept (slice_set site.waits site.t.0 (Some buf))
+      (slice_set site.talks site.t.0 (talk stage))) (guests_by None i)
       (trace_after site.c site.t buf (is_effect i) (get_or-set_same site.talks site.t.0 (talk stage) quiet site.in_talks i).effect site.trace))
-      ∙ gone site.t None site.ready site.ended None site.slept site.waits site.talks site.guests site.in_guests site.in_talks hand2 ready2 site.slept (slice_set site.waits site.t.0 (Some buf)) (talk stage) g
-      (trace_after site.c site.t buf effect effect site.trace) None (Some buf) (λ j other. refl) (λ j other. get_or-set_other site.waits site.t.0 j (Some buf) None other)
+      ∙ gone site.t None site.ready site.ended None site.slept site.waits site.talks site.guests site.in_guests site.in_talks hand2 ready2 site.slept
+      (slice_set site.waits site.t.0 (Some buf)) (talk stage) g
+      (trace_after site.c site.t buf effect effect site.trace) None (Some buf) (λ j other. refl)
+      (λ j other. get_or-set_other site.waits site.t.0 j (Some buf) None other)
       site.is_slept (get_or-set_same site.waits site.t.0 (Some buf) None site.in_waits)
 
   -- The plan of a section whose caller neither sleeps nor waits.
@@ -251,7 +271,8 @@ module _ (site : Site) (effect : Option Effect) (is_effect : HasHad site effect)
   pub line : (stage : TowerStage) (s : CvCall BufferEdit) (at : Stage) (plan : BufferPlan Reply) → plan ≡ fresh stage s
       → section_at site.t (k at) at ≡ name_of (queue.Above s) → after (react stage s None) ≡ from at
       → ((x : LockState BufferState) → HandIsKnown site.setup (react stage s (Some (told.Answer (lock_answer buffer_rules s x)))).own
-      → after (react stage s (Some (told.Answer (lock_answer buffer_rules s x)))) ≡ after_section site.setup site.c (from at) (answer_view (told.Answer (lock_answer buffer_rules s x))))
+      → after (react stage s (Some (told.Answer (lock_answer buffer_rules s x))))
+      ≡ after_section site.setup site.c (from at) (answer_view (told.Answer (lock_answer buffer_rules s x))))
       → IsLine site.setup site.c (from at) plan after
   line stage s at plan is name stays gives = record {
     lock = Buffer buf;
@@ -265,7 +286,8 @@ module _ (site : Site) (effect : Option Effect) (is_effect : HasHad site effect)
   }
     where
       by_block : (x : TowerBlock) → IsKind (Buffer buf) x → HandIsKnown site.setup (react stage s (Some (tower.answer (queue.Above s) x))).own
-          → after (react stage s (Some (tower.answer (queue.Above s) x))) ≡ after_section site.setup site.c (from at) (answer_view (tower.answer (queue.Above s) x))
+          → after (react stage s (Some (tower.answer (queue.Above s) x)))
+          ≡ after_section site.setup site.c (from at) (answer_view (tower.answer (queue.Above s) x))
       by_block (block.Above x) kind = gives x
       by_block (block.Queue queue homes) kind = absurd kind
 
@@ -281,7 +303,12 @@ module _ (site : Site) (effect : Option Effect) (is_effect : HasHad site effect)
 
   -- with a thread woken that is at home here, or is not
   abbrev pub waking : Option Tid → Tid → Bool → Threads
-  waking current u b = record { current = current; hand = if b then None else Some u; ready = if b then site.ready ++ u ∷ [] else site.ready; ended = site.ended }
+  waking current u b = record {
+    current = current;
+    hand = if b then None else Some u;
+    ready = if b then site.ready ++ u ∷ [] else site.ready;
+    ended = site.ended;
+  }
 
   pub by_home : (u : Tid) (F : Bool → Left Buffering Reply) (H : Bool → Private) → ((b : Bool) → after (F b) ≡ H b)
       → (HandIsKnown site.setup (F false).own → IsSome (slice_get site.setup.homes u.0))

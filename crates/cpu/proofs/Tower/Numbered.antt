@@ -54,7 +54,8 @@ numbered_changed f g n (suc k) m (x ∷ guests) s is other within =
     λ i. here i ∷ more i
 
 -- a part's own state by its pieces
-abbrev pub own_at : (current hand : Option Tid) (ready ended : List Tid) (kept : Option TowerOut) (slept waits : List (Option BufId)) (talks : List Talk) → Buffering
+abbrev pub own_at : (current hand : Option Tid) (ready ended : List Tid) (kept : Option TowerOut) (slept waits : List (Option BufId)) (talks : List Talk)
+    → Buffering
 own_at current hand ready ended kept slept waits talks = record {
   cv = record {
     lock = record {
@@ -79,7 +80,8 @@ module _ (t : Tid) (hand : Option Tid) (ready ended : List Tid) (kept : Option T
   before = own_at (Some t) hand ready ended kept slept waits talks
 
   -- thread t runs or nobody does: its talk, guest and where it sleeps or waits changed
-  pub changed : (current2 hand2 : Option Tid) (ready2 : List Tid) (kept2 : Option TowerOut) (slept2 waits2 : List (Option BufId)) (talk : Talk) (guest : State)
+  pub changed : (current2 hand2 : Option Tid) (ready2 : List Tid) (kept2 : Option TowerOut) (slept2 waits2 : List (Option BufId)) (talk : Talk)
+      (guest : State)
       (trace : List Entry) (s w : Option BufId) (k : Bool)
       → ((j : ℕ) → j ≢ t.0 → (is_thread (tid j) current2 && is_some kept2) ≡ false)
       → ((j : ℕ) → j ≢ t.0 → slept_for slept2 (tid j) ≡ slept_for slept (tid j))
@@ -108,7 +110,8 @@ module _ (t : Tid) (hand : Option Tid) (ready ended : List Tid) (kept : Option T
       (ap (λ b. b && is_some kept2) (same_tid_self t))
 
   -- thread t sleeps or waits
-  pub gone : (hand2 : Option Tid) (ready2 : List Tid) (slept2 waits2 : List (Option BufId)) (talk : Talk) (guest : State) (trace : List Entry) (s w : Option BufId)
+  pub gone : (hand2 : Option Tid) (ready2 : List Tid) (slept2 waits2 : List (Option BufId)) (talk : Talk) (guest : State) (trace : List Entry)
+      (s w : Option BufId)
       → ((j : ℕ) → j ≢ t.0 → slept_for slept2 (tid j) ≡ slept_for slept (tid j))
       → ((j : ℕ) → j ≢ t.0 → slept_for waits2 (tid j) ≡ slept_for waits (tid j)) → slept_for slept2 t ≡ s → slept_for waits2 t ≡ w
       → private_of (own_at None hand2 ready2 ended None slept2 waits2 (slice_set talks t.0 talk)) (slice_set guests t.0 guest) trace

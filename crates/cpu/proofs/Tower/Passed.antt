@@ -66,7 +66,8 @@ stands_none stage hand kept s w effect (has_signalled u v f) is = absurd (cc is)
 stands_none stage hand kept s w effect (has_signalled_own u v f) is = absurd (cc is)
 stands_none stage hand kept s w effect (has_released u f) is = absurd (cc is)
 
-pub kept_none : (stage : Stage) (hand : Option Tid) (kept : Option TowerOut) (s w : Option BufId) (effect : Option Effect) → MayStand stage hand kept s w effect
+pub kept_none : (stage : Stage) (hand : Option Tid) (kept : Option TowerOut) (s w : Option BufId) (effect : Option Effect)
+    → MayStand stage hand kept s w effect
     → hand ≡ None → kept ≡ None
 kept_none stage hand kept s w effect (outside f) is = refl
 kept_none stage hand kept s w effect (inside st h k x y f stands) is = stands_none st h k x y f stands is
@@ -152,7 +153,8 @@ module _ (own : Buffering) (part : IsPart own) where
           → MayStand (talk_of own.talks u).stage None None (slept_for own.cv.lock.slept u) (slept_for own.cv.waits u) (talk_of own.talks u).effect
       by_same u (inl same) =
           let is : t ≡ u = ap tid (sym same) in
-          subst (λ (x : Tid). MayStand (talk_of own.talks x).stage None None (slept_for own.cv.lock.slept x) (slept_for own.cv.waits x) (talk_of own.talks x).effect) is here
+          subst (λ (x : Tid). MayStand (talk_of own.talks x).stage None None (slept_for own.cv.lock.slept x) (slept_for own.cv.waits x)
+          (talk_of own.talks x).effect) is here
       by_same u (inr other) = part.other u (ap (is_thread u) runs ∙ ne_eqb t.0 u.0 (λ e. other (sym e)))
 
   -- a thread runs where nobody did

@@ -52,7 +52,8 @@ and_false : (b : Bool) → (b && false) ≡ false
 and_false true = refl
 and_false false = refl
 
-module _ (setup : Setup) (c : CpuId) (guests : List State) (trace : List Entry) (ended : List Tid) (slept waits : List (Option BufId)) (talks : List Talk) where
+module _ (setup : Setup) (c : CpuId) (guests : List State) (trace : List Entry) (ended : List Tid) (slept waits : List (Option BufId))
+    (talks : List Talk) where
   -- nobody runs or is ready: the pending are taken
   abbrev idle_with : List Tid → Buffering
   idle_with ready = own_at None None ready ended None slept waits talks
@@ -71,7 +72,8 @@ module _ (setup : Setup) (c : CpuId) (guests : List State) (trace : List Entry) 
     where
       by_block : (x : TowerBlock) → IsKind (Pending c) x
           → HandIsKnown setup (react_in (fifo_pass_plan setup.homes c pass.Drain (idle_with [])) (Some (tower.answer queue.TakeAll x))).own
-          → private_passed setup (idle_with []) guests trace pass.Drain (react_in (fifo_pass_plan setup.homes c pass.Drain (idle_with [])) (Some (tower.answer queue.TakeAll x)))
+          → private_passed setup (idle_with []) guests trace pass.Drain
+          (react_in (fifo_pass_plan setup.homes c pass.Drain (idle_with [])) (Some (tower.answer queue.TakeAll x)))
           ≡ after_section setup c (private_of (idle_with []) guests trace) (answer_view (tower.answer queue.TakeAll x))
       by_block (block.Above state) kind known = absurd kind
       by_block (block.Queue threads homes) kind known = ap (λ r. private_of (idle_with r) guests trace) (append-nil threads)
@@ -94,7 +96,8 @@ module _ (setup : Setup) (c : CpuId) (guests : List State) (trace : List Entry) 
 
   -- The thread that runs is in no call.
 
-  module _ (t : Tid) (ready : List Tid) (between : (talk_of talks t).stage ≡ at.Between) (in_guests : t.0 < length guests) (in_talks : t.0 < length talks) where
+  module _ (t : Tid) (ready : List Tid) (between : (talk_of talks t).stage ≡ at.Between) (in_guests : t.0 < length guests)
+      (in_talks : t.0 < length talks) where
     abbrev pub running : Buffering
     running = own_at (Some t) None ready ended None slept waits talks
 
@@ -125,12 +128,14 @@ module _ (setup : Setup) (c : CpuId) (guests : List State) (trace : List Entry) 
     yielded pending =
         let guest : State = after_yield (next_of (program_of setup t) g) g in
         let ready2 : List Tid = (ready ++ pending) ++ t ∷ [] in
-        (λ i. private_of (own_at None None ready2 ended None slept waits (put_same talks t.0 (talk_of talks t) quiet refl i)) (slice_set guests t.0 guest) trace)
+        (λ i. private_of (own_at None None ready2 ended None slept waits (put_same talks t.0 (talk_of talks t) quiet refl i))
+        (slice_set guests t.0 guest) trace)
         ∙ (changed t None ready ended None slept waits talks guests in_guests in_talks None None ready2 None slept waits (talk_of talks t) guest trace
         (slept_for slept t) (slept_for waits t) false (λ j other. refl) (λ j other. refl) (λ j other. refl) refl refl refl
         ∙ (ap (λ x. parts None ready2 None (slice_set (threads_at running guests) t.0 x) trace) (thread_free false guest)
         ∙ sym (ap (λ x. after_by setup c p t x.call (answer_view (told.Taken pending))) there_free
-        ∙ ap (λ x. parts None ready2 None (slice_set (threads_at running guests) t.0 (record x { guest = after_yield (next_of (program_of setup t) x.guest) x.guest })) trace)
+        ∙ ap (λ x. parts None ready2 None (slice_set (threads_at running guests) t.0
+        (record x { guest = after_yield (next_of (program_of setup t) x.guest) x.guest })) trace)
         there_free)))
 
     pub yield_line : PassLine setup c pass.YieldNow running guests trace
@@ -190,6 +195,7 @@ module _ (setup : Setup) (c : CpuId) (guests : List State) (trace : List Entry) 
       ≡ record (private_of (idle_with (t ∷ ready)) guests trace) { current = Some t; ready = ready }
   switched_now t ready =
       ap (λ l. parts (Some t) ready None l trace)
-      (numbered_same (λ n. thread_of (idle_with (t ∷ ready)) (tid n)) (λ n. thread_of (own_at (Some t) None ready ended None slept waits talks) (tid n)) 0 guests
+      (numbered_same (λ n. thread_of (idle_with (t ∷ ready)) (tid n))
+      (λ n. thread_of (own_at (Some t) None ready ended None slept waits talks) (tid n)) 0 guests
       (λ j x below. ap (λ k. thread_from (talk_of talks (tid j)) (slept_for slept (tid j)) (slept_for waits (tid j)) k (is_in (tid j) ended) x)
       (and_false (same_tid t (tid j)))))

@@ -50,7 +50,8 @@ module _ (setup : Setup) (c : CpuId) (t : Tid) (ready ended : List Tid) (slept w
   }
 
   by_stands : (stage : Stage) (hand : Option Tid) (kept : Option TowerOut) (s w : Option BufId) (effect : Option Effect) → Stands stage hand kept s w effect
-      → talk_of talks t ≡ talk stage effect → slept_for slept t ≡ s → slept_for waiting t ≡ w → ((u : Tid) → hand ≡ Some u → IsSome (slice_get setup.homes u.0))
+      → talk_of talks t ≡ talk stage effect → slept_for slept t ≡ s → slept_for waiting t ≡ w
+      → ((u : Tid) → hand ≡ Some u → IsSome (slice_get setup.homes u.0))
       → LineOf setup c t call (own_at (Some t) hand ready ended kept slept waiting talks) guests trace
   by_stands stage hand kept s w effect asks is is_s is_w known =
       site_asks (site is_s is_w) is

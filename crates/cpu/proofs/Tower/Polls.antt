@@ -200,7 +200,8 @@ look_is_step ActsFor setup c p old new tries =
     let log : List (Action Name) = seen.past in
     let is : cpu_step setup c p log ≡ acting setup c p log = ap (λ x. step_in setup c p log (is_in_section x)) seen.waits in
     let none : reply kernel (table_opening setup) c (asked setup c p).lock (asked setup c p).name log ≡ None
-    = ap (λ x. at_give x (option_map (kernel.answer (asked setup c p).name) (block_after edited (table_opening setup) (asked setup c p).lock (sections_in log)))) seen.waits in
+    = ap (λ x. at_give x (option_map (kernel.answer (asked setup c p).name)
+    (block_after edited (table_opening setup) (asked setup c p).lock (sections_in log)))) seen.waits in
     let act = ap (λ x. action_in c (asked setup c p).lock (asked setup c p).name log x) seen.waits in
     let next : p ≡ (cpu_step setup c p log).next = ap (after_reply setup c p) (sym none) ∙ ap (λ o. o.next) (sym is) in
     let grown : named new ≡ (cpu_step setup c p log).acts ++ log = seen.grows ∙ (ap (λ a. a ∷ log) (sym act) ∙ ap (λ o. o.acts ++ log) (sym is)) in
@@ -241,7 +242,8 @@ pub choice_hand : (setup : Setup) (c : CpuId) (p : Private) (u : Tid) → p.hand
 choice_hand setup c p u hand = ap (at_hand setup c p) hand
 
 -- a call that begins, where the CPU is not halted
-pub begins_so : (full : Bool) (q : Private) → halted_by (if full then Halts TraceFull else Goes q) ≡ None → (if full then Halts TraceFull else Goes q) ≡ Goes q
+pub begins_so : (full : Bool) (q : Private) → halted_by (if full then Halts TraceFull else Goes q) ≡ None → (if full then Halts TraceFull else Goes q)
+    ≡ Goes q
 begins_so true q is = absurd (cc is)
 begins_so false q is = refl
 

@@ -146,12 +146,17 @@ module _ (setup : Setup) (c : CpuId) (t u : Tid) (ready ended : List Tid) (slept
     -- the thread as the table has it: its section is done
     threads_are : (x : Thread) → thread_from (here stage) None None true e g ≡ x → threads outcome ≡ slice_set (threads outcome) t.0 x
     threads_are x same =
-        ap (λ p. p.threads) (private_here t (Some u) ready ended (Some outcome) slept waits talks guests trace in_guests in_talks (here stage) None None is is_slept is_waits)
+        ap (λ p. p.threads) (private_here t (Some u) ready ended (Some outcome) slept waits talks guests trace in_guests in_talks
+        (here stage) None None is is_slept is_waits)
         ∙ ap (slice_set (threads outcome) t.0) same
 
     line : (s : CvCall BufferEdit) (left : Left Buffering Reply)
         → plan_at setup.homes c t call (going (here stage) call).stage (going (here stage) call) (own_with outcome) ≡ sends outcome stage s
-        → react_in (sends outcome stage s) None ≡ record { own = own_at (Some t) (Some u) ready ended (Some outcome) slept waits (slice_set talks t.0 (here stage)); answer = None }
+        → react_in (sends outcome stage s) None ≡ record {
+          own = own_at (Some t) (Some u) ready ended (Some outcome) slept waits
+              (slice_set talks t.0 (here stage));
+          answer = None;
+        }
         → react_in (sends outcome stage s) (Some told.Done) ≡ left
         → after outcome left ≡ settled setup (parts (Some t) ready None (threads outcome) trace)
         → LineOf setup c t call (own_with outcome) guests trace
@@ -166,7 +171,8 @@ module _ (setup : Setup) (c : CpuId) (t u : Tid) (ready ended : List Tid) (slept
       gives = λ x kind hand. ap (after outcome) done ∙ gives;
     }
 
-  pub has_signalled_line : (v : CvOut BufferOut) → talk_of talks t ≡ here at.Signals → LineOf setup c t call (own_with (outcome_of (lock.Did v) u)) guests trace
+  pub has_signalled_line : (v : CvOut BufferOut) → talk_of talks t ≡ here at.Signals
+      → LineOf setup c t call (own_with (outcome_of (lock.Did v) u)) guests trace
   has_signalled_line v is =
       let out : TowerOut = outcome_of (lock.Did v) u in
       let next : Call = call_from call position (Some f) SignalsOwn in
@@ -174,10 +180,12 @@ module _ (setup : Setup) (c : CpuId) (t u : Tid) (ready ended : List Tid) (slept
       (ap (raised (left_heard t call (here at.Signals) talks at.Signals)) (beneath_is out (Inside (SignalFront t (other_side call))) is_waits is_slept))
       refl refl
       (sent out at.Signals is refl (at_stage at.SignalsOwn (here at.Signals)) None
-      ∙ sym (ap (λ l. settled setup (parts (Some t) ready None l trace)) (threads_are out at.Signals is refl (calling setup c ready (threads out) trace t g e (long out) next) refl)
+      ∙ sym (ap (λ l. settled setup (parts (Some t) ready None l trace))
+      (threads_are out at.Signals is refl (calling setup c ready (threads out) trace t g e (long out) next) refl)
       ∙ goes_on setup c ready (threads out) trace t g e (long out) next ready trace (λ p. refl)))
 
-  pub has_signalled_own_line : (v : CvOut BufferOut) → talk_of talks t ≡ here at.SignalsOwn → LineOf setup c t call (own_with (outcome_of (lock.Did v) u)) guests trace
+  pub has_signalled_own_line : (v : CvOut BufferOut) → talk_of talks t ≡ here at.SignalsOwn
+      → LineOf setup c t call (own_with (outcome_of (lock.Did v) u)) guests trace
   has_signalled_own_line v is =
       let out : TowerOut = outcome_of (lock.Did v) u in
       let next : Call = call_from call position (Some f) Releases in
@@ -185,7 +193,8 @@ module _ (setup : Setup) (c : CpuId) (t u : Tid) (ready ended : List Tid) (slept
       (ap (raised (left_heard t call (here at.SignalsOwn) talks at.SignalsOwn)) (beneath_is out (Inside (SignalFront t (tower_side call))) is_waits is_slept))
       refl refl
       (sent out at.SignalsOwn is refl (at_stage at.Releases (here at.SignalsOwn)) None
-      ∙ sym (ap (λ l. settled setup (parts (Some t) ready None l trace)) (threads_are out at.SignalsOwn is refl (calling setup c ready (threads out) trace t g e (long out) next) refl)
+      ∙ sym (ap (λ l. settled setup (parts (Some t) ready None l trace))
+      (threads_are out at.SignalsOwn is refl (calling setup c ready (threads out) trace t g e (long out) next) refl)
       ∙ goes_on setup c ready (threads out) trace t g e (long out) next ready trace (λ p. refl)))
 
   pub has_released_line : talk_of talks t ≡ here at.Releases → LineOf setup c t call (own_with (outcome_of (lock.Released cv.Left) u)) guests trace

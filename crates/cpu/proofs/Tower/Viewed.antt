@@ -151,7 +151,8 @@ module _ (state : LockState BufferState) where
   taken_view true = refl
   taken_view false = refl
 
-  edits_above : (e : CvCall BufferEdit) → view (tower.edited (queue.Above e) (block.Above state)) ≡ edited (name_of (queue.Above e)) (view (block.Above state))
+  edits_above : (e : CvCall BufferEdit) → view (tower.edited (queue.Above e) (block.Above state))
+      ≡ edited (name_of (queue.Above e)) (view (block.Above state))
   edits_above (Acquire t) = ap OfBuffer (acquired_view t state state.owner refl)
   edits_above (Inside (Edit (edit.Enter t Senders))) = ap OfBuffer (entered_senders (may_join t state.above.send_line) t)
   edits_above (Inside (Edit (edit.Enter t Receivers))) = ap OfBuffer (entered_receivers (may_join t state.above.receive_line) t)
@@ -171,7 +172,8 @@ module _ (state : LockState BufferState) where
 
   -- The answers.
 
-  asked_view : (o : Option Tid) → record { told = told_in (told_asker {O = CvOut BufferOut} o); slept = is_some (line_asked o); woke = None } ≡ answer_of_acquire o
+  asked_view : (o : Option Tid) → record { told = told_in (told_asker {O = CvOut BufferOut} o); slept = is_some (line_asked o); woke = None }
+      ≡ answer_of_acquire o
   asked_view None = refl
   asked_view (Some owner) = refl
 

@@ -46,7 +46,8 @@ returns-clause-table g c = λ step.
     λ u runs. (current_at (I.homes_of m) (I.cpu_of p.part) (I.moves m) (I.threads p.part) (law.moved m (I.cpu_of p.part) acts)
     (law.stands p.part m c.requires.fits) u runs).0 ∙ ap (λ (d : CpuId). Some d) c.requires.number in
     subst (λ (l : List (Option Guest)). IsTabled (I.homes_of m) (I.caps m) p.number (I.own p.part) (I.doing p.part) l (I.opening m))
-    (sym c.note_compute.ensures) (computed_tabled (I.homes_of m) (I.caps m) (length (I.caps m)) (I.seen m) (I.own p.part) (I.threads p.part) (I.talks p.part) (I.doing p.part)
+    (sym c.note_compute.ensures) (computed_tabled (I.homes_of m) (I.caps m) (length (I.caps m)) (I.seen m) (I.own p.part) (I.threads p.part)
+    (I.talks p.part) (I.doing p.part)
     (I.cpu_of p.part) p.number p.guests.items p.trace.items p.limit (vec_capacity p.trace) (I.opening m) c.requires.number (law.tells step p.part)
     c.requires.is (c.requires.table step) home
     c.args.thread c.requires.chosen)

@@ -120,8 +120,10 @@ returns-then-is_some-clause-table g c = λ step.
     (λ d. I.ActsFor m d) (I.acts m) (I.is_inside p.part) (subst (λ (d : CpuId). I.ActsFor m d) c.requires.number acts)
     (law.rests p.part m c.requires.fits) (law.busy p.part m c.requires.fits step) known
     c.args.pass c.requires.chosen c.requires.live (homes_in (I.opening m)) (law.tells_homes step m) (I.own q) (I.threads q)
-    (law.tells step q).0 (I.doing q) c.note_pass.new.guests.items (I.acts n) c.pass-done.result (I.moves m) (I.moves n) known2 (c.pass-done.ensures.follows step)
-    c.pass-done.ensures.passed c.pass-done.ensures.doing (c.note_pass.ensures ∙ (ap (λ (o : Option Tid). passed_by o p.guests.items c.args.pass) c.current-runs.ensures
+    (law.tells step q).0 (I.doing q) c.note_pass.new.guests.items (I.acts n) c.pass-done.result (I.moves m) (I.moves n) known2
+    (c.pass-done.ensures.follows step)
+    c.pass-done.ensures.passed c.pass-done.ensures.doing
+    (c.note_pass.ensures ∙ (ap (λ (o : Option Tid). passed_by o p.guests.items c.args.pass) c.current-runs.ensures
     ∙ sym (ap (λ b. if b then passed_by (I.threads p.part).current p.guests.items c.args.pass else p.guests.items) done))))
 
 pub returns-then-is_some-clause-steps : goal.returns-then-is_some-clause-steps
@@ -149,8 +151,10 @@ returns-then-is_some-clause-steps g c = λ step.
     (λ d. I.ActsFor m d) (I.acts m) (I.is_inside p.part) (subst (λ (d : CpuId). I.ActsFor m d) c.requires.number acts)
     (law.rests p.part m c.requires.fits) (law.busy p.part m c.requires.fits step) known
     c.args.pass c.requires.chosen c.requires.live (homes_in (I.opening m)) (law.tells_homes step m) (I.own q) (I.threads q)
-    (law.tells step q).0 (I.doing q) c.note_pass.new.guests.items (I.acts n) c.pass-done.result (I.moves m) (I.moves n) known2 (c.pass-done.ensures.follows step)
-    c.pass-done.ensures.passed c.pass-done.ensures.doing (c.note_pass.ensures ∙ (ap (λ (o : Option Tid). passed_by o p.guests.items c.args.pass) c.current-runs.ensures
+    (law.tells step q).0 (I.doing q) c.note_pass.new.guests.items (I.acts n) c.pass-done.result (I.moves m) (I.moves n) known2
+    (c.pass-done.ensures.follows step)
+    c.pass-done.ensures.passed c.pass-done.ensures.doing
+    (c.note_pass.ensures ∙ (ap (λ (o : Option Tid). passed_by o p.guests.items c.args.pass) c.current-runs.ensures
     ∙ sym (ap (λ b. if b then passed_by (I.threads p.part).current p.guests.items c.args.pass else p.guests.items) done)))
 
 pub returns-else-is_some-clause-table : goal.returns-else-is_some-clause-table
@@ -180,7 +184,8 @@ returns-else-is_some-clause-table g c = λ step.
     (law.rests p.part m c.requires.fits) (law.busy p.part m c.requires.fits step) known
     c.args.pass c.requires.chosen c.requires.live (homes_in (I.opening m)) (law.tells_homes step m) (I.own q) (I.threads q)
     (law.tells step q).0 (I.doing q) p.guests.items (I.acts n) c.pass-done.result (I.moves m) (I.moves n) known2 (c.pass-done.ensures.follows step)
-    c.pass-done.ensures.passed c.pass-done.ensures.doing (sym (ap (λ b. if b then passed_by (I.threads p.part).current p.guests.items c.args.pass else p.guests.items) done)))
+    c.pass-done.ensures.passed c.pass-done.ensures.doing
+    (sym (ap (λ b. if b then passed_by (I.threads p.part).current p.guests.items c.args.pass else p.guests.items) done)))
 
 pub returns-else-is_some-clause-steps : goal.returns-else-is_some-clause-steps
 returns-else-is_some-clause-steps g c = λ step.
@@ -208,4 +213,5 @@ returns-else-is_some-clause-steps g c = λ step.
     (law.rests p.part m c.requires.fits) (law.busy p.part m c.requires.fits step) known
     c.args.pass c.requires.chosen c.requires.live (homes_in (I.opening m)) (law.tells_homes step m) (I.own q) (I.threads q)
     (law.tells step q).0 (I.doing q) p.guests.items (I.acts n) c.pass-done.result (I.moves m) (I.moves n) known2 (c.pass-done.ensures.follows step)
-    c.pass-done.ensures.passed c.pass-done.ensures.doing (sym (ap (λ b. if b then passed_by (I.threads p.part).current p.guests.items c.args.pass else p.guests.items) done))
+    c.pass-done.ensures.passed c.pass-done.ensures.doing
+    (sym (ap (λ b. if b then passed_by (I.threads p.part).current p.guests.items c.args.pass else p.guests.items) done))
