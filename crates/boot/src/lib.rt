@@ -14,3 +14,4 @@ mod tests;
 
 pub use plans::Boot;
 pub use refusals::{BootError, PlanKey};
+pub use tasks::Task;

@@ -1,97 +1,185 @@
--- At boot the buffers fit the machine of their locks.
-use Rattle.std.proofs.Common.{◌≡◌, ℕ, zero, suc, ◌+◌, ◌<◌, ◌≤◌, List, [], ◌∷◌, ◌++◌, length, map, replicate, Option, Some, None, refl, sym, ap, ◌∙◌, subst, arith}
-use Rattle.std.specs.Prelude.{slice_get, IsSome, if◌then◌else◌}
-use Rattle.std.proofs.lemmas.Bool.{eq-eqb, ne_eqb}
-use Rattle.std.proofs.lemmas.Option.{same_Some}
+-- A plan's guests, homes and buffers are such as a system opens with, and the system that it opens is the plan's.
+use Rattle.std.proofs.Common.{◌≡◌, ℕ, zero, suc, ◌+◌, ◌<◌, ◌≤◌, ◌==◌, Bool, true, false, List, [], ◌∷◌, length, get_or, map, replicate, Option, Some, None, refl, sym, ap, ◌∙◌, subst, arith, inl, inr}
+use Rattle.std.specs.Prelude.{slice_get, if◌then◌else◌, All, IfOk, Result, Ok, Err}
+use Rattle.std.proofs.lemmas.Bool.Decides.{eqb_tells}
+use Rattle.std.proofs.lemmas.List.{get_or-map, length-map, length-replicate}
+use Rattle.std.proofs.lemmas.List.Elements.{All-map, All-get_or}
+use Rattle.std.proofs.lemmas.Option.{slice_get_within, get_or_from_slice_get}
 use Rattle.event_log.specs.declared.ids.CpuId.{CpuId}
-use Rattle.event_log.specs.declared.ids.LockId.{LockId}
-use Rattle.event_log.specs.declared.ids.LockId.TheVariants as lock
-use Rattle.event_log.specs.declared.ids.TheConstants.{CPUS}
-use Rattle.event_log.specs.Actions.{Action}
-use Rattle.event_log.specs.Sections.{Section, sections_in, block_after}
-use Rattle.layer_traits.specs.OneLock.{opened, IsMissing, AreDistinct}
-use Rattle.mctower.specs.Buffer.{Buffer, new_buffer}
-use Rattle.mctower.specs.EditRules.{buffer_rules}
-use Rattle.mctower.specs.Guards.{Guards}
-use Rattle.mctower.specs.Opening.{locks_from, IsFreshPart}
-use Rattle.mctower.specs.Boots.{fresh_guarded}
-use Rattle.mctower.specs.State.{Guarded}
-use Rattle.mctower.specs.declared.kernel.edit.BufferEdit.{BufferEdit}
+use Rattle.event_log.specs.declared.ids.Tid.{Tid}
+use Rattle.guest.specs.declared.instructions.Instruction.{Instruction}
+use Rattle.guest.specs.declared.instructions.Instruction.TheVariants.{Exit}
+use Rattle.guest.specs.Instructions.{instruction_at, names_below}
+use Rattle.layer_traits.specs.Places.{home_of}
+use Rattle.layer_traits.specs.Openings.{AreOpenable}
+use Rattle.boot.specs.declared.tasks.Task.{Task as TaskInside}
+use Rattle.boot.specs.Seen.{task_of, tasks_of}
+use Rattle.boot.specs.Plan.{Plan, IsPlan, IsTask, Task}
+use Rattle.cpu.specs.declared.guests.Guest.{Guest}
+use Rattle.cpu.specs.Guests.{new_guest}
+use Rattle.cpu.specs.Cpus.{NamesBelow, guest_at, programs_of}
+use Rattle.cpu.specs.Boots.{AreGuests, AreTables}
+use Rattle.cpu.specs.Claims.{CpuShown, Shown, listed, programs_in}
+use Rattle.mctower.specs.Plans.{IsSystemOf}
+use Rattle.mctower.specs.Tables.{guest_for, guests_at, guest_tables, homes_in}
+use Rattle.mctower.proofs.ListLemmas.{map_get}
+use Rattle.mctower.proofs.TableLemmas.{guest_home, listed_at, listed_length}
 
--- a lock below all of these is none of them
-missing_below : (j k : ℕ) (caps : List ℕ) → j < k → IsMissing (lock.Buffer (record { 0 = j })) (locks_from k caps)
-missing_below j k [] below = tt
-missing_below j k (capacity ∷ caps) below = (ne_eqb j k (λ e. absurd (omega (arith, e, below))), missing_below j (k + 1) caps (omega (arith, below)))
+-- what stands in a place of CPU k's table: the new guest of a thread at home there
+record IsSeated (tasks : List Task) (k t : ℕ) (g : Guest) : Type 0 where
+  task : Task
+  at : slice_get tasks t ≡ Some task
+  home : task.home ≡ k
+  is : g ≡ new_guest task.program
 
--- the buffers' locks are distinct
-pub locks_distinct : (k : ℕ) (caps : List ℕ) → AreDistinct (locks_from k caps)
-locks_distinct k [] = tt
-locks_distinct k (capacity ∷ caps) = (missing_below k (k + 1) caps (omega arith), locks_distinct (k + 1) caps)
+chosen_guest : (task : Task) (k : ℕ) (g : Guest) → guest_for k task ≡ Some g → (task.home ≡ k) × (g ≡ new_guest task.program)
+chosen_guest task k g is = elim (eqb_tells task.home k) [
+  | inl p ↦ (p.1, (let some : guest_for k task ≡ Some (new_guest task.program) = guest_home task k (sym p.1) in cc))
+  | inr p ↦ (let none : guest_for k task ≡ None = ap (λ (b : Bool). if b then Some (new_guest task.program) else None) p.0 in absurd (cc))
+]
 
--- the opening block of a buffer's lock
-opened_at : (k i j : ℕ) (caps : List ℕ) (x : Buffer) → j ≡ k + i → slice_get (map new_buffer caps) i ≡ Some x → opened (locks_from k caps) (lock.Buffer (record { 0 = j })) ≡ Some x
-opened_at k i j [] x e at = absurd (cc)
-opened_at k zero j (capacity ∷ caps) x e at =
-    ap (λ b. if b then Some (new_buffer capacity) else opened (locks_from (k + 1) caps) (lock.Buffer (record { 0 = j }))) (eq-eqb k j (omega (arith, e))) ∙ at
-opened_at k (suc i) j (capacity ∷ caps) x e at =
-    ap (λ b. if b then Some (new_buffer capacity) else opened (locks_from (k + 1) caps) (lock.Buffer (record { 0 = j }))) (ne_eqb k j (λ s. absurd (omega (arith, e, s)))) ∙ opened_at (k + 1) i j caps x (omega (arith, e)) at
+seated : (tasks : List Task) (k t : ℕ) (g : Guest) → get_or (map (guest_for k) tasks) t None ≡ Some g → IsSeated tasks k t g
+seated [] k t g is = absurd (cc)
+seated (task ∷ tasks) k zero g is =
+    let here = chosen_guest task k g is in record { task = task; at = refl; home = here.0; is = here.1 }
+seated (task ∷ tasks) k (suc t) g is =
+    let rest = seated tasks k t g is in record { task = rest.task; at = rest.at; home = rest.home; is = rest.is }
 
-some_is : {X : Type 0} (o : Option X) (x : X) → o ≡ Some x → IsSome o
-some_is None x e = absurd (cc)
-some_is (Some y) x e = refl
+sits : (tasks : List Task) (k t : ℕ) (task : Task) → slice_get tasks t ≡ Some task → task.home ≡ k
+    → get_or (map (guest_for k) tasks) t None ≡ Some (new_guest task.program)
+sits [] k t task at home = absurd (cc)
+sits (one ∷ tasks) k zero task at home = let same : one ≡ task = cc in ap (guest_for k) same ∙ guest_home task k (sym home)
+sits (one ∷ tasks) k (suc t) task at home = sits tasks k t task at home
 
--- fresh parts have nothing under way
-pub rest_all : {P : Type 0} (under_way : P → Option (Section BufferEdit)) (parts : List P) (n : ℕ) → length parts ≡ n → ((k : ℕ) (p : P) → slice_get parts k ≡ Some p → under_way p ≡ None) → map under_way parts ≡ replicate n None
-rest_all under_way [] zero e rests = refl
-rest_all under_way [] (suc n) e rests = absurd (omega (arith, e))
-rest_all under_way (p ∷ parts) zero e rests = absurd (omega (arith, e))
-rest_all under_way (p ∷ parts) (suc n) e rests =
-    ap (λ o. o ∷ map under_way parts) (rests 0 p refl) ∙ ap (λ os. let none : Option (Section BufferEdit) = None in none ∷ os) (rest_all under_way parts n (omega (arith, e)) (λ k q at. rests (suc k) q at))
+-- a program of a plan names its buffers alone, at each line
+line_names : (buffers : ℕ) (program : List Instruction) (line : ℕ) (i : Option Instruction) → slice_get program line ≡ i
+    → All (λ x. names_below buffers x ≡ true) program → names_below buffers (instruction_at program line) ≡ true
+line_names buffers program line None at all = rw at refl
+line_names buffers program line (Some i) at all =
+    let here : names_below buffers (get_or program line Exit) ≡ true = all line Exit (slice_get_within program line i at) in
+    rw at (subst (λ x. names_below buffers x ≡ true) (get_or_from_slice_get program line i Exit at) here)
 
-within_length : {P : Type 0} (parts : List P) (k : ℕ) (p : P) → slice_get parts k ≡ Some p → k < length parts
-within_length [] k p at = absurd (cc)
-within_length (q ∷ parts) zero p at = omega arith
-within_length (q ∷ parts) (suc k) p at = omega (arith, within_length parts k p at)
+task_within : (plan : Plan) (t : ℕ) (task : Task) → IsPlan plan → slice_get plan.tasks t ≡ Some task → IsTask plan.cpus (length plan.caps) task
+task_within plan t task within at =
+    subst (λ x. IsTask plan.cpus (length plan.caps) x) (get_or_from_slice_get plan.tasks t task task at)
+    (within.tasks.each t task (slice_get_within plan.tasks t task at))
 
--- the buffers fit the machine of their locks, before anything was done
-pub guards_start : {P M : Type 0} (Fits : P → M → Type 0) (cpu_of : P → CpuId) (under_way : P → Option (Section BufferEdit)) (ActsFor IsOutside : M → CpuId → Type 0) (opening : M → LockId → Option Buffer) (acts : M → List (Action BufferEdit)) (room : M → ℕ) (IsStepwise : Type 0) (machine : M) (parts : List P) (buffers : List Buffer) (caps : List ℕ) (cpus left : ℕ)
-    → IsStepwise → ((c : CpuId) → c.0 < CPUS → ActsFor machine c) → ((c : CpuId) → IsOutside machine c) → opening machine ≡ opened (locks_from 0 caps) → acts machine ≡ [] → room machine ≡ left → buffers ≡ map new_buffer caps → cpus ≤ CPUS → length parts ≡ cpus
-    → ((k : ℕ) (p : P) → slice_get parts k ≡ Some p → IsFreshPart Fits cpu_of under_way ActsFor IsOutside k p)
-    → Guards Fits cpu_of ActsFor opening acts room IsStepwise machine parts buffers left
-guards_start Fits cpu_of under_way ActsFor IsOutside opening acts room IsStepwise machine parts buffers caps cpus left stepwise owned outside opens none reserve are few count fresh =
-    let open_at : (k : ℕ) (x : Buffer) → slice_get buffers k ≡ Some x → opening machine (lock.Buffer (record { 0 = k })) ≡ Some x
-    = λ k x at. ap (λ (f : LockId → Option Buffer). f (lock.Buffer (record { 0 = k }))) opens ∙ opened_at 0 k k caps x (omega arith) (ap (λ bs. slice_get bs k) (sym are) ∙ at) in
+guests_of : (plan : Plan) (k : ℕ) → IsPlan plan → AreGuests (homes_in plan.tasks) (length plan.caps) (record { 0 = k }) (guests_at plan.tasks k)
+guests_of plan k within = record {
+  homed = λ t is.
+      let at = map_get (λ (task : Task). record { 0 = task.home }) plan.tasks t.0 (record { 0 = k }) is in
+      let home : at.0.home ≡ k = ap (λ (c : CpuId). c.0) at.2 in
+      (new_guest at.0.program, sits plan.tasks k t.0 at.0 at.1 home);
+  only = λ t g is.
+      let at = seated plan.tasks k t.0 g is in
+      get_mapped plan.tasks t.0 at.task at.at ∙ ap (λ (n : ℕ). Some (record { 0 = n })) at.home;
+  fresh = λ t g is.
+      let at = seated plan.tasks k t.0 g is in
+      at.is ∙ ap (λ (x : Guest). new_guest x.program) (sym at.is);
+  named = λ t g is line.
+      let at = seated plan.tasks k t.0 g is in
+      let task = task_within plan t.0 at.task within at.at in
+      subst (λ (x : Guest). names_below (length plan.caps) (instruction_at x.program line) ≡ true) (sym at.is)
+      (line_names (length plan.caps) at.task.program line (slice_get at.task.program line) refl task.known);
+  size = length-map plan.tasks (guest_for k) ∙ sym (length-map plan.tasks (λ (task : Task). record { 0 = task.home }));
+}
+  where
+  get_mapped : (tasks : List Task) (t : ℕ) (task : Task) → slice_get tasks t ≡ Some task
+      → slice_get (homes_in tasks) t ≡ Some (record { 0 = task.home })
+  get_mapped [] t task at = absurd (cc)
+  get_mapped (one ∷ tasks) zero task at = let same : one ≡ task = cc in ap (λ (x : Task). Some (record { 0 = x.home })) same
+  get_mapped (one ∷ tasks) (suc t) task at = get_mapped tasks t task at
+
+-- the tables of a plan are such as a system opens with
+pub plan_tables : (plan : Plan) → IsPlan plan → AreTables (homes_in plan.tasks) (length plan.caps) (guest_tables plan.tasks plan.cpus)
+plan_tables plan within k guests at =
+    subst (λ table. AreGuests (homes_in plan.tasks) (length plan.caps) (record { 0 = k }) table) (sym (listed_at (guests_at plan.tasks) 0 plan.cpus k guests at))
+    (subst (λ n. AreGuests (homes_in plan.tasks) (length plan.caps) (record { 0 = k }) (guests_at plan.tasks n)) (omega arith) (guests_of plan k within))
+
+-- and its CPUs, capacities and homes
+pub plan_opens : (plan : Plan) → IsPlan plan → AreOpenable plan.cpus plan.caps (homes_in plan.tasks)
+plan_opens plan within = record {
+  some_cpus = within.some_cpus;
+  most_cpus = within.most_cpus;
+  buffers = within.caps.most;
+  capacities = within.caps.each;
+  threads = let many : length (homes_in plan.tasks) ≡ length plan.tasks = length-map plan.tasks (λ (task : Task). record { 0 = task.home }) in
+      rw many within.tasks.most;
+  homes_exist = All-map (λ (home : CpuId). home.0 < plan.cpus) (λ (task : Task). record { 0 = task.home }) plan.tasks
+      (λ t d lt. (within.tasks.each t d lt).home);
+}
+
+map_both : {X Y Z : Type 0} (f : X → Y) (g : Y → Z) (xs : List X) → map (λ x. g (f x)) xs ≡ map g (map f xs)
+map_both f g [] = refl
+map_both f g (x ∷ xs) = ap (λ rest. g (f x) ∷ rest) (map_both f g xs)
+
+map_const : {X Y : Type 0} (y : Y) (xs : List X) → map (λ x. y) xs ≡ replicate (length xs) y
+map_const y [] = refl
+map_const y (x ∷ xs) = ap (λ rest. y ∷ rest) (map_const y xs)
+
+-- the system that opens with them is the plan's
+pub plan_system : {X : Type 0} (items : X → List (Option Guest)) (plan : Plan) (s : Shown) (caps : List ℕ) (homes : List CpuId) (tables : List X) (limit : ℕ)
+    → caps ≡ plan.caps → homes ≡ homes_in plan.tasks → map items tables ≡ guest_tables plan.tasks plan.cpus → limit ≡ plan.trace
+    → s.caps ≡ caps → s.homes ≡ homes → map (λ p. p.guests) s.cpus ≡ map items tables → map (λ p. p.limit) s.cpus ≡ map (λ table. limit) tables
+    → IsSystemOf plan s
+plan_system items plan s caps homes tables limit caps_are homes_are tables_are limit_is caps_in homes_at guests limits =
+    let whole : map (λ (p : CpuShown). p.guests) s.cpus ≡ guest_tables plan.tasks plan.cpus = guests ∙ tables_are in
+    let many : length tables ≡ plan.cpus =
+    sym (length-map tables items) ∙ ap length tables_are ∙ listed_length (guests_at plan.tasks) 0 plan.cpus in
     record {
-      stepwise = stepwise;
-      owned = owned;
-      fit = λ k p at. (fresh k p at).fits machine (owned (record { 0 = k }) (omega (arith, within_length parts k p at, count, few))) (outside (record { 0 = k }));
-      numbers = λ k p at. (fresh k p at).cpu;
-      locked = λ k x at. some_is (opening machine (lock.Buffer (record { 0 = k }))) x (open_at k x at);
-      blocks = λ k x at. subst (λ past. block_after buffer_rules.edited (opening machine) (lock.Buffer (record { 0 = k })) (sections_in past) ≡ Some x) (sym none) (open_at k x at);
-      reserve = omega (arith, reserve);
+      caps = caps_in ∙ caps_are;
+      homes = homes_at ∙ homes_are;
+      programs = map_both (λ (p : CpuShown). p.guests) programs_of s.cpus ∙ ap (map programs_of) whole;
+      cpus = sym (length-map s.cpus (λ (p : CpuShown). p.guests)) ∙ ap length whole ∙ listed_length (guests_at plan.tasks) 0 plan.cpus;
+      limits = limits ∙ map_const limit tables ∙ ap (λ n. replicate n limit) many ∙ ap (replicate plan.cpus) limit_is;
     }
 
--- one part more
-fresh_more : {P M : Type 0} (Fits : P → M → Type 0) (cpu_of : P → CpuId) (under_way : P → Option (Section BufferEdit)) (ActsFor IsOutside : M → CpuId → Type 0) (parts : List P) (base n : ℕ) (new : P) → n ≡ base + length parts
-    → ((k : ℕ) (p : P) → slice_get parts k ≡ Some p → IsFreshPart Fits cpu_of under_way ActsFor IsOutside (base + k) p) → IsFreshPart Fits cpu_of under_way ActsFor IsOutside n new
-    → (k : ℕ) (p : P) → slice_get (parts ++ new ∷ []) k ≡ Some p → IsFreshPart Fits cpu_of under_way ActsFor IsOutside (base + k) p
-fresh_more Fits cpu_of under_way ActsFor IsOutside [] base n new e fresh it zero p at =
-    subst (IsFreshPart Fits cpu_of under_way ActsFor IsOutside (base + 0)) (same_Some new p at) (subst (λ m. IsFreshPart Fits cpu_of under_way ActsFor IsOutside m new) (omega (arith, e)) it)
-fresh_more Fits cpu_of under_way ActsFor IsOutside [] base n new e fresh it (suc k) p at = absurd (cc)
-fresh_more Fits cpu_of under_way ActsFor IsOutside (q ∷ parts) base n new e fresh it zero p at = fresh 0 p at
-fresh_more Fits cpu_of under_way ActsFor IsOutside (q ∷ parts) base n new e fresh it (suc k) p at =
-    let moved : (j : ℕ) (r : _) → slice_get parts j ≡ Some r → IsFreshPart Fits cpu_of under_way ActsFor IsOutside ((base + 1) + j) r
-    = λ j r at_j. subst (λ m. IsFreshPart Fits cpu_of under_way ActsFor IsOutside m r) (omega arith) (fresh (suc j) r at_j) in
-    subst (λ m. IsFreshPart Fits cpu_of under_way ActsFor IsOutside m p) (omega arith)
-    (fresh_more Fits cpu_of under_way ActsFor IsOutside parts (base + 1) n new (omega (arith, e)) moved it k p at)
+-- a table for each CPU
+pub tables_count : {X : Type 0} (items : X → List (Option Guest)) (plan : Plan) (tables : List X) → map items tables ≡ guest_tables plan.tasks plan.cpus
+    → length tables ≡ plan.cpus
+tables_count items plan tables are =
+    sym (length-map tables items) ∙ ap length are ∙ listed_length (guests_at plan.tasks) 0 plan.cpus
 
-pub fresh_push : {P M : Type 0} (Fits : P → M → Type 0) (cpu_of : P → CpuId) (under_way : P → Option (Section BufferEdit)) (ActsFor IsOutside : M → CpuId → Type 0) (parts after : List P) (n : ℕ) (new : P) → n ≡ length parts → after ≡ parts ++ new ∷ []
-    → ((k : ℕ) (p : P) → slice_get parts k ≡ Some p → IsFreshPart Fits cpu_of under_way ActsFor IsOutside k p) → IsFreshPart Fits cpu_of under_way ActsFor IsOutside n new
-    → (k : ℕ) (p : P) → slice_get after k ≡ Some p → IsFreshPart Fits cpu_of under_way ActsFor IsOutside k p
-fresh_push Fits cpu_of under_way ActsFor IsOutside parts after n new e grown fresh it k p at =
-    subst (λ m. IsFreshPart Fits cpu_of under_way ActsFor IsOutside m p) (omega arith)
-    (fresh_more Fits cpu_of under_way ActsFor IsOutside parts 0 n new (omega (arith, e)) (λ j r at_j. subst (λ m. IsFreshPart Fits cpu_of under_way ActsFor IsOutside m r) (omega arith) (fresh j r at_j)) it k p (ap (λ l. slice_get l k) (sym grown) ∙ at))
+-- what the tables are before a thread sits, and that each thread has a home among them
+module _ {X : Type 0} (items : X → List (Option Guest)) (plan : Plan) (tables : List X) (tasks : List TaskInside) (cpus threads : ℕ)
+    (same : tasks_of tasks ≡ plan.tasks) (few : threads ≡ length plan.tasks) (made : map items tables ≡ replicate cpus (replicate threads None)) where
+  pub empty_count : length tables ≡ cpus
+  empty_count = sym (length-map tables items) ∙ ap length made ∙ length-replicate cpus (replicate threads None)
 
--- what stands behind fresh locks, put together
-pub fresh_is : (caps : List ℕ) (cpus room : ℕ) (buffers : List Buffer) (actions : List (Action BufferEdit)) (under : List (Option (Section BufferEdit))) → buffers ≡ map new_buffer caps → actions ≡ [] → under ≡ replicate cpus None → ◌≡◌ {A = Guarded} (record { buffers = buffers; actions = actions; under = under; left = room }) (fresh_guarded caps cpus room)
-fresh_is caps cpus room buffers actions under e1 e2 e3 = rw (e3, e2, e1) refl
+  pub empty_seats : map items tables ≡ replicate (length tables) (replicate (length tasks) None)
+  empty_seats =
+      let many : length tasks ≡ length plan.tasks = sym (length-map tasks task_of) ∙ ap length same in
+      made ∙ ap (λ (n : ℕ). replicate n (replicate threads None)) (sym empty_count) ∙ ap (λ (n : ℕ). replicate (length tables) (replicate n None)) (few ∙ sym many)
+
+  pub homes_known : IsPlan plan → cpus ≡ plan.cpus → (k : ℕ) (d : TaskInside) → k < length tasks → (get_or tasks k d).home.0 < length tables
+  homes_known within is k d lt =
+      let read : get_or plan.tasks k (task_of d) ≡ task_of (get_or tasks k d) =
+      ap (λ (l : List Task). get_or l k (task_of d)) (sym same) ∙ get_or-map task_of tasks k d (task_of d) lt in
+      let many : length tasks ≡ length plan.tasks = sym (length-map tasks task_of) ∙ ap length same in
+      let task : IsTask plan.cpus (length plan.caps) (task_of (get_or tasks k d)) =
+      subst (λ (x : Task). IsTask plan.cpus (length plan.caps) x) read (within.tasks.each k (task_of d) (omega arith)) in
+      omega (arith, task.home, empty_count)
+
+-- the same with what is equal in their place
+pub tables_as : {X : Type 0} (items : X → List (Option Guest)) (plan : Plan) (tables : List X) (tasks : List TaskInside) (cpus : ℕ)
+    → tasks_of tasks ≡ plan.tasks → cpus ≡ plan.cpus → map items tables ≡ guest_tables (tasks_of tasks) cpus
+    → map items tables ≡ guest_tables plan.tasks plan.cpus
+tables_as items plan tables tasks cpus same is made =
+    made ∙ ap (λ (l : List Task). guest_tables l cpus) same ∙ ap (guest_tables plan.tasks) is
+
+pub opens_as : (plan : Plan) (cpus : ℕ) (caps : List ℕ) (homes : List CpuId) → IsPlan plan → cpus ≡ plan.cpus → caps ≡ plan.caps → homes ≡ homes_in plan.tasks
+    → AreOpenable cpus caps homes
+opens_as plan cpus caps homes within cpus_is caps_are homes_are = rw (cpus_is, caps_are, homes_are) (plan_opens plan within)
+
+pub plan_tables_as : (plan : Plan) (tables : List (List (Option Guest))) (caps : List ℕ) (homes : List CpuId) → IsPlan plan
+    → tables ≡ guest_tables plan.tasks plan.cpus → caps ≡ plan.caps → homes ≡ homes_in plan.tasks → AreTables homes (length caps) tables
+plan_tables_as plan tables caps homes within made caps_are homes_are = rw (made, caps_are, homes_are) (plan_tables plan within)
+
+-- what opening answers is the plan's system, where it answers one
+pub opened : {X E : Type 0} (items : X → List (Option Guest)) (plan : Plan) (r : Result Shown E) (caps : List ℕ) (homes : List CpuId) (tables : List X) (limit : ℕ)
+    → caps ≡ plan.caps → homes ≡ homes_in plan.tasks → map items tables ≡ guest_tables plan.tasks plan.cpus → limit ≡ plan.trace
+    → IfOk r (λ s. s.caps ≡ caps) → IfOk r (λ s. s.homes ≡ homes) → IfOk r (λ s. map (λ p. p.guests) s.cpus ≡ map items tables)
+    → IfOk r (λ s. map (λ p. p.limit) s.cpus ≡ map (λ table. limit) tables) → IfOk r (λ s. IsSystemOf plan s)
+opened items plan (Err e) caps homes tables limit caps_are homes_are tables_are limit_is caps_in homes_at guests limits = tt
+opened items plan (Ok s) caps homes tables limit caps_are homes_are tables_are limit_is caps_in homes_at guests limits =
+    plan_system items plan s caps homes tables limit caps_are homes_are tables_are limit_is caps_in homes_at guests limits

@@ -2,7 +2,7 @@
 use Rattle.std.proofs.Common.{◌≡◌, ℕ, zero, suc, ◌+◌, ◌<◌, ◌≤◌, List, [], ◌∷◌, ◌++◌, length, set, get_or, Some, refl, sym, ap, ◌∙◌, subst, arith, inl, inr}
 use Rattle.std.specs.Prelude.{slice_get, ◌==◌, ◌&&◌}
 use Rattle.std.specs.List.{AllByRecursion, sum_by}
-use Rattle.std.proofs.lemmas.List.{length_push}
+use Rattle.std.proofs.lemmas.List.{length-set, length_push}
 use Rattle.std.proofs.lemmas.List.Sums.{sum_by-cons, sum_by-set, count_by-le-length}
 use Rattle.std.proofs.lemmas.Option.{slice_get_within, get_or_from_slice_get}
 use Rattle.event_log.specs.declared.entries.Entry.{Entry}
@@ -84,3 +84,14 @@ run_values P caps earlier contents (e ∷ es) left now all run =
     run_values P caps (earlier ++ e ∷ []) (after_entry contents e) es left
     (set_all P contents e.buffer.0 (after_effect e.kind (items_of contents e.buffer.0) e.value) now (effect_all P e.kind (items_of contents e.buffer.0) e.value (items_all P contents e.buffer.0 now) all.0))
     all.1 run.1
+
+-- a run ends with as many buffers as it begins with
+pub run_length : (caps : List ℕ) (earlier : List Entry) (contents : List (List ℕ)) (es : List Entry) (left : List (List ℕ)) → IsRunFrom caps earlier contents es left
+    → length left ≡ length contents
+run_length caps earlier contents [] left run = sym (ap length run)
+run_length caps earlier contents (e ∷ es) left run =
+    run_length caps (earlier ++ e ∷ []) (after_entry contents e) es left run.1 ∙ length-set contents e.buffer.0 _
+
+pub empty_length : (caps : List ℕ) → length (empty_buffers caps) ≡ length caps
+empty_length [] = refl
+empty_length (capacity ∷ caps) = ap suc (empty_length caps)

@@ -1,58 +1,90 @@
 -- What a run of a plan answers, by what its parts answer.
-use Rattle.std.proofs.Common.{◌≡◌, ℕ, Bool, true, false, List, length, refl, sym, ap, ◌∙◌, subst}
+use Rattle.std.proofs.Common.{◌≡◌, ℕ, Bool, true, false, List, length, map, refl, sym, ap, ◌∙◌, subst}
 use Rattle.std.specs.Prelude.{Option, Result, Ok, Err, IsErrAnd}
 use Rattle.std.proofs.lemmas.Bool.{false≢true}
 use Rattle.event_log.specs.declared.ids.CpuId.{CpuId}
 use Rattle.boot.specs.declared.refusals.BootError.{BootError}
 use Rattle.boot.specs.Plan.{Plan}
-use Rattle.mctower.specs.State.{Shown}
-use Rattle.mctower.specs.Steps.{steps_of}
-use Rattle.mctower.specs.Boots.{booted}
+use Rattle.cpu.specs.Claims.{FollowPrograms, HasOneOrder, Shown, StandsOnce, StayHome}
+use Rattle.cpu.specs.Systems.{SamePlan}
 use Rattle.mctower.specs.Plans.{IsSystemOf}
-use Rattle.mctower.specs.Running.{ran, AreCpus, IsOut, Writes, RunsPlan, RunsText}
+use Rattle.mctower.specs.Running.{AreCpus, IsOut, IsRunOf, IsTold, Writes, RunsPlan, RunsText, first_of}
 use Rattle.mctower.specs.declared.run.Fault.{Fault}
 use Rattle.mctower.specs.declared.run.Fault.TheVariants.{NoMemory, Boot, BadCpu, NoOrder, WriteFault}
-use Rattle.mctower.proofs.PlanSteps.{steps_plan, booted_plan}
 
--- the system that took a schedule's steps from a plan's boot is the plan's
-pub ran_plan : (plan : Plan) (steps : List CpuId) (n : ℕ) (first last : Shown) → first ≡ booted plan n → last ≡ steps_of steps first → IsSystemOf plan last
-ran_plan plan steps n first last opened took = subst (λ s. IsSystemOf plan s) (sym took) (steps_plan plan steps first (subst (λ s. IsSystemOf plan s) (sym opened) (booted_plan plan n)))
+-- steps leave a plan's system the plan's
+pub stays_of : (plan : Plan) (first last : Shown) → IsSystemOf plan first → SamePlan first last → IsSystemOf plan last
+stays_of plan first last of same = record {
+  caps = same.caps ∙ of.caps;
+  homes = same.homes ∙ of.homes;
+  programs = same.programs ∙ of.programs;
+  cpus = same.count ∙ of.cpus;
+  limits = same.limits ∙ of.limits;
+}
 
-cpus_in : (plan : Plan) (n : ℕ) (first : Shown) → first ≡ booted plan n → length first.cpus ≡ plan.cpus
-cpus_in plan n first opened = ap (λ (s : Shown). length s.cpus) opened ∙ (booted_plan plan n).cpus
+-- a plan's system that took a schedule's steps
+pub run_of : (plan : Plan) (steps : List CpuId) (first last : Shown) → IsSystemOf plan first → first.room ≡ length steps → SamePlan first last
+    → HasOneOrder last → FollowPrograms last → StayHome last → StandsOnce last → IsRunOf plan steps last
+run_of plan steps first last of room same one follow stay once = record {
+  system = stays_of plan first last of same;
+  room = same.room ∙ room;
+  one_order = one;
+  follow = follow;
+  stay = stay;
+  once = once;
+}
+
+-- a fault is one without what is told beside an answer
+pub err_first : {A B : Type 0} (r : Result (A × B) Fault) (P : Fault → Type 0) → IsErrAnd r P → IsErrAnd (first_of r) P
+err_first (Ok pair) P is = is
+err_first (Err fault) P is = is
 
 -- a fault that is passed on
-err_runs : (plan : Plan) (steps : List CpuId) (r : Result Shown Fault) (e : Fault) (failed : Bool) (old new : Option (List ℕ)) → IsErrAnd r (λ f. f ≡ e) → RunsPlan plan steps (Err e) failed old new → RunsPlan plan steps r failed old new
+err_runs : (plan : Plan) (steps : List CpuId) (r : Result Shown Fault) (e : Fault) (failed : Bool) (old new : Option (List ℕ)) → IsErrAnd r (λ f. f ≡ e)
+    → RunsPlan plan steps (Err e) failed old new → RunsPlan plan steps r failed old new
 err_runs plan steps (Ok s) e failed old new is runs = absurd is
 err_runs plan steps (Err f) e failed old new is runs = subst (λ x. RunsPlan plan steps (Err x) failed old new) (sym is) runs
 
 -- the schedule names a CPU that the plan has not
-pub bad_cpu : (plan : Plan) (steps : List CpuId) (n : ℕ) (first : Shown) (text : Result Plan BootError) (r : Result Shown Fault) (failed : Bool) (old : Option (List ℕ)) → text ≡ Ok plan → first ≡ booted plan n → (AreCpus (length first.cpus) steps → false ≡ true) → failed ≡ false → IsErrAnd r (λ f. f ≡ BadCpu) → RunsText text steps r failed old old
-bad_cpu plan steps n first text r failed old reads opened unknown live is =
+pub bad_cpu : (plan : Plan) (steps : List CpuId) (first : Shown) (text : Result Plan BootError) (r : Result Shown Fault) (failed : Bool) (old : Option (List ℕ))
+    → text ≡ Ok plan → IsSystemOf plan first → (AreCpus (length first.cpus) steps → false ≡ true) → failed ≡ false → IsErrAnd r (λ f. f ≡ BadCpu)
+    → RunsText text steps r failed old old
+bad_cpu plan steps first text r failed old reads of unknown live is =
     subst (λ x. RunsText x steps r failed old old) (sym reads)
-    (err_runs plan steps r BadCpu failed old old is ((λ known. false≢true (unknown (subst (λ c. AreCpus c steps) (sym (cpus_in plan n first opened)) known))), (live, refl)))
+    (err_runs plan steps r BadCpu failed old old is
+    ((λ known. false≢true (unknown (subst (λ c. AreCpus c steps) (sym of.cpus) known))), (live, refl)))
 
 -- what is out is of the run's system
-out_ran : (plan : Plan) (steps : List CpuId) (caps : List ℕ) (first last : Shown) (failed : Bool) (old new : Option (List ℕ)) → caps ≡ plan.caps → first ≡ booted plan (length steps) → last ≡ steps_of steps first → IsOut caps last failed old new → IsOut plan.caps (ran plan steps) failed old new
-out_ran plan steps caps first last failed old new same opened took out =
-    subst (λ s. IsOut plan.caps s failed old new) (took ∙ ap (steps_of steps) opened) (subst (λ l. IsOut l last failed old new) same out)
+out_ran : (plan : Plan) (steps : List CpuId) (caps : List ℕ) (first last : Shown) (failed : Bool) (old new : Option (List ℕ)) → caps ≡ plan.caps
+    → IsSystemOf plan first → AreCpus (length first.cpus) steps → IsRunOf plan steps last → IsOut caps last failed old new → IsTold plan steps last failed old new
+out_ran plan steps caps first last failed old new same of known ran out = record {
+  cpus = subst (λ c. AreCpus c steps) of.cpus known;
+  ran = ran;
+  out = subst (λ l. IsOut l last failed old new) same out;
+}
 
-write_fault : (A : Type 0) (plan : Plan) (steps : List CpuId) (caps : List ℕ) (first last : Shown) (e : Fault) (failed : Bool) (old new : Option (List ℕ)) → caps ≡ plan.caps → first ≡ booted plan (length steps) → last ≡ steps_of steps first → AreCpus (length first.cpus) steps → Writes {A = A} caps last (Err e) failed old new → RunsPlan plan steps (Err e) failed old new
-write_fault A plan steps caps first last NoMemory failed old new same opened took known writes = writes
-write_fault A plan steps caps first last (Boot e) failed old new same opened took known writes = absurd writes
-write_fault A plan steps caps first last BadCpu failed old new same opened took known writes = absurd writes
-write_fault A plan steps caps first last NoOrder failed old new same opened took known writes = absurd writes
-write_fault A plan steps caps first last WriteFault failed old new same opened took known writes =
-    (subst (λ c. AreCpus c steps) (cpus_in plan (length steps) first opened) known, writes.0, out_ran plan steps caps first last failed old new same opened took writes.1)
+write_fault : (A : Type 0) (plan : Plan) (steps : List CpuId) (caps : List ℕ) (first last : Shown) (e : Fault) (failed : Bool) (old new : Option (List ℕ))
+    → caps ≡ plan.caps → IsSystemOf plan first → AreCpus (length first.cpus) steps → IsRunOf plan steps last → Writes {A = A} caps last (Err e) failed old new
+    → RunsPlan plan steps (Err e) failed old new
+write_fault A plan steps caps first last NoMemory failed old new same of known ran writes = writes
+write_fault A plan steps caps first last (Boot e) failed old new same of known ran writes = absurd writes
+write_fault A plan steps caps first last BadCpu failed old new same of known ran writes = absurd writes
+write_fault A plan steps caps first last NoOrder failed old new same of known ran writes = absurd writes
+write_fault A plan steps caps first last WriteFault failed old new same of known ran writes =
+    (writes.0, (last, out_ran plan steps caps first last failed old new same of known ran writes.1))
 
 -- the text could not be written
-pub not_written : (A : Type 0) (plan : Plan) (steps : List CpuId) (caps : List ℕ) (first last : Shown) (text : Result Plan BootError) (r : Result Shown Fault) (e : Fault) (failed : Bool) (old new : Option (List ℕ)) → text ≡ Ok plan → caps ≡ plan.caps → first ≡ booted plan (length steps) → last ≡ steps_of steps first → AreCpus (length first.cpus) steps → Writes {A = A} caps last (Err e) failed old new → IsErrAnd r (λ f. f ≡ e) → RunsText text steps r failed old new
-not_written A plan steps caps first last text r e failed old new reads same opened took known writes is =
+pub not_written : (A : Type 0) (plan : Plan) (steps : List CpuId) (caps : List ℕ) (first last : Shown) (text : Result Plan BootError) (r : Result Shown Fault) (e : Fault)
+    (failed : Bool) (old new : Option (List ℕ)) → text ≡ Ok plan → caps ≡ plan.caps → IsSystemOf plan first → AreCpus (length first.cpus) steps
+    → IsRunOf plan steps last → Writes {A = A} caps last (Err e) failed old new → IsErrAnd r (λ f. f ≡ e) → RunsText text steps r failed old new
+not_written A plan steps caps first last text r e failed old new reads same of known ran writes is =
     subst (λ x. RunsText x steps r failed old new) (sym reads)
-    (err_runs plan steps r e failed old new is (write_fault A plan steps caps first last e failed old new same opened took known writes))
+    (err_runs plan steps r e failed old new is (write_fault A plan steps caps first last e failed old new same of known ran writes))
 
 -- the text was written
-pub written : (plan : Plan) (steps : List CpuId) (caps : List ℕ) (first last : Shown) (text : Result Plan BootError) (failed : Bool) (old new : Option (List ℕ)) → text ≡ Ok plan → caps ≡ plan.caps → first ≡ booted plan (length steps) → last ≡ steps_of steps first → AreCpus (length first.cpus) steps → (failed ≡ false) × IsOut caps last failed old new → RunsText text steps (Ok last) failed old new
-written plan steps caps first last text failed old new reads same opened took known writes =
+pub written : (plan : Plan) (steps : List CpuId) (caps : List ℕ) (first last : Shown) (text : Result Plan BootError) (failed : Bool) (old new : Option (List ℕ))
+    → text ≡ Ok plan → caps ≡ plan.caps → IsSystemOf plan first → AreCpus (length first.cpus) steps → IsRunOf plan steps last
+    → (failed ≡ false) × IsOut caps last failed old new → RunsText text steps (Ok last) failed old new
+written plan steps caps first last text failed old new reads same of known ran writes =
     subst (λ x. RunsText x steps (Ok last) failed old new) (sym reads)
-    (subst (λ c. AreCpus c steps) (cpus_in plan (length steps) first opened) known, took ∙ ap (steps_of steps) opened, writes.0, out_ran plan steps caps first last failed old new same opened took writes.1)
+    (writes.0, out_ran plan steps caps first last failed old new same of known ran writes.1)

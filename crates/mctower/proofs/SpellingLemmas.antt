@@ -1,5 +1,5 @@
 -- The trace of a plan's system has a spelling, and what writing it answers.
-use Rattle.std.proofs.Common.{◌≡◌, ℕ, zero, suc, ◌+◌, ◌*◌, ◌^◌, ◌<◌, ◌≤◌, Bool, false, List, [], ◌∷◌, length, get_or, map, Some, refl, sym, ap, ◌∙◌, subst, arith}
+use Rattle.std.proofs.Common.{◌≡◌, ℕ, zero, suc, ◌+◌, ◌*◌, ◌^◌, ◌<◌, ◌≤◌, Bool, false, List, [], ◌∷◌, length, get_or, map, replicate, Some, refl, sym, ap, ◌∙◌, subst, arith}
 use Rattle.std.specs.Prelude.{slice_get, All, Option, Result, Ok, Err, IsErrAnd}
 use Rattle.std.specs.List.{AllByRecursion, sum_by}
 use Rattle.std.proofs.lemmas.List.{length-map}
@@ -17,15 +17,18 @@ use Rattle.tracer.specs.Gather.{IsOrder, TakesFirstReady, HasNoOrder}
 use Rattle.tracer.specs.TraceText.{IsSpellable, IsEntryOf, spelling}
 use Rattle.tracer.specs.Sinks.{Outs}
 use Rattle.tracer.proofs.OrderLemmas.{runs_have_order, run_alike}
-use Rattle.mctower.specs.Buffer.{Buffer}
-use Rattle.mctower.specs.State.{CpuState, Shown}
-use Rattle.mctower.specs.Claims.{traces_of, caps_of, contents_of, HasOneOrder}
-use Rattle.mctower.specs.Sound.{IsSound}
-use Rattle.mctower.specs.Plans.{IsEntryAt, IsSystemOf, IsOfPlan, from_gather}
+use Rattle.layer_traits.specs.Places.{home_of}
+use Rattle.event_log.specs.declared.ids.CpuId.{CpuId}
+use Rattle.event_log.specs.Messages.{Message}
+use Rattle.cpu.specs.Cpus.{IsOfHome}
+use Rattle.cpu.specs.Calm.{TracesFit}
+use Rattle.cpu.specs.Claims.{CpuShown, HasOneOrder, Shown, StayHome, traces_of}
+use Rattle.mctower.specs.Plans.{IsSystemOf, IsOfPlan, from_gather}
+use Rattle.mctower.specs.Tables.{homes_in}
 use Rattle.mctower.specs.Running.{IsOut, Writes}
 use Rattle.mctower.specs.declared.run.Fault.{Fault}
 use Rattle.mctower.proofs.ListLemmas.{map_get}
-use Rattle.mctower.proofs.OrderNumbers.{order_length, order_all, run_numbers, run_values, empty_values}
+use Rattle.mctower.proofs.OrderNumbers.{order_length, order_all, run_length, run_numbers, run_values, empty_length, empty_values}
 
 all_by : {X : Type 0} (P : X → Type 0) (xs : List X) → All P xs → AllByRecursion P xs
 all_by P [] all = tt
@@ -35,11 +38,28 @@ few_together : (traces : List (List Entry)) → ((k : ℕ) (trace : List Entry) 
 few_together [] each = omega arith
 few_together (trace ∷ traces) each = omega (arith, sum_by-cons length trace traces, each 0 trace refl, few_together traces (λ k other at. each (suc k) other at))
 
-own_range : (threads c : ℕ) → threads ≤ THREADS → c < CPUS → (es : List Entry) → AllByRecursion (IsEntryAt threads c) es → AllByRecursion (λ e. (e.cpu.0 < CPUS) × (e.thread.0 < THREADS)) es
-own_range threads c few lt [] all = tt
-own_range threads c few lt (e ∷ es) all =
-    let is : IsEntryAt threads c e = all.0 in
-    ((subst (λ n. n < CPUS) (sym is.cpu) lt, (let t = is.thread in omega arith)), own_range threads c few lt es all.1)
+own_range : (homes : List CpuId) (c : ℕ) → length homes ≤ THREADS → c < CPUS → (es : List Entry) → AllByRecursion (IsOfHome homes (record { 0 = c })) es
+    → AllByRecursion (λ e. (e.cpu.0 < CPUS) × (e.thread.0 < THREADS)) es
+own_range homes c few lt [] all = tt
+own_range homes c few lt (e ∷ es) all =
+    let is : IsOfHome homes (record { 0 = c }) e = all.0 in
+    let known : e.thread.0 < length homes = slice_get_within homes e.thread.0 (record { 0 = c }) is.home in
+    ((subst (λ n. n < CPUS) (sym is.cpu) lt, omega arith), own_range homes c few lt es all.1)
+
+replicated : {X : Type 0} (n k : ℕ) (x y : X) → slice_get (replicate n x) k ≡ Some y → y ≡ x
+replicated zero k x y at = absurd (cc)
+replicated (suc n) zero x y at = cc
+replicated (suc n) (suc k) x y at = replicated n k x y at
+
+get_mapped : {X Y : Type 0} (f : X → Y) (xs : List X) (k : ℕ) (x : X) → slice_get xs k ≡ Some x → slice_get (map f xs) k ≡ Some (f x)
+get_mapped f [] k x at = absurd (cc)
+get_mapped f (y ∷ xs) zero x at = let same : y ≡ x = cc in ap (λ z. Some (f z)) same
+get_mapped f (y ∷ xs) (suc k) x at = get_mapped f xs k x at
+
+-- a CPU of a plan's system has room for as many entries as the plan says
+pub limit_at : (plan : Plan) (s : Shown) (k : ℕ) (p : CpuShown) → IsSystemOf plan s → slice_get s.cpus k ≡ Some p → p.limit ≡ plan.trace
+limit_at plan s k p of at =
+    replicated plan.cpus k plan.trace p.limit (ap (λ l. slice_get l k) (sym of.limits) ∙ get_mapped (λ (x : CpuShown). x.limit) s.cpus k p at)
 
 in_range : (buffers : ℕ) (es : List Entry) → AllByRecursion (λ e. (e.cpu.0 < CPUS) × (e.thread.0 < THREADS)) es → AllByRecursion (λ e. (e.buffer.0 < buffers) × (e.op < ENTRIES) × (e.pos < ENTRIES)) es → AllByRecursion (λ e. e.value < 2 ^ 64) es → AllByRecursion (IsEntryOf buffers) es
 in_range buffers [] own numbers values = tt
@@ -47,62 +67,78 @@ in_range buffers (e ∷ es) own numbers values =
     (record { cpu = own.0.0; thread = own.0.1; buffer = numbers.0.0; value = values.0; op = numbers.0.1; pos = numbers.0.2 }, in_range buffers es own.1 numbers.1 values.1)
 
 -- the order of the traces of a plan's system has a spelling
-pub has_spelling : (plan : Plan) (s : Shown) (order : List Entry) → IsPlan plan → IsSystemOf plan s → IsSound s → IsInterleaving (traces_of s) order → IsRun plan.caps order (contents_of s)
-    → AllByRecursion (λ e. e.value < 2 ^ 64) order → AllByRecursion (λ items. AllByRecursion (λ v. v < 2 ^ 64) items) (contents_of s) → IsSpellable plan.caps order (contents_of s)
-has_spelling plan s order within of sound keeps run values left =
-    let count : length (traces_of s) ≡ length s.cpus = length-map s.cpus (λ (p : CpuState). p.trace) in
+pub has_spelling : (plan : Plan) (s : Shown) (order : List Entry) → IsPlan plan → IsSystemOf plan s → TracesFit s → StayHome s
+    → IsInterleaving (traces_of s) order → IsRun plan.caps order s.contents → AllByRecursion (λ e. e.value < 2 ^ 64) order
+    → AllByRecursion (λ items. AllByRecursion (λ v. v < 2 ^ 64) items) s.contents → IsSpellable plan.caps order s.contents
+has_spelling plan s order within of fits stay keeps run values left =
+    let count : length (traces_of s) ≡ length s.cpus = length-map s.cpus (λ (p : CpuShown). p.trace) in
+    let homes : length s.homes ≡ length plan.tasks = ap length of.homes ∙ length-map plan.tasks _ in
+    let threads : length s.homes ≤ THREADS = (let most = within.tasks.most in omega arith) in
     let small : (k : ℕ) (trace : List Entry) → slice_get (traces_of s) k ≡ Some trace → length trace ≤ TRACE = λ k trace at.
-    (let at_cpu = map_get (λ (p : CpuState). p.trace) s.cpus k trace at in
-    let fits : length at_cpu.0.trace + at_cpu.0.begun ≤ at_cpu.0.limit = (sound.counted k at_cpu.0 at_cpu.1).fits in
-    let limit : at_cpu.0.limit ≡ plan.trace = (of.each k at_cpu.0 at_cpu.1).limit in
+    (let at_cpu = map_get (λ (p : CpuShown). p.trace) s.cpus k trace at in
+    let room : length at_cpu.0.trace ≤ at_cpu.0.limit = fits k at_cpu.0 at_cpu.1 in
+    let limit : at_cpu.0.limit ≡ plan.trace = limit_at plan s k at_cpu.0 of at_cpu.1 in
     let most : plan.trace ≤ TRACE = within.most_trace in
     let same : length at_cpu.0.trace ≡ length trace = ap length at_cpu.2 in
     omega arith) in
-    let few : length order ≤ ENTRIES = (let total = few_together (traces_of s) small in let long = order_length (traces_of s) order keeps in let cpus = of.cpus in let most = within.most_cpus in omega arith) in
-    let own : AllByRecursion (λ (e : Entry). (e.cpu.0 < CPUS) × (e.thread.0 < THREADS)) order = order_all (λ e. (e.cpu.0 < CPUS) × (e.thread.0 < THREADS)) (traces_of s) order
+    let few : length order ≤ ENTRIES =
+    (let total = few_together (traces_of s) small in
+    let long = order_length (traces_of s) order keeps in
+    let cpus = of.cpus in
+    let most = within.most_cpus in
+    omega arith) in
+    let own : AllByRecursion (λ (e : Entry). (e.cpu.0 < CPUS) × (e.thread.0 < THREADS)) order =
+    order_all (λ e. (e.cpu.0 < CPUS) × (e.thread.0 < THREADS)) (traces_of s) order
     (λ k trace at.
-    let at_cpu = map_get (λ (p : CpuState). p.trace) s.cpus k trace at in
+    let at_cpu = map_get (λ (p : CpuShown). p.trace) s.cpus k trace at in
     let here : k < CPUS = (let lt = slice_get_within s.cpus k at_cpu.0 at_cpu.1 in let cpus = of.cpus in let most = within.most_cpus in omega arith) in
-    own_range (length plan.tasks) k within.tasks.most here trace (subst (λ (l : List Entry). AllByRecursion (IsEntryAt (length plan.tasks) k) l) at_cpu.2 (of.each k at_cpu.0 at_cpu.1).entries)) keeps in
-    let numbers : AllByRecursion (λ (e : Entry). (e.buffer.0 < length plan.caps) × (e.op < ENTRIES) × (e.pos < ENTRIES)) order = run_numbers ENTRIES plan.caps [] (empty_buffers plan.caps) order (contents_of s) (omega arith) run in
+    own_range s.homes k threads here trace
+    (subst (λ (l : List Entry). AllByRecursion (IsOfHome s.homes (record { 0 = k })) l) at_cpu.2 (stay k at_cpu.0 at_cpu.1))) keeps in
+    let numbers : AllByRecursion (λ (e : Entry). (e.buffer.0 < length plan.caps) × (e.op < ENTRIES) × (e.pos < ENTRIES)) order =
+    run_numbers ENTRIES plan.caps [] (empty_buffers plan.caps) order s.contents (omega arith) run in
     record {
       some_buffer = within.caps.some;
       few_buffers = within.caps.most;
       capacities = all_by IsCapacity plan.caps within.caps.each;
       few_entries = few;
       entries = in_range (length plan.caps) order own numbers values;
-      each_left = length-map s.guarded.buffers (λ (b : Buffer). b.items) ∙ (sym (length-map s.guarded.buffers (λ (b : Buffer). b.capacity)) ∙ ap length of.caps);
+      each_left = run_length plan.caps [] (empty_buffers plan.caps) order s.contents run ∙ empty_length plan.caps;
       values = left;
     }
 
 -- the gathered order of a system's traces is a run that ends in its contents
-pub gathered_run : (s : Shown) (caps : List ℕ) (order : List Entry) → caps_of s ≡ caps → HasOneOrder s → IsOrder (traces_of s) order → IsRun caps order (contents_of s)
-gathered_run s caps order same one is = subst (λ l. IsRun l order (contents_of s)) same (run_alike (traces_of s) (caps_of s) one.order order (contents_of s) one.keeps one.run is)
+pub gathered_run : (s : Shown) (caps : List ℕ) (order : List Entry) → s.caps ≡ caps → HasOneOrder s → IsOrder (traces_of s) order → IsRun caps order s.contents
+gathered_run s caps order same one is =
+    subst (λ l. IsRun l order s.contents) same (run_alike (traces_of s) s.caps one.order order s.contents one.keeps one.run is)
+
+-- there are as many contents as buffers
+pub contents_length : (s : Shown) → HasOneOrder s → length s.contents ≡ length s.caps
+contents_length s one = run_length s.caps [] (empty_buffers s.caps) one.order s.contents one.run ∙ empty_length s.caps
 
 -- a refusal to gather is want of memory
 pub gather_refused : (A : Type 0) (caps : List ℕ) (s : Shown) (error : GatherError) (failed : Bool) (old : Option (List ℕ)) → HasOneOrder s → failed ≡ false → (error ≡ gathering.NoOrder → HasNoOrder (traces_of s)) → Writes {A = A} caps s (Err (from_gather error)) failed old old
 gather_refused A caps s gathering.NoMemory failed old one live none = (live, refl)
-gather_refused A caps s gathering.NoOrder failed old one live none = absurd (runs_have_order (traces_of s) (caps_of s) one.order (contents_of s) one.keeps one.run (none refl))
+gather_refused A caps s gathering.NoOrder failed old one live none = absurd (runs_have_order (traces_of s) s.caps one.order s.contents one.keeps one.run (none refl))
 
 -- what is out of a spellable text
-pub text_out : (caps : List ℕ) (s : Shown) (order : List Entry) (failed : Bool) (old new : Option (List ℕ)) → IsOrder (traces_of s) order → TakesFirstReady (traces_of s) order → IsRun caps order (contents_of s) → IsSpellable caps order (contents_of s) → Outs failed old new (spelling caps order (contents_of s)) → IsOut caps s failed old new
+pub text_out : (caps : List ℕ) (s : Shown) (order : List Entry) (failed : Bool) (old new : Option (List ℕ)) → IsOrder (traces_of s) order → TakesFirstReady (traces_of s) order → IsRun caps order s.contents → IsSpellable caps order s.contents → Outs failed old new (spelling caps order s.contents) → IsOut caps s failed old new
 text_out caps s order failed old new keeps first run spellable out = record {
-  text = spelling caps order (contents_of s);
+  text = spelling caps order s.contents;
   is = record { order = order; keeps = keeps; first = first; run = run; spelled = record { spellable = spellable; spelled = refl } };
   out = out;
 }
 
 -- what is written of a plan's system: a text that has a spelling
-pub spelled_as : (cpus : ℕ) (caps : List ℕ) (s : Shown) (es : List Entry) (left : List (List ℕ)) → IsOfPlan cpus caps s → IsSound s → HasOneOrder s → IsOrder (traces_of s) es → left ≡ contents_of s
+pub spelled_as : (cpus : ℕ) (caps : List ℕ) (s : Shown) (es : List Entry) (left : List (List ℕ)) → IsOfPlan cpus caps s → TracesFit s → StayHome s → HasOneOrder s → IsOrder (traces_of s) es → left ≡ s.contents
     → ((k : ℕ) (d : Entry) → k < length es → (get_or es k d).value < 2 ^ 64) → IsSpellable caps es left
-spelled_as cpus caps s es left plan sound one is same values =
+spelled_as cpus caps s es left plan fits stay one is same values =
     let fit : AllByRecursion (λ (e : Entry). e.value < 2 ^ 64) es = all_by (λ e. e.value < 2 ^ 64) es (λ k d lt. values k d lt) in
-    let run : IsRun plan.plan.caps es (contents_of s) = gathered_run s plan.plan.caps es plan.system.caps one is in
+    let run : IsRun plan.plan.caps es s.contents = gathered_run s plan.plan.caps es plan.system.caps one is in
     subst (λ l. IsSpellable l es left) (sym plan.caps) (subst (λ l. IsSpellable plan.plan.caps es l) (sym same)
-    (has_spelling plan.plan s es plan.within plan.system sound is.0 run fit (run_values (λ v. v < 2 ^ 64) plan.plan.caps [] (empty_buffers plan.plan.caps) es (contents_of s) (empty_values (λ v. v < 2 ^ 64) plan.plan.caps) fit run)))
+    (has_spelling plan.plan s es plan.within plan.system fits stay is.0 run fit (run_values (λ v. v < 2 ^ 64) plan.plan.caps [] (empty_buffers plan.plan.caps) es s.contents (empty_values (λ v. v < 2 ^ 64) plan.plan.caps) fit run)))
 
 -- what is out of it
-pub out_as : (cpus : ℕ) (caps : List ℕ) (s : Shown) (es : List Entry) (left : List (List ℕ)) (failed : Bool) (old new : Option (List ℕ)) → IsOfPlan cpus caps s → HasOneOrder s → IsOrder (traces_of s) es → TakesFirstReady (traces_of s) es → left ≡ contents_of s
+pub out_as : (cpus : ℕ) (caps : List ℕ) (s : Shown) (es : List Entry) (left : List (List ℕ)) (failed : Bool) (old new : Option (List ℕ)) → IsOfPlan cpus caps s → HasOneOrder s → IsOrder (traces_of s) es → TakesFirstReady (traces_of s) es → left ≡ s.contents
     → IsSpellable caps es left → Outs failed old new (spelling caps es left) → IsOut caps s failed old new
 out_as cpus caps s es left failed old new plan one is first same spellable out =
     text_out caps s es failed old new is first (gathered_run s caps es (plan.system.caps ∙ sym plan.caps) one is)

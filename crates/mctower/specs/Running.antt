@@ -8,16 +8,19 @@ use Rattle.tracer.specs.Sinks.{Outs}
 use Rattle.tracer.specs.TraceText.{IsTraceText}
 use Rattle.boot.specs.declared.refusals.BootError.{BootError}
 use Rattle.boot.specs.Plan.{Plan}
+use Rattle.cpu.specs.Claims.{FollowPrograms, HasOneOrder, Shown, StandsOnce, StayHome, traces_of}
 use Rattle.mctower.specs.declared.run.Fault.{Fault}
 use Rattle.mctower.specs.declared.run.Fault.TheVariants.{NoMemory, Boot, BadCpu, NoOrder, WriteFault}
-use Rattle.mctower.specs.State.{Shown}
-use Rattle.mctower.specs.Steps.{steps_of}
-use Rattle.mctower.specs.Boots.{booted}
-use Rattle.mctower.specs.Claims.{traces_of, contents_of}
+use Rattle.mctower.specs.Plans.{IsSystemOf}
 
--- the system after a schedule's steps from a plan's boot, with room for just these steps
-abbrev pub ran : Plan → List CpuId → Shown
-ran plan steps = steps_of steps (booted plan (length steps))
+-- the system of a plan, after a schedule's steps: it has room for just these, and what holds after every list of steps holds of it
+pub record IsRunOf (plan : Plan) (steps : List CpuId) (s : Shown) : Type 0 where
+  pub system : IsSystemOf plan s
+  pub room : s.room ≡ length steps
+  pub one_order : HasOneOrder s
+  pub follow : FollowPrograms s
+  pub stay : StayHome s
+  pub once : StandsOnce s
 
 -- every step is of one of so many CPUs
 abbrev pub AreCpus : ℕ → List CpuId → Type 0
@@ -29,8 +32,8 @@ pub record IsTextOf (caps : List ℕ) (s : Shown) (text : List ℕ) : Type 0 whe
   pub order : List Entry
   pub keeps : IsOrder (traces_of s) order
   pub first : TakesFirstReady (traces_of s) order
-  pub run : IsRun caps order (contents_of s)
-  pub spelled : IsTraceText text caps order (contents_of s)
+  pub run : IsRun caps order s.contents
+  pub spelled : IsTraceText text caps order s.contents
 
 -- the system's text is out, or where the sink failed a beginning of it
 pub record IsOut (caps : List ℕ) (s : Shown) (failed : Bool) (old new : Option (List ℕ)) : Type 0 where
@@ -51,15 +54,21 @@ Writes caps s (Err BadCpu) failed old new = ⊥
 Writes caps s (Err NoOrder) failed old new = ⊥
 Writes caps s (Err WriteFault) failed old new = (failed ≡ true) × IsOut caps s failed old new
 
+-- a system that the plan's may be after these steps has its text out, or a beginning of it
+pub record IsTold (plan : Plan) (steps : List CpuId) (s : Shown) (failed : Bool) (old new : Option (List ℕ)) : Type 0 where
+  pub cpus : AreCpus plan.cpus steps
+  pub ran : IsRunOf plan steps s
+  pub out : IsOut plan.caps s failed old new
+
 -- what a run of a plan answers: a step of a CPU that the plan has not is refused before anything is written; else the plan's
 -- system takes the steps, and its text is written
 abbrev pub RunsPlan : Plan → List CpuId → Result Shown Fault → Bool → Option (List ℕ) → Option (List ℕ) → Type 0
-RunsPlan plan steps (Ok s) failed old new = AreCpus plan.cpus steps × (s ≡ ran plan steps) × (failed ≡ false) × IsOut plan.caps (ran plan steps) failed old new
+RunsPlan plan steps (Ok s) failed old new = (failed ≡ false) × IsTold plan steps s failed old new
 RunsPlan plan steps (Err NoMemory) failed old new = IsUntouched failed old new
 RunsPlan plan steps (Err (Boot e)) failed old new = ⊥
 RunsPlan plan steps (Err BadCpu) failed old new = (¬ AreCpus plan.cpus steps) × IsUntouched failed old new
 RunsPlan plan steps (Err NoOrder) failed old new = ⊥
-RunsPlan plan steps (Err WriteFault) failed old new = AreCpus plan.cpus steps × (failed ≡ true) × IsOut plan.caps (ran plan steps) failed old new
+RunsPlan plan steps (Err WriteFault) failed old new = (failed ≡ true) × ((s : Shown) × IsTold plan steps s failed old new)
 
 -- what a run answers where the plan's text is refused: that refusal, before anything is written
 abbrev pub Refuses : BootError → Result Shown Fault → Bool → Option (List ℕ) → Option (List ℕ) → Type 0
@@ -74,3 +83,8 @@ Refuses e (Err WriteFault) failed old new = ⊥
 abbrev pub RunsText : Result Plan BootError → List CpuId → Result Shown Fault → Bool → Option (List ℕ) → Option (List ℕ) → Type 0
 RunsText (Ok plan) steps result failed old new = RunsPlan plan steps result failed old new
 RunsText (Err e) steps result failed old new = Refuses e result failed old new
+
+-- an answer without what is told beside it
+abbrev pub first_of : {A B : Type 0} → Result (A × B) Fault → Result A Fault
+first_of (Ok pair) = Ok pair.0
+first_of (Err fault) = Err fault

@@ -17,21 +17,27 @@ use Rattle.mctower.specs.Line.{Meant, count, run, threads, check}
 use Rattle.mctower.specs.Refusals.{Told, status_of_refusal, text_of}
 use Rattle.mctower.specs.declared.refusals.Refusal.{Refusal}
 use Rattle.mctower.specs.declared.refusals.Refusal.TheVariants.{BadLine, NoMemory, BadCpu, NoThread, ReadFault, WriteFault, BadSchedule, Plan as BadPlan}
-use Rattle.mctower.specs.Running.{AreCpus, IsTextOf, IsUntouched, ran}
+use Rattle.cpu.specs.Claims.{Shown}
+use Rattle.mctower.specs.Running.{AreCpus, IsRunOf, IsTextOf, IsUntouched}
+use Rattle.mctower.specs.State.{IsStateOf, text_of_state}
+use Rattle.mctower.specs.declared.serve.Done.{Done}
+use Rattle.mctower.specs.declared.serve.Done.TheVariants.{Exit, Ran}
+use Rattle.mctower.specs.declared.states.State.{State}
 use Rattle.mctower.specs.Schedule.{steps_of}
 
 -- the exit status of an answer
-abbrev pub status_of : Result ℕ Refusal → ℕ
-status_of (Ok status) = status
+abbrev pub status_of : Result Done Refusal → ℕ
+status_of (Ok (Exit status)) = status
+status_of (Ok (Ran state)) = 0
 status_of (Err refusal) = status_of_refusal refusal
 
 -- the answer is this refusal, and nothing was written
-abbrev pub RefusedBy : Refusal → Result ℕ Refusal → Bool → Option (List ℕ) → Option (List ℕ) → Type 0
+abbrev pub RefusedBy : Refusal → Result Done Refusal → Bool → Option (List ℕ) → Option (List ℕ) → Type 0
 RefusedBy refusal answer failed old new = (answer ≡ Err refusal) × IsUntouched failed old new
 
--- the text is out, and the answer is this exit status; or the output failed, a beginning of the text is out, and that is the answer
-abbrev pub Puts : ℕ → List ℕ → Result ℕ Refusal → Bool → Option (List ℕ) → Option (List ℕ) → Type 0
-Puts status text answer failed old new = (answer ≡ (if failed then Err WriteFault else Ok status)) × Outs failed old new text
+-- the text is out, and the answer is that this is done; or the output failed, a beginning of the text is out, and that is the answer
+abbrev pub Puts : Done → List ℕ → Result Done Refusal → Bool → Option (List ℕ) → Option (List ℕ) → Type 0
+Puts done text answer failed old new = (answer ≡ (if failed then Err WriteFault else Ok done)) × Outs failed old new text
 
 -- ---- the input
 
@@ -56,49 +62,53 @@ abbrev pub count_lines : ℕ → List ℕ
 count_lines number = codes "plain " ++ (decimal number ++ (codes "\ntable " ++ (decimal number ++ 10 ∷ [])))
 
 -- this number was counted: it is printed, or the order is refused for want of memory or of a thread
-abbrev pub Counts : ℕ → Result ℕ Refusal → Bool → Option (List ℕ) → Option (List ℕ) → Type 0
+abbrev pub Counts : ℕ → Result Done Refusal → Bool → Option (List ℕ) → Option (List ℕ) → Type 0
 Counts number answer failed old new = RefusedBy NoMemory answer failed old new
     ⊎ (RefusedBy NoThread answer failed old new
-    ⊎ Puts 0 (count_lines number) answer failed old new)
+    ⊎ Puts (Exit 0) (count_lines number) answer failed old new)
 
 -- ---- check
 
 -- a verdict is printed: a yes with status 0, a no with the number of the line and the name of the reason with status 3
-abbrev pub Tells : Verdict → Result ℕ Refusal → Bool → Option (List ℕ) → Option (List ℕ) → Type 0
-Tells verdict.Yes answer failed old new = Puts 0 (codes "yes\n") answer failed old new
+abbrev pub Tells : Verdict → Result Done Refusal → Bool → Option (List ℕ) → Option (List ℕ) → Type 0
+Tells verdict.Yes answer failed old new = Puts (Exit 0) (codes "yes\n") answer failed old new
 Tells (verdict.No line reason) answer failed old new =
-    Puts 3 (codes "no " ++ (decimal line ++ (codes " " ++ (reasons.name_of reason ++ codes "\n")))) answer failed old new
+    Puts (Exit 3) (codes "no " ++ (decimal line ++ (codes " " ++ (reasons.name_of reason ++ codes "\n")))) answer failed old new
 Tells verdict.NoMemory answer failed old new = RefusedBy NoMemory answer failed old new
 
 -- the verdict on the input is printed, or the input was not read
-abbrev pub Checks : Option (List ℕ) → Result ℕ Refusal → Bool → Option (List ℕ) → Option (List ℕ) → Type 0
+abbrev pub Checks : Option (List ℕ) → Result Done Refusal → Bool → Option (List ℕ) → Option (List ℕ) → Type 0
 Checks input answer failed old new = RefusedBy NoMemory answer failed old new
     ⊎ (RefusedBy ReadFault answer failed old new
     ⊎ ((text : List ℕ) × IsInput input text × Tells (verdict_of text) answer failed old new))
 
 -- ---- run
 
--- the trace text of the plan's run under these steps is written
-pub record RunsTrace (plan : Plan) (steps : List CpuId) (answer : Result ℕ Refusal) (failed : Bool) (old new : Option (List ℕ)) : Type 0 where
+-- the plan's system took the steps, its trace text is written, and what is to be told is its state
+pub record RunsTrace (plan : Plan) (steps : List CpuId) (answer : Result Done Refusal) (failed : Bool) (old new : Option (List ℕ)) : Type 0 where
   pub cpus : AreCpus plan.cpus steps
+  pub system : Shown
+  pub ran : IsRunOf plan steps system
   pub trace : List ℕ
-  pub traced : IsTextOf plan.caps (ran plan steps) trace
-  pub put : Puts 0 trace answer failed old new
+  pub traced : IsTextOf plan.caps system trace
+  pub state : State
+  pub is_state : IsStateOf system state
+  pub put : Puts (Ran state) trace answer failed old new
 
 -- the plan is run, or a step is of no CPU of it; or the text is no plan, and that is told as its first fault
-abbrev pub RunsPlan : Result Plan BootError → List CpuId → Result ℕ Refusal → Bool → Option (List ℕ) → Option (List ℕ) → Type 0
+abbrev pub RunsPlan : Result Plan BootError → List CpuId → Result Done Refusal → Bool → Option (List ℕ) → Option (List ℕ) → Type 0
 RunsPlan (Ok plan) steps answer failed old new = ((¬ AreCpus plan.cpus steps) × RefusedBy BadCpu answer failed old new)
     ⊎ RunsTrace plan steps answer failed old new
 RunsPlan (Err error) steps answer failed old new = RefusedBy (BadPlan error) answer failed old new
 
 -- the plan of these bytes is run; bytes that are no UTF-8 are no document; want of memory aside
-abbrev pub RunsBytes : List ℕ → List CpuId → Result ℕ Refusal → Bool → Option (List ℕ) → Option (List ℕ) → Type 0
+abbrev pub RunsBytes : List ℕ → List CpuId → Result Done Refusal → Bool → Option (List ℕ) → Option (List ℕ) → Type 0
 RunsBytes bytes steps answer failed old new = RefusedBy NoMemory answer failed old new
     ⊎ (((¬ IsUtf8 bytes) × RefusedBy (BadPlan BadToml) answer failed old new)
     ⊎ (IsUtf8 bytes × RunsPlan (plan_of bytes) steps answer failed old new))
 
 -- the input's plan is run under these steps, or the input was not read
-abbrev pub Runs : Option (List ℕ) → List CpuId → Result ℕ Refusal → Bool → Option (List ℕ) → Option (List ℕ) → Type 0
+abbrev pub Runs : Option (List ℕ) → List CpuId → Result Done Refusal → Bool → Option (List ℕ) → Option (List ℕ) → Type 0
 Runs input steps answer failed old new = RefusedBy NoMemory answer failed old new
     ⊎ (RefusedBy ReadFault answer failed old new
     ⊎ ((bytes : List ℕ) × IsInput input bytes × RunsBytes bytes steps answer failed old new))
@@ -109,7 +119,7 @@ steps_asked None = Some []
 steps_asked (Some text) = steps_of text
 
 -- the steps are run; what is no schedule is a bad command line, want of memory aside
-abbrev pub RunsAsked : Option (List CpuId) → Option (List ℕ) → Result ℕ Refusal → Bool → Option (List ℕ) → Option (List ℕ) → Type 0
+abbrev pub RunsAsked : Option (List CpuId) → Option (List ℕ) → Result Done Refusal → Bool → Option (List ℕ) → Option (List ℕ) → Type 0
 RunsAsked (Some steps) input answer failed old new = Runs input steps answer failed old new
 RunsAsked None input answer failed old new = RefusedBy NoMemory answer failed old new ⊎ RefusedBy BadSchedule answer failed old new
 
@@ -117,7 +127,7 @@ RunsAsked None input answer failed old new = RefusedBy NoMemory answer failed ol
 
 -- Serving what the words mean: the answer, whether standard output failed, and its bytes before and after. The bytes on standard
 -- input are `input`, where they are known. Memory or the input may be wanting always.
-abbrev pub Serves : Option Meant → Option (List ℕ) → Result ℕ Refusal → Bool → Option (List ℕ) → Option (List ℕ) → Type 0
+abbrev pub Serves : Option Meant → Option (List ℕ) → Result Done Refusal → Bool → Option (List ℕ) → Option (List ℕ) → Type 0
 Serves None input answer failed old new = RefusedBy NoMemory answer failed old new ⊎ RefusedBy BadLine answer failed old new
 Serves (Some (count cpus times)) input answer failed old new = Counts (times * cpus) answer failed old new
 Serves (Some check) input answer failed old new = Checks input answer failed old new
@@ -127,21 +137,23 @@ Serves (Some (threads turns)) input answer failed old new = ⊥
 
 -- ---- standard error
 
--- what is on standard error, by the answer to these words: nothing after a good run, a yes or a no; else what tells the refusal
-abbrev pub Reports : List Text → Result ℕ Refusal → Bool → Option (List ℕ) → Option (List ℕ) → Type 0
-Reports words (Ok status) failed old new = IsUntouched failed old new
+-- what is on standard error, by the answer to these words: the state lines after a good run, nothing after a yes, a no or a count; else what
+-- tells the refusal
+abbrev pub Reports : List Text → Result Done Refusal → Bool → Option (List ℕ) → Option (List ℕ) → Type 0
+Reports words (Ok (Exit status)) failed old new = IsUntouched failed old new
+Reports words (Ok (Ran state)) failed old new = Outs failed old new (text_of_state state)
 Reports words (Err refusal) failed old new = Told (text_of words refusal) failed old new
 
 -- there is one answer by which the exit status and standard error are
 pub record EndsTold (words : List Text) (status : ℕ) (failed : Bool) (old new : Option (List ℕ)) : Type 0 where
-  pub answer : Result ℕ Refusal
+  pub answer : Result Done Refusal
   pub ends : status ≡ status_of answer
   pub told : Reports words answer failed old new
 
 -- A command line is served: there is one answer by which the exit status, standard output and standard error are.
 pub record Ends (words : List Text) (meant : Option Meant) (input : Option (List ℕ)) (status : ℕ)
     (out_failed : Bool) (out_old out_new : Option (List ℕ)) (err_failed : Bool) (err_old err_new : Option (List ℕ)) : Type 0 where
-  pub answer : Result ℕ Refusal
+  pub answer : Result Done Refusal
   pub ends : status ≡ status_of answer
   pub served : Serves meant input answer out_failed out_old out_new
   pub told : Reports words answer err_failed err_old err_new

@@ -1,48 +1,43 @@
--- The whole system as plain data: what a step reads and changes.
-use Rattle.std.specs.Prelude.{ℕ, List, Option, map}
-use Rattle.boot.specs.Plan.{Plan}
-use Rattle.event_log.specs.declared.ids.Tid.{Tid}
-use Rattle.event_log.specs.declared.entries.Entry.{Entry}
-use Rattle.event_log.specs.Actions.{Action}
-use Rattle.event_log.specs.Sections.{Section}
-use Rattle.mctower.specs.Buffer.{Buffer}
-use Rattle.mctower.specs.declared.kernel.edit.BufferEdit.{BufferEdit}
-use Rattle.mctower.specs.declared.kernel.guests.Guest.{Guest}
-use Rattle.guest.specs.declared.instructions.Instruction.{Instruction}
+-- What the state lines tell of a system.
+use Rattle.std.specs.Prelude.{◌≡◌, ◌↔◌, ℕ, ◌<◌, Bool, true, false, List, length, take, Option, Some, slice_get}
+use Rattle.std.specs.List.{list_all}
+use Rattle.event_log.specs.declared.ids.CpuId.{CpuId}
+use Rattle.layer_traits.specs.declared.calls.Place.{Place}
+use Rattle.layer_traits.specs.declared.calls.Place.TheVariants.{Running, Ready, Pending, Hand, LockSleeper, WaitRecv, WaitSend, Ended}
+use Rattle.cpu.specs.Calm.{calm_in}
+use Rattle.cpu.specs.Claims.{IsPlaceOf, Shown, listed}
+use Rattle.cpu.specs.Systems.{halted_in}
+use Rattle.mctower.specs.StateLines.{state_text}
+use Rattle.mctower.specs.declared.states.State.{State}
 
--- what one CPU keeps: the thread that runs on it, its ready threads, front first, the entries of its calls that took
--- effect, oldest first, how many of its threads' calls have begun and had no effect, and how many entries it has room for
-pub record CpuState : Type 0 where
-  pub current : Option Tid
-  pub ready : List Tid
-  pub trace : List Entry
-  pub begun : ℕ
-  pub limit : ℕ
+-- where each thread is
+abbrev pub places_in : State → List Place
+places_in state = take state.threads state.places
 
--- the buffers behind their locks: each as its last section left it, the actions on all locks, newest first,
--- the section that each CPU has under way, and for how many more actions there is room
-pub record Guarded : Type 0 where
-  pub buffers : List Buffer
-  pub actions : List (Action BufferEdit)
-  pub under : List (Option (Section BufferEdit))
-  pub left : ℕ
+-- the state lines
+abbrev pub text_of_state : State → List ℕ
+text_of_state state = state_text state.halted.items (places_in state) state.is_quiet
 
--- the system: a program and a guest for each thread, the CPUs, the buffers, and how many steps it has room for and has taken
-pub record Shown : Type 0 where
-  pub programs : List (List Instruction)
-  pub guests : List Guest
-  pub cpus : List CpuState
-  pub guarded : Guarded
-  pub room : ℕ
-  pub taken : ℕ
+-- whether a place is no pending queue
+abbrev pub is_settled : Place → Bool
+is_settled (Running c) = true
+is_settled (Ready c) = true
+is_settled (Pending c) = false
+is_settled (Hand c) = true
+is_settled (LockSleeper b) = true
+is_settled (WaitRecv b) = true
+is_settled (WaitSend b) = true
+is_settled Ended = true
 
--- the system whose parts these are
-abbrev pub shown : Plan → List Guest → List CpuState → Guarded → ℕ → ℕ → Shown
-shown plan guests cpus guarded room taken = record {
-  programs = map (λ task. task.program) plan.tasks;
-  guests = guests;
-  cpus = cpus;
-  guarded = guarded;
-  room = room;
-  taken = taken;
-}
+-- each CPU is calm: a halted one has no live thread, any other has no section under way, an empty hand, and nobody runs or is ready there
+abbrev pub AreCalm : Shown → Type 0
+AreCalm s = (c : CpuId) → c.0 < length s.cpus → calm_in c s ≡ true
+
+-- what is told of a system is so: why each CPU is halted, where each thread is, and that it is quiet exactly where each CPU is calm and
+-- nobody pends
+pub record IsStateOf (s : Shown) (state : State) : Type 0 where
+  pub halted : state.halted.items ≡ listed (λ c. halted_in (record { 0 = c }) s) 0 (length s.cpus)
+  pub count : state.threads ≡ length s.homes
+  pub many : length (places_in state) ≡ length s.homes
+  pub places : (t : ℕ) (place : Place) → slice_get (places_in state) t ≡ Some place → IsPlaceOf s (record { 0 = t }) place
+  pub quiet : (state.is_quiet ≡ true) ↔ (AreCalm s × (list_all is_settled (places_in state) ≡ true))

@@ -17,7 +17,7 @@ usage: mctower COMMAND [OPTIONS]
 
 mctower COMMAND --help says more of a command.
 
-example: mctower run --schedule '0*6' < plan.toml | mctower check
+example: mctower run --schedule '0*21' < plan.toml | mctower check
 prints:  yes
 
 exit status: 0 a good run or a yes, 1 a refusal (one line 'error: Name(N)'),
@@ -44,7 +44,7 @@ Input: a plan, in TOML. Output: the trace text of the run. S says which CPU take
 'c' or 'c*n' (n steps of CPU c), joined by commas, 1,048,576 steps at most. Without a schedule no
 step is taken.
 
-example: mctower run --schedule '0*6' < plan.toml
+example: mctower run --schedule '0*21' < plan.toml
 where plan.toml is:
   cpus = 1
   trace = 4
@@ -76,7 +76,7 @@ mctower check
 Input: a trace text, as run prints it. Output: 'yes', or 'no L Name(N)' with the first line L at
 fault and its reason; then the exit status is 3.
 
-example: mctower run --schedule '0*6' < plan.toml | mctower check
+example: mctower run --schedule '0*21' < plan.toml | mctower check
 prints:  yes
 ";
 

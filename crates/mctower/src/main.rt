@@ -8,11 +8,12 @@ ghost use Rattle.mctower.specs.Serve.{EndsTold};
 
 pub mod count;
 mod help;
-pub mod kernel;
 pub mod line;
+pub mod opening;
 #[cfg(test)]
 mod plan_tests;
 pub mod print;
+pub mod reading;
 #[cfg(test)]
 mod refusal_tests;
 pub mod refusals;
@@ -20,23 +21,35 @@ pub mod refusals;
 mod refused_tests;
 pub mod run;
 #[cfg(test)]
+mod rows;
+#[cfg(test)]
 mod run_tests;
 pub mod schedule;
 pub mod serve;
+pub mod states;
 #[cfg(test)]
 mod twin;
 #[cfg(test)]
 mod twin_tests;
+#[cfg(test)]
+mod twin_text;
 pub mod workers;
 
+use ipc_calls::{Ipc, Over, TowerEdit};
 use line::LineError;
+use plain_machine::Plain;
 use refusals::{Refusal, line_refused, status_of_refusal, tell};
+use spinlock::Ticket;
 use std::io::{BufWriter, Write};
 use std::process::ExitCode;
 use std::sync::Wait;
 use std::thread::Threads;
 use std::{env, io};
 use tracer::Sink;
+
+/// The tower that serves a run: message calls over buffers, conditions, queuing locks, sleep and
+/// wakeup, a scheduler and shared queues, over ticket locks of one owned machine.
+pub type Tower = Ipc<Over<Ticket<Plain<TowerEdit>>>>;
 
 fn main(rt: HostRuntime) -> ExitCode {
     let mut err = Sink::new(rt.stderr());
@@ -88,6 +101,7 @@ fn serve_words<T: AllocGlobal + Input + Print + Threads + Wait + Sync, E: Write>
         return refused(err, words, Refusal::NoMemory);
     };
     let mut out = Sink::new(buffered);
-    let status = serve::serve(rt, rt.alloc(), words, &mut rt.reader(), &mut out, err);
+    let status =
+        serve::serve::<Tower, _, _, _, _>(rt, rt.alloc(), words, &mut rt.reader(), &mut out, err);
     ExitCode::from(status)
 }

@@ -12,7 +12,7 @@ use std::io::Write;
 use tracer::{Sink, WriteFault};
 
 /// Writes all pieces, or where a write failed a beginning of them.
-fn put_all<W: Write>(sink: &mut Sink<W>, pieces: &[&[u8]]) -> Result<(), WriteFault>
+pub(crate) fn put_all<W: Write>(sink: &mut Sink<W>, pieces: &[&[u8]]) -> Result<(), WriteFault>
     requires { has_failed sink.old ≡ false }
     ensures failed { is_err result ≡ has_failed sink.new }
     ensures out { WentOut W.contents sink.old sink.new (flat_map (λ p. p.now) pieces.now) }

@@ -1,6 +1,7 @@
 //! Bad plans and bad schedules as the command line refuses them: the error line, the status, and
 //! nothing on standard output.
 
+use crate::Tower;
 use crate::serve::serve;
 use std::sync::Wait;
 use std::test::Fail;
@@ -69,7 +70,7 @@ fn is_refused<T: AllocGlobal + Threads + Wait + Sync>(
 ) -> Result<bool, Fail> {
     let mut out = Vec::new(rt.alloc());
     let mut err = Vec::new(rt.alloc());
-    let given = serve(
+    let given = serve::<Tower, _, _, _, _>(
         rt,
         rt.alloc(),
         words,
@@ -212,7 +213,7 @@ end
 fn is_no<T: AllocGlobal + Threads + Wait + Sync>(rt: &T, text: &str, line: &str) -> bool {
     let mut out = Vec::new(rt.alloc());
     let mut err = Vec::new(rt.alloc());
-    let status = serve(
+    let status = serve::<Tower, _, _, _, _>(
         rt,
         rt.alloc(),
         ["check"].as_slice(),

@@ -2,8 +2,9 @@
 //! written. With ample memory they give their answers; bench/refuse.sh refuses each allocation of
 //! these tests in turn, until none is left to refuse.
 
+use crate::Tower;
 use crate::count::count_plain;
-use crate::kernel::System;
+use crate::opening::open_plan;
 use crate::run::{Fault, run_text};
 use crate::schedule::{MOST_STEPS, StepsError, read_steps};
 use arrayvec::ArrayVec;
@@ -50,7 +51,7 @@ fn count_with_a_refused_allocation(rt: HostRuntime) {
 fn open_with_a_refused_allocation(rt: HostRuntime) {
     match Boot::read(rt.alloc(), PLAN) {
         Ok(boot) => assert!(rt;
-            matches!(System::open(rt.alloc(), boot, 80), Ok(_) | Err(NoMemory))
+            matches!(open_plan::<Tower>(rt.alloc(), boot, 80), Ok(_) | Err(NoMemory))
         ),
         Err(error) => assert_eq!(rt; error, BootError::NoMemory),
     }
@@ -59,10 +60,10 @@ fn open_with_a_refused_allocation(rt: HostRuntime) {
 #[test]
 fn run_with_a_refused_allocation(rt: HostRuntime) {
     let mut page = ArrayVec::<u8, 200>::new();
-    match read_steps(rt.alloc(), "0*20,1*20,0*20,1*20") {
+    match read_steps(rt.alloc(), "0*32,1*60,0*60") {
         Ok(steps) => {
             assert!(rt; steps.len() <= MOST_STEPS);
-            match run_text(rt.alloc(), PLAN, &steps, &mut Sink::new(&mut page)) {
+            match run_text::<Tower, _>(rt.alloc(), PLAN, &steps, &mut Sink::new(&mut page)) {
                 Ok(_) => assert_eq!(rt; page.as_slice(), TRACE.as_bytes()),
                 Err(fault) => {
                     assert_eq!(rt; fault, Fault::NoMemory);

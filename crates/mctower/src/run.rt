@@ -6,18 +6,22 @@ ghost use Rattle.boot.specs.Plan.{plan_of};
 ghost use Rattle.event_log.specs.declared.entries.Entry.{Entry as AnEntry};
 ghost use Rattle.tracer.specs.Gather.{traces_in};
 ghost use Rattle.tracer.specs.Sinks.{has_failed, writer_of};
-ghost use Rattle.mctower.specs.Claims.{traces_of, contents_of};
+ghost use Rattle.cpu.specs.Claims.{Shown, traces_of};
 ghost use Rattle.mctower.specs.Plans.{IsOfPlan, from_boot};
-ghost use Rattle.mctower.specs.Running.{RunsText, Writes, IsTextOf};
-ghost use Rattle.mctower.specs.State.{Shown};
+ghost use Rattle.mctower.specs.Running.{RunsText, Writes, IsTextOf, first_of};
+ghost use Rattle.mctower.specs.State.{IsStateOf};
 ghost use Rattle.tracer.specs.declared.verdicts.Verdict.TheVariants.{Yes as SaysYes};
 ghost use Rattle.tracer.specs.Judging.{verdict_of};
 ghost use Rattle.mctower.specs.declared.run.Fault.TheVariants.{NoMemory, NoOrder, BadCpu as BadCpuFault, WriteFault as WriteFailed};
 
-use crate::kernel::{BadCpu, System};
+use crate::opening::open_plan;
+use crate::reading::state_of;
+use crate::states::State;
 use arrayvec::ArrayVec;
 use boot::{Boot, BootError};
+use cpu::{BadCpu, System};
 use event_log::{BUFFERS, BufId, CAPACITY, CpuId, Entry, Msg, NoMemory};
+use layer_traits::Owned;
 use std::alloc::{AllocError, AllocFailed, Global};
 use std::io::Write;
 use thiserror::Error;
@@ -107,6 +111,34 @@ impl From<WriteFault> for Fault {
     }
 }
 
+/// What [`run_text`] does, and what the state lines tell of the system then.
+///
+/// The sink must not have failed, and the steps are at most 1,048,576. Errors: those of
+/// [`run_text`].
+pub fn run_plan<I: Owned + Drop, W: Write>(
+    alloc: Global,
+    plan: &str,
+    steps: &[CpuId],
+    sink: &mut Sink<W>,
+) -> Result<(System<I>, State), Fault>
+where
+    I::Machine: Drop,
+    requires live { has_failed sink.old ≡ false }
+    requires few { length steps.now ≤ 1048576 }
+    ensures runs { RunsText (plan_of plan.now) steps.now (first_of result) (has_failed sink.new) (W.contents (writer_of sink.old)) (W.contents (writer_of sink.new)) }
+    ensures state { IfOk result (λ ran. IsStateOf ran.0 ran.1) }
+{
+    let boot = Boot::read(alloc, plan)?;
+    let cpus = boot.cpus();
+    let threads = boot.threads();
+    let caps = boot.caps();
+    let mut system = open_plan(alloc, boot, steps.len())?;
+    system.run(steps)?;
+    write_system(alloc, cpus, caps.as_slice(), &system, sink)?;
+    let state = state_of(cpus, threads, &system);
+    Ok((system, state))
+}
+
 /// Reads a plan, lets its system take the steps of a schedule, and writes the trace text: the
 /// plan's capacities, the entries of all CPUs in one order, and what the buffers hold after the
 /// last step. The system has room for as many steps as the schedule has. Gives the system.
@@ -117,23 +149,22 @@ impl From<WriteFault> for Fault {
 /// schedule names a CPU that the plan has not; `WriteFault` exactly where the sink failed, and then
 /// a beginning of the text is out. Before any other error nothing was written. `NoMemory` where an
 /// allocation was refused; `NoOrder` never comes, since the traces of a system have an order.
-pub fn run_text<W: Write>(
+pub fn run_text<I: Owned + Drop, W: Write>(
     alloc: Global,
     plan: &str,
     steps: &[CpuId],
     sink: &mut Sink<W>,
-) -> Result<System, Fault>
+) -> Result<System<I>, Fault>
+where
+    I::Machine: Drop,
     requires live { has_failed sink.old ≡ false }
     requires few { length steps.now ≤ 1048576 }
     ensures { RunsText (plan_of plan.now) steps.now result (has_failed sink.new) (W.contents (writer_of sink.old)) (W.contents (writer_of sink.new)) }
 {
-    let boot = Boot::read(alloc, plan)?;
-    let cpus = boot.cpus();
-    let caps = boot.caps();
-    let mut system = System::open(alloc, boot, steps.len())?;
-    system.run(steps)?;
-    write_system(alloc, cpus, caps.as_slice(), &system, sink)?;
-    Ok(system)
+    match run_plan(alloc, plan, steps, sink) {
+        Ok((system, _)) => Ok(system),
+        Err(fault) => Err(fault),
+    }
 }
 
 /// A law: the judge says yes to the text of a system, so `check` says yes to all that `run_text`
@@ -146,18 +177,21 @@ pub fn run_gets_yes()
 ///
 /// Errors: `NoMemory` where an allocation was refused, and then nothing was written; `WriteFault`
 /// exactly where the sink failed.
-fn write_system<W: Write>(
+fn write_system<I: Owned + Drop, W: Write>(
     alloc: Global,
     cpus: u8,
     caps: &[u8],
-    system: &System,
+    system: &System<I>,
     sink: &mut Sink<W>,
 ) -> Result<(), Fault>
+where
+    I::Machine: Drop,
     requires live { has_failed sink.old ≡ false }
     requires plan { IsOfPlan cpus caps.now system.now }
     ensures { Writes caps.now system.now result (has_failed sink.new) (W.contents (writer_of sink.old)) (W.contents (writer_of sink.new)) }
 {
     system.holds();
+    system.traces_fit();
     let traces = traces(alloc, cpus, system)?;
     let order = gather(alloc, &traces)?;
     values_fit(&order);
@@ -182,7 +216,13 @@ fn value_fits(value: Msg)
 {}
 
 /// A copy of the traces of the CPUs, which are so many.
-fn traces(alloc: Global, cpus: u8, system: &System) -> Result<Vec<Vec<Entry>>, AllocError>
+fn traces<I: Owned + Drop>(
+    alloc: Global,
+    cpus: u8,
+    system: &System<I>,
+) -> Result<Vec<Vec<Entry>>, AllocError>
+where
+    I::Machine: Drop,
     requires { length system.now.cpus ≡ cpus }
     ensures { IfOk result (λ all. traces_in all.items ≡ traces_of system.now) }
 {
@@ -195,10 +235,16 @@ fn traces(alloc: Global, cpus: u8, system: &System) -> Result<Vec<Vec<Entry>>, A
 }
 
 /// What the buffers hold, which are so many, at most `BUFFERS`.
-fn contents(buffers: usize, system: &System) -> ArrayVec<ArrayVec<Msg, CAPACITY>, BUFFERS>
-    requires all { length system.now.guarded.buffers ≡ buffers }
+fn contents<I: Owned + Drop>(
+    buffers: usize,
+    system: &System<I>,
+) -> ArrayVec<ArrayVec<Msg, CAPACITY>, BUFFERS>
+where
+    I::Machine: Drop,
+    requires caps { length system.now.caps ≡ buffers }
+    requires all { length system.now.contents ≡ buffers }
     requires few { buffers ≤ BUFFERS }
-    ensures { map (λ items. items.items) result.items ≡ contents_of system.now }
+    ensures { map (λ items. items.items) result.items ≡ system.now.contents }
 {
     let mut left = ArrayVec::new();
     for buffer in 0..buffers {

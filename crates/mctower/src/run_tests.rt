@@ -1,5 +1,6 @@
 //! A run whose writer fails, and how each refusal of this crate prints.
 
+use crate::Tower;
 use crate::line::LineError;
 use crate::print::refuse;
 use crate::run::{Fault, run_text};
@@ -23,7 +24,7 @@ fn a_writer_that_fails_anywhere(rt: HostRuntime) {
     for room in 0..66 {
         let mut page = [0; 66];
         let mut sink = Sink::new(&mut page[..room]);
-        let fault = run_text(rt.alloc(), ONE_SEND, &[CpuId(0); 6], &mut sink).err();
+        let fault = run_text::<Tower, _>(rt.alloc(), ONE_SEND, &[CpuId(0); 21], &mut sink).err();
         assert_eq!(rt; fault, Some(Fault::WriteFault));
         assert_eq!(rt; &page[..room], &TRACE[..room]);
     }

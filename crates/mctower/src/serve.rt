@@ -14,12 +14,14 @@ use crate::print::print;
 use crate::refusals::{
     Refusal, count_refused, line_refused, run_refused, status_of_refusal, steps_refused, tell,
 };
-use crate::run::run_text;
+use crate::run::run_plan;
 use crate::schedule::{MOST_STEPS, StepsError, read_steps};
+use crate::states::State;
 use crate::workers::count_table;
 use boot::BootError;
 use event_log::CpuId;
 use itoa::Buffer;
+use layer_traits::Owned;
 use std::alloc::Global;
 use std::io;
 use std::io::{Read, Write};
@@ -27,14 +29,23 @@ use std::sync::Wait;
 use std::thread::Threads;
 use tracer::{Sink, Verdict, WriteFault, check};
 
-/// Puts the pieces out and flushes; the exit status is then this one.
-fn put_out<O: Write>(out: &mut Sink<O>, pieces: &[&[u8]], status: u8) -> Result<u8, Refusal>
+/// What serving an order gave, where it is done.
+#[derive(Drop)]
+pub enum Done {
+    /// This exit status; nothing is to be told.
+    Exit(u8),
+    /// A good run, whose system is in this state, which is to be told.
+    Ran(State),
+}
+
+/// Puts the pieces out and flushes; then this is done.
+fn put_out<O: Write>(out: &mut Sink<O>, pieces: &[&[u8]], done: Done) -> Result<Done, Refusal>
     requires { has_failed out.old ≡ false }
-    ensures put { Puts status (flat_map (λ p. p.now) pieces.now) result (has_failed out.new) (O.contents (writer_of out.old)) (O.contents (writer_of out.new)) }
+    ensures put { Puts done (flat_map (λ p. p.now) pieces.now) result (has_failed out.new) (O.contents (writer_of out.old)) (O.contents (writer_of out.new)) }
     ensures flushed { IfOk result (λ _. is_flushed out.new ≡ true) }
 {
     match print(out, pieces) {
-        Ok(()) => Ok(status),
+        Ok(()) => Ok(done),
         Err(WriteFault) => Err(Refusal::WriteFault),
     }
 }
@@ -46,7 +57,7 @@ fn serve_count<O: Write, T: Threads + Wait + Sync>(
     cpus: u8,
     times: u64,
     out: &mut Sink<O>,
-) -> Result<u8, Refusal>
+) -> Result<Done, Refusal>
     requires cpus { cpus ≤ CPUS }
     requires times { times ≤ MOST_TIMES }
     requires live { has_failed out.old ≡ false }
@@ -71,7 +82,7 @@ fn serve_count<O: Write, T: Threads + Wait + Sync>(
         table,
         b"\n".as_slice(),
     ];
-    put_out(out, &lines, 0)
+    put_out(out, &lines, Done::Exit(0))
 }
 
 /// What a failed read refuses, by its kind.
@@ -96,13 +107,13 @@ fn read_all<R: Read>(alloc: Global, input: &mut R) -> Result<Vec<u8>, Refusal>
 }
 
 /// Prints a verdict: `yes`, or `no L Name(N)`. Gives the exit status.
-fn print_verdict<O: Write>(verdict: Verdict, out: &mut Sink<O>) -> Result<u8, Refusal>
+fn print_verdict<O: Write>(verdict: Verdict, out: &mut Sink<O>) -> Result<Done, Refusal>
     requires { has_failed out.old ≡ false }
     ensures tells { Tells verdict result (has_failed out.new) (O.contents (writer_of out.old)) (O.contents (writer_of out.new)) }
     ensures flushed { IfOk result (λ _. is_flushed out.new ≡ true) }
 {
     match verdict {
-        Verdict::Yes => put_out(out, &[b"yes\n".as_slice()], 0),
+        Verdict::Yes => put_out(out, &[b"yes\n".as_slice()], Done::Exit(0)),
         Verdict::No(line, reason) => {
             let mut number = Buffer::new();
             let number = number.format(line).as_bytes();
@@ -114,7 +125,7 @@ fn print_verdict<O: Write>(verdict: Verdict, out: &mut Sink<O>) -> Result<u8, Re
                 name,
                 b"\n".as_slice(),
             ];
-            put_out(out, &pieces, 3)
+            put_out(out, &pieces, Done::Exit(3))
         }
         Verdict::NoMemory => Err(Refusal::NoMemory),
     }
@@ -125,7 +136,7 @@ fn serve_check<R: Read, O: Write>(
     alloc: Global,
     input: &mut R,
     out: &mut Sink<O>,
-) -> Result<u8, Refusal>
+) -> Result<Done, Refusal>
     requires { has_failed out.old ≡ false }
     ensures checks { Checks (R.remaining input.old) result (has_failed out.new) (O.contents (writer_of out.old)) (O.contents (writer_of out.new)) }
     ensures flushed { IfOk result (λ _. is_flushed out.new ≡ true) }
@@ -148,12 +159,14 @@ fn steps_in(alloc: Global, schedule: Option<String>) -> Result<Vec<CpuId>, Steps
 }
 
 /// Runs the plan of these bytes under a schedule's steps.
-fn run_bytes<O: Write>(
+fn run_bytes<I: Owned + Drop, O: Write>(
     alloc: Global,
     bytes: &[u8],
     steps: &[CpuId],
     out: &mut Sink<O>,
-) -> Result<u8, Refusal>
+) -> Result<Done, Refusal>
+where
+    I::Machine: Drop,
     requires live { has_failed out.old ≡ false }
     requires few { length steps.now ≤ MOST_STEPS }
     ensures runs { RunsBytes bytes.now steps.now result (has_failed out.new) (O.contents (writer_of out.old)) (O.contents (writer_of out.new)) }
@@ -162,19 +175,22 @@ fn run_bytes<O: Write>(
     let Ok(plan) = str::from_utf8(bytes) else {
         return Err(Refusal::Plan(BootError::BadToml));
     };
-    if let Err(fault) = run_text(alloc, plan, steps, out) {
-        return Err(run_refused(fault));
-    }
-    put_out(out, &[], 0)
+    let (_, state) = match run_plan::<I, O>(alloc, plan, steps, out) {
+        Ok(ran) => ran,
+        Err(fault) => return Err(run_refused(fault)),
+    };
+    put_out(out, &[], Done::Ran(state))
 }
 
 /// Runs the plan on the input under a schedule's steps.
-fn serve_run<R: Read, O: Write>(
+fn serve_run<I: Owned + Drop, R: Read, O: Write>(
     alloc: Global,
     steps: &[CpuId],
     input: &mut R,
     out: &mut Sink<O>,
-) -> Result<u8, Refusal>
+) -> Result<Done, Refusal>
+where
+    I::Machine: Drop,
     requires live { has_failed out.old ≡ false }
     requires few { length steps.now ≤ MOST_STEPS }
     ensures runs { Runs (R.remaining input.old) steps.now result (has_failed out.new) (O.contents (writer_of out.old)) (O.contents (writer_of out.new)) }
@@ -184,17 +200,19 @@ fn serve_run<R: Read, O: Write>(
         Ok(bytes) => bytes,
         Err(refusal) => return Err(refusal),
     };
-    run_bytes(alloc, bytes.as_slice(), steps, out)
+    run_bytes::<I, O>(alloc, bytes.as_slice(), steps, out)
 }
 
-/// Does what the words order, and gives the exit status. Nothing is told on standard error.
-fn answer<R: Read, O: Write, T: Threads + Wait + Sync>(
+/// Does what the words order, and gives what is done. Nothing is told on standard error.
+fn answer<I: Owned + Drop, R: Read, O: Write, T: Threads + Wait + Sync>(
     rt: &T,
     alloc: Global,
     words: &[&str],
     input: &mut R,
     out: &mut Sink<O>,
-) -> Result<u8, Refusal>
+) -> Result<Done, Refusal>
+where
+    I::Machine: Drop,
     requires { has_failed out.old ≡ false }
     ensures served { Serves (order_of (map (λ w. w.now) words.now)) (R.remaining input.old) result
         (has_failed out.new) (O.contents (writer_of out.old)) (O.contents (writer_of out.new)) }
@@ -206,7 +224,7 @@ fn answer<R: Read, O: Write, T: Threads + Wait + Sync>(
         Ok(Order::Count(cpus, times)) => serve_count(rt, alloc, cpus, times, out),
         Ok(Order::Check) => serve_check(alloc, input, out),
         Ok(Order::Run(schedule)) => match steps_in(alloc, schedule) {
-            Ok(steps) => serve_run(alloc, steps.as_slice(), input, out),
+            Ok(steps) => serve_run::<I, R, O>(alloc, steps.as_slice(), input, out),
             Err(error) => Err(steps_refused(error)),
         },
         Ok(Order::Threads(_)) => unreachable!(),
@@ -217,10 +235,12 @@ fn answer<R: Read, O: Write, T: Threads + Wait + Sync>(
 ///
 /// Gives the exit status: 0 for a good run or a yes of `check`; 1 for a refusal, with the line
 /// `error: Name(N)` on `err`; 2 for a bad command line, with the help on its command on `err` (a
-/// bad schedule has the line of a refusal there) and nothing on `out`; 3 for a no of `check`. With
-/// 0 and 3 nothing is on `err`, and `out` is flushed. The input is read for a check, and for a run
-/// whose schedule is one.
-pub fn serve<R: Read, O: Write, E: Write, T: Threads + Wait + Sync>(
+/// bad schedule has the line of a refusal there) and nothing on `out`; 3 for a no of `check`. After
+/// a good run the state lines of its system are on `err`; else with 0 and 3 nothing is there. With
+/// both `out` is flushed. The input is read for a check, and for a run whose schedule is one.
+///
+/// A run is served by the layers that `I` is the top of.
+pub fn serve<I: Owned + Drop, R: Read, O: Write, E: Write, T: Threads + Wait + Sync>(
     rt: &T,
     alloc: Global,
     words: &[&str],
@@ -228,6 +248,8 @@ pub fn serve<R: Read, O: Write, E: Write, T: Threads + Wait + Sync>(
     out: &mut Sink<O>,
     err: &mut Sink<E>,
 ) -> u8
+where
+    I::Machine: Drop,
     requires out { has_failed out.old ≡ false }
     requires err { has_failed err.old ≡ false }
     ensures served { Ends (map (λ w. w.now) words.now) (order_of (map (λ w. w.now) words.now)) (R.remaining input.old) result
@@ -236,8 +258,12 @@ pub fn serve<R: Read, O: Write, E: Write, T: Threads + Wait + Sync>(
     ensures flushed { (result ≡ 0) ⊎ (result ≡ 3) → is_flushed out.new ≡ true }
     ensures unread { reads_input (order_of (map (λ w. w.now) words.now)) ≡ false → input.new ≡ input.old }
 {
-    match answer(rt, alloc, words, input, out) {
-        Ok(status) => status,
+    match answer::<I, R, O, T>(rt, alloc, words, input, out) {
+        Ok(Done::Exit(status)) => status,
+        Ok(Done::Ran(state)) => {
+            state.tell(err);
+            0
+        }
         Err(refusal) => {
             tell(err, words, refusal);
             status_of_refusal(refusal)
@@ -248,6 +274,7 @@ pub fn serve<R: Read, O: Write, E: Write, T: Threads + Wait + Sync>(
 #[cfg(test)]
 mod tests {
     use super::*;
+    use crate::Tower;
     use std::process::Abort;
     use std::test::Fail;
 
@@ -277,7 +304,7 @@ mod tests {
     ) -> Served {
         let mut out = Vec::new(rt.alloc());
         let mut err = Vec::new(rt.alloc());
-        let status = serve(
+        let status = serve::<Tower, _, _, _, _>(
             rt,
             rt.alloc(),
             words,
@@ -348,13 +375,17 @@ mod tests {
     const NO_STEP: &[u8] = b"mctower-trace 1\nbuffers 1\ncap 0 1\nleft 0\nend\n";
 
     #[test]
-    fn run_prints_its_trace(rt: HostRuntime) {
-        assert!(rt; serving(&rt, ["run", "--schedule", "0*6"].as_slice(), PLAN).is(0, RUN, b""));
-        assert!(rt; serving(&rt, ["run", "--schedule", "0*5"].as_slice(), PLAN).is(0, RUN, b""));
-        assert!(rt;
-            serving(&rt, ["run", "--schedule", "0*4"].as_slice(), PLAN).is(0, NO_STEP, b"")
-        );
-        assert!(rt; serving(&rt, ["run"].as_slice(), PLAN).is(0, NO_STEP, b""));
+    fn run_prints_its_trace_and_its_state(rt: HostRuntime) {
+        let ended = b"cpu 0 AllEnded\nthread 0 Ended\nquiet yes\n";
+        let runs = b"cpu 0 live\nthread 0 Running(0)\nquiet no\n";
+        let ready = b"cpu 0 live\nthread 0 Ready(0)\nquiet no\n";
+        let whole = serving(&rt, ["run", "--schedule", "0*21"].as_slice(), PLAN);
+        assert!(rt; whole.is(0, RUN, ended));
+        let effect = serving(&rt, ["run", "--schedule", "0*11"].as_slice(), PLAN);
+        assert!(rt; effect.is(0, RUN, runs));
+        let before = serving(&rt, ["run", "--schedule", "0*10"].as_slice(), PLAN);
+        assert!(rt; before.is(0, NO_STEP, runs));
+        assert!(rt; serving(&rt, ["run"].as_slice(), PLAN).is(0, NO_STEP, ready));
     }
 
     /// A reader that fails after its bytes.
@@ -374,7 +405,7 @@ mod tests {
     fn a_read_that_fails_is_told(rt: HostRuntime) {
         let mut out = Vec::new(rt.alloc());
         let mut err = Vec::new(rt.alloc());
-        let status = serve(
+        let status = serve::<Tower, _, _, _, _>(
             &rt,
             rt.alloc(),
             ["check"].as_slice(),
@@ -399,7 +430,7 @@ mod tests {
     fn a_read_without_memory_is_told(rt: HostRuntime) {
         let mut out = Vec::new(rt.alloc());
         let mut err = Vec::new(rt.alloc());
-        let status = serve(
+        let status = serve::<Tower, _, _, _, _>(
             &rt,
             rt.alloc(),
             ["check"].as_slice(),
@@ -429,7 +460,7 @@ mod tests {
     fn a_flush_that_fails_is_told(rt: HostRuntime) {
         let mut out = Vec::new(rt.alloc());
         let mut err = Vec::new(rt.alloc());
-        let status = serve(
+        let status = serve::<Tower, _, _, _, _>(
             &rt,
             rt.alloc(),
             ["count", "--cpus", "1", "--times", "1"].as_slice(),
@@ -464,7 +495,7 @@ mod tests {
     fn a_write_that_fails_is_told(rt: HostRuntime) {
         let mut out = Vec::new(rt.alloc());
         let mut err = Vec::new(rt.alloc());
-        let status = serve(
+        let status = serve::<Tower, _, _, _, _>(
             &rt,
             rt.alloc(),
             ["count", "--cpus", "2", "--times", "3"].as_slice(),
@@ -479,10 +510,10 @@ mod tests {
     fn a_trace_that_cannot_be_written_is_told(rt: HostRuntime) {
         let mut out = Vec::new(rt.alloc());
         let mut err = Vec::new(rt.alloc());
-        let status = serve(
+        let status = serve::<Tower, _, _, _, _>(
             &rt,
             rt.alloc(),
-            ["run", "--schedule", "0*6"].as_slice(),
+            ["run", "--schedule", "0*21"].as_slice(),
             &mut PLAN,
             &mut Sink::new(Full(&mut out, 20)),
             &mut Sink::new(&mut err),

@@ -1,0 +1,20 @@
+use Rattle.std.proofs.Common.{◌≡◌, ℕ, ◌+◌, ◌<◌, ◌∷◌, ◌++◌, [], Option, length, sym, ap, ◌∙◌, arith}
+use Rattle.layer_traits.specs.declared.steps.Reason.{Reason}
+use Rattle.cpu.specs.Claims.{listed}
+use Rattle.cpu.specs.Systems.{halted_in}
+use Rattle.mctower.proofs.TableLemmas.{listed_length}
+use Rattle.mctower.proofs.ReadingLemmas.{listed_more}
+use Rattle.mctower.proofs.reading.halted_of.Goals as goal
+
+pub push-requires : goal.push-requires
+push-requires g c =
+    let many : length c.loop-cpu.halted.items ≡ c.loop-cpu.cpu =
+    ap length c.loop-cpu.invariant ∙ listed_length (λ n. halted_in (record { 0 = n }) c.args.system.now) 0 c.loop-cpu.cpu in
+    omega (arith, many, c.loop-cpu-test.true, c.requires.few)
+
+pub loop-cpu-preserved : goal.loop-cpu-preserved
+loop-cpu-preserved g c =
+    let at : 0 + c.loop-cpu.cpu ≡ c.loop-cpu.cpu = omega arith in
+    let f : ℕ → Option Reason = λ n. halted_in (record { 0 = n }) c.args.system.now in
+    c.push.ensures.items ∙ ap (λ l. l ++ c.halted.result ∷ []) c.loop-cpu.invariant
+    ∙ ap (λ r. listed f 0 c.loop-cpu.cpu ++ r ∷ []) (c.halted.ensures ∙ ap f (sym at)) ∙ sym (listed_more f 0 c.loop-cpu.cpu)
