@@ -31,16 +31,17 @@ is() {
   if [ "${1#\~}" != "$1" ]; then [ "${2#"${1#\~}"}" != "$2" ]; else [ "$1" = "$2" ]; fi
 }
 
-send="mctower run --schedule '0*6' < plans/one-send.toml"
+send="mctower run --schedule '0*21' < plans/one-send.toml"
 sent=$'mctower-trace 1\nbuffers 1\ncap 0 1\ne 0 0 send 0 7 0 0\nleft 0 7\nend\n'
+state=$'cpu 0 AllEnded\nthread 0 Ended\nquiet yes\n'
 one_stack='ulimit -s 1000000; ulimit -v 1500000'
 takes='mctower-trace 1\nbuffers 1\ncap 0 2\ne 0 0 recv 0 7 0 0\nleft 0\nend\n'
 
 rows() {
   # a good run, a yes, a no
   row 0 $'plain 6\ntable 6\n' '' 'mctower count --cpus 2 --times 3'
-  row 0 "$sent" '' "$send"
-  row 0 $'yes\n' '' "$send | mctower check"
+  row 0 "$sent" "$state" "$send"
+  row 0 $'yes\n' "$state" "$send | mctower check"
   row 3 $'no 4 EmptyTake(35)\n' '' "printf '$takes' | mctower check"
   row 3 $'no 1 Spelling(30)\n' '' 'mctower check < /dev/null'
   # a bad command line

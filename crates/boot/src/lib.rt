@@ -14,4 +14,3 @@ mod tests;
 
 pub use plans::Boot;
 pub use refusals::{BootError, PlanKey};
-pub use tasks::Task;

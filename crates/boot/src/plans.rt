@@ -34,7 +34,6 @@ impl Boot {
     ghost use Rattle.std.specs.Prelude.{◌≡◌, ◌<◌, length, IfOk};
     ghost use Rattle.toml.specs.View.{table_view};
     ghost use Rattle.boot.specs.Plan.{plan_of, plan_in, home_of, program_of, IsPlan, Gives};
-    ghost use Rattle.boot.specs.Seen.{tasks_of};
 
     /// Reads a plan from its text.
     ///
@@ -132,13 +131,5 @@ impl Boot {
         ensures within { IsPlan self.now }
     {
         &self.tasks[usize::from(thread.0)].program
-    }
-
-    /// The threads by their numbers, each with its home and its program, for who makes the guests.
-    pub fn into_tasks(self) -> Vec<Task>
-        ensures { tasks_of result.items ≡ self.tasks }
-    {
-        let Boot { tasks, .. } = self;
-        tasks
     }
 }
