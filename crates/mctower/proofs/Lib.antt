@@ -2,8 +2,6 @@ mod LineLemmas
 mod ScheduleLemmas
 mod CountLemmas
 mod ListLemmas
-mod TableLemmas
-mod OpenLemmas
 mod ReadingLemmas
 mod WorkersLemmas
 mod OrderNumbers

@@ -6,6 +6,10 @@ use Rattle.std.proofs.lemmas.Bool.{cases_eq}
 use Rattle.cpu.specs.Claims.{listed}
 use Rattle.mctower.proofs.ListLemmas.{within_get}
 
+pub listed_length : {X : Type 0} (f : ℕ → X) (from n : ℕ) → length (listed f from n) ≡ n
+listed_length f from zero = refl
+listed_length f from (suc n) = ap suc (listed_length f (from + 1) n)
+
 -- one value more is listed
 pub listed_more : {X : Type 0} (f : ℕ → X) (from n : ℕ) → listed f from (n + 1) ≡ listed f from n ++ f (from + n) ∷ []
 listed_more f from zero = let same : from ≡ from + 0 = omega arith in ap (λ k. f k ∷ []) same

@@ -1,16 +1,35 @@
 -- What a run of a plan answers, by what its parts answer.
-use Rattle.std.proofs.Common.{◌≡◌, ℕ, Bool, true, false, List, length, map, refl, sym, ap, ◌∙◌, subst}
+use Rattle.std.proofs.Common.{◌≡◌, ℕ, Bool, true, false, List, [], ◌∷◌, length, map, replicate, refl, sym, ap, ◌∙◌, subst}
 use Rattle.std.specs.Prelude.{Option, Result, Ok, Err, IsErrAnd}
 use Rattle.std.proofs.lemmas.Bool.{false≢true}
 use Rattle.event_log.specs.declared.ids.CpuId.{CpuId}
 use Rattle.boot.specs.declared.refusals.BootError.{BootError}
 use Rattle.boot.specs.Plan.{Plan}
-use Rattle.cpu.specs.Claims.{FollowPrograms, HasOneOrder, Shown, StandsOnce, StayHome}
+use Rattle.std.proofs.lemmas.List.{length-map}
+use Rattle.cpu.specs.Boots.{guests_for, homes_for, tables_for}
+use Rattle.cpu.specs.Cpus.{programs_of}
+use Rattle.mctower.proofs.ReadingLemmas.{listed_length}
+use Rattle.cpu.specs.Claims.{CpuShown, FollowPrograms, HasOneOrder, Shown, StandsOnce, StayHome}
 use Rattle.cpu.specs.Systems.{SamePlan}
 use Rattle.mctower.specs.Plans.{IsSystemOf}
 use Rattle.mctower.specs.Running.{AreCpus, IsOut, IsRunOf, IsTold, Writes, RunsPlan, RunsText, first_of}
 use Rattle.mctower.specs.declared.run.Fault.{Fault}
 use Rattle.mctower.specs.declared.run.Fault.TheVariants.{NoMemory, Boot, BadCpu, NoOrder, WriteFault}
+
+map_both : {X Y Z : Type 0} (f : X → Y) (g : Y → Z) (xs : List X) → map (λ x. g (f x)) xs ≡ map g (map f xs)
+map_both f g [] = refl
+map_both f g (x ∷ xs) = ap (λ rest. g (f x) ∷ rest) (map_both f g xs)
+
+-- a system that opens with a plan's buffers, homes, guests and room for entries is the plan's
+pub opened : (plan : Plan) (s : Shown) → s.caps ≡ plan.caps → s.homes ≡ homes_for plan → map (λ p. p.guests) s.cpus ≡ tables_for plan
+    → map (λ p. p.limit) s.cpus ≡ replicate plan.cpus plan.trace → IsSystemOf plan s
+opened plan s caps homes guests limits = record {
+  caps = caps;
+  homes = homes;
+  programs = map_both (λ (p : CpuShown). p.guests) programs_of s.cpus ∙ ap (map programs_of) guests;
+  cpus = sym (length-map s.cpus (λ (p : CpuShown). p.guests)) ∙ ap length guests ∙ listed_length (guests_for plan) 0 plan.cpus;
+  limits = limits;
+}
 
 -- steps leave a plan's system the plan's
 pub stays_of : (plan : Plan) (first last : Shown) → IsSystemOf plan first → SamePlan first last → IsSystemOf plan last

@@ -24,7 +24,6 @@ use Rattle.cpu.specs.Cpus.{IsOfHome}
 use Rattle.cpu.specs.Calm.{TracesFit}
 use Rattle.cpu.specs.Claims.{CpuShown, HasOneOrder, Shown, StayHome, traces_of}
 use Rattle.mctower.specs.Plans.{IsSystemOf, IsOfPlan, from_gather}
-use Rattle.mctower.specs.Tables.{homes_in}
 use Rattle.mctower.specs.Running.{IsOut, Writes}
 use Rattle.mctower.specs.declared.run.Fault.{Fault}
 use Rattle.mctower.proofs.ListLemmas.{map_get}

@@ -5,7 +5,6 @@ pub mod Serve
 pub mod Print
 pub mod Help
 pub mod Workers
-pub mod Tables
 pub mod Plans
 pub mod Running
 pub mod StateLines

@@ -5,17 +5,17 @@ use Rattle.boot.specs.declared.refusals.BootError.TheVariants as refused
 use Rattle.boot.specs.Plan.{Plan, IsPlan}
 use Rattle.tracer.specs.declared.gathering.GatherError.{GatherError}
 use Rattle.tracer.specs.declared.gathering.GatherError.TheVariants as gathering
+use Rattle.cpu.specs.Boots.{homes_for, tables_for}
 use Rattle.cpu.specs.Cpus.{programs_of}
 use Rattle.cpu.specs.Claims.{Shown, programs_in}
 use Rattle.mctower.specs.declared.run.Fault.{Fault}
 use Rattle.mctower.specs.declared.run.Fault.TheVariants.{NoMemory, Boot, NoOrder}
-use Rattle.mctower.specs.Tables.{guest_tables, homes_in}
 
 -- the system has the CPUs, the threads with their programs, the buffers and the room of each trace that the plan says
 pub record IsSystemOf (plan : Plan) (s : Shown) : Type 0 where
   pub caps : s.caps ≡ plan.caps
-  pub homes : s.homes ≡ homes_in plan.tasks
-  pub programs : programs_in s ≡ map programs_of (guest_tables plan.tasks plan.cpus)
+  pub homes : s.homes ≡ homes_for plan
+  pub programs : programs_in s ≡ map programs_of (tables_for plan)
   pub cpus : length s.cpus ≡ plan.cpus
   pub limits : map (λ p. p.limit) s.cpus ≡ replicate plan.cpus plan.trace
 

@@ -9,7 +9,6 @@ ghost use Rattle.mctower.specs.Serve.{EndsTold};
 pub mod count;
 mod help;
 pub mod line;
-pub mod opening;
 #[cfg(test)]
 mod plan_tests;
 pub mod print;

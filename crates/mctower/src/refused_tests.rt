@@ -4,11 +4,11 @@
 
 use crate::Tower;
 use crate::count::count_plain;
-use crate::opening::open_plan;
 use crate::run::{Fault, run_text};
 use crate::schedule::{MOST_STEPS, StepsError, read_steps};
 use arrayvec::ArrayVec;
 use boot::{Boot, BootError};
+use cpu::System;
 use event_log::NoMemory;
 use tracer::Sink;
 
@@ -51,7 +51,7 @@ fn count_with_a_refused_allocation(rt: HostRuntime) {
 fn open_with_a_refused_allocation(rt: HostRuntime) {
     match Boot::read(rt.alloc(), PLAN) {
         Ok(boot) => assert!(rt;
-            matches!(open_plan::<Tower>(rt.alloc(), boot, 80), Ok(_) | Err(NoMemory))
+            matches!(System::<Tower>::open(rt.alloc(), &boot, 80), Ok(_) | Err(NoMemory))
         ),
         Err(error) => assert_eq!(rt; error, BootError::NoMemory),
     }

@@ -14,7 +14,6 @@ ghost use Rattle.tracer.specs.declared.verdicts.Verdict.TheVariants.{Yes as Says
 ghost use Rattle.tracer.specs.Judging.{verdict_of};
 ghost use Rattle.mctower.specs.declared.run.Fault.TheVariants.{NoMemory, NoOrder, BadCpu as BadCpuFault, WriteFault as WriteFailed};
 
-use crate::opening::open_plan;
 use crate::reading::state_of;
 use crate::states::State;
 use arrayvec::ArrayVec;
@@ -132,7 +131,7 @@ where
     let cpus = boot.cpus();
     let threads = boot.threads();
     let caps = boot.caps();
-    let mut system = open_plan(alloc, boot, steps.len())?;
+    let mut system = System::open(alloc, &boot, steps.len())?;
     system.run(steps)?;
     write_system(alloc, cpus, caps.as_slice(), &system, sink)?;
     let state = state_of(cpus, threads, &system);

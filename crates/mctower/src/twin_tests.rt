@@ -6,7 +6,6 @@ ghost use Rattle.std.specs.Prelude.{◌≡◌, ◌<◌, ◌≤◌, length};
 ghost use Rattle.event_log.specs.declared.ids.TheConstants.{BUFFERS, CPUS, THREADS};
 
 use crate::Tower;
-use crate::opening::open_plan;
 use crate::reading::state_of;
 use crate::rows::{PAIR, ROWS};
 use crate::run::{Fault, run_plan, run_text};
@@ -179,7 +178,7 @@ where
     let cpus = boot.cpus();
     let threads = boot.threads();
     let buffers = boot.caps().len();
-    let mut system: System<I> = open_plan(rt.alloc(), boot, room)?;
+    let mut system: System<I> = System::open(rt.alloc(), &boot, room)?;
     for (number, cpu) in steps.iter().enumerate() {
         let at = format!(in rt.alloc(); "{name}: step {number} of CPU {}", cpu.0)?;
         assert!(rt; cpu.0 < cpus);
@@ -328,7 +327,7 @@ fn the_last_drawn_plans_step_as_the_twin(rt: HostRuntime) -> Result<(), Fail> {
 fn a_step_of_no_cpu_changes_nothing(rt: HostRuntime) -> Result<(), Fail> {
     let plan = crate::rows::ONE_SEND;
     let boot = Boot::read(rt.alloc(), plan)?;
-    let mut system: System<Tower> = open_plan(rt.alloc(), boot, 4)?;
+    let mut system: System<Tower> = System::open(rt.alloc(), &boot, 4)?;
     let steps = [CpuId(0), CpuId(0), CpuId(0), CpuId(1)];
     assert_eq!(rt; system.run(&steps), Err(BadCpu));
     let mut out = Vec::new(rt.alloc());

@@ -2,8 +2,7 @@ use Rattle.std.proofs.Common.{◌≡◌, ℕ, ◌+◌, ◌<◌, ◌∷◌, ◌++
 use Rattle.layer_traits.specs.declared.steps.Reason.{Reason}
 use Rattle.cpu.specs.Claims.{listed}
 use Rattle.cpu.specs.Systems.{halted_in}
-use Rattle.mctower.proofs.TableLemmas.{listed_length}
-use Rattle.mctower.proofs.ReadingLemmas.{listed_more}
+use Rattle.mctower.proofs.ReadingLemmas.{listed_length, listed_more}
 use Rattle.mctower.proofs.reading.halted_of.Goals as goal
 
 pub push-requires : goal.push-requires
