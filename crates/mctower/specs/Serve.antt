@@ -84,16 +84,19 @@ Checks input answer failed old new = RefusedBy NoMemory answer failed old new
 
 -- ---- run
 
--- the plan's system took the steps, its trace text is written, and what is to be told is its state
+-- the text is out, and what is to be told is the system's state; or the output failed, and a beginning of the text is out
+abbrev pub PutsRun : Shown → List ℕ → Result Done Refusal → Bool → Option (List ℕ) → Option (List ℕ) → Type 0
+PutsRun s text answer false old new = (state : State) × IsStateOf s state × (answer ≡ Ok (Ran state)) × Outs false old new text
+PutsRun s text answer true old new = (answer ≡ Err WriteFault) × Outs true old new text
+
+-- the plan's system took the steps, and its trace text is written
 pub record RunsTrace (plan : Plan) (steps : List CpuId) (answer : Result Done Refusal) (failed : Bool) (old new : Option (List ℕ)) : Type 0 where
   pub cpus : AreCpus plan.cpus steps
   pub system : Shown
   pub ran : IsRunOf plan steps system
   pub trace : List ℕ
   pub traced : IsTextOf plan.caps system trace
-  pub state : State
-  pub is_state : IsStateOf system state
-  pub put : Puts (Ran state) trace answer failed old new
+  pub put : PutsRun system trace answer failed old new
 
 -- the plan is run, or a step is of no CPU of it; or the text is no plan, and that is told as its first fault
 abbrev pub RunsPlan : Result Plan BootError → List CpuId → Result Done Refusal → Bool → Option (List ℕ) → Option (List ℕ) → Type 0
