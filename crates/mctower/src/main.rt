@@ -18,9 +18,9 @@ mod refusal_tests;
 pub mod refusals;
 #[cfg(test)]
 mod refused_tests;
-pub mod run;
 #[cfg(test)]
 mod rows;
+pub mod run;
 #[cfg(test)]
 mod run_tests;
 pub mod schedule;
@@ -100,7 +100,13 @@ fn serve_words<T: AllocGlobal + Input + Print + Threads + Wait + Sync, E: Write>
         return refused(err, words, Refusal::NoMemory);
     };
     let mut out = Sink::new(buffered);
-    let status =
-        serve::serve::<Tower, _, _, _, _>(rt, rt.alloc(), words, &mut rt.reader(), &mut out, err);
+    let status = serve::serve::<Tower, _, _, _, _>(
+        rt,
+        rt.alloc(),
+        words,
+        &mut rt.reader(),
+        &mut out,
+        err,
+    );
     ExitCode::from(status)
 }

@@ -38,7 +38,8 @@ thread 0 Ended
 quiet yes
 "#;
 
-const PING_PONG: &str = r#"# Two threads on two CPUs pass a number to and fro, each through a buffer of its own; the number
+const PING_PONG: &str =
+    r#"# Two threads on two CPUs pass a number to and fro, each through a buffer of its own; the number
 # grows by one on each way, and after three rounds both end.
 #   mctower run --schedule '0*60,1*60,0*60,1*60,0*60,1*60,0*60,1*60,0*60,1*60,0*60,1*60,0*60,1*60,0*60,1*60' < plans/ping-pong.toml
 # A test of crates/mctower holds this text too: src/plan_tests.rt.
@@ -83,7 +84,8 @@ thread 1 Ended
 quiet yes
 "#;
 
-const FULL_BUFFER: &str = r#"# A sender fills a buffer with room for two and has to try again until a receiver on the same CPU
+const FULL_BUFFER: &str =
+    r#"# A sender fills a buffer with room for two and has to try again until a receiver on the same CPU
 # has made room: what is received is what was sent, in order.
 #   mctower run --schedule '0*300' < plans/full-buffer.toml
 # A test of crates/mctower holds this text too: src/plan_tests.rt.
@@ -120,7 +122,8 @@ thread 1 Ended
 quiet yes
 "#;
 
-const SEVERAL_BUFFERS: &str = r#"# A pipeline over three CPUs and two buffers: the first thread makes 3, 2, 1, the second doubles,
+const SEVERAL_BUFFERS: &str =
+    r#"# A pipeline over three CPUs and two buffers: the first thread makes 3, 2, 1, the second doubles,
 # the third receives. The trace is one order over both buffers.
 #   mctower run --schedule '0*65,1*65,2*65,0*65,1*65,2*65,0*65,1*65,2*65,0*65,1*65,2*65,0*65,1*65,2*65,0*65,1*65,2*65' < plans/several-buffers.toml
 # A test of crates/mctower holds this text too: src/plan_tests.rt.
@@ -196,7 +199,8 @@ thread 0 Ended
 quiet yes
 "#;
 
-const PIPELINE: &str = r#"# A pipeline that fills and empties: the first thread sends 1 to 6 into a buffer with room for two and
+const PIPELINE: &str =
+    r#"# A pipeline that fills and empties: the first thread sends 1 to 6 into a buffer with room for two and
 # sleeps where it is full; the second hands each on; the third receives them, and sleeps where there is none.
 #   mctower run --schedule '0*100,1*100,2*100,0*100,1*100,2*100,0*100,1*100,2*100,0*100,1*100,2*100,0*100,1*100,2*100,0*100,1*100,2*100,0*100,1*100,2*100' < plans/pipeline.toml
 # A test of crates/mctower holds this text too: src/plan_tests.rt.
@@ -259,7 +263,8 @@ thread 2 Ended
 quiet yes
 "#;
 
-const MANY_WAITERS: &str = r#"# Many waiters on one buffer: four threads on three CPUs wait to receive. Three messages come, and are
+const MANY_WAITERS: &str =
+    r#"# Many waiters on one buffer: four threads on three CPUs wait to receive. Three messages come, and are
 # handed to the waiters in the order in which they came; the last one goes on waiting.
 #   mctower run --schedule '2*13,0*26,1*13,3*80,2*40,0*40,1*40,3*20,2*20,0*40,1*20' < plans/many-waiters.toml
 # A test of crates/mctower holds this text too: src/plan_tests.rt.
@@ -313,7 +318,8 @@ thread 4 Ended
 quiet yes
 "#;
 
-const HANDED_OVER: &str = r#"# A lock that is handed over: while the first thread owns the lock of the buffer, the second and the
+const HANDED_OVER: &str =
+    r#"# A lock that is handed over: while the first thread owns the lock of the buffer, the second and the
 # third go to sleep for it. Each gets it from the one before, without trying again.
 #   mctower run --schedule '0*5,1*5,0*15,2*5,0*4,1*23,2*20' < plans/handed-over.toml
 # A test of crates/mctower holds this text too: src/plan_tests.rt.
@@ -357,12 +363,37 @@ quiet yes
 const PLANS: [(&str, &str, &str, &str); 8] = [
     ("one-send", ONE_SEND, ONE_SEND_TRACE, ONE_SEND_STATE),
     ("ping-pong", PING_PONG, PING_PONG_TRACE, PING_PONG_STATE),
-    ("full-buffer", FULL_BUFFER, FULL_BUFFER_TRACE, FULL_BUFFER_STATE),
-    ("several-buffers", SEVERAL_BUFFERS, SEVERAL_BUFFERS_TRACE, SEVERAL_BUFFERS_STATE),
-    ("wrap-around", WRAP_AROUND, WRAP_AROUND_TRACE, WRAP_AROUND_STATE),
+    (
+        "full-buffer",
+        FULL_BUFFER,
+        FULL_BUFFER_TRACE,
+        FULL_BUFFER_STATE,
+    ),
+    (
+        "several-buffers",
+        SEVERAL_BUFFERS,
+        SEVERAL_BUFFERS_TRACE,
+        SEVERAL_BUFFERS_STATE,
+    ),
+    (
+        "wrap-around",
+        WRAP_AROUND,
+        WRAP_AROUND_TRACE,
+        WRAP_AROUND_STATE,
+    ),
     ("pipeline", PIPELINE, PIPELINE_TRACE, PIPELINE_STATE),
-    ("many-waiters", MANY_WAITERS, MANY_WAITERS_TRACE, MANY_WAITERS_STATE),
-    ("handed-over", HANDED_OVER, HANDED_OVER_TRACE, HANDED_OVER_STATE),
+    (
+        "many-waiters",
+        MANY_WAITERS,
+        MANY_WAITERS_TRACE,
+        MANY_WAITERS_STATE,
+    ),
+    (
+        "handed-over",
+        HANDED_OVER,
+        HANDED_OVER_TRACE,
+        HANDED_OVER_STATE,
+    ),
 ];
 
 /// The schedule in a plan's comment.

@@ -51,7 +51,10 @@ fn count_with_a_refused_allocation(rt: HostRuntime) {
 fn open_with_a_refused_allocation(rt: HostRuntime) {
     match Boot::read(rt.alloc(), PLAN) {
         Ok(boot) => assert!(rt;
-            matches!(System::<Tower>::open(rt.alloc(), &boot, 80), Ok(_) | Err(NoMemory))
+            matches!(
+                System::<Tower>::open(rt.alloc(), &boot, 80),
+                Ok(_) | Err(NoMemory)
+            )
         ),
         Err(error) => assert_eq!(rt; error, BootError::NoMemory),
     }

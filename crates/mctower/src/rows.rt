@@ -2,7 +2,13 @@
 //! of sections. The tower and the plain slow kernel are both held against them.
 
 /// A plan and a schedule, the trace text without its head, and the state lines.
-pub type Row = (&'static str, &'static str, &'static str, &'static str, &'static str);
+pub type Row = (
+    &'static str,
+    &'static str,
+    &'static str,
+    &'static str,
+    &'static str,
+);
 
 /// One thread that sends 7.
 pub const ONE_SEND: &str =

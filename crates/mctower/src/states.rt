@@ -73,11 +73,7 @@ fn place_number(place: Place) -> Option<u8>
 }
 
 /// The line of a CPU.
-fn put_cpu<W: Write>(
-    sink: &mut Sink<W>,
-    cpu: u64,
-    halted: Option<Reason>,
-) -> Result<(), WriteFault>
+fn put_cpu<W: Write>(sink: &mut Sink<W>, cpu: u64, halted: Option<Reason>) -> Result<(), WriteFault>
     requires { has_failed sink.old ≡ false }
     ensures failed { is_err result ≡ has_failed sink.new }
     ensures out { WentOut W.contents sink.old sink.new (line_of (cpu_pieces cpu halted)) }
@@ -87,16 +83,18 @@ fn put_cpu<W: Write>(
     let word = halted_word(halted).as_bytes();
     put_all(
         sink,
-        &[b"cpu ".as_slice(), number, b" ".as_slice(), word, b"\n".as_slice()],
+        &[
+            b"cpu ".as_slice(),
+            number,
+            b" ".as_slice(),
+            word,
+            b"\n".as_slice(),
+        ],
     )
 }
 
 /// The line of a thread.
-fn put_thread<W: Write>(
-    sink: &mut Sink<W>,
-    thread: u64,
-    place: Place,
-) -> Result<(), WriteFault>
+fn put_thread<W: Write>(sink: &mut Sink<W>, thread: u64, place: Place) -> Result<(), WriteFault>
     requires { has_failed sink.old ≡ false }
     ensures failed { is_err result ≡ has_failed sink.new }
     ensures out { WentOut W.contents sink.old sink.new (line_of (thread_pieces thread place)) }
@@ -108,7 +106,13 @@ fn put_thread<W: Write>(
     match place_number(place) {
         None => put_all(
             sink,
-            &[b"thread ".as_slice(), number, b" ".as_slice(), name, b"\n".as_slice()],
+            &[
+                b"thread ".as_slice(),
+                number,
+                b" ".as_slice(),
+                name,
+                b"\n".as_slice(),
+            ],
         ),
         Some(at_number) => {
             let at = at.format(at_number).as_bytes();
@@ -158,7 +162,11 @@ fn put_quiet<W: Write>(sink: &mut Sink<W>, is_quiet: bool) -> Result<(), WriteFa
     ensures failed { is_err result ≡ has_failed sink.new }
     ensures out { WentOut W.contents sink.old sink.new (line_of (quiet_pieces is_quiet)) }
 {
-    sink.put(if is_quiet { b"quiet yes\n".as_slice() } else { b"quiet no\n".as_slice() })
+    sink.put(if is_quiet {
+        b"quiet yes\n".as_slice()
+    } else {
+        b"quiet no\n".as_slice()
+    })
 }
 
 impl State {

@@ -355,7 +355,8 @@ impl Twin {
 
     fn bring_buffers(&mut self, boot: &Boot) -> Result<(), Fail> {
         for (buffer, capacity) in boot.caps().as_slice().iter().enumerate() {
-            self.blocks.push(Block::new(self.alloc, usize::from(*capacity)))?;
+            self.blocks
+                .push(Block::new(self.alloc, usize::from(*capacity)))?;
             let Ok(buffer) = u8::try_from(buffer) else {
                 return Err(Fail::new("too many buffers"));
             };
@@ -366,7 +367,11 @@ impl Twin {
 
     fn bring_lock(&mut self, guarded: Guarded) -> Result<(), Fail> {
         let line = Vec::new(self.alloc);
-        self.locks.push(Lock { guarded, line, freed: 0 })?;
+        self.locks.push(Lock {
+            guarded,
+            line,
+            freed: 0,
+        })?;
         Ok(())
     }
 
@@ -654,13 +659,7 @@ impl Twin {
     }
 
     /// TryPut or TryTake: the call takes effect, and its entry is written; or it is to wait.
-    fn try_it(
-        &mut self,
-        cpu: CpuId,
-        thread: usize,
-        buffer: BufId,
-        kind: Kind,
-    ) -> Result<(), Fail> {
+    fn try_it(&mut self, cpu: CpuId, thread: usize, buffer: BufId, kind: Kind) -> Result<(), Fail> {
         let worker = self.worker(thread)?;
         let sent = match worker.next() {
             Instruction::Send(_, from) => worker.value(from),
@@ -713,13 +712,7 @@ impl Twin {
 
     /// Wait: the thread joins the waiting ones and sleeps; the queuing lock is let go. Once woken it
     /// takes the lock again.
-    fn wait(
-        &mut self,
-        cpu: CpuId,
-        thread: usize,
-        buffer: BufId,
-        kind: Kind,
-    ) -> Result<(), Fail> {
+    fn wait(&mut self, cpu: CpuId, thread: usize, buffer: BufId, kind: Kind) -> Result<(), Fail> {
         self.worker(thread)?.part = Some(Part::Next(Section::AcqQ));
         let block = self.block(buffer)?;
         match kind {

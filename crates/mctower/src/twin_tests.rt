@@ -245,7 +245,11 @@ fn write_line(text: &mut String, dice: &mut Dice, buffers: u64, lines: u64) -> R
 fn write_plan(text: &mut String, dice: &mut Dice) -> Result<u64, Fail> {
     let cpus = 1 + dice.below(4);
     let buffers = 1 + dice.below(3);
-    write!(text, "cpus = {cpus}\ntrace = {}\nbuffers = [", 1 + dice.below(6))?;
+    write!(
+        text,
+        "cpus = {cpus}\ntrace = {}\nbuffers = [",
+        1 + dice.below(6)
+    )?;
     for buffer in 0..buffers {
         let comma = if buffer == 0 { "" } else { ", " };
         write!(text, "{comma}{}", 1 + dice.below(2))?;

@@ -7,7 +7,12 @@ use std::fmt::Write;
 use std::test::Fail;
 
 /// Notes a place, where the thread stands in this list.
-fn note_if(places: &mut Vec<Place>, list: &Vec<usize>, thread: usize, place: Place) -> Result<(), Fail> {
+fn note_if(
+    places: &mut Vec<Place>,
+    list: &Vec<usize>,
+    thread: usize,
+    place: Place,
+) -> Result<(), Fail> {
     for t in list.iter() {
         if *t == thread {
             places.push(place)?;

@@ -79,8 +79,11 @@ returns-in-Err-clause-runs g c =
     let ran = fault_ran c.args.steps.now (plan_of c.in-Ok.plan.now) c.in-Err.fault _ _ _ c.in-Err.ensures.runs in
     rw c.run_refused.ensures (elim ran [
       | inl refused ↦ inl refused
-      | inr runs ↦ inr (inr (c.in-Ok.ensures.cases.1, subst (λ t. RunsPlan (plan_of t) c.args.steps.now (Err (from_fault c.in-Err.fault))
-          (has_failed c.run_plan.new.sink) (g.O.Write.contents (writer_of c.args.out.now)) (g.O.Write.contents (writer_of c.run_plan.new.sink))) same runs))
+      | inr runs ↦ inr (inr (
+        c.in-Ok.ensures.cases.1,
+        subst (λ t. RunsPlan (plan_of t) c.args.steps.now (Err (from_fault c.in-Err.fault))
+            (has_failed c.run_plan.new.sink) (g.O.Write.contents (writer_of c.args.out.now)) (g.O.Write.contents (writer_of c.run_plan.new.sink))) same runs,
+      ))
     ])
 
 pub returns-clause-runs : goal.returns-clause-runs
