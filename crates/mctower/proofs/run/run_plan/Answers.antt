@@ -1,4 +1,4 @@
-use Rattle.std.proofs.Common.{◌≡◌, refl, ◌∙◌}
+use Rattle.std.proofs.Common.{◌≡◌, refl, sym, ◌∙◌}
 use Rattle.mctower.specs.declared.run.Fault.TheVariants.{BadCpu}
 use Rattle.mctower.proofs.RunningLemmas.{bad_cpu, err_first, not_written, opened, run_of, stays_of, written}
 use Rattle.mctower.proofs.run.run_plan.Goals as goal
@@ -42,3 +42,10 @@ returns-clause-runs g c =
     (run_of c.in_ok-boot.boot c.args.steps.now c.in_ok-system.system c.run.new.self of c.in_ok-system.ensures.room
     c.in_ok-run.ensures.plan c.in_ok-run.ensures.one_order c.in_ok-run.ensures.follow c.in_ok-run.ensures.stay c.in_ok-run.ensures.once)
     c.in_ok-write_system.ensures
+
+pub state_of-state-requires-clause-cpus : goal.state_of-state-requires-clause-cpus
+state_of-state-requires-clause-cpus g c =
+    let of = opened c.in_ok-boot.boot c.in_ok-system.system c.in_ok-system.ensures.caps c.in_ok-system.ensures.homes c.in_ok-system.ensures.guests
+    c.in_ok-system.ensures.limits in
+    let stays = stays_of c.in_ok-boot.boot c.in_ok-system.system c.run.new.self of c.in_ok-run.ensures.plan in
+    stays.cpus ∙ sym c.cpus-cpus.ensures.cpus
