@@ -16,4 +16,4 @@ loop-cpu-preserved g c =
     let at : 0 + c.loop-cpu.cpu ≡ c.loop-cpu.cpu = omega arith in
     let f : ℕ → Option Reason = λ n. halted_in (record { 0 = n }) c.args.system.now in
     c.push.ensures.items ∙ ap (λ l. l ++ c.halted.result ∷ []) c.loop-cpu.invariant
-    ∙ ap (λ r. listed f 0 c.loop-cpu.cpu ++ r ∷ []) (c.halted.ensures ∙ ap f (sym at)) ∙ sym (listed_more f 0 c.loop-cpu.cpu)
+    ∙ ap (λ r. listed f 0 c.loop-cpu.cpu ++ r ∷ []) (c.halted.ensures.is ∙ ap f (sym at)) ∙ sym (listed_more f 0 c.loop-cpu.cpu)
