@@ -8,8 +8,8 @@ export LC_ALL=C
 cd "$(dirname "$0")"
 ours=$(realpath ../crates/mctower/out/mctower 2> /dev/null) && [ -x "$ours" ] || { echo "build mctower first: (cd crates/mctower && rt run -- count --cpus 1 --times 1)"; exit 1; }
 work=$(mktemp -d); trap 'rm -rf "$work"' EXIT
-for name in kernel check count; do rustc -O -o "$work/plain_$name" "plain_$name.rs"; done
-./make_plan.sh > "$work/plan"; ./make_schedule.sh > "$work/schedule"; ./make_trace.sh > "$work/trace"; : > "$work/nothing"
+for name in tower check count; do rustc -O -o "$work/plain_$name" "plain_$name.rs"; done
+./make_plan.sh > "$work/plan"; ./make_plan.sh through > "$work/through"; ./make_schedule.sh > "$work/schedule"; ./make_trace.sh > "$work/trace"; : > "$work/nothing"
 
 # Runs the command of the array $1 on the input $2, and leaves in micros what it took.
 run() {
@@ -37,10 +37,15 @@ measure() {
 }
 
 schedule=$(cat "$work/schedule")
-plain=("$work/plain_kernel" "$schedule"); mine=("$ours" run --schedule "$schedule")
-run plain "$work/plan"; mv "$work/out" "$work/text"; run mine "$work/plan"
-cmp "$work/text" "$work/out" || echo "the two kernels differ"
-measure "run, 1,048,576 steps" "$work/plan" 41 30
+mine=("$ours" run --schedule "$schedule")
+for plan in plan through; do
+  for log in "" log; do
+    plain=("$work/plain_tower" "$schedule" $log)
+    run plain "$work/$plan"; mv "$work/out" "$work/text"; mv "$work/err" "$work/states"; run mine "$work/$plan"
+    cmp "$work/text" "$work/out" && cmp "$work/states" "$work/err" || echo "the two kernels differ"
+    measure "run, 1,048,576 steps${log:+, the plain one stores its events}$([ $plan = plan ] || echo ', messages get through')" "$work/$plan" 21 30
+  done
+done
 
 plain=("$work/plain_check"); mine=("$ours" check)
 run mine "$work/trace"; [ "$(cat "$work/out")" = yes ] || echo "check refuses the trace"
