@@ -1,6 +1,7 @@
 #!/usr/bin/env bash
-# Runs each plan of plans/ by the command in its first lines, and compares what comes on standard output and then on standard
-# error with plans/expected/. It takes seconds; .ci/run calls it after rt ci. The last line is 'plans: N passed, M failed'.
+# Runs each plan of plans/ and of tests/rows/ by the command in its first lines, and compares what comes on standard output and
+# then on standard error with the file of its name in expected/ beside it, which bench/plain_tower.rs wrote: a plain program of the
+# step table. It takes seconds; .ci/run calls it after rt ci. The last line is 'plans: N passed, M failed'.
 #
 #   tests/plans.sh [PROGRAM..]
 #
@@ -11,14 +12,14 @@ room=$(mktemp -d); trap 'rm -rf "$room"' EXIT
 [ $# -gt 0 ] || set -- $(ls crates/mctower/out/mctower crates/mctower/out/mctower.by-rattle 2> /dev/null)
 passed=0; failed=0
 for program; do
-  for plan in plans/*.toml; do
-    name=$(basename "$plan" .toml)
+  for plan in plans/*.toml tests/rows/*.toml; do
+    expected=$(dirname "$plan")/expected/$(basename "$plan" .toml).txt
     schedule=$(sed -n "s/^# *mctower run --schedule '\(.*\)' <.*/\1/p" "$plan")
     "$program" run --schedule "$schedule" < "$plan" > "$room/out" 2> "$room/states" && cat "$room/states" >> "$room/out"
-    if cmp -s "$room/out" "plans/expected/$name.txt"; then
+    if cmp -s "$room/out" "$expected"; then
       passed=$((passed + 1))
     else
-      echo "plans: $program does not print what plans/expected/$name.txt says"; failed=$((failed + 1))
+      echo "plans: $program does not print what $expected says"; failed=$((failed + 1))
     fi
   done
 done

@@ -9,8 +9,6 @@ ghost use Rattle.mctower.specs.Serve.{EndsTold};
 pub mod count;
 mod help;
 pub mod line;
-#[cfg(test)]
-mod plan_tests;
 pub mod print;
 pub mod reading;
 #[cfg(test)]
@@ -18,20 +16,12 @@ mod refusal_tests;
 pub mod refusals;
 #[cfg(test)]
 mod refused_tests;
-#[cfg(test)]
-mod rows;
 pub mod run;
 #[cfg(test)]
 mod run_tests;
 pub mod schedule;
 pub mod serve;
 pub mod states;
-#[cfg(test)]
-mod twin;
-#[cfg(test)]
-mod twin_tests;
-#[cfg(test)]
-mod twin_text;
 pub mod workers;
 
 use ipc_calls::{Ipc, Over, TowerEdit};
