@@ -60,7 +60,10 @@ fn a_copy_has_the_lines_of_its_program(rt: HostRuntime) -> Result<(), Fail> {
     let copy = program.copy(rt.alloc())?;
     assert_eq!(rt; copy.len(), 2);
     assert_eq!(rt; copy.instruction(0), Instruction::Set(Register::Reg1, 7));
-    assert_eq!(rt; copy.instruction(1), Instruction::Send(BufId(0), Register::Reg1));
+    assert_eq!(rt;
+        copy.instruction(1),
+        Instruction::Send(BufId(0), Register::Reg1)
+    );
     Ok(())
 }
 

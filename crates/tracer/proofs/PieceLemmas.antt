@@ -11,7 +11,6 @@ use Rattle.tracer.specs.declared.pieces.Pieces.{Pieces}
 use Rattle.tracer.specs.Judging.{piece_at, pieces_of, are_values}
 use Rattle.tracer.specs.Lines.{left_of}
 
-
 pub no_piece : (ps : List (List ℕ)) (reason : Reason) → piece_at ps ≡ Err reason → ps ≡ []
 no_piece [] reason e = refl
 no_piece (p ∷ ps) reason e = absurd (cc)

@@ -199,7 +199,6 @@ left_line_again at b caps earlier contents lt fits small =
       length-known_from earlier contents 0 caps,
     ) refl
 
-
 small_value : (p : List ℕ) (v : ℕ) → is_value p v ≡ true → v < 2 ^ 64
 small_value p v e = let h = (number_to-Some 18446744073709551615 p v (is_just_taken (number_to 18446744073709551615 p) v e)).within in omega arith
 
