@@ -1,34 +1,14 @@
-//! A run whose writer fails, and how each refusal of this crate prints.
+//! How each refusal of this crate prints.
 
-use crate::Tower;
 use crate::line::LineError;
 use crate::print::refuse;
-use crate::run::{Fault, run_text};
+use crate::run::Fault;
 use crate::schedule::StepsError;
 use crate::workers::CountFault;
 use boot::{BootError, PlanKey};
-use event_log::CpuId;
 use std::alloc::Global;
 use std::fmt;
 use tracer::Sink;
-
-/// One thread that sends 7.
-const ONE_SEND: &str =
-    "cpus = 1\ntrace = 4\nbuffers = [1]\n\n[[thread]]\ncpu = 0\nprogram = [\"set r0 7\", \"send 0 r0\", \"exit\"]\n";
-
-const TRACE: &[u8; 66] =
-    b"mctower-trace 1\nbuffers 1\ncap 0 1\ne 0 0 send 0 7 0 0\nleft 0 7\nend\n";
-
-#[test]
-fn a_writer_that_fails_anywhere(rt: HostRuntime) {
-    for room in 0..66 {
-        let mut page = [0; 66];
-        let mut sink = Sink::new(&mut page[..room]);
-        let fault = run_text::<Tower, _>(rt.alloc(), ONE_SEND, &[CpuId(0); 21], &mut sink).err();
-        assert_eq!(rt; fault, Some(Fault::WriteFault));
-        assert_eq!(rt; &page[..room], &TRACE[..room]);
-    }
-}
 
 /// Whether a refusal prints as this text.
 fn shows<F: fmt::Display>(alloc: Global, refusal: &F, text: &str) -> bool {
