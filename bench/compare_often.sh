@@ -9,10 +9,13 @@ ours=$(realpath ../crates/mctower/out/mctower 2> /dev/null) && [ -x "$ours" ] ||
 work=$(mktemp -d); trap 'rm -rf "$work"' EXIT
 rustc -O -o "$work/plain_tower" plain_tower.rs
 equal=0
+mkdir "$work/plans"
+python3 random_plan.py "$work/plans" "$first" "$count"
 for seed in $(seq "$first" $((first + count - 1))); do
-  python3 random_plan.py "$seed" "$work/plan" "$work/schedule"
-  "$work/plain_tower" "$(cat "$work/schedule")" < "$work/plan" > "$work/text" 2> "$work/states"
-  status=0; "$ours" run --schedule "$(cat "$work/schedule")" < "$work/plan" > "$work/our_text" 2> "$work/our_states" || status=$?
+  plan=$work/plans/$seed.toml
+  schedule=$(sed -n "s/^# *mctower run --schedule '\(.*\)' <.*/\1/p" "$plan")
+  "$work/plain_tower" "$schedule" < "$plan" > "$work/text" 2> "$work/states"
+  status=0; "$ours" run --schedule "$schedule" < "$plan" > "$work/our_text" 2> "$work/our_states" || status=$?
   if [ $status = 0 ] && cmp -s "$work/text" "$work/our_text" && cmp -s "$work/states" "$work/our_states"; then
     equal=$((equal + 1))
   else

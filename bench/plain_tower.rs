@@ -1,9 +1,11 @@
 //! A plain Rust program of the whole step table, to measure `mctower run` against and to compare it
 //! with: the same sections, the same trace text and state lines, no contracts, flat tables. It reads
 //! the subset of plans that bench/make_plan.sh writes. With `log` it also stores each atomic event
-//! in a log of fixed room, as the machine of `mctower` does.
+//! in a log of fixed room, as the machine of `mctower` does. With `each` it prints text and states
+//! after each step from none on, all on standard output, and behind each of them a line `after N`.
 //!
 //! plain_tower SCHEDULE [log] < plan > trace 2> states
+//! plain_tower SCHEDULE each < plan > traces-and-states
 
 use std::collections::VecDeque;
 use std::io::{Read, Write};
@@ -534,9 +536,28 @@ fn run<const LOGS: bool>(plan: &str, schedule: &str) -> std::io::Result<()> {
     states.flush()
 }
 
+fn run_each(plan: &str, schedule: &str) -> std::io::Result<()> {
+    let mut out = std::io::BufWriter::new(std::io::stdout().lock());
+    let mut kernel: Kernel<false> = boot(plan, 0);
+    let steps = steps(schedule);
+    for taken in 0..=steps.len() {
+        write_trace(&kernel, &mut out)?;
+        write_states(&kernel, &mut out)?;
+        writeln!(out, "after {taken}")?;
+        if let Some(&c) = steps.get(taken) {
+            kernel.step(usize::from(c));
+        }
+    }
+    out.flush()
+}
+
 fn main() -> std::io::Result<()> {
     let words: Vec<String> = std::env::args().skip(1).collect();
     let mut plan = String::new();
     std::io::stdin().read_to_string(&mut plan)?;
-    if words.get(1).is_some_and(|word| word == "log") { run::<true>(&plan, &words[0]) } else { run::<false>(&plan, &words[0]) }
+    match words.get(1).map(String::as_str) {
+        Some("log") => run::<true>(&plan, &words[0]),
+        Some("each") => run_each(&plan, &words[0]),
+        _ => run::<false>(&plan, &words[0]),
+    }
 }

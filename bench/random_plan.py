@@ -1,8 +1,12 @@
 #!/usr/bin/env python3
-"""Writes a random plan and a schedule for it: random_plan.py SEED PLAN SCHEDULE.
+"""Writes random plans, each with a schedule in the command of its first lines:
 
-Small systems that block often: up to 4 CPUs, 8 threads and 3 buffers of little room, schedules that
-run a CPU for a while or hand over at every step, and traces that are sometimes too short."""
+    random_plan.py FOLDER FIRST COUNT [STEPS]
+
+FOLDER/SEED.toml for COUNT seeds from FIRST on, with schedules of at most STEPS steps (3,000 where
+nothing is said). Small systems that block often: up to 4 CPUs, 8 threads and 3 buffers of little
+room, schedules that run a CPU for a while or hand over at every step, and traces that are sometimes
+too short."""
 import random
 import sys
 
@@ -27,25 +31,34 @@ def program(choose, buffers):
     return lines
 
 
-def schedule(choose, cpus):
-    items = []
+def schedule(choose, cpus, most):
+    items, left = [], most
     for _ in range(choose.randint(1, 40)):
-        steps = choose.choice([1, 1, 2, 3, choose.randint(1, 30), choose.randint(1, 80)])
+        steps = min(left, choose.choice([1, 1, 2, 3, choose.randint(1, 30), choose.randint(1, 80)]))
+        if steps == 0:
+            break
         items.append(f"{choose.randrange(cpus)}*{steps}")
+        left -= steps
     return ",".join(items)
 
 
-def main():
-    choose = random.Random(int(sys.argv[1]))
+def plan(choose, most):
     cpus, threads, buffers = choose.randint(1, 4), choose.randint(1, 8), choose.randint(1, 3)
-    with open(sys.argv[2], "w") as plan:
-        capacities = ", ".join(str(choose.choice([1, 1, 2, 3])) for _ in range(buffers))
-        plan.write(f"cpus = {cpus}\ntrace = {choose.choice([1, 2, 5, 40, 40, 40])}\nbuffers = [{capacities}]\n")
-        for _ in range(threads):
-            lines = ", ".join(f'"{line}"' for line in program(choose, buffers))
-            plan.write(f"\n[[thread]]\ncpu = {choose.randrange(cpus)}\nprogram = [{lines}]\n")
-    with open(sys.argv[3], "w") as text:
-        text.write(schedule(choose, cpus))
+    capacities = ", ".join(str(choose.choice([1, 1, 2, 3])) for _ in range(buffers))
+    text = f"cpus = {cpus}\ntrace = {choose.choice([1, 2, 5, 40, 40, 40])}\nbuffers = [{capacities}]\n"
+    for _ in range(threads):
+        lines = ", ".join(f'"{line}"' for line in program(choose, buffers))
+        text += f"\n[[thread]]\ncpu = {choose.randrange(cpus)}\nprogram = [{lines}]\n"
+    return f"#   mctower run --schedule '{schedule(choose, cpus, most)}' < THIS\n{text}"
 
 
-main()
+def main():
+    folder, first, count = sys.argv[1], int(sys.argv[2]), int(sys.argv[3])
+    most = int(sys.argv[4]) if len(sys.argv) > 4 else 3000
+    for seed in range(first, first + count):
+        with open(f"{folder}/{seed}.toml", "w") as file:
+            file.write(plan(random.Random(seed), most))
+
+
+if __name__ == "__main__":
+    main()

@@ -1,6 +1,8 @@
 //! Refuses one allocation of a program that it is loaded into: the one whose number, from 1 on, is
-//! in the environment as REFUSE; or one start of a thread, by REFUSE_THREAD. Then it writes `refused`
-//! on standard error. All others are the C library's.
+//! in the environment as REFUSE, and by REFUSE_FROM all later ones too; or one start of a thread, by
+//! REFUSE_THREAD. Then it writes `refused` on standard error. All others are the C library's.
+//! By CUT_OUT so many bytes of standard output pass, and then a write fails; by CUT_IN so many of
+//! standard input, and then a read does.
 //!
 //! rustc --edition 2024 -O -C panic=abort --crate-type cdylib refuse.rs
 
@@ -15,30 +17,44 @@ unsafe extern "C" {
     fn getenv(name: *const c_char) -> *const c_char;
     fn atoll(text: *const c_char) -> i64;
     fn dlsym(library: *mut c_void, name: *const c_char) -> *mut c_void;
-    fn write(file: i32, bytes: *const u8, count: usize) -> isize;
+    fn __errno_location() -> *mut c_int;
 }
 
 static ALLOCATIONS: AtomicU64 = AtomicU64::new(0);
 static THREADS: AtomicU64 = AtomicU64::new(0);
+static OUT: AtomicU64 = AtomicU64::new(0);
+static IN: AtomicU64 = AtomicU64::new(0);
 
-/// Whether this request, which `asked` counts, is the one to refuse by the number under `name`.
-fn is_refused(name: &CStr, asked: &AtomicU64) -> bool {
-    let wanted = unsafe { getenv(name.as_ptr()) };
-    if wanted.is_null() || asked.fetch_add(1, SeqCst) + 1 != unsafe { atoll(wanted) } as u64 {
+/// The number under this name in the environment, if it is there.
+fn number(name: &CStr) -> Option<u64> {
+    let text = unsafe { getenv(name.as_ptr()) };
+    if text.is_null() { None } else { Some(unsafe { atoll(text) } as u64) }
+}
+
+/// Tells on standard error that a request was refused.
+fn tell() -> bool {
+    unsafe { pass(c"write", 2, c"refused\n".as_ptr().cast_mut().cast(), 8) };
+    true
+}
+
+/// Whether this allocation is to be refused.
+fn is_refused() -> bool {
+    let (one, from) = (number(c"REFUSE"), number(c"REFUSE_FROM"));
+    if one.is_none() && from.is_none() {
         return false;
     }
-    unsafe { write(2, b"refused\n".as_ptr(), 8) };
-    true
+    let asked = ALLOCATIONS.fetch_add(1, SeqCst) + 1;
+    (one == Some(asked) || from.is_some_and(|from| from <= asked)) && tell()
 }
 
 #[unsafe(no_mangle)]
 pub extern "C" fn malloc(size: usize) -> *mut c_void {
-    if is_refused(c"REFUSE", &ALLOCATIONS) { ptr::null_mut() } else { unsafe { __libc_malloc(size) } }
+    if is_refused() { ptr::null_mut() } else { unsafe { __libc_malloc(size) } }
 }
 
 #[unsafe(no_mangle)]
 pub extern "C" fn realloc(block: *mut c_void, size: usize) -> *mut c_void {
-    if is_refused(c"REFUSE", &ALLOCATIONS) { ptr::null_mut() } else { unsafe { __libc_realloc(block, size) } }
+    if is_refused() { ptr::null_mut() } else { unsafe { __libc_realloc(block, size) } }
 }
 
 type Start = extern "C" fn(*mut c_void) -> *mut c_void;
@@ -52,9 +68,53 @@ const NEXT: *mut c_void = usize::MAX as *mut c_void;
 
 #[unsafe(no_mangle)]
 pub unsafe extern "C" fn pthread_create(thread: *mut c_void, how: *const c_void, start: Start, with: *mut c_void) -> c_int {
-    if is_refused(c"REFUSE_THREAD", &THREADS) {
+    if number(c"REFUSE_THREAD").is_some_and(|one| THREADS.fetch_add(1, SeqCst) + 1 == one) && tell() {
         return NO_MORE;
     }
     let create: Create = unsafe { mem::transmute(dlsym(NEXT, c"pthread_create".as_ptr())) };
     unsafe { create(thread, how, start, with) }
+}
+
+/// A read or a write.
+type Pass = unsafe extern "C" fn(c_int, *mut c_void, usize) -> isize;
+
+/// The C library's read or write.
+unsafe fn pass(name: &CStr, file: c_int, bytes: *mut c_void, count: usize) -> isize {
+    let call: Pass = unsafe { mem::transmute(dlsym(NEXT, name.as_ptr())) };
+    unsafe { call(file, bytes, count) }
+}
+
+/// Reads or writes at most what the number under `cut` leaves, of which `passed` bytes have gone; then it fails with `fault`.
+unsafe fn cut_off(name: &CStr, cut: &CStr, passed: &AtomicU64, fault: c_int, file: c_int, bytes: *mut c_void, count: usize) -> isize {
+    let Some(most) = number(cut) else { return unsafe { pass(name, file, bytes, count) } };
+    let left = most.saturating_sub(passed.load(SeqCst)) as usize;
+    if left == 0 && count > 0 {
+        unsafe { *__errno_location() = fault };
+        return -1;
+    }
+    let went = unsafe { pass(name, file, bytes, count.min(left)) };
+    if went > 0 {
+        passed.fetch_add(went as u64, SeqCst);
+    }
+    went
+}
+
+/// A full disk, and an input that fails (`ENOSPC`, `EIO`).
+const FULL: c_int = 28;
+const BROKEN: c_int = 5;
+
+#[unsafe(no_mangle)]
+pub unsafe extern "C" fn write(file: c_int, bytes: *mut c_void, count: usize) -> isize {
+    if file != 1 {
+        return unsafe { pass(c"write", file, bytes, count) };
+    }
+    unsafe { cut_off(c"write", c"CUT_OUT", &OUT, FULL, file, bytes, count) }
+}
+
+#[unsafe(no_mangle)]
+pub unsafe extern "C" fn read(file: c_int, bytes: *mut c_void, count: usize) -> isize {
+    if file != 0 {
+        return unsafe { pass(c"read", file, bytes, count) };
+    }
+    unsafe { cut_off(c"read", c"CUT_IN", &IN, BROKEN, file, bytes, count) }
 }

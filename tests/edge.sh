@@ -37,6 +37,15 @@ state=$'cpu 0 AllEnded\nthread 0 Ended\nquiet yes\n'
 one_stack='ulimit -s 1000000; ulimit -v 1500000'
 takes='mctower-trace 1\nbuffers 1\ncap 0 2\ne 0 0 recv 0 7 0 0\nleft 0\nend\n'
 
+# Changes the text of one send by the filter $2: `check` answers `no $1`, with status 3.
+verdict() {
+  row 3 "no $1"$'\n' '' "printf '%s' '$sent' | $2 | mctower check"
+}
+# Changes the plan of one send by the sed script $2: `run` refuses it by the line `error: $1`, with status 1.
+refused() {
+  row 1 '' "error: $1"$'\n' "sed '$2' plans/one-send.toml | mctower run"
+}
+
 rows() {
   # a good run, a yes, a no
   row 0 $'plain 6\ntable 6\n' '' 'mctower count --cpus 2 --times 3'
@@ -54,6 +63,30 @@ rows() {
   row 1 '' $'error: BadCpu(4)\n' 'mctower run --schedule 0,1 < plans/one-send.toml'
   row 1 '' $'error: OutOfRange(22) cpus\n' 'echo cpus = 99 | mctower run'
   row 1 '' $'error: BadToml(20)\n' "printf '# \\xff\\n' | mctower run"
+  # each change of a trace text alone, and the first line with a fault
+  verdict '1 Spelling(30)' 'head -c 0'
+  verdict '1 Spelling(30)' "sed '1s/\$/\\r/'"
+  verdict '2 Range(31)' "sed '2s/1/17/'"
+  verdict '4 Range(31)' "sed '4s/7/18446744073709551616/'"
+  verdict '4 Spelling(30)' "sed '4s/7/\\xff/'"
+  verdict '4 Op(32)' "sed '4s/0 0\$/1 0/'"
+  verdict '4 Pos(33)' "sed '4s/0 0\$/0 1/'"
+  verdict '5 Full(34)' "sed '4a e 0 0 send 0 8 1 1'"
+  verdict '5 WrongValue(36)' "sed '4a e 0 0 recv 0 8 1 0'"
+  verdict '5 Left(37)' "sed '5s/7/8/'"
+  verdict '6 Spelling(30)' 'head -c 65'
+  verdict '7 Spelling(30)' '{ cat; printf " "; }'
+  # each change of a plan alone, and its error line
+  refused 'MissingKey(21) cpus' 's/^cpus = 1/cpus = "1"/'
+  refused 'OutOfRange(22) buffers' 's/\[1\]/[33]/'
+  refused 'Guest(23) thread 0 line 0 Empty(15)' 's/^program.*/program = []/'
+  refused 'Guest(23) thread 0 line 0 UnknownWord(10)' 's/^program.*/program = ["set  r0 7"]/'
+  refused 'Guest(23) thread 0 line 0 BadRegister(11)' 's/^program.*/program = ["set r9 7"]/'
+  refused 'Guest(23) thread 0 line 0 BadNumber(12)' 's/^program.*/program = ["set r0 07"]/'
+  refused 'OutOfRange(22) thread 0 program' 's/^program.*/program = ["send 1 r0"]/'
+  refused 'BadToml(20)' '1s/^#/# \xff/'
+  row 1 '' $'error: Guest(23) thread 0 line 256 TooLong(14)\n' \
+    "{ grep -v program plans/one-send.toml; echo 'program = ['; yes '\"exit\",' | head -n 257; echo ']'; } | mctower run"
   # an input that cannot be read
   row 1 '' $'error: ReadFault(7)\n' 'mctower check < .'
   row 1 '' $'error: ReadFault(7)\n' 'mctower run < .'

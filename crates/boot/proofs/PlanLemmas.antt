@@ -3,16 +3,16 @@ use Rattle.std.proofs.Common.{◌≡◌, ℕ, ◌<◌, List, [], length, get_or,
 use Rattle.std.proofs.lemmas.List.{length-map, get_or-map}
 use Rattle.std.proofs.lemmas.List.Elements.{All-get_or}
 use Rattle.boot.specs.declared.tasks.Task.{Task as TaskInside}
-use Rattle.boot.specs.Plan.{Plan, Task, IsTask, IsPlan, home_of, program_of}
+use Rattle.boot.specs.Plan.{BootPlan, Task, IsTask, IsPlan, home_of, program_of}
 use Rattle.boot.specs.Seen.{task_of, tasks_of}
 
 -- `t` is the thread at `i` of the threads that the plan has
-pub record IsThreadAt (plan : Plan) (tasks : List TaskInside) (i : ℕ) (t : TaskInside) : Type 0 where
+pub record IsThreadAt (plan : BootPlan) (tasks : List TaskInside) (i : ℕ) (t : TaskInside) : Type 0 where
   pub same : tasks_of tasks ≡ plan.tasks
   pub below : i < length plan.tasks
   pub here : t ≡ get_or tasks i t
 
-module _ (plan : Plan) (tasks : List TaskInside) (i : ℕ) (t : TaskInside) (at : IsThreadAt plan tasks i t) where
+module _ (plan : BootPlan) (tasks : List TaskInside) (i : ℕ) (t : TaskInside) (at : IsThreadAt plan tasks i t) where
   inside : i < length tasks
   inside =
       let longer : i < length (tasks_of tasks) = rw at.same at.below in

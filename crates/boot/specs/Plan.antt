@@ -23,7 +23,7 @@ pub record Task : Type 0 where
   pub program : List Instruction
 
 -- what a plan says: the number of CPUs, the entries that each may trace, the capacities by buffer, the threads
-pub record Plan : Type 0 where
+pub record BootPlan : Type 0 where
   pub cpus : ℕ
   pub trace : ℕ
   pub caps : List ℕ
@@ -93,7 +93,7 @@ task_at cpus buffers t table =
     >>= λ program. Ok (record { home = home; program = program })
 
 -- a document's plan
-unfoldable pub plan_in : Members → Result Plan BootError
+unfoldable pub plan_in : Members → Result BootPlan BootError
 plan_in document =
     number_at Cpus 1 CPUS (get_member (codes "cpus") document)
     >>= λ cpus. number_at Trace 1 TRACE (get_member (codes "trace") document)
@@ -108,7 +108,7 @@ document_of None = Err BadToml
 document_of (Some document) = Ok document
 
 -- a text's plan, or its first fault
-unfoldable pub plan_of : List ℕ → Result Plan BootError
+unfoldable pub plan_of : List ℕ → Result BootPlan BootError
 plan_of text = document_of (parse_document text) >>= plan_in
 
 -- what an error says of what is meant: that error, but nothing where memory was refused
@@ -125,10 +125,10 @@ Gives view (Ok x) meant = meant ≡ Ok (view x)
 Gives view (Err e) meant = Fails e meant
 
 -- the home of a thread, and its program
-abbrev pub home_of : Plan → ℕ → ℕ
+abbrev pub home_of : BootPlan → ℕ → ℕ
 home_of plan t = slice_index (map (λ task. task.home) plan.tasks) t
 
-abbrev pub program_of : Plan → ℕ → List Instruction
+abbrev pub program_of : BootPlan → ℕ → List Instruction
 program_of plan t = slice_index_or (map (λ task. task.program) plan.tasks) t []
 
 -- a thread of so many CPUs and buffers: one of the CPUs is its home, and its program names only these buffers
@@ -150,7 +150,7 @@ pub record AreTasks (cpus buffers : ℕ) (tasks : List Task) : Type 0 where
   pub each : All (IsTask cpus buffers) tasks
 
 -- a plan is within all limits
-pub record IsPlan (plan : Plan) : Type 0 where
+pub record IsPlan (plan : BootPlan) : Type 0 where
   pub some_cpus : 1 ≤ plan.cpus
   pub most_cpus : plan.cpus ≤ CPUS
   pub some_trace : 1 ≤ plan.trace

@@ -20,10 +20,10 @@ pub struct Boot {
 }
 
 impl Model for Boot {
-    ghost use Rattle.boot.specs.Plan.{Plan, IsPlan};
+    ghost use Rattle.boot.specs.Plan.{BootPlan, IsPlan};
     ghost use Rattle.boot.specs.Seen.{tasks_of};
 
-    ghost Value = { Plan };
+    ghost Value = { BootPlan };
 
     ghost view = { λ b. record { cpus = b.cpus; trace = b.trace; caps = b.caps.items; tasks = tasks_of b.tasks.items } };
 

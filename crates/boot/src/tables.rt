@@ -59,7 +59,8 @@ pub fn tables<'a>(
     alloc: Global,
     values: &'a Vec<Value>,
 ) -> Result<Option<Vec<&'a Table>>, AllocError>
-    ensures { IfOk result (λ seen. option_map (λ found. map (λ table. table_view table.now) found.items) seen ≡ all_as as_table (data_in (array_view values.now))) }
+    ensures { IfOk result (λ seen. option_map (λ found. map (λ table. table_view table.now) found.items) seen
+        ≡ all_as as_table (data_in (array_view values.now))) }
 {
     let mut found = Vec::new(alloc);
     for value in values {

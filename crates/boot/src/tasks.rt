@@ -81,7 +81,8 @@ fn task_at(
 /// The tables of a plan's threads.
 #[tactic(auto, unfolding(crate::specs::Plan::tables_at))]
 pub fn tables_at<'a>(alloc: Global, document: &'a Table) -> Result<Vec<&'a Table>, BootError>
-    ensures tables { Gives (λ found. map (λ table. table_view table.now) found.items) result (tables_at (get_member (codes "thread") (table_view document.now))) }
+    ensures tables { Gives (λ found. map (λ table. table_view table.now) found.items) result
+        (tables_at (get_member (codes "thread") (table_view document.now))) }
     ensures some { IfOk result (λ found. 1 ≤ length found.items) }
     ensures most { IfOk result (λ found. length found.items ≤ THREADS) }
 {

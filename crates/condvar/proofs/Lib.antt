@@ -1,2 +1,1 @@
 pub mod CondLemmas
-pub mod TurnLemmas

@@ -136,6 +136,8 @@ impl<G: Guarded, Q: QLockLayer<CvEdit<G>>> CvLayer<G> for Cond<Q> {
 
     ghost seen_is = { Q.seen_is };
 
+    ghost proper = { Q.proper };
+
     ghost busy = { λ p m. Q.busy p.lower m };
 
     ghost idle = { λ p m. Q.idle p.lower m };

@@ -4,10 +4,6 @@
 
 mod calls;
 mod cond;
-#[cfg(test)]
-mod polling;
-#[cfg(test)]
-mod tests;
 mod waits;
 
 pub use cond::Cond;

@@ -1,5 +1,6 @@
 -- One step of one CPU of a system keeps what always holds of the system.
-use Rattle.std.proofs.Common.{◌≡◌, ◌≢◌, ◌⊎◌, inl, inr, ℕ, ◌+◌, ◌<◌, ◌≤◌, ◌==◌, Bool, true, false, List, [], ◌∷◌, ◌++◌, length, Option, Some, None, refl, ap, sym, ◌∙◌, subst, arith, slice_set}
+use Rattle.std.proofs.Common.{◌≡◌, ◌≢◌, ◌⊎◌, inl, inr, ℕ, ◌+◌, ◌<◌, ◌≤◌, ◌==◌, Bool, true, false, List, [], ◌∷◌}
+use Rattle.std.proofs.Common.{◌++◌, length, Option, Some, None, refl, ap, sym, ◌∙◌, subst, arith, slice_set}
 use Rattle.std.specs.Prelude.{slice_get, if◌then◌else◌}
 use Rattle.std.specs.List.{AllByRecursion}
 use Rattle.std.proofs.lemmas.Bool.{cases_eq, eqb-false, ne_eqb}
@@ -51,7 +52,8 @@ acts_of k c (a ∷ mine) other own = (
 )
 
 -- a step of CPU k leaves the effects of another CPU for which the holder acts
-pub same_of : (ActsFor : CpuId → Type 0) (k c : CpuId) (old new : List Entry) → c.0 ≢ k.0 → ActsFor c → SeenGrows ActsFor k old new → of_cpu c new ≡ of_cpu c old
+pub same_of : (ActsFor : CpuId → Type 0) (k c : CpuId) (old new : List Entry) → c.0 ≢ k.0
+    → ActsFor c → SeenGrows ActsFor k old new → of_cpu c new ≡ of_cpu c old
 same_of ActsFor k c old new other acts grows =
     ap (λ (l : List Entry). of_cpu c l) grows.is
     ∙ mine_gone grows.mine (others_of k c grows.mine other grows.own)
@@ -70,9 +72,11 @@ phase_stays ActsFor k c old new other acts grows =
     ∙ phase_others c grows.others old (grows.foreign c acts)
 
 -- another CPU's step leaves what always holds of a CPU
-pub cpu_frame : (homes homes2 : List CpuId) (buffers buffers2 : ℕ) (seen seen2 : List Entry) (own : Threads) (talks : List Talk) (doing : Option Doing) (number : CpuId)
+pub cpu_frame : (homes homes2 : List CpuId) (buffers buffers2 : ℕ) (seen seen2 : List Entry)
+    (own : Threads) (talks : List Talk) (doing : Option Doing) (number : CpuId)
     (guests : List (Option Guest)) (trace : List Entry) (limit capacity : ℕ) → homes2 ≡ homes → buffers2 ≡ buffers → of_cpu number seen2 ≡ of_cpu number seen
-    → IsCpu homes buffers seen own talks doing number guests trace limit capacity → IsCpu homes2 buffers2 seen2 own talks doing number guests trace limit capacity
+    → IsCpu homes buffers seen own talks doing number guests trace limit capacity
+    → IsCpu homes2 buffers2 seen2 own talks doing number guests trace limit capacity
 cpu_frame homes homes2 buffers buffers2 seen seen2 own talks doing number guests trace limit capacity same_homes same_buffers same is =
     subst (λ (h : List CpuId). IsCpu h buffers2 seen2 own talks doing number guests trace limit capacity) (sym same_homes)
     (subst (λ (n : ℕ). IsCpu homes n seen2 own talks doing number guests trace limit capacity) (sym same_buffers)
@@ -81,17 +85,20 @@ cpu_frame homes homes2 buffers buffers2 seen seen2 own talks doing number guests
 -- the system after a step of CPU k, which left y in its place
 pub system_step : {X N : Type 0} (One Two : X → Type 0) (number : X → CpuId) (Acts1 Acts2 : CpuId → Type 0) (IsStepwise : Type 0)
     (acts1 acts2 : List (Action N)) (cpus : List X) (homes homes2 : List CpuId) (seen seen2 : List Entry) (room taken left left2 k : ℕ) (y : X)
-    → IsSystem One number Acts1 IsStepwise acts1 cpus homes seen room taken left → k < length cpus → number y ≡ cpu_at k → Two y
+    (Sound1 Sound2 : Type 0)
+    → IsSystem One number Acts1 IsStepwise acts1 cpus homes seen room taken left Sound1 → Sound2 → k < length cpus → number y ≡ cpu_at k → Two y
     → ((j : ℕ) (x : X) → j ≢ k → j < CPUS → IsAt One number j x → Two x) → ((c : CpuId) → Acts1 c → Acts2 c)
     → SeenGrows Acts1 (cpu_at k) seen seen2 → (IsStepwise → ActsGrow Acts1 (cpu_at k) acts1 acts2) → AllByRecursion (λ e. e.cpu.0 < CPUS) seen2 → homes2 ≡ homes
-    → left ≤ left2 + 1 → taken < room → IsSystem Two number Acts2 IsStepwise acts2 (slice_set cpus k y) homes2 seen2 room (taken + 1) left2
-system_step One Two number Acts1 Acts2 IsStepwise acts1 acts2 cpus homes homes2 seen seen2 room taken left left2 k y is within numbered here there goes grows does known
+    → left ≤ left2 + 1 → taken < room → IsSystem Two number Acts2 IsStepwise acts2 (slice_set cpus k y) homes2 seen2 room (taken + 1) left2 Sound2
+system_step One Two number Acts1 Acts2 IsStepwise acts1 acts2 cpus homes homes2 seen seen2 room taken left left2 k y
+    Sound1 Sound2 is sound within numbered here there goes grows does known
     same room_left live = record {
       each = λ j x at. each_at j x at (cases_eq j k);
       some = let some = is.some in omega (arith, count, some);
       most = let most = is.most in omega (arith, count, most);
       acts_for = λ c exists. goes c (is.acts_for c exists);
-      known = subst (λ (n : ℕ). AllByRecursion (λ e. e.cpu.0 < n) seen2) (sym count) (subst (λ (l : List Entry). AllByRecursion (λ e. e.cpu.0 < length cpus) l) (sym seen_is) all_known);
+      known = subst (λ (n : ℕ). AllByRecursion (λ e. e.cpu.0 < n) seen2) (sym count)
+          (subst (λ (l : List Entry). AllByRecursion (λ e. e.cpu.0 < length cpus) l) (sym seen_is) all_known);
       within = λ t home at. let inside = is.within t home (ap (λ (h : List CpuId). slice_get h t.0) (sym same) ∙ at) in omega (arith, count, inside);
       rest = λ step c past exists. let out : length cpus ≤ c.0 = omega (arith, count, past) in
           phase_stays Acts1 (cpu_at k) c acts1 acts2 (λ e. omega (arith, e, out, within)) (is.acts_for c exists) (does step) ∙ is.rest step c out exists;
@@ -99,6 +106,7 @@ system_step One Two number Acts1 Acts2 IsStepwise acts1 acts2 cpus homes homes2 
       used = omega (arith, live);
       small = is.small;
       enough = let enough = is.enough in omega (arith, enough, room_left);
+      sound = sound;
     }
   where
     count : length (slice_set cpus k y) ≡ length cpus
@@ -107,7 +115,8 @@ system_step One Two number Acts1 Acts2 IsStepwise acts1 acts2 cpus homes homes2 
     none : grows.others ≡ []
     none = no_others Acts1 grows.others is.acts_for
         (all_left (λ (e : Entry). e.cpu.0 < CPUS) grows.others seen
-        (all_right (λ (e : Entry). e.cpu.0 < CPUS) grows.mine (grows.others ++ seen) (subst (λ (l : List Entry). AllByRecursion (λ e. e.cpu.0 < CPUS) l) grows.is known)))
+        (all_right (λ (e : Entry). e.cpu.0 < CPUS) grows.mine (grows.others ++ seen)
+        (subst (λ (l : List Entry). AllByRecursion (λ e. e.cpu.0 < CPUS) l) grows.is known)))
         grows.foreign
 
     seen_is : seen2 ≡ grows.mine ++ seen
@@ -138,7 +147,7 @@ system_step One Two number Acts1 Acts2 IsStepwise acts1 acts2 cpus homes homes2 
 module _ {M X N : Type 0} (Fits : X → M → Type 0) (number cpu : X → CpuId) (own : X → Threads) (talks : X → List Talk) (doing : X → Option Doing)
     (guests : X → List (Option Guest)) (trace : X → List Entry) (limit capacity : X → ℕ) (ActsFor : M → CpuId → Type 0) (IsStepwise : Type 0)
     (acts : M → List (Action N)) (homes : M → List CpuId) (caps : M → List ℕ) (seen : M → List Entry) (left : M → ℕ)
-    (Tabled : M → X → Type 0) where
+    (Tabled : M → X → Type 0) (Sound : M → List X → ℕ → ℕ → Type 0) where
   abbrev IsOne : M → X → Type 0
   IsOne m x = Fits x m × (cpu x ≡ number x)
       × IsCpu (homes m) (length (caps m)) (seen m) (own x) (talks x) (doing x) (number x) (guests x) (trace x) (limit x) (capacity x)
@@ -146,6 +155,7 @@ module _ {M X N : Type 0} (Fits : X → M → Type 0) (number cpu : X → CpuId)
 
   abbrev Holds : M → List X → ℕ → ℕ → Type 0
   Holds m cpus room taken = IsSystem (IsOne m) number (ActsFor m) IsStepwise (acts m) cpus (homes m) (seen m) room taken (left m)
+      (Sound m cpus room taken)
 
   -- nothing has changed
   pub again : (m m2 : M) (cpus : List X) (room taken k : ℕ) (x y : X) → Holds m cpus room taken → slice_get cpus k ≡ Some x → m2 ≡ m → y ≡ x
@@ -155,7 +165,8 @@ module _ {M X N : Type 0} (Fits : X → M → Type 0) (number cpu : X → CpuId)
       (subst (λ (l : List X). Holds m l room taken) (sym (set_again cpus k y (at ∙ ap (λ (z : X). Some z) (sym same)))) is)
 
   -- a CPU took a step
-  pub stepped : (m m2 : M) (cpus : List X) (room taken k : ℕ) (x y : X) → Holds m cpus room taken → slice_get cpus k ≡ Some x → number y ≡ number x
+  pub stepped : (m m2 : M) (cpus : List X) (room taken k : ℕ) (x y : X) → Holds m cpus room taken → Sound m2 (slice_set cpus k y) room (taken + 1)
+      → slice_get cpus k ≡ Some x → number y ≡ number x
       → cpu y ≡ number x → Fits y m2
       → IsCpu (homes m2) (length (caps m2)) (seen m2) (own y) (talks y) (doing y) (number y) (guests y) (trace y) (limit y) (capacity y)
       → Tabled m2 y → ((z : X) → Tabled m z → Tabled m2 z)
@@ -163,9 +174,10 @@ module _ {M X N : Type 0} (Fits : X → M → Type 0) (number cpu : X → CpuId)
       → SeenGrows (ActsFor m) (number x) (seen m) (seen m2) → (IsStepwise → ActsGrow (ActsFor m) (number x) (acts m) (acts m2))
       → AllByRecursion (λ e. e.cpu.0 < CPUS) (seen m2) → homes m2 ≡ homes m → caps m2 ≡ caps m → left m ≤ left m2 + 1 → taken < room
       → Holds m2 (slice_set cpus k y) room (taken + 1)
-  stepped m m2 cpus room taken k x y is at numbered of_cpu_is fits here tabled tables others goes grows does known same_homes same_caps room_left live =
+  stepped m m2 cpus room taken k x y is sound at numbered of_cpu_is fits here tabled tables others goes grows does known same_homes same_caps room_left live =
       system_step (IsOne m) (IsOne m2) number (ActsFor m) (ActsFor m2) IsStepwise (acts m) (acts m2) cpus (homes m) (homes m2) (seen m) (seen m2) room taken
-      (left m) (left m2) k y is (slice_get_within cpus k x at) (numbered ∙ is_k) (fits, of_cpu_is ∙ sym numbered, here, tabled) there goes
+      (left m) (left m2) k y (Sound m cpus room taken) (Sound m2 (slice_set cpus k y) room (taken + 1)) is sound (slice_get_within cpus k x at) (numbered
+      ∙ is_k) (fits, of_cpu_is ∙ sym numbered, here, tabled) there goes
       (subst (λ (c : CpuId). SeenGrows (ActsFor m) c (seen m) (seen m2)) is_k grows)
       (λ step. subst (λ (c : CpuId). ActsGrow (ActsFor m) c (acts m) (acts m2)) is_k (does step)) known same_homes room_left live
     where
@@ -179,7 +191,8 @@ module _ {M X N : Type 0} (Fits : X → M → Type 0) (number cpu : X → CpuId)
           let act : ActsFor m (number z) = subst (λ (c : CpuId). ActsFor m c) (sym before.number_is) (is.acts_for (cpu_at j) below) in (
             others z (λ e. apart (ap (λ (c : CpuId). c.0) (sym before.holds.1 ∙ e))) before.holds.0,
             before.holds.1,
-            cpu_frame (homes m) (homes m2) (length (caps m)) (length (caps m2)) (seen m) (seen m2) (own z) (talks z) (doing z) (number z) (guests z) (trace z) (limit z)
+            cpu_frame (homes m) (homes m2) (length (caps m)) (length (caps m2)) (seen m) (seen m2) (own z)
+                (talks z) (doing z) (number z) (guests z) (trace z) (limit z)
                 (capacity z) same_homes
                 (ap (λ (l : List ℕ). length l) same_caps) (same_of (ActsFor m) (number x) (number z) (seen m) (seen m2) apart act grows) before.holds.2,
             tables z before.holds.3,

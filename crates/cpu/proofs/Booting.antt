@@ -1,5 +1,6 @@
 -- A CPU and a system before their first step are as they are always to be.
-use Rattle.std.proofs.Common.{◌≡◌, ◌⊎◌, inl, inr, ℕ, zero, suc, ◌+◌, ◌^◌, ◌<◌, ◌≤◌, false, List, [], ◌∷◌, ◌++◌, length, map, cond, drop, replicate, Option, Some, None, refl, ap, sym, ◌∙◌, subst, arith}
+use Rattle.std.proofs.Common.{◌≡◌, ◌⊎◌, inl, inr, ℕ, zero, suc, ◌+◌, ◌^◌, ◌<◌, ◌≤◌, false, List, [], ◌∷◌, ◌++◌, length}
+use Rattle.std.proofs.Common.{map, cond, drop, replicate, Option, Some, None, refl, ap, sym, ◌∙◌, subst, arith}
 use Rattle.std.specs.Prelude.{slice_get, slice_index_or}
 use Rattle.std.specs.List.{AllByRecursion}
 use Rattle.std.proofs.lemmas.Bool.{cases_lt}
@@ -19,7 +20,7 @@ use Rattle.layer_traits.specs.OnePlace.{cpu_at}
 use Rattle.layer_traits.specs.Openings.{AreOpenable}
 use Rattle.layer_traits.specs.Places.{Threads, at_boot}
 use Rattle.cpu.specs.declared.guests.Guest.{Guest}
-use Rattle.cpu.specs.Guests.{Follows, is_begun}
+use Rattle.cpu.specs.Guests.{HasCome, is_begun}
 use Rattle.cpu.specs.Boots.{AreGuests, IsBootedAs}
 use Rattle.cpu.specs.Cpus.{IsCpu, begun_count, guest_at, is_begun_guest}
 use Rattle.cpu.specs.Systems.{IsAt, IsSystem}
@@ -54,8 +55,8 @@ pub boots : (homes : List CpuId) (buffers : ℕ) (number : CpuId) (guests : List
 boots homes buffers number guests limit capacity are few reserved = record {
   kept = refl;
   stays = tt;
-  follow = λ t g at. subst (λ (talk : Talk). Follows g [] talk) (sym (quiet_at t))
-      (subst (λ (x : Guest). Follows x [] quiet) (sym (are.fresh t g at)) ((λ none. refl), (refl, starts)));
+  follow = λ t g at. subst (λ (talk : Talk). HasCome g [] talk) (sym (quiet_at t))
+      (subst (λ (x : Guest). HasCome x [] quiet) (sym (are.fresh t g at)) ((λ none. refl), (refl, starts)));
   over = λ t ended g at. absurd (cc ended);
   homed = are.homed;
   named = are.named;
@@ -84,25 +85,47 @@ module _ {P M : Type 0} (Fits : P → M → Type 0) (IsFresh : M → CpuId → T
 
 -- a system before its first step
 pub opens : {X N : Type 0} (IsOne : X → Type 0) (number : X → CpuId) (ActsFor : CpuId → Type 0) (IsStepwise : Type 0) (acts : List (Action N)) (cpus : List X)
-    (homes homes2 : List CpuId) (seen : List Entry) (caps : List ℕ) (room left n : ℕ) → AreOpenable n caps homes → length cpus ≡ n
+    (homes homes2 : List CpuId) (seen : List Entry) (caps : List ℕ) (room left n : ℕ) (Sound : Type 0) → Sound → AreOpenable n caps homes → length cpus ≡ n
     → ((k : ℕ) (x : X) → slice_get cpus k ≡ Some x → IsAt IsOne number k x) → ((c : CpuId) → c.0 < CPUS → ActsFor c) → acts ≡ [] → homes2 ≡ homes → seen ≡ []
-    → room < 2 ^ 64 → room ≤ left → IsSystem IsOne number ActsFor IsStepwise acts cpus homes2 seen room 0 left
-opens IsOne number ActsFor IsStepwise acts cpus homes homes2 seen caps room left n openable count each acts_for nothing same none small enough = record {
-  each = each;
-  some = let some = openable.some_cpus in omega (arith, some, count);
-  most = let most = openable.most_cpus in omega (arith, most, count);
-  acts_for = acts_for;
-  known = subst (λ (l : List Entry). AllByRecursion (λ e. e.cpu.0 < length cpus) l) (sym none) tt;
-  within = λ t home at.
-      let there : slice_get homes t.0 ≡ Some home = ap (λ (h : List CpuId). slice_get h t.0) (sym same) ∙ at in
-      let exists = All-get_or (λ (h : CpuId). h.0 < n) homes t.0 home (slice_get_within homes t.0 home there) openable.homes_exist in
-      let below : home.0 < n = subst (λ (h : CpuId). h.0 < n) (get_or_from_slice_get homes t.0 home home there) exists in
-      omega (arith, below, count);
-  rest = λ step c past exists. rw nothing refl;
-  short = rw none (omega arith);
-  used = omega arith;
-  small = small;
-  enough = omega (arith, enough);
+    → room < 2 ^ 64 → room ≤ left → IsSystem IsOne number ActsFor IsStepwise acts cpus homes2 seen room 0 left Sound
+opens IsOne number ActsFor IsStepwise acts cpus homes homes2 seen caps room left n Sound sound openable count each acts_for nothing same none small
+    enough = record {
+      each = each;
+      some = let some = openable.some_cpus in omega (arith, some, count);
+      most = let most = openable.most_cpus in omega (arith, most, count);
+      acts_for = acts_for;
+      known = subst (λ (l : List Entry). AllByRecursion (λ e. e.cpu.0 < length cpus) l) (sym none) tt;
+      within = λ t home at.
+          let there : slice_get homes t.0 ≡ Some home = ap (λ (h : List CpuId). slice_get h t.0) (sym same) ∙ at in
+          let exists = All-get_or (λ (h : CpuId). h.0 < n) homes t.0 home (slice_get_within homes t.0 home there) openable.homes_exist in
+          let below : home.0 < n = subst (λ (h : CpuId). h.0 < n) (get_or_from_slice_get homes t.0 home home there) exists in
+          omega (arith, below, count);
+      rest = λ step c past exists. rw nothing refl;
+      short = rw none (omega arith);
+      used = omega arith;
+      small = small;
+      enough = omega (arith, enough);
+      sound = sound;
+    }
+
+-- the same system, of which the table says something that follows
+pub sounds : {X N : Type 0} (IsOne : X → Type 0) (number : X → CpuId) (ActsFor : CpuId → Type 0) (IsStepwise : Type 0) (acts : List (Action N)) (cpus : List X)
+    (homes : List CpuId) (seen : List Entry) (room taken left : ℕ) (Sound Sound2 : Type 0) → (Sound → Sound2)
+    → IsSystem IsOne number ActsFor IsStepwise acts cpus homes seen room taken left Sound
+    → IsSystem IsOne number ActsFor IsStepwise acts cpus homes seen room taken left Sound2
+sounds IsOne number ActsFor IsStepwise acts cpus homes seen room taken left Sound Sound2 goes is = record {
+  each = is.each;
+  some = is.some;
+  most = is.most;
+  acts_for = is.acts_for;
+  known = is.known;
+  within = is.within;
+  rest = is.rest;
+  short = is.short;
+  used = is.used;
+  small = is.small;
+  enough = is.enough;
+  sound = goes is.sound;
 }
 
 -- the elements behind the first n, and the one in front of them
@@ -114,7 +137,8 @@ drop_next (x ∷ xs) (suc n) within = drop_next xs n (omega arith)
 pub drop_more : {X : Type 0} (xs : List X) (n : ℕ) → n < length xs → drop 1 (drop n xs) ≡ drop (n + 1) xs
 drop_more xs n within = let same : suc n ≡ n + 1 = omega arith in drop_next xs n within ∙ ap (λ (k : ℕ). drop k xs) same
 
-pub drop_first : {X Y : Type 0} (f : X → Y) (xs : List X) (n : ℕ) (d : X) (e : Y) → n < length xs → f (slice_index_or (drop n xs) 0 d) ≡ slice_index_or (map f xs) n e
+pub drop_first : {X Y : Type 0} (f : X → Y) (xs : List X) (n : ℕ) (d : X) (e : Y) → n < length xs
+    → f (slice_index_or (drop n xs) 0 d) ≡ slice_index_or (map f xs) n e
 drop_first f [] n d e within = absurd (omega arith)
 drop_first f (x ∷ xs) zero d e within = refl
 drop_first f (x ∷ xs) (suc n) d e within = drop_first f xs n d e (omega arith)

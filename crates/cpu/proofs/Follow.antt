@@ -15,10 +15,10 @@ use Rattle.layer_traits.specs.declared.talks.Talk.{Talk}
 use Rattle.layer_traits.specs.declared.talks.Stage.{Stage as TalkStage}
 use Rattle.layer_traits.specs.declared.talks.Stage.TheVariants as at
 use Rattle.layer_traits.specs.BufferLaw.{Answered, IsEffectOf, MayTalk, begun_at, begun_of, buffer_of, entry_of, going, going_at, reply_of}
-use Rattle.cpu.specs.declared.guests.Stage.{Stage}
-use Rattle.cpu.specs.declared.guests.Stage.TheVariants.{Between, Begun, Done, Ended}
+use Rattle.cpu.specs.declared.guests.GuestStage.{GuestStage}
+use Rattle.cpu.specs.declared.guests.GuestStage.TheVariants.{Between, Begun, Done, Ended}
 use Rattle.cpu.specs.declared.guests.Todo.TheVariants.{Finish, Calls}
-use Rattle.cpu.specs.Guests.{FollowsIn, IsSettled, after_answer, after_effect, entries_of, fresh_effect, had, stage_after, todo_at}
+use Rattle.cpu.specs.Guests.{HasComeIn, IsSettled, after_answer, after_effect, entries_of, fresh_effect, had, stage_after, todo_at}
 
 going_effect : (stage : TalkStage) (talk : Talk) (c : Call) → (going_at stage talk c).call ≡ Some c
     → (going_at stage talk c).effect ≡ had (begun_at stage talk.call) talk.effect
@@ -107,8 +107,8 @@ module _ (program : List Instruction) (s : State) (i : Instruction) (c : Call) (
   here = subst (λ (j : Instruction). todo_at s j ≡ Calls c) (sym at) todo
 
   -- before a poll: by the stage, what the call has had, and what an effect after the poll adds
-  before : (stage : Stage) (es : List Entry) (saved : Option Call) (effect : Option Effect)
-      → FollowsIn stage program s es saved effect → Mid (had saved effect) es
+  before : (stage : GuestStage) (es : List Entry) (saved : Option Call) (effect : Option Effect)
+      → HasComeIn stage program s es saved effect → Mid (had saved effect) es
   before Between es saved effect follows = subst (λ (x : Option Call). Mid (had x effect) es) (sym follows.0) follows.1
   before Begun es saved effect follows =
       subst (λ (x : Option Call). Mid (had x effect) es) (sym follows.2)
@@ -126,8 +126,8 @@ module _ (program : List Instruction) (s : State) (i : Instruction) (c : Call) (
       absurd (cc none)
 
   -- an effect is fresh where the call had none before
-  fresh_none : (stage : Stage) (es : List Entry) (saved : Option Call) (effect left : Option Effect)
-      → FollowsIn stage program s es saved effect → had saved effect ≡ None → fresh_effect stage left ≡ left
+  fresh_none : (stage : GuestStage) (es : List Entry) (saved : Option Call) (effect left : Option Effect)
+      → HasComeIn stage program s es saved effect → had saved effect ≡ None → fresh_effect stage left ≡ left
   fresh_none Between es saved effect left follows none = refl
   fresh_none Begun es saved effect left follows none = refl
   fresh_none Done es saved effect left follows none =
@@ -136,8 +136,8 @@ module _ (program : List Instruction) (s : State) (i : Instruction) (c : Call) (
   fresh_none Ended es saved effect left follows none = refl
 
   -- and where it had one nothing is
-  fresh_some : (stage : Stage) (es : List Entry) (saved : Option Call) (effect left : Option Effect) (f : Effect)
-      → FollowsIn stage program s es saved effect → had saved effect ≡ Some f → fresh_effect stage left ≡ None
+  fresh_some : (stage : GuestStage) (es : List Entry) (saved : Option Call) (effect left : Option Effect) (f : Effect)
+      → HasComeIn stage program s es saved effect → had saved effect ≡ Some f → fresh_effect stage left ≡ None
   fresh_some Between es saved effect left f follows some =
       let none : had saved effect ≡ None = ap (λ x. had x effect) follows.0 in
       absurd (cc (none, some))
@@ -152,7 +152,7 @@ module _ (program : List Instruction) (s : State) (i : Instruction) (c : Call) (
 
   -- after a poll, from what the call has had and what the poll answered
   after : (es : List Entry) (saved : Option Call) (effect : Option Effect) (answer : Option Reply)
-      → Mid effect es → AnsweredBy c saved effect answer → FollowsIn (stage_after effect answer) program (after_answer answer i s) es saved effect
+      → Mid effect es → AnsweredBy c saved effect answer → HasComeIn (stage_after effect answer) program (after_answer answer i s) es saved effect
   after es saved None None mid told = (c, here, told, refl, mid)
   after es saved (Some f) None mid told =
       (c, f, here, told, refl, mid.0, subst (λ (j : Instruction). IsProgramsCalls program es (after_effect j f s)) (sym at) mid.1)
@@ -164,12 +164,12 @@ module _ (program : List Instruction) (s : State) (i : Instruction) (c : Call) (
       (told.0, subst (λ (x : State). IsProgramsCalls program es x) gives mid.1)
 
   -- what one poll does to a guest: which effect is written, and that the guest follows its entries with that one
-  pub followed : (stage : Stage) (es : List Entry) (saved saved2 : Option Call) (effect effect2 mine : Option Effect) (answer : Option Reply)
-      → FollowsIn stage program s es saved effect
+  pub followed : (stage : GuestStage) (es : List Entry) (saved saved2 : Option Call) (effect effect2 mine : Option Effect) (answer : Option Reply)
+      → HasComeIn stage program s es saved effect
       → ((f : Effect) → mine ≡ Some f → (had saved effect ≡ None) × (effect2 ≡ Some f) × IsEffectOf c f)
       → (mine ≡ None → effect2 ≡ had saved effect) → AnsweredBy c saved2 effect2 answer
       → (mine ≡ fresh_effect stage effect2)
-      × FollowsIn (stage_after effect2 answer) program (after_answer answer i s)
+      × HasComeIn (stage_after effect2 answer) program (after_answer answer i s)
       (entries_of cpu t (buffer_of c) (fresh_effect stage effect2) ++ es) saved2 effect2
   followed stage es saved saved2 effect effect2 (Some f) answer follows fresh stays told =
       let new = fresh f refl in
@@ -180,7 +180,7 @@ module _ (program : List Instruction) (s : State) (i : Instruction) (c : Call) (
       let mid : Mid effect2 (entry_of cpu t (buffer_of c) f ∷ es) = subst
       (λ (x : Option Effect). Mid x (entry_of cpu t (buffer_of c) f ∷ es)) (sym new.1) next in (
         is,
-        subst (λ (x : Option Effect). FollowsIn (stage_after effect2 answer) program (after_answer answer i s)
+        subst (λ (x : Option Effect). HasComeIn (stage_after effect2 answer) program (after_answer answer i s)
             (entries_of cpu t (buffer_of c) x ++ es) saved2 effect2)
             is (after (entry_of cpu t (buffer_of c) f ∷ es) saved2 effect2 answer mid told),
       )
@@ -188,7 +188,7 @@ module _ (program : List Instruction) (s : State) (i : Instruction) (c : Call) (
       let mid : Mid effect2 es = subst (λ (x : Option Effect). Mid x es) (sym (stays refl)) (before stage es saved effect follows) in
       let is : None ≡ fresh_effect stage effect2 = sym (stale (had saved effect) refl) in (
         is,
-        subst (λ (x : Option Effect). FollowsIn (stage_after effect2 answer) program (after_answer answer i s)
+        subst (λ (x : Option Effect). HasComeIn (stage_after effect2 answer) program (after_answer answer i s)
             (entries_of cpu t (buffer_of c) x ++ es) saved2 effect2)
             is (after es saved2 effect2 answer mid told),
       )

@@ -1,5 +1,6 @@
 -- Tables of guests with one guest changed, and the entries of a CPU and of a thread in a grown history.
-use Rattle.std.proofs.Common.{◌≡◌, ◌≢◌, ℕ, zero, suc, ◌+◌, ◌<◌, ◌≤◌, ◌==◌, Bool, true, false, not, List, [], ◌∷◌, ◌++◌, length, cond, reverse, get_or, Option, Some, None, option_map, refl, ap, sym, ◌∙◌, subst, arith, slice_set}
+use Rattle.std.proofs.Common.{◌≡◌, ◌≢◌, ℕ, zero, suc, ◌+◌, ◌<◌, ◌≤◌, ◌==◌, Bool, true, false, not, List, [], ◌∷◌, ◌++◌, length}
+use Rattle.std.proofs.Common.{cond, reverse, get_or, Option, Some, None, option_map, refl, ap, sym, ◌∙◌, subst, arith, slice_set}
 use Rattle.std.proofs.lemmas.Bool.{eq-eqb, ne_eqb}
 use Rattle.std.proofs.lemmas.List.{append-nil, reverse-append, get_or-set_same, get_or-set_other, set-get_or, map-set}
 use Rattle.std.proofs.lemmas.List.Elements.{filter-append}
@@ -14,8 +15,8 @@ use Rattle.layer_traits.specs.declared.calls.Reply.{Reply}
 use Rattle.layer_traits.specs.BufferLaw.{entry_cpu, entry_of}
 use Rattle.layer_traits.specs.Places.{one_if}
 use Rattle.cpu.specs.declared.guests.Guest.{Guest}
-use Rattle.cpu.specs.declared.guests.Stage.{Stage}
-use Rattle.cpu.specs.declared.guests.Stage.TheVariants.{Between, Begun, Done, Ended}
+use Rattle.cpu.specs.declared.guests.GuestStage.{GuestStage}
+use Rattle.cpu.specs.declared.guests.GuestStage.TheVariants.{Between, Begun, Done, Ended}
 use Rattle.cpu.specs.Guests.{entries_of, fresh_effect, is_begun, is_calling, stage_after}
 use Rattle.cpu.specs.Cpus.{begun_count, guest_at, is_begun_guest, of_cpu, of_thread, programs_of, with_guest}
 
@@ -38,7 +39,7 @@ at_other guests t u f other = get_or-set_other guests t u (option_map f (guest_a
 set_same : {X : Type 0} (xs : List X) (t : ℕ) (x d : X) → get_or xs t d ≡ x → slice_set xs t x ≡ xs
 set_same xs t x d is = subst (λ y. slice_set xs t y ≡ xs) is (set-get_or xs t d)
 
-at_programs : (guests : List (Option Guest)) (t : ℕ) → get_or (programs_of guests) t None ≡ option_map (λ x. x.program) (guest_at guests t)
+pub at_programs : (guests : List (Option Guest)) (t : ℕ) → get_or (programs_of guests) t None ≡ option_map (λ x. x.program) (guest_at guests t)
 at_programs [] t = refl
 at_programs (x ∷ guests) zero = refl
 at_programs (x ∷ guests) (suc t) = at_programs guests t
@@ -108,7 +109,7 @@ reversed number t b None es trace is = append-nil trace ∙ is
 reversed number t b (Some f) es trace is = ap (λ l. l ++ entry_of number t b f ∷ []) is ∙ sym (reverse-append (entry_of number t b f ∷ []) es)
 
 -- a poll of a call keeps room for the entries of all calls that have begun
-pub room_kept : (stage : Stage) (effect : Option Effect) (answer : Option Reply) (number : CpuId) (t : Tid) (b : BufId) (n begun begun2 limit : ℕ)
+pub room_kept : (stage : GuestStage) (effect : Option Effect) (answer : Option Reply) (number : CpuId) (t : Tid) (b : BufId) (n begun begun2 limit : ℕ)
     → begun2 + one_if (is_begun stage) ≡ begun + one_if (is_begun (stage_after effect answer)) → n + begun ≤ limit
     → (not (is_calling stage) ≡ true → n + begun < limit) → (stage ≡ Done → effect ≢ None)
     → n + length (entries_of number t b (fresh_effect stage effect)) + begun2 ≤ limit

@@ -18,3 +18,8 @@ pub mod TablePolls
 pub mod TablePasses
 pub mod TableCalls
 pub mod TableHalts
+pub mod Sounding
+pub mod Started
+pub mod Quieting
+pub mod Telling
+pub mod TableQuiet

@@ -1,24 +1,12 @@
 -- Reads and writes of lists by their index.
-use Rattle.std.proofs.Common.{◌≡◌, ◌≢◌, ℕ, zero, suc, ◌+◌, ◌<◌, List, [], ◌∷◌, ◌++◌, length, map, reverse, Some, option_map, refl, ap, sym, ◌∙◌, subst, arith, slice_set}
+use Rattle.std.proofs.Common.{◌≡◌, ◌≢◌, ℕ, zero, suc, ◌+◌, ◌<◌, List, [], ◌∷◌, ◌++◌, length, map}
+use Rattle.std.proofs.Common.{reverse, Some, option_map, refl, ap, sym, ◌∙◌, subst, arith, slice_set}
 use Rattle.std.specs.Prelude.{slice_get, slice_index_or}
 use Rattle.std.specs.List.{AllByRecursion}
 use Rattle.std.proofs.lemmas.List.{reverse-append, length-map, length-set}
 use Rattle.std.proofs.lemmas.Option.{slice_get-map, slice_get_read}
+pub use Rattle.event_log.proofs.ListLemmas.{set_else, set_there}
 use Rattle.cpu.specs.Claims.{listed}
-
--- what was written is read
-pub set_there : {X : Type 0} (xs : List X) (i : ℕ) (x : X) → i < length xs → slice_get (slice_set xs i x) i ≡ Some x
-set_there [] i x within = absurd (omega arith)
-set_there (z ∷ zs) zero x within = refl
-set_there (z ∷ zs) (suc i) x within = set_there zs i x (omega arith)
-
--- a write elsewhere changes nothing
-pub set_else : {X : Type 0} (xs : List X) (i j : ℕ) (x : X) → j ≢ i → slice_get (slice_set xs i x) j ≡ slice_get xs j
-set_else [] i j x other = refl
-set_else (z ∷ zs) zero zero x other = absurd (other refl)
-set_else (z ∷ zs) zero (suc j) x other = refl
-set_else (z ∷ zs) (suc i) zero x other = refl
-set_else (z ∷ zs) (suc i) (suc j) x other = set_else zs i j x (λ same. other (ap suc same))
 
 -- a write of what stands there changes nothing
 pub set_again : {X : Type 0} (xs : List X) (i : ℕ) (x : X) → slice_get xs i ≡ Some x → slice_set xs i x ≡ xs

@@ -13,45 +13,14 @@ use Rattle.layer_traits.specs.IpcLaw.{LinesAgree}
 use Rattle.layer_traits.specs.ListsAgree.{is_at, same_line}
 use Rattle.layer_traits.specs.OnePlace.{cpu_at, total}
 use Rattle.layer_traits.specs.Places.{AreMoves, Asleep, At, Hand, Home, Pend, Place, Stands, Step, Where, home_of, is_asleep, one_if, place_of, where_is}
-use Rattle.layer_traits.proofs.OnePlaceLemmas.{one_place}
+use Rattle.layer_traits.proofs.OnePlaceLemmas.{one_place, total_none, total_one, total_same}
 use Rattle.cpu.specs.Claims.{Beds, CpuShown, Shown, StandsOnce, beds_at, beds_by, buffer_at, in_beds, listed, no_beds, own_at, own_in}
 use Rattle.cpu.proofs.ListReads.{listed_length, listed_there, there_is}
 
-total_same : (f g : ℕ → ℕ) (n : ℕ) → ((k : ℕ) → k < n → f k ≡ g k) → total f n ≡ total g n
-total_same f g zero same = refl
-total_same f g (suc n) same =
-    let below = total_same f g n (λ k within. same k (omega arith)) in
-    let here = same n (omega arith) in
-    omega (arith, below, here)
-
-total_none : (f : ℕ → ℕ) (n : ℕ) → ((k : ℕ) → k < n → f k ≡ 0) → total f n ≡ 0
-total_none f zero none = refl
-total_none f (suc n) none =
-    let below = total_none f n (λ k within. none k (omega arith)) in
-    let here = none n (omega arith) in
-    omega (arith, below, here)
-
--- where f is 1 at d and 0 elsewhere
-total_one : (d : ℕ) (f : ℕ → ℕ) (n : ℕ) → d < n → f d ≡ 1 → ((k : ℕ) → (d ≡ k → ⊥) → f k ≡ 0) → total f n ≡ 1
-total_one d f zero within one none = absurd (omega arith)
-total_one d f (suc n) within one none = go (cases_eq d n) (λ before. total_one d f n before one none)
-  where
-    go : (d ≡ n) ⊎ (d ≡ n → ⊥) → (d < n → total f n ≡ 1) → total f n + f n ≡ 1
-    go (inl last) more =
-        let below : total f n ≡ 0 = total_none f n (λ k before. none k (λ e. omega arith)) in
-        let here : f n ≡ 1 = subst (λ k. f k ≡ 1) last one in
-        omega (arith, below, here)
-    go (inr other) more =
-        let below : total f n ≡ 1 = more (before d n within other) in
-        let here : f n ≡ 0 = none n other in
-        omega (arith, below, here)
-      where
-        before : (d n : ℕ) → d < suc n → (d ≡ n → ⊥) → d < n
-        before d n within other = grind arith
-
 -- how often a place is one of buffer b
 times_at : ℕ → Option Place → ℕ
-times_at b p = one_if (is_at (Buffer (buffer_at b)) Sleepers p) + one_if (is_at (Buffer (buffer_at b)) Receivers p) + one_if (is_at (Buffer (buffer_at b)) Senders p)
+times_at b p =
+    one_if (is_at (Buffer (buffer_at b)) Sleepers p) + one_if (is_at (Buffer (buffer_at b)) Receivers p) + one_if (is_at (Buffer (buffer_at b)) Senders p)
 
 -- a place in a line of buffer d is one of buffer d once, and none of another one
 times_here : (d : BufId) (line : Line) → times_at d.0 (Some (At (Buffer d) line)) ≡ 1

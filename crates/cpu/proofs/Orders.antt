@@ -1,5 +1,6 @@
 -- What always holds of a system says that its calls have one order, that each thread follows its program, and that entries stay at home.
-use Rattle.std.proofs.Common.{◌≡◌, ◌≢◌, ◌⊎◌, inl, inr, ℕ, zero, suc, ◌<◌, ◌≤◌, ◌==◌, Bool, true, false, List, [], ◌∷◌, ◌++◌, length, map, reverse, Option, Some, refl, ap, sym, ◌∙◌, subst, arith, slice_set}
+use Rattle.std.proofs.Common.{◌≡◌, ◌≢◌, ◌⊎◌, inl, inr, ℕ, zero, suc, ◌<◌, ◌≤◌, ◌==◌, Bool, true, false, List, [], ◌∷◌}
+use Rattle.std.proofs.Common.{◌++◌, length, map, reverse, Option, Some, refl, ap, sym, ◌∙◌, subst, arith, slice_set}
 use Rattle.std.specs.Prelude.{filter, slice_get, slice_index_or}
 use Rattle.std.specs.List.{AllByRecursion}
 use Rattle.std.proofs.lemmas.Bool.{cases_eq, cases_lt, eq-eqb, ne_eqb}
@@ -19,9 +20,9 @@ use Rattle.layer_traits.specs.BufferLaw.{Buffering, Doing, begun_of, talk_of}
 use Rattle.layer_traits.specs.OnePlace.{cpu_at}
 use Rattle.layer_traits.specs.Places.{Stands, Step, Threads}
 use Rattle.cpu.specs.declared.guests.Guest.{Guest}
-use Rattle.cpu.specs.declared.guests.Stage.{Stage}
-use Rattle.cpu.specs.declared.guests.Stage.TheVariants.{Between, Begun, Done, Ended}
-use Rattle.cpu.specs.Guests.{FollowsIn, is_ended}
+use Rattle.cpu.specs.declared.guests.GuestStage.{GuestStage}
+use Rattle.cpu.specs.declared.guests.GuestStage.TheVariants.{Between, Begun, Done, Ended}
+use Rattle.cpu.specs.Guests.{HasComeIn, is_ended}
 use Rattle.cpu.specs.Cpus.{IsCpu, IsOfHome, guest_at, of_cpu, of_thread}
 use Rattle.cpu.specs.Claims.{CpuShown, Keeps, cpu_shown}
 use Rattle.cpu.specs.Systems.{IsAt}
@@ -85,16 +86,17 @@ pub record Has (homes : List CpuId) (buffers : ℕ) (seen : List Entry) (moves :
   pub stands : Stands homes (cpu_at k) moves p.own
 
 -- a guest keeps to its program
-keeps_by : (g : Guest) (es : List Entry) (begun : Option Call) (effect : Option Effect) → FollowsIn g.stage g.program g.thread es begun effect → Keeps g (reverse es)
+keeps_by : (g : Guest) (es : List Entry) (begun : Option Call) (effect : Option Effect)
+    → HasComeIn g.stage g.program g.thread es begun effect → Keeps g (reverse es)
 keeps_by g es begun effect follows = go g.stage refl follows
   where
     turned : (s : State) → IsProgramsCalls g.program es s → IsProgramsCalls g.program (reverse (reverse es)) s
     turned s calls = subst (λ (l : List Entry). IsProgramsCalls g.program l s) (sym (reverse-reverse es)) calls
 
-    runs_on : (stage : Stage) → g.stage ≡ stage → is_ended stage ≡ false → is_ended g.stage ≡ true → HasEnded g.program g.thread
+    runs_on : (stage : GuestStage) → g.stage ≡ stage → is_ended stage ≡ false → is_ended g.stage ≡ true → HasEnded g.program g.thread
     runs_on stage at lives over = let same : is_ended g.stage ≡ is_ended stage = ap is_ended at in absurd (cc (same, lives, over))
 
-    go : (stage : Stage) → g.stage ≡ stage → FollowsIn stage g.program g.thread es begun effect → Keeps g (reverse es)
+    go : (stage : GuestStage) → g.stage ≡ stage → HasComeIn stage g.program g.thread es begun effect → Keeps g (reverse es)
     go Between at f = record { calls = (g.thread, turned g.thread f.1); ends = runs_on Between at refl }
     go Begun at f = record { calls = (g.thread, turned g.thread f.4); ends = runs_on Begun at refl }
     go Done at f = record { calls = (_, turned _ f.6); ends = runs_on Done at refl }
@@ -135,7 +137,8 @@ module _ (homes : List CpuId) (buffers : ℕ) (seen : List Entry) (moves : List 
 
 -- from what always holds of each CPU to what is shown of it
 pub each_has : {X : Type 0} (Tabled IsFit : X → Type 0) (number cpu : X → CpuId) (own : X → Threads) (talks : X → List Talk) (doing : X → Option Doing)
-    (guests : X → List (Option Guest)) (trace : X → List Entry) (limit capacity : X → ℕ) (busy : X → Bool) (parts : X → Buffering) (homes : List CpuId) (buffers : ℕ) (seen : List Entry)
+    (guests : X → List (Option Guest)) (trace : X → List Entry) (limit capacity : X → ℕ) (busy : X → Bool)
+    (parts : X → Buffering) (homes : List CpuId) (buffers : ℕ) (seen : List Entry)
     (moves : List Step) (cpus : List X)
     → ((k : ℕ) (x : X) → slice_get cpus k ≡ Some x
     → IsAt (λ y. IsFit y × (cpu y ≡ number y) × IsCpu homes buffers seen (own y) (talks y) (doing y) (number y) (guests y) (trace y) (limit y) (capacity y)

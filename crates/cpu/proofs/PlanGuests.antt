@@ -1,5 +1,6 @@
 -- The guests, the homes and the capacities of a plan open a system.
-use Rattle.std.proofs.Common.{◌≡◌, ◌≢◌, ◌⊎◌, inl, inr, ℕ, zero, suc, ◌+◌, ◌<◌, ◌≤◌, ◌==◌, Bool, true, false, List, [], ◌∷◌, ◌++◌, length, map, replicate, take, Option, Some, None, refl, ap, sym, ◌∙◌, subst, arith}
+use Rattle.std.proofs.Common.{◌≡◌, ◌≢◌, ◌⊎◌, inl, inr, ℕ, zero, suc, ◌+◌, ◌<◌, ◌≤◌, ◌==◌, Bool, true, false, List, [], ◌∷◌}
+use Rattle.std.proofs.Common.{◌++◌, length, map, replicate, take, Option, Some, None, refl, ap, sym, ◌∙◌, subst, arith}
 use Rattle.std.specs.Prelude.{All, IsTrue, slice_get, slice_index_or, if◌then◌else◌}
 use Rattle.std.proofs.lemmas.Bool.{cases_lt, eq-eqb, eqb-true, ne_eqb}
 use Rattle.std.proofs.lemmas.List.{get_or_past, length-map, map-append, take_more}
@@ -9,7 +10,7 @@ use Rattle.event_log.specs.declared.ids.CpuId.{CpuId}
 use Rattle.guest.specs.declared.instructions.Instruction.{Instruction}
 use Rattle.guest.specs.declared.instructions.Instruction.TheVariants.{Exit}
 use Rattle.guest.specs.Instructions.{names_below}
-use Rattle.boot.specs.Plan.{IsPlan, IsTask, Plan, Task, home_of as plan_home, program_of}
+use Rattle.boot.specs.Plan.{IsPlan, IsTask, BootPlan, Task, home_of as plan_home, program_of}
 use Rattle.layer_traits.specs.OnePlace.{cpu_at}
 use Rattle.layer_traits.specs.Openings.{AreOpenable}
 use Rattle.cpu.specs.declared.guests.Guest.{Guest}
@@ -31,13 +32,13 @@ names_in_lines buffers program all line =
 
 module _ (cpus buffers : ℕ) (tasks : List Task) (all : All (IsTask cpus buffers) tasks) (c : ℕ) where
   -- a guest of CPU c is that of a thread at home there
-  record IsGuestOf (t : ℕ) (g : Guest) : Type 0 where
-    task : Task
-    there : slice_get tasks t ≡ Some task
-    home : task.home ≡ c
-    is : new_guest task.program ≡ g
+  pub record IsGuestOf (t : ℕ) (g : Guest) : Type 0 where
+    pub task : Task
+    pub there : slice_get tasks t ≡ Some task
+    pub home : task.home ≡ c
+    pub is : new_guest task.program ≡ g
 
-  by_task : (t : ℕ) (g : Guest) → guest_at (map (guest_for c) tasks) t ≡ Some g → IsGuestOf t g
+  pub by_task : (t : ℕ) (g : Guest) → guest_at (map (guest_for c) tasks) t ≡ Some g → IsGuestOf t g
   by_task t g at =
       let within = guest_within (map (guest_for c) tasks) t g at in
       let count = length-map tasks (guest_for c) in
@@ -72,7 +73,7 @@ module _ (cpus buffers : ℕ) (tasks : List Task) (all : All (IsTask cpus buffer
           (All-get_or (IsTask cpus buffers) tasks k task (slice_get_within tasks k task there) all)
 
 -- what a plan opens is one that may be opened
-pub are_openable : (plan : Plan) → IsPlan plan → AreOpenable plan.cpus plan.caps (homes_for plan)
+pub are_openable : (plan : BootPlan) → IsPlan plan → AreOpenable plan.cpus plan.caps (homes_for plan)
 are_openable plan is = record {
   some_cpus = is.some_cpus;
   most_cpus = is.most_cpus;
@@ -84,7 +85,7 @@ are_openable plan is = record {
       (λ i within. (All-get_or (IsTask plan.cpus (length plan.caps)) plan.tasks i (record { home = 0; program = [] }) within is.tasks.each).home));
 }
 
-pub are_tables : (plan : Plan) → IsPlan plan → AreTables (homes_for plan) (length plan.caps) (tables_for plan)
+pub are_tables : (plan : BootPlan) → IsPlan plan → AreTables (homes_for plan) (length plan.caps) (tables_for plan)
 are_tables plan is k guests at =
     let within = slice_get_within (tables_for plan) k guests at in
     let count = listed_length (guests_for plan) plan.cpus 0 in
@@ -107,7 +108,7 @@ one_each z (x ∷ xs) n count = ap (λ l. z ∷ l) (one_each z xs (length xs) re
 
 -- One thread more.
 
-pub homes_more : (plan : Plan) (t : ℕ) (h : CpuId) (xs : List CpuId) → t < length plan.tasks → h.0 ≡ plan_home plan t → xs ≡ take t (homes_for plan)
+pub homes_more : (plan : BootPlan) (t : ℕ) (h : CpuId) (xs : List CpuId) → t < length plan.tasks → h.0 ≡ plan_home plan t → xs ≡ take t (homes_for plan)
     → xs ++ h ∷ [] ≡ take (t + 1) (homes_for plan)
 homes_more plan t h xs within is before =
     let count = length-map plan.tasks (λ (task : Task). cpu_at task.home) in
@@ -120,7 +121,8 @@ homes_more plan t h xs within is before =
     ap (λ (l : List CpuId). l ++ h ∷ []) before ∙ ap (λ (x : CpuId). take t (homes_for plan) ++ x ∷ []) same
     ∙ sym (take_more (homes_for plan) t h (omega (arith, count, within)))
 
-pub guests_more : (plan : Plan) (c t : ℕ) (guest : Option Guest) (xs : List (Option Guest)) → t < length plan.tasks → guest ≡ slice_index_or (guests_for plan c) t None
+pub guests_more : (plan : BootPlan) (c t : ℕ) (guest : Option Guest) (xs : List (Option Guest))
+    → t < length plan.tasks → guest ≡ slice_index_or (guests_for plan c) t None
     → xs ≡ take t (guests_for plan c)
     → xs ++ guest ∷ [] ≡ take (t + 1) (guests_for plan c)
 guests_more plan c t guest xs within is before =
@@ -130,27 +132,30 @@ guests_more plan c t guest xs within is before =
 
 -- What a CPU has at the number of a thread.
 
-guest_there : (plan : Plan) (c t : ℕ) → t < length plan.tasks → (b : Bool) → (plan_home plan t == c) ≡ b
+guest_there : (plan : BootPlan) (c t : ℕ) → t < length plan.tasks → (b : Bool) → (plan_home plan t == c) ≡ b
     → slice_index_or (guests_for plan c) t None ≡ (if b then Some (new_guest (program_of plan t)) else None)
 guest_there plan c t within b is =
     let there = there_is plan.tasks t within in
     let home : plan_home plan t ≡ there.0.home =
     get_or_from_slice_get (map (λ (task : Task). task.home) plan.tasks) t there.0.home 0 (shows_at (λ (task : Task). task.home) plan.tasks t there.0 there.1) in
     let program : program_of plan t ≡ there.0.program =
-    get_or_from_slice_get (map (λ (task : Task). task.program) plan.tasks) t there.0.program [] (shows_at (λ (task : Task). task.program) plan.tasks t there.0 there.1) in
+    get_or_from_slice_get (map (λ (task : Task). task.program) plan.tasks) t there.0.program []
+    (shows_at (λ (task : Task). task.program) plan.tasks t there.0 there.1) in
     let same : (there.0.home == c) ≡ b = ap (λ (k : ℕ). k == c) (sym home) ∙ is in
     get_or_from_slice_get (guests_for plan c) t (guest_for c there.0) None (shows_at (guest_for c) plan.tasks t there.0 there.1)
     ∙ ap (λ (d : Bool). if d then Some (new_guest there.0.program) else None) same
     ∙ ap (λ (p : List Instruction). if b then Some (new_guest p) else None) (sym program)
 
-pub guest_home : (plan : Plan) (c t : ℕ) → t < length plan.tasks → plan_home plan t ≡ c → Some (new_guest (program_of plan t)) ≡ slice_index_or (guests_for plan c) t None
+pub guest_home : (plan : BootPlan) (c t : ℕ) → t < length plan.tasks → plan_home plan t ≡ c
+    → Some (new_guest (program_of plan t)) ≡ slice_index_or (guests_for plan c) t None
 guest_home plan c t within home = sym (guest_there plan c t within true (eq-eqb (plan_home plan t) c home))
 
-pub guest_away : (plan : Plan) (c t : ℕ) → t < length plan.tasks → plan_home plan t ≢ c → None ≡ slice_index_or (guests_for plan c) t None
+pub guest_away : (plan : BootPlan) (c t : ℕ) → t < length plan.tasks → plan_home plan t ≢ c → None ≡ slice_index_or (guests_for plan c) t None
 guest_away plan c t within other = sym (guest_there plan c t within false (ne_eqb (plan_home plan t) c other))
 
 -- a table more
-pub tables_more : {X : Type 0} (f : ℕ → List (Option Guest)) (items : X → List (Option Guest)) (xs : List X) (x : X) (n : ℕ) → map items xs ≡ listed f 0 n → items x ≡ f n
+pub tables_more : {X : Type 0} (f : ℕ → List (Option Guest)) (items : X → List (Option Guest)) (xs : List X) (x : X) (n : ℕ)
+    → map items xs ≡ listed f 0 n → items x ≡ f n
     → map items (xs ++ x ∷ []) ≡ listed f 0 (n + 1)
 tables_more f items xs x n before is =
     let next : suc n ≡ n + 1 = omega arith in

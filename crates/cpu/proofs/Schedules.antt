@@ -1,5 +1,6 @@
 -- The steps in which no call goes on: an instruction of a thread's own, and the passes from thread to thread.
-use Rattle.std.proofs.Common.{◌≡◌, ◌≢◌, ◌⊎◌, inl, inr, ℕ, ◌+◌, ◌<◌, ◌==◌, Bool, true, false, List, [], ◌∷◌, ◌++◌, length, Option, Some, None, is_some, option_map, refl, ap, sym, ◌∙◌, subst, arith, reverse, slice_set}
+use Rattle.std.proofs.Common.{◌≡◌, ◌≢◌, ◌⊎◌, inl, inr, ℕ, ◌+◌, ◌<◌, ◌==◌, Bool, true, false, List, [], ◌∷◌, ◌++◌, length}
+use Rattle.std.proofs.Common.{Option, Some, None, is_some, option_map, refl, ap, sym, ◌∙◌, subst, arith, reverse, slice_set}
 use Rattle.std.proofs.lemmas.Bool.{cases_eq, ne_eqb}
 use Rattle.std.proofs.lemmas.List.{length-set}
 use Rattle.std.specs.List.{AllByRecursion}
@@ -22,21 +23,22 @@ use Rattle.layer_traits.specs.BufferLaw.{Calling, Doing, Passing, begun_of, talk
 use Rattle.cpu.specs.declared.cpus.Choice.{Choice}
 use Rattle.cpu.specs.declared.cpus.Choice.TheVariants.{Passes, Computes}
 use Rattle.cpu.specs.declared.guests.Guest.{Guest}
-use Rattle.cpu.specs.declared.guests.Stage.{Stage}
-use Rattle.cpu.specs.declared.guests.Stage.TheVariants.{Between, Begun, Done, Ended}
+use Rattle.cpu.specs.declared.guests.GuestStage.{GuestStage}
+use Rattle.cpu.specs.declared.guests.GuestStage.TheVariants.{Between, Begun, Done, Ended}
 use Rattle.cpu.specs.declared.guests.Todo.{Todo}
 use Rattle.cpu.specs.declared.guests.Todo.TheVariants.{Finish, PassOn, Compute, Calls}
-use Rattle.cpu.specs.Guests.{Follows, FollowsIn, after_pass, computed, is_begun, is_calling, is_ended, passed, todo_at, todo_of}
-use Rattle.cpu.specs.Cpus.{AllFollow, AreOver, IsCpu, IsOfHome, NamesBelow, begun_count, chosen, chosen_at, chosen_by, chosen_for, chosen_idle, chosen_todo, doing_of, guest_at, is_begun_guest, of_cpu, of_thread, passed_by, with_guest}
+use Rattle.cpu.specs.Guests.{HasCome, HasComeIn, after_pass, computed, is_begun, is_calling, is_ended, passed, todo_at, todo_of}
+use Rattle.cpu.specs.Cpus.{AllFollow, AreOver, IsCpu, IsOfHome, NamesBelow, begun_count, chosen, chosen_at, chosen_by, chosen_for}
+use Rattle.cpu.specs.Cpus.{chosen_idle, chosen_todo, doing_of, guest_at, is_begun_guest, of_cpu, of_thread, passed_by, with_guest}
 use Rattle.cpu.proofs.GuestLists.{at_other, at_same, count_with, guest_within}
 
 -- an instruction that asks for no call: the guest is in none
 pub in_no_call : (g : Guest) (es : List Entry) (begun : Option Call) (effect : Option Effect) (todo : Todo)
-    → FollowsIn g.stage g.program g.thread es begun effect
+    → HasComeIn g.stage g.program g.thread es begun effect
     → todo_of g ≡ todo → ((c : Call) → todo ≡ Calls c → ⊥) → (is_calling g.stage ≡ false) × (is_begun g.stage ≡ false)
 in_no_call g es begun effect todo follows asks none = go g.stage follows
   where
-    go : (stage : Stage) → FollowsIn stage g.program g.thread es begun effect → (is_calling stage ≡ false) × (is_begun stage ≡ false)
+    go : (stage : GuestStage) → HasComeIn stage g.program g.thread es begun effect → (is_calling stage ≡ false) × (is_begun stage ≡ false)
     go Between f = (refl, refl)
     go Begun f = absurd (none f.0 (sym asks ∙ f.1))
     go Done f = absurd (none f.0 (sym asks ∙ f.2))
@@ -44,11 +46,11 @@ in_no_call g es begun effect todo follows asks none = go g.stage follows
 
 -- and it is between instructions unless it is to end
 between_at : (g : Guest) (es : List Entry) (begun : Option Call) (effect : Option Effect) (todo : Todo)
-    → FollowsIn g.stage g.program g.thread es begun effect
+    → HasComeIn g.stage g.program g.thread es begun effect
     → todo_of g ≡ todo → ((c : Call) → todo ≡ Calls c → ⊥) → (todo ≡ Finish → ⊥) → g.stage ≡ Between
 between_at g es begun effect todo follows asks none some = go g.stage follows
   where
-    go : (stage : Stage) → FollowsIn stage g.program g.thread es begun effect → stage ≡ Between
+    go : (stage : GuestStage) → HasComeIn stage g.program g.thread es begun effect → stage ≡ Between
     go Between f = refl
     go Begun f = absurd (none f.0 (sym asks ∙ f.1))
     go Done f = absurd (none f.0 (sym asks ∙ f.2))
@@ -65,11 +67,11 @@ finish_exit s (ins.Sub r q) is = absurd cc
 finish_exit s (ins.Jnz r k) is = absurd cc
 
 -- a guest that ends follows its entries
-follow_end : (g : Guest) (es : List Entry) (begun : Option Call) (effect : Option Effect) → FollowsIn g.stage g.program g.thread es begun effect
-    → todo_of g ≡ Finish → FollowsIn Ended g.program g.thread es begun effect
+follow_end : (g : Guest) (es : List Entry) (begun : Option Call) (effect : Option Effect) → HasComeIn g.stage g.program g.thread es begun effect
+    → todo_of g ≡ Finish → HasComeIn Ended g.program g.thread es begun effect
 follow_end g es begun effect follows asks = go g.stage follows
   where
-    go : (stage : Stage) → FollowsIn stage g.program g.thread es begun effect → FollowsIn Ended g.program g.thread es begun effect
+    go : (stage : GuestStage) → HasComeIn stage g.program g.thread es begun effect → HasComeIn Ended g.program g.thread es begun effect
     go Between f = (f.0, f.1, finish_exit g.thread (next_of g.program g.thread) asks)
     go Begun f = let no : Finish ≡ Calls f.0 = sym asks ∙ f.1 in absurd (cc no)
     go Done f = let no : Finish ≡ Calls f.0 = sym asks ∙ f.2 in absurd (cc no)
@@ -113,15 +115,15 @@ module _ (homes : List CpuId) (buffers : ℕ) (seen : List Entry) (own : Threads
   -- one thread's guest goes on, without an entry
   guest_goes : (t : Tid) (g : Guest) (f : Guest → Guest) (seen2 : List Entry) (own2 : Threads) (doing2 : Option Doing)
       → guest_at guests t.0 ≡ Some g → of_cpu number seen2 ≡ of_cpu number seen → (f g).program ≡ g.program → is_begun (f g).stage ≡ is_begun g.stage
-      → FollowsIn (f g).stage (f g).program (f g).thread (of_thread t.0 (of_cpu number seen)) (begun_of (talk_of talks t)) (talk_of talks t).effect
+      → HasComeIn (f g).stage (f g).program (f g).thread (of_thread t.0 (of_cpu number seen)) (begun_of (talk_of talks t)) (talk_of talks t).effect
       → (is_in t own2.ended ≡ true → is_ended (f g).stage ≡ true) → ((u : Tid) → u.0 ≢ t.0 → is_in u own2.ended ≡ true → is_in u own.ended ≡ true)
       → ((d : Doing) → doing2 ≡ Some d → ⊥) → ((u : Tid) → own2.current ≡ Some u → own2.hand ≡ None)
       → IsCpu homes buffers seen2 own2 talks doing2 number (with_guest guests t.0 f) trace limit capacity
   guest_goes t g f seen2 own2 doing2 at same program begun follows over_t over_other none handed = record {
     kept = is.kept ∙ ap (λ (l : List Entry). reverse l) (sym same);
     stays = subst (λ (l : List Entry). AllByRecursion (IsOfHome homes number) l) (sym same) is.stays;
-    follow = λ (u : Tid) (x : Guest) there. subst (λ (l : List Entry). Follows x (of_thread u.0 l) (talk_of talks u)) (sym same)
-        (each (λ (k : ℕ) (y : Guest). Follows y (of_thread k (of_cpu number seen)) (talk_of talks (record { 0 = k })))
+    follow = λ (u : Tid) (x : Guest) there. subst (λ (l : List Entry). HasCome x (of_thread u.0 l) (talk_of talks u)) (sym same)
+        (each (λ (k : ℕ) (y : Guest). HasCome y (of_thread k (of_cpu number seen)) (talk_of talks (record { 0 = k })))
         ((is.follow t g at).0, follows) (λ k y other old. is.follow (record { 0 = k }) y old) u.0 x there);
     over = λ (u : Tid) ended (x : Guest) there.
         each (λ (k : ℕ) (y : Guest). is_in (record { 0 = k }) own2.ended ≡ true → is_ended y.stage ≡ true) over_t
@@ -212,14 +214,14 @@ module _ (homes : List CpuId) (buffers : ℕ) (seen : List Entry) (own : Threads
       let between : g.stage ≡ Between = between_at g (of_thread t.0 (of_cpu number seen)) (begun_of (talk_of talks t))
       (talk_of talks t).effect Compute follows.1 asks
       (λ c e. absurd (cc e)) (λ e. absurd (cc e)) in
-      let before : FollowsIn Between g.program g.thread (of_thread t.0 (of_cpu number seen)) (begun_of (talk_of talks t)) (talk_of talks t).effect =
-      subst (λ (s : Stage). FollowsIn s g.program g.thread (of_thread t.0 (of_cpu number seen)) (begun_of (talk_of talks t))
+      let before : HasComeIn Between g.program g.thread (of_thread t.0 (of_cpu number seen)) (begun_of (talk_of talks t)) (talk_of talks t).effect =
+      subst (λ (s : GuestStage). HasComeIn s g.program g.thread (of_thread t.0 (of_cpu number seen)) (begun_of (talk_of talks t))
       (talk_of talks t).effect) between follows.1 in
-      let after : FollowsIn Between g.program (computed g).thread (of_thread t.0 (of_cpu number seen)) (begun_of (talk_of talks t))
+      let after : HasComeIn Between g.program (computed g).thread (of_thread t.0 (of_cpu number seen)) (begun_of (talk_of talks t))
       (talk_of talks t).effect =
       (before.0, calls-local g.program (of_thread t.0 (of_cpu number seen)) g.thread before.1) in
       guest_goes t g computed seen own doing at refl refl refl
-      (subst (λ (s : Stage). FollowsIn s g.program (computed g).thread (of_thread t.0 (of_cpu number seen)) (begun_of (talk_of talks t))
+      (subst (λ (s : GuestStage). HasComeIn s g.program (computed g).thread (of_thread t.0 (of_cpu number seen)) (begun_of (talk_of talks t))
       (talk_of talks t).effect) (sym between) after)
       (λ over. is.over t over g at) (λ u other over. over) quiet (λ u runs. is.handed u runs (nothing doing quiet))
     where
@@ -333,15 +335,15 @@ module _ (homes : List CpuId) (buffers : ℕ) (seen : List Entry) (own : Threads
       let between : g.stage ≡ Between = between_at g (of_thread t.0 (of_cpu number seen)) (begun_of (talk_of talks t))
       (talk_of talks t).effect PassOn follows.1 asks
       (λ c e. absurd (cc e)) (λ e. absurd (cc e)) in
-      let before : FollowsIn Between g.program g.thread (of_thread t.0 (of_cpu number seen)) (begun_of (talk_of talks t)) (talk_of talks t).effect =
-      subst (λ (s : Stage). FollowsIn s g.program g.thread (of_thread t.0 (of_cpu number seen)) (begun_of (talk_of talks t))
+      let before : HasComeIn Between g.program g.thread (of_thread t.0 (of_cpu number seen)) (begun_of (talk_of talks t)) (talk_of talks t).effect =
+      subst (λ (s : GuestStage). HasComeIn s g.program g.thread (of_thread t.0 (of_cpu number seen)) (begun_of (talk_of talks t))
       (talk_of talks t).effect) between follows.1 in
-      let after : FollowsIn Between g.program (passed g).thread (of_thread t.0 (of_cpu number seen)) (begun_of (talk_of talks t)) (talk_of talks t).effect =
+      let after : HasComeIn Between g.program (passed g).thread (of_thread t.0 (of_cpu number seen)) (begun_of (talk_of talks t)) (talk_of talks t).effect =
       (before.0, calls-yield g.program (of_thread t.0 (of_cpu number seen)) g.thread before.1) in
       subst (λ (o : Option Tid). IsCpu homes buffers seen2 (pass_after YieldNow queue own) talks None number
       (passed_by o guests YieldNow) trace limit capacity) (sym runs)
       (guest_goes t g (after_pass YieldNow) seen2 (pass_after YieldNow queue own) None at same refl refl
-      (subst (λ (s : Stage). FollowsIn s g.program (passed g).thread (of_thread t.0 (of_cpu number seen)) (begun_of (talk_of talks t))
+      (subst (λ (s : GuestStage). HasComeIn s g.program (passed g).thread (of_thread t.0 (of_cpu number seen)) (begun_of (talk_of talks t))
       (talk_of talks t).effect) (sym between) after)
       (λ over. is.over t over g at) (λ u other over. over) (λ d none. absurd (cc none)) (λ u at. absurd (cc at)))
   case_done End queue seen2 (finishes t g runs has at asks) same =

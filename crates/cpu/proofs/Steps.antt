@@ -1,5 +1,6 @@
 -- One poll of a call: what it needs, and that the CPU's invariant holds after it.
-use Rattle.std.proofs.Common.{◌≡◌, ◌≢◌, ◌⊎◌, inl, inr, ℕ, ◌+◌, ◌<◌, ◌≤◌, Bool, true, false, not, List, [], ◌∷◌, ◌++◌, length, Option, Some, None, option_map, nat_lt, refl, ap, sym, ◌∙◌, subst, arith, reverse, slice_set}
+use Rattle.std.proofs.Common.{◌≡◌, ◌≢◌, ◌⊎◌, inl, inr, ℕ, ◌+◌, ◌<◌, ◌≤◌, Bool, true, false, not, List, [], ◌∷◌, ◌++◌, length}
+use Rattle.std.proofs.Common.{Option, Some, None, option_map, nat_lt, refl, ap, sym, ◌∙◌, subst, arith, reverse, slice_set}
 use Rattle.std.proofs.lemmas.Bool.{cases_eq, ltb-true}
 use Rattle.std.proofs.lemmas.List.{length-append, length-set}
 use Rattle.std.specs.List.{AllByRecursion}
@@ -22,12 +23,13 @@ use Rattle.layer_traits.specs.Places.{Threads, home_of, one_if}
 use Rattle.layer_traits.specs.BufferLaw.{Called, Calling, Doing, MayGoOn, MayTalk, RunsOn, begun_of, buffer_of, entry_of, still_calling, talk_of}
 use Rattle.cpu.specs.declared.cpus.Choice.TheVariants.{Polls}
 use Rattle.cpu.specs.declared.guests.Guest.{Guest}
-use Rattle.cpu.specs.declared.guests.Stage.{Stage}
-use Rattle.cpu.specs.declared.guests.Stage.TheVariants.{Between, Begun, Done, Ended}
+use Rattle.cpu.specs.declared.guests.GuestStage.{GuestStage}
+use Rattle.cpu.specs.declared.guests.GuestStage.TheVariants.{Between, Begun, Done, Ended}
 use Rattle.cpu.specs.declared.guests.Todo.{Todo}
 use Rattle.cpu.specs.declared.guests.Todo.TheVariants.{Finish, PassOn, Compute, Calls}
-use Rattle.cpu.specs.Guests.{Follows, FollowsIn, entries_of, fresh_effect, had, is_begun, is_calling, is_ended, polled, stage_after, todo_at, todo_of}
-use Rattle.cpu.specs.Cpus.{AllFollow, AreOver, IsCpu, IsOfHome, NamesBelow, begins_at, begun_count, is_begun_guest, chosen, chosen_at, chosen_by, chosen_for, chosen_idle, chosen_todo, doing_of, fresh_at, guest_at, of_cpu, of_thread, with_guest}
+use Rattle.cpu.specs.Guests.{HasCome, HasComeIn, entries_of, fresh_effect, had, is_begun, is_calling, is_ended, polled, stage_after, todo_at, todo_of}
+use Rattle.cpu.specs.Cpus.{AllFollow, AreOver, IsCpu, IsOfHome, NamesBelow, begins_at, begun_count, is_begun_guest, chosen, chosen_at}
+use Rattle.cpu.specs.Cpus.{chosen_by, chosen_for, chosen_idle, chosen_todo, doing_of, fresh_at, guest_at, of_cpu, of_thread, with_guest}
 use Rattle.cpu.proofs.Follow.{answered_by, followed, had_going, may_talk, stays_settled}
 use Rattle.cpu.proofs.GuestLists.{at_other, at_same, count_with, cpu_grown, guest_within, reversed, room_kept, thread_other, thread_same}
 
@@ -78,10 +80,10 @@ polls_is own guests t c is = go own.current refl is
     go (Some u) runs chose = for_polls own guests u t own.hand (guest_at guests u.0) c runs refl chose
 
 -- a guest that asks for a call has not ended
-asks_lives : (g : Guest) (es : List Entry) (talk : Talk) (c : Call) → Follows g es talk → todo_of g ≡ Calls c → is_ended g.stage ≡ false
+asks_lives : (g : Guest) (es : List Entry) (talk : Talk) (c : Call) → HasCome g es talk → todo_of g ≡ Calls c → is_ended g.stage ≡ false
 asks_lives g es talk c follows asks = go g.stage follows.1
   where
-    go : (stage : Stage) → FollowsIn stage g.program g.thread es (begun_of talk) talk.effect → is_ended stage ≡ false
+    go : (stage : GuestStage) → HasComeIn stage g.program g.thread es (begun_of talk) talk.effect → is_ended stage ≡ false
     go Between f = refl
     go Begun f = refl
     go Done f = refl
@@ -89,11 +91,11 @@ asks_lives g es talk c follows asks = go g.stage follows.1
         let none : Finish ≡ Calls c = sym (ap (λ (i : Instruction). todo_at g.thread i) f.2) ∙ asks in
         absurd (cc none)
 
-begun_for : (g : Guest) (es : List Entry) (talk : Talk) (c : Call) → Follows g es talk → todo_of g ≡ Calls c
+begun_for : (g : Guest) (es : List Entry) (talk : Talk) (c : Call) → HasCome g es talk → todo_of g ≡ Calls c
     → (begun_of talk ≡ None) ⊎ (begun_of talk ≡ Some c)
 begun_for g es talk c follows asks = go g.stage follows.1
   where
-    go : (stage : Stage) → FollowsIn stage g.program g.thread es (begun_of talk) talk.effect → (begun_of talk ≡ None) ⊎ (begun_of talk ≡ Some c)
+    go : (stage : GuestStage) → HasComeIn stage g.program g.thread es (begun_of talk) talk.effect → (begun_of talk ≡ None) ⊎ (begun_of talk ≡ Some c)
     go Between f = inl f.0
     go Begun f = let same : f.0 ≡ c = cc (f.1, asks) in inr (f.2 ∙ ap (λ (x : Call). Some x) same)
     go Done f = let same : f.0 ≡ c = cc (f.2, asks) in inr (f.3 ∙ ap (λ (x : Call). Some x) same)
@@ -120,7 +122,7 @@ module _ (homes : List CpuId) (buffers : ℕ) (seen : List Entry) (own : Threads
   pub polls_at : PollsAt own guests t c
   polls_at = polls_is own guests t c chose
 
-  follows_at : Follows polls_at.guest (of_thread t.0 (of_cpu number seen)) (talk_of talks t)
+  follows_at : HasCome polls_at.guest (of_thread t.0 (of_cpu number seen)) (talk_of talks t)
   follows_at = is.follow t polls_at.guest polls_at.at
 
   -- what the poll asks for
@@ -175,7 +177,7 @@ module _ (homes : List CpuId) (buffers : ℕ) (seen : List Entry) (own : Threads
     abbrev next : Guest
     next = polled g left answer
 
-    follow_t : (called.mine ≡ fresh) × FollowsIn next.stage g.program next.thread (new ++ of_thread t.0 (of_cpu number seen))
+    follow_t : (called.mine ≡ fresh) × HasComeIn next.stage g.program next.thread (new ++ of_thread t.0 (of_cpu number seen))
         (begun_of (talk_of talks2 t)) left
     follow_t =
         let goes = had_going (talk_of talks t) c poll_talks in
@@ -222,16 +224,16 @@ module _ (homes : List CpuId) (buffers : ℕ) (seen : List Entry) (own : Threads
     stays_with (Some f) = (record { cpu = refl; home = home }, is.stays)
 
     follow_new : AllFollow guests2 (of_cpu number seen2) talks2
-    follow_new = λ (u : Tid) (x : Guest) at. subst (λ (l : List Entry). Follows x (of_thread u.0 l) (talk_of talks2 u)) (sym mine_is)
-        (each (λ (k : ℕ) (y : Guest). Follows y (of_thread k (new ++ of_cpu number seen)) (talk_of talks2 (record { 0 = k }))) (
+    follow_new = λ (u : Tid) (x : Guest) at. subst (λ (l : List Entry). HasCome x (of_thread u.0 l) (talk_of talks2 u)) (sym mine_is)
+        (each (λ (k : ℕ) (y : Guest). HasCome y (of_thread k (new ++ of_cpu number seen)) (talk_of talks2 (record { 0 = k }))) (
           stays_settled c (talk_of talks2 t) answer called.answers,
-          subst (λ (l : List Entry). FollowsIn next.stage g.program next.thread l (begun_of (talk_of talks2 t)) left)
+          subst (λ (l : List Entry). HasComeIn next.stage g.program next.thread l (begun_of (talk_of talks2 t)) left)
               (sym (thread_same number t (buffer_of c) fresh (of_cpu number seen) t.0 refl)) follow_t.1,
         )
         (λ k y other there.
-        subst (λ (l : List Entry). Follows y l (talk_of talks2 (record { 0 = k })))
+        subst (λ (l : List Entry). HasCome y l (talk_of talks2 (record { 0 = k })))
         (sym (thread_other number t (buffer_of c) fresh (of_cpu number seen) k other))
-        (subst (λ (talk : Talk). Follows y (of_thread k (of_cpu number seen)) talk) (sym (called.apart (record { 0 = k }) other))
+        (subst (λ (talk : Talk). HasCome y (of_thread k (of_cpu number seen)) talk) (sym (called.apart (record { 0 = k }) other))
         (is.follow (record { 0 = k }) y there)))
         u.0 x at)
 
@@ -326,10 +328,10 @@ module _ (homes : List CpuId) (buffers : ℕ) (seen : List Entry) (own : Threads
       where
         has_had : g.stage ≡ Done → left ≢ None
         has_had done none =
-            let stale : called.mine ≡ None = follow_t.0 ∙ ap (λ (s : Stage). fresh_effect s left) done in
+            let stale : called.mine ≡ None = follow_t.0 ∙ ap (λ (s : GuestStage). fresh_effect s left) done in
             let stays : left ≡ had (begun_of (talk_of talks t)) (talk_of talks t).effect = called.stays stale ∙ had_going (talk_of talks t) c poll_talks in
-            let before : FollowsIn Done g.program g.thread (of_thread t.0 (of_cpu number seen)) (begun_of (talk_of talks t)) (talk_of talks t).effect =
-            subst (λ (s : Stage). FollowsIn s g.program g.thread (of_thread t.0 (of_cpu number seen)) (begun_of (talk_of talks t))
+            let before : HasComeIn Done g.program g.thread (of_thread t.0 (of_cpu number seen)) (begun_of (talk_of talks t)) (talk_of talks t).effect =
+            subst (λ (s : GuestStage). HasComeIn s g.program g.thread (of_thread t.0 (of_cpu number seen)) (begun_of (talk_of talks t))
             (talk_of talks t).effect) done follows_at.1 in
             let some : had (begun_of (talk_of talks t)) (talk_of talks t).effect ≡ (talk_of talks t).effect = ap
             (λ (x : Option Call). had x (talk_of talks t).effect) before.3 in

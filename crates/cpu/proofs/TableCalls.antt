@@ -1,5 +1,6 @@
 -- The clauses of a CPU's calls on the table, from those of the layer: its part tells its threads and its talks.
-use Rattle.std.proofs.Common.{◌≡◌, ◌≢◌, ℕ, ◌<◌, Bool, true, false, List, ◌++◌, length, nat_lt, slice_get, Option, Some, None, IsSome, is_some, option_map, if◌then◌else◌, refl, ap, sym, ◌∙◌, subst}
+use Rattle.std.proofs.Common.{◌≡◌, ◌≢◌, ℕ, ◌<◌, Bool, true, false, List, ◌++◌, length, nat_lt, slice_get, Option}
+use Rattle.std.proofs.Common.{Some, None, IsSome, is_some, option_map, if◌then◌else◌, refl, ap, sym, ◌∙◌, subst}
 use Rattle.std.proofs.lemmas.Bool.{lt-ltb}
 use Rattle.event_log.specs.declared.entries.Entry.{Entry}
 use Rattle.event_log.specs.declared.ids.BufId.{BufId}
@@ -20,7 +21,8 @@ use Rattle.layer_traits.specs.declared.talks.Talk.{Talk}
 use Rattle.layer_traits.specs.Along.{IsStep}
 use Rattle.layer_traits.specs.Looks.{Tries}
 use Rattle.layer_traits.specs.Passes.{IsLocalPass, PassPolled, pass_after}
-use Rattle.layer_traits.specs.Places.{AreMoves, Hand, Home, Asleep, Pend, Stands, Step, Threads, Where, home_of, is_hand, is_home, is_thread, pending_by, where_is}
+use Rattle.layer_traits.specs.Places.{AreMoves, Hand, Home, Asleep, Pend, Stands, Step, Threads, Where}
+use Rattle.layer_traits.specs.Places.{home_of, is_hand, is_home, is_thread, pending_by, where_is}
 use Rattle.layer_traits.specs.Plans.{Follows, Now, is_in_section}
 use Rattle.layer_traits.specs.BufferLaw.{Buffering, Doing, buffer_of, buffering_at_start, fifo_pass_plan, fifo_plan, still_calling, still_passing, talk_of}
 use Rattle.event_log.specs.declared.ids.LockId.TheVariants.{Pending, Buffer as AtBuffer}
@@ -34,7 +36,7 @@ use Rattle.cpu.specs.Guests.{computed, entries_of, is_ended, polled}
 use Rattle.cpu.specs.Cpus.{IsCpu, chosen, fresh_at, guest_at, halted_at, passed_by, reason_in, step_answer, with_guest}
 use Rattle.cpu.specs.Boots.{AreGuests}
 use Rattle.cpu.specs.Table.Setups.{Setup, opening_buffer}
-use Rattle.cpu.specs.Table.Steps.{cpu_step}
+use Rattle.cpu.specs.Table.Steps.{cpu_step, halted_at as table_halted}
 use Rattle.cpu.specs.Tower.Views.{TowerBlock, TowerName, name_of, tower, view}
 use Rattle.cpu.specs.Tower.Privates.{threads_in}
 use Rattle.cpu.specs.Tower.Composed.{OpensAs, named}
@@ -72,6 +74,13 @@ module _ (homes : List CpuId) (caps : List ℕ) (buffers : ℕ) (seen : List Ent
 
   home_own : (u : Tid) → (threads_in own).current ≡ Some u → home_of homes u ≡ Some number
   home_own u runs = home u (sym (ap (λ (x : Threads). x.current) tells.0) ∙ runs)
+
+  -- the table halts the CPU for the reason that it has
+  pub halted_told : (setup : Setup) → IsSetupOf setup homes caps guests limit
+      → table_halted setup number (private own guests trace) ≡ halted_at threads guests trace limit
+  halted_told setup of =
+      halted_same homes caps buffers seen own doing number guests trace limit capacity opening is_own tabled setup of home_own
+      ∙ ap (λ (x : Threads). halted_at x guests trace limit) tells.0
 
   known_own : ((u : Tid) → threads.hand ≡ Some u → IsSome (slice_get homes u.0)) → (u : Tid) → (threads_in own).hand ≡ Some u → IsSome (slice_get homes u.0)
   known_own known u has = known u (sym (ap (λ (x : Threads). x.hand) tells.0) ∙ has)
@@ -124,13 +133,15 @@ module _ (homes : List CpuId) (caps : List ℕ) (buffers : ℕ) (seen : List Ent
 
       pub call_tabled : IsTabled homes caps number own2 doing2 guests2 opening
       call_tabled =
-          poll_tabled homes caps buffers seen own doing number guests trace limit capacity opening is_own tabled t c chose_own ActsFor own2 doing2 guests2 trace2 old new
+          poll_tabled homes caps buffers seen own doing number guests trace limit capacity opening is_own
+          tabled t c chose_own ActsFor own2 doing2 guests2 trace2 old new
           result inside acts rests busy_own (halted_own inside None live) home_own
           (known_own known) known2_own follows_own ended_own doing_own guests_own trace_own
 
       pub call_steps : WentByTable ActsFor homes caps number limit own own2 guests guests2 trace trace2 old new Stepped
       call_steps setup of =
-          poll_steps homes caps buffers seen own doing number guests trace limit capacity opening is_own tabled t c chose_own ActsFor own2 doing2 guests2 trace2 old new
+          poll_steps homes caps buffers seen own doing number guests trace limit capacity opening is_own
+          tabled t c chose_own ActsFor own2 doing2 guests2 trace2 old new
           result inside acts rests busy_own (halted_own inside None live) home_own
           (known_own known) known2_own follows_own ended_own doing_own guests_own trace_own setup of
 
@@ -176,12 +187,14 @@ module _ (homes : List CpuId) (caps : List ℕ) (buffers : ℕ) (seen : List Ent
 
       pub passed_tabled : IsTabled homes caps number own2 doing2 guests2 opening
       passed_tabled =
-          pass_tabled homes caps buffers seen own doing number guests trace limit capacity opening is_own tabled home_own pass chose_pass ActsFor own2 doing2 guests2 old new
+          pass_tabled homes caps buffers seen own doing number guests trace limit capacity opening is_own
+          tabled home_own pass chose_pass ActsFor own2 doing2 guests2 old new
           result queue follows_pass threads_own doing_is passed.at_once guests_pass
 
       pub passed_steps : WentByTable ActsFor homes caps number limit own own2 guests guests2 trace trace old new Stepped
       passed_steps setup of =
-          pass_steps homes caps buffers seen own doing number guests trace limit capacity opening is_own tabled home_own pass chose_pass ActsFor own2 doing2 guests2 old new
+          pass_steps homes caps buffers seen own doing number guests trace limit capacity opening is_own
+          tabled home_own pass chose_pass ActsFor own2 doing2 guests2 old new
           result queue follows_pass threads_own doing_is passed.at_once guests_pass setup of inside acts rests busy_own (halted_own inside None live)
           (known_own known)
           known2_pass
@@ -197,7 +210,8 @@ module _ (homes : List CpuId) (caps : List ℕ) (buffers : ℕ) (seen : List Ent
     pub stopped_steps : (reason : Reason) → reason_in inside (halted_at threads guests trace limit) ≡ Some reason
         → WentByTable ActsFor homes caps number limit own own guests guests trace trace old old (Halted reason)
     stopped_steps reason halted setup of =
-        halted_steps homes caps buffers seen own doing number guests trace limit capacity opening is_own tabled home_own ActsFor old setup of inside reason busy_own
+        halted_steps homes caps buffers seen own doing number guests trace limit capacity opening
+        is_own tabled home_own ActsFor old setup of inside reason busy_own
         (halted_own inside (Some reason) halted)
 
     -- what the table's step answers, by the CPU's own reason to take none

@@ -1,5 +1,6 @@
 -- A poll of a pass, and an instruction of a thread's own, are steps of the table, and the CPU stays as the table asks.
-use Rattle.std.proofs.Common.{◌≡◌, ◌≢◌, ◌⊎◌, inl, inr, ℕ, ◌<◌, Bool, true, false, ◌||◌, List, [], ◌∷◌, ◌++◌, length, map, get_or, slice_get, slice_set, Option, Some, None, IsSome, is_some, option_map, refl, ap, sym, ◌∙◌, subst, arith}
+use Rattle.std.proofs.Common.{◌≡◌, ◌≢◌, ◌⊎◌, inl, inr, ℕ, ◌<◌, Bool, true, false, ◌||◌, List, [], ◌∷◌, ◌++◌, length, map, get_or}
+use Rattle.std.proofs.Common.{slice_get, slice_set, Option, Some, None, IsSome, is_some, option_map, refl, ap, sym, ◌∙◌, subst, arith}
 use Rattle.std.proofs.lemmas.List.{map-set}
 use Rattle.event_log.specs.declared.entries.Entry.{Entry}
 use Rattle.event_log.specs.declared.ids.CpuId.{CpuId}
@@ -30,11 +31,12 @@ use Rattle.layer_traits.specs.Plans.{Left, Follows, is_in_section}
 use Rattle.layer_traits.specs.BufferLaw.{Buffering, Doing, Passing, begun_of, fifo_pass_plan, still_passing, talk_of}
 use Rattle.cpu.specs.declared.cpus.Choice.TheVariants.{Passes, Computes}
 use Rattle.cpu.specs.declared.guests.Guest.{Guest}
-use Rattle.cpu.specs.declared.guests.Stage.{Stage}
+use Rattle.cpu.specs.declared.guests.GuestStage.{GuestStage}
 use Rattle.cpu.specs.declared.guests.Todo.{Todo}
 use Rattle.cpu.specs.declared.guests.Todo.TheVariants.{Finish, PassOn, Compute, Calls}
 use Rattle.cpu.specs.Guests.{after_pass, computed, ended, is_calling, is_ended, passed, todo_at, todo_of}
-use Rattle.cpu.specs.Cpus.{IsCpu, chosen, chosen_at, chosen_by, chosen_for, chosen_todo, doing_of, guest_at, halted_at as cpu_halted, of_cpu, of_thread, passed_by, reason_in, with_guest}
+use Rattle.cpu.specs.Cpus.{IsCpu, chosen, chosen_at, chosen_by, chosen_for, chosen_todo, doing_of, guest_at}
+use Rattle.cpu.specs.Cpus.{halted_at as cpu_halted, of_cpu, of_thread, passed_by, reason_in, with_guest}
 use Rattle.cpu.specs.Table.Setups.{Setup, Call as TableCall, Private, program_of, stands_at, thread_at}
 use Rattle.cpu.specs.Table.Choice.{Alone, Choice, Goes, at_instruction, at_ready, choice, ends, with_guest as with_state}
 use Rattle.cpu.specs.Table.Steps.{cpu_step, halted_at as table_halted}
@@ -355,7 +357,8 @@ module _ (homes : List CpuId) (caps : List ℕ) (buffers : ℕ) (seen : List Ent
         chosen_line : is_in_section (phase number old) ≡ false → choice setup number p ≡ at_instruction setup number p t (next_of g.program g.thread)
         chosen_line outside =
             choice_current setup number p t None has runs quiet (not_halted outside)
-            ∙ ap (at_instruction setup number p t) (stands_there homes caps buffers seen own doing number guests trace limit capacity opening is tabled setup of t g at)
+            ∙ ap (at_instruction setup number p t) (stands_there homes caps buffers seen own doing number
+            guests trace limit capacity opening is tabled setup of t g at)
           where
             quiet : (thread_at p t).call ≡ None
             quiet =
@@ -465,7 +468,8 @@ module _ (homes : List CpuId) (caps : List ℕ) (buffers : ℕ) (seen : List Ent
         alone_is_step ActsFor setup number p (private own (with_guest guests t.0 computed) trace) (named old)
         (ap is_in_section (phase_renamed name_of number old) ∙ outside)
         (choice_current setup number p t None rest.hand does.0 quiet live_now
-        ∙ (ap (at_instruction setup number p t) (stands_there homes caps buffers seen own doing number guests trace limit capacity opening is tabled setup of t g at)
+        ∙ (ap (at_instruction setup number p t) (stands_there homes caps buffers seen own doing number
+        guests trace limit capacity opening is tabled setup of t g at)
         ∙ (local_at setup number p t g.thread i does.1.2 ∙ (ap (λ x. Alone (with_state p t (after_local i x.guest))) there ∙ ap Alone (sym next)))))
       where
         idle : (d : Option Doing) → doing ≡ d → doing ≡ None

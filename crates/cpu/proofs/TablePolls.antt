@@ -1,5 +1,6 @@
 -- A poll of a call is a step of the table, and the CPU stays as the table asks.
-use Rattle.std.proofs.Common.{◌≡◌, ◌≢◌, ◌⊎◌, inl, inr, ℕ, ◌<◌, Bool, true, false, List, [], ◌∷◌, ◌++◌, length, map, get_or, slice_get, slice_set, Option, Some, None, IsSome, is_some, option_map, refl, ap, sym, ◌∙◌, subst, arith}
+use Rattle.std.proofs.Common.{◌≡◌, ◌≢◌, ◌⊎◌, inl, inr, ℕ, ◌<◌, Bool, true, false, List, [], ◌∷◌, ◌++◌, length, map, get_or, slice_get}
+use Rattle.std.proofs.Common.{slice_set, Option, Some, None, IsSome, is_some, option_map, refl, ap, sym, ◌∙◌, subst, arith}
 use Rattle.std.proofs.lemmas.Bool.{cases_eq}
 use Rattle.std.proofs.lemmas.List.{append-nil, length-set, map-set}
 use Rattle.event_log.specs.declared.entries.Entry.{Entry}
@@ -31,10 +32,10 @@ use Rattle.layer_traits.specs.Plans.{Left, Follows, is_in_section}
 use Rattle.layer_traits.specs.BufferLaw.{Buffering, Calling, Doing, Passing, begun_of, buffer_of, entry_of, fifo_plan, going, going_at, still_calling, talk_of}
 use Rattle.cpu.specs.declared.cpus.Choice.TheVariants.{Polls}
 use Rattle.cpu.specs.declared.guests.Guest.{Guest}
-use Rattle.cpu.specs.declared.guests.Stage.{Stage}
-use Rattle.cpu.specs.declared.guests.Stage.TheVariants.{Between, Begun, Done, Ended}
+use Rattle.cpu.specs.declared.guests.GuestStage.{GuestStage}
+use Rattle.cpu.specs.declared.guests.GuestStage.TheVariants.{Between, Begun, Done, Ended}
 use Rattle.cpu.specs.declared.guests.Todo.TheVariants.{Calls}
-use Rattle.cpu.specs.Guests.{FollowsIn, after_answer, entries_of, fresh_effect, had, is_calling, is_ended, polled, stage_after, todo_at, todo_of}
+use Rattle.cpu.specs.Guests.{HasComeIn, after_answer, entries_of, fresh_effect, had, is_calling, is_ended, polled, stage_after, todo_at, todo_of}
 use Rattle.cpu.specs.Cpus.{IsCpu, chosen, doing_of, fresh_at, guest_at, halted_at as cpu_halted, of_cpu, of_thread, reason_in, with_guest}
 use Rattle.cpu.specs.Table.Setups.{Setup, Private, opening as table_opening, opening_buffer, program_of}
 use Rattle.cpu.specs.Table.Steps.{cpu_step, halted_at as table_halted}
@@ -107,8 +108,8 @@ first_trace : (c : CpuId) (t : Tid) (b : BufId) (before after : Option Effect) (
 first_trace c t b before None trace none = append-nil trace ∙ sym (ap (λ o. trace_after c t b o None trace) none)
 first_trace c t b before (Some f) trace none = sym (ap (λ o. trace_after c t b o (Some f) trace) none)
 
-trace_by : (c : CpuId) (t : Tid) (b : BufId) (trace : List Entry) (stage : Stage) (program : List Instruction) (s : State) (es : List Entry)
-    (begun : Option Call) (effect before after : Option Effect) → FollowsIn stage program s es begun effect → before ≡ had begun effect
+trace_by : (c : CpuId) (t : Tid) (b : BufId) (trace : List Entry) (stage : GuestStage) (program : List Instruction) (s : State) (es : List Entry)
+    (begun : Option Call) (effect before after : Option Effect) → HasComeIn stage program s es begun effect → before ≡ had begun effect
     → trace ++ entries_of c t b (fresh_effect stage after) ≡ trace_after c t b before after trace
 trace_by c t b trace Between program s es begun effect before after follows is =
     first_trace c t b before after trace (is ∙ ap (λ o. had o effect) follows.0)
@@ -197,7 +198,7 @@ module _ (homes : List CpuId) (caps : List ℕ) (buffers : ℕ) (seen : List Ent
     in_guests : t.0 < length (states guests)
     in_guests = subst (λ n. t.0 < n) (sym (states_long guests)) (guest_within guests t.0 g polls.at)
 
-    follows_g : FollowsIn g.stage g.program g.thread (of_thread t.0 (of_cpu number seen)) (begun_of talk) talk.effect
+    follows_g : HasComeIn g.stage g.program g.thread (of_thread t.0 (of_cpu number seen)) (begun_of talk) talk.effect
     follows_g = (is.follow t g polls.at).1
 
     going_so : (talk.stage ≡ at_stage.Between → ⊥) → IsGoing own (states guests) t c

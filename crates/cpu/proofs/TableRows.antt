@@ -1,5 +1,6 @@
 -- A CPU and the table's private state agree on each thread, and on why the CPU is halted.
-use Rattle.std.proofs.Common.{◌≡◌, ◌≢◌, ◌⊎◌, inl, inr, ℕ, zero, suc, ◌+◌, ◌<◌, ◌==◌, Bool, true, false, not, ◌&&◌, List, [], ◌∷◌, length, map, cond, get_or, Option, Some, None, is_some, option_map, slice_get, if◌then◌else◌, refl, ap, sym, ◌∙◌, subst, arith}
+use Rattle.std.proofs.Common.{◌≡◌, ◌≢◌, ◌⊎◌, inl, inr, ℕ, zero, suc, ◌+◌, ◌<◌, ◌==◌, Bool, true, false, not, ◌&&◌, List, [], ◌∷◌, length, map}
+use Rattle.std.proofs.Common.{cond, get_or, Option, Some, None, is_some, option_map, slice_get, if◌then◌else◌, refl, ap, sym, ◌∙◌, subst, arith}
 use Rattle.std.proofs.lemmas.List.Sums.{sum_by-cons}
 use Rattle.std.specs.List.{list_all}
 use Rattle.event_log.specs.declared.entries.Entry.{Entry}
@@ -22,13 +23,15 @@ use Rattle.layer_traits.specs.LockLaw.{slept_for}
 use Rattle.layer_traits.specs.Places.{home_of}
 use Rattle.layer_traits.specs.BufferLaw.{Buffering, Doing, begun_of, talk_of}
 use Rattle.cpu.specs.declared.guests.Guest.{Guest}
-use Rattle.cpu.specs.declared.guests.Stage.{Stage}
-use Rattle.cpu.specs.declared.guests.Stage.TheVariants.{Between, Begun, Done, Ended}
+use Rattle.cpu.specs.declared.guests.GuestStage.{GuestStage}
+use Rattle.cpu.specs.declared.guests.GuestStage.TheVariants.{Between, Begun, Done, Ended}
 use Rattle.cpu.specs.declared.guests.Todo.{Todo}
 use Rattle.cpu.specs.declared.guests.Todo.TheVariants.{Finish, PassOn, Compute, Calls}
-use Rattle.cpu.specs.Guests.{Follows, FollowsIn, is_begun, is_calling, is_ended, todo_at, todo_of}
-use Rattle.cpu.specs.Cpus.{IsCpu, begins, begins_at, begun_count, chosen_at, chosen_by, chosen_for, chosen_idle, chosen_todo, guest_at, halted_at as cpu_halted, is_begun_guest, is_over, of_cpu, of_thread}
-use Rattle.cpu.specs.Table.Setups.{Setup, Call as TableCall, Private, Thread, have_ended, home_threads, home_threads_from, is_open_call, open_calls, program_of, stands_at, thread_at}
+use Rattle.cpu.specs.Guests.{HasCome, HasComeIn, is_begun, is_calling, is_ended, todo_at, todo_of}
+use Rattle.cpu.specs.Cpus.{IsCpu, begins, begins_at, begun_count, chosen_at, chosen_by, chosen_for, chosen_idle}
+use Rattle.cpu.specs.Cpus.{chosen_todo, guest_at, halted_at as cpu_halted, is_begun_guest, is_over, of_cpu, of_thread}
+use Rattle.cpu.specs.Table.Setups.{Setup, Call as TableCall, Private, Thread, have_ended, home_threads}
+use Rattle.cpu.specs.Table.Setups.{home_threads_from, is_open_call, open_calls, program_of, stands_at, thread_at}
 use Rattle.cpu.specs.Table.Choice.{Choice, Halts, Goes, Alone, at_call, at_current, at_hand, at_instruction, at_ready}
 use Rattle.cpu.specs.Table.Steps.{halted_at as table_halted, halted_by}
 use Rattle.cpu.specs.Tower.Views.{TowerBlock}
@@ -126,8 +129,8 @@ has_none None = true
 has_none (Some op) = false
 
 -- whether a call is open, by what its talk says
-open_is : (stage : Stage) (program : List Instruction) (s : State) (es : List Entry) (begun : Option Call) (effect : Option Effect) (f : Call → TableCall)
-    → ((c : Call) → (f c).effect ≡ option_map (λ (x : Effect). x.op) effect) → FollowsIn stage program s es begun effect
+open_is : (stage : GuestStage) (program : List Instruction) (s : State) (es : List Entry) (begun : Option Call) (effect : Option Effect) (f : Call → TableCall)
+    → ((c : Call) → (f c).effect ≡ option_map (λ (x : Effect). x.op) effect) → HasComeIn stage program s es begun effect
     → is_open_call (option_map f begun) ≡ is_begun stage
 open_is Between program s es begun effect f had follows = ap (λ o. is_open_call (option_map f o)) follows.0
 open_is Begun program s es begun effect f had follows =
@@ -137,8 +140,8 @@ open_is Done program s es begun effect f had follows =
 open_is Ended program s es begun effect f had follows = ap (λ o. is_open_call (option_map f o)) follows.0
 
 -- whether there is a call at all
-pub call_is : (stage : Stage) (program : List Instruction) (s : State) (es : List Entry) (begun : Option Call) (effect : Option Effect)
-    → FollowsIn stage program s es begun effect → is_some begun ≡ is_calling stage
+pub call_is : (stage : GuestStage) (program : List Instruction) (s : State) (es : List Entry) (begun : Option Call) (effect : Option Effect)
+    → HasComeIn stage program s es begun effect → is_some begun ≡ is_calling stage
 call_is Between program s es begun effect follows = ap is_some follows.0
 call_is Begun program s es begun effect follows = ap is_some follows.2
 call_is Done program s es begun effect follows = ap is_some follows.3
@@ -166,7 +169,7 @@ module _ (homes : List CpuId) (caps : List ℕ) (buffers : ℕ) (seen : List Ent
       thread_here own (states guests) trace t within ∙ ap (thread_of own t) (states_at guests t.0 g at _)
 
   abbrev follows_at : (t : Tid) (g : Guest) → guest_at guests t.0 ≡ Some g
-      → FollowsIn g.stage g.program g.thread (of_thread t.0 (of_cpu number seen)) (begun_of (talk_of own.talks t)) (talk_of own.talks t).effect
+      → HasComeIn g.stage g.program g.thread (of_thread t.0 (of_cpu number seen)) (begun_of (talk_of own.talks t)) (talk_of own.talks t).effect
   follows_at t g at = (is.follow t g at).1
 
   open_at : (t : Tid) (g : Guest) → guest_at guests t.0 ≡ Some g → is_open_call (thread_at p t).call ≡ is_begun g.stage

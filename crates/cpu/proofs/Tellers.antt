@@ -26,7 +26,8 @@ inside_within n acts c rest known inside = go (cases_lt c.0 n)
     go (inl within) = within
     go (inr past) = let resting : is_in_section (phase c acts) ≡ false = ap is_in_section (rest past known) in absurd (cc (resting, inside))
 
-module _ {P X N : Type 0} (part : X → P) (number : X → CpuId) (Fits : P → Type 0) (cpu_of : P → CpuId) (IsStepwise : Type 0) (acts : List (Action N)) (cpus : List X)
+module _ {P X N : Type 0} (part : X → P) (number : X → CpuId) (Fits : P → Type 0) (cpu_of : P → CpuId)
+    (IsStepwise : Type 0) (acts : List (Action N)) (cpus : List X)
     (each : (k : ℕ) (x : X) → slice_get cpus k ≡ Some x → (number x ≡ cpu_at k) × Fits (part x) × (cpu_of (part x) ≡ number x))
     (rest : IsStepwise → (c : CpuId) → length cpus ≤ c.0 → c.0 < CPUS → phase c acts ≡ Rests) where
   -- what a CPU has in its hands, some part of the system's tells
@@ -48,7 +49,8 @@ module _ {P X N : Type 0} (part : X → P) (number : X → CpuId) (Fits : P → 
       let is = each tells.cpu.0 there.0 there.1 in
       tells.has (part there.0) (is.2 ∙ is.0) is.1 (silent tells.cpu.0 there.0 there.1)
     where
-      may_within : MayTell (λ d. IsStepwise × (is_in_section (phase d acts) ≡ true)) (home_of homes t) (where_is homes moves t) tells.cpu → tells.cpu.0 < length cpus
+      may_within : MayTell (λ d. IsStepwise × (is_in_section (phase d acts) ≡ true)) (home_of homes t) (where_is homes moves t) tells.cpu
+          → tells.cpu.0 < length cpus
       may_within (inl home) = within t tells.cpu home
       may_within (inr (inl hand)) = let u = hand_home homes moves t tells.cpu moved hand in within u.0 tells.cpu u.1
       may_within (inr (inr inside)) = inside_within (length cpus) acts tells.cpu (rest inside.1.0 tells.cpu) inside.0 inside.1.1

@@ -9,7 +9,7 @@ use Rattle.layer_traits.specs.Places.{Threads, at_boot, home_of}
 use Rattle.layer_traits.specs.BufferLaw.{Buffering, Doing, buffering_at_start, quiet}
 use Rattle.cpu.specs.declared.guests.Guest.{Guest}
 use Rattle.cpu.specs.Guests.{new_guest}
-use Rattle.boot.specs.Plan.{Plan, Task}
+use Rattle.boot.specs.Plan.{BootPlan, Task}
 use Rattle.cpu.specs.Claims.{listed}
 use Rattle.cpu.specs.Cpus.{NamesBelow, guest_at}
 
@@ -36,7 +36,8 @@ pub record IsBooted (number : CpuId) (guests : List (Option Guest)) (most : ℕ)
   pub reserved : most ≤ capacity
 
 -- and its part of the layer is as at boot, and fits each machine that is fresh
-pub record IsBootedAs {P M : Type 0} (Fits : P → M → Type 0) (IsFresh : M → CpuId → Type 0) (count : M → ℕ) (IsStepwise : Type 0) (buffers : ℕ) (homes : List CpuId)
+pub record IsBootedAs {P M : Type 0} (Fits : P → M → Type 0) (IsFresh : M → CpuId → Type 0)
+    (count : M → ℕ) (IsStepwise : Type 0) (buffers : ℕ) (homes : List CpuId)
     (k : ℕ) (guests : List (Option Guest)) (most : ℕ) (part : P) (cpu : CpuId) (own : Buffering) (threads : Threads) (talks : List Talk) (doing : Option Doing)
     (its : CpuId) (table : List (Option Guest)) (trace : List Entry) (limit capacity : ℕ) : Type 0 where
   pub booted : IsBooted (record { 0 = k }) guests most its table trace limit capacity
@@ -52,13 +53,13 @@ abbrev pub guest_for : ℕ → Task → Option Guest
 guest_for c task = if task.home == c then Some (new_guest task.program) else None
 
 -- the guests of CPU c
-abbrev pub guests_for : Plan → ℕ → List (Option Guest)
+abbrev pub guests_for : BootPlan → ℕ → List (Option Guest)
 guests_for plan c = map (guest_for c) plan.tasks
 
 -- the guests of all CPUs
-abbrev pub tables_for : Plan → List (List (Option Guest))
+abbrev pub tables_for : BootPlan → List (List (Option Guest))
 tables_for plan = listed (guests_for plan) 0 plan.cpus
 
 -- the home of each thread
-abbrev pub homes_for : Plan → List CpuId
+abbrev pub homes_for : BootPlan → List CpuId
 homes_for plan = map (λ task. record { 0 = task.home }) plan.tasks

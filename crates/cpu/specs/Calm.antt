@@ -1,10 +1,10 @@
--- When a CPU of a system is calm, and that no trace is longer than there is room for.
-use Rattle.std.specs.Prelude.{◌≡◌, ℕ, ◌≤◌, Bool, true, false, not, ◌&&◌, List, [], ◌∷◌, length, Option, Some, None, is_some, slice_get}
+-- When a CPU of a system is calm, when a system is quiet, and that no trace is longer than there is room for.
+use Rattle.std.specs.Prelude.{◌≡◌, ℕ, ◌<◌, ◌≤◌, Bool, true, false, not, ◌&&◌, List, [], ◌∷◌, length, Option, Some, None, is_some, slice_get}
 use Rattle.event_log.specs.declared.ids.CpuId.{CpuId}
 use Rattle.event_log.specs.declared.ids.Tid.{Tid}
 use Rattle.layer_traits.specs.declared.steps.Reason.{Reason}
 use Rattle.layer_traits.specs.declared.steps.Reason.TheVariants.{AllEnded, TraceFull, StepsUsed}
-use Rattle.layer_traits.specs.Places.{Threads}
+use Rattle.layer_traits.specs.Places.{Threads, pending_by}
 use Rattle.cpu.specs.Claims.{CpuShown, Shown}
 use Rattle.cpu.specs.Systems.{own_reason}
 
@@ -32,6 +32,15 @@ is_calm (Some p) = calm_by (own_reason p) p.busy p.own
 -- whether CPU c is calm
 abbrev pub calm_in : CpuId → Shown → Bool
 calm_in c s = is_calm (slice_get s.cpus c.0)
+
+-- all pending queues of the CPUs are empty
+abbrev pub AllQueuesEmpty : Shown → Type 0
+AllQueuesEmpty s = (c : CpuId) → c.0 < length s.cpus → pending_by s.moves c ≡ []
+
+-- a system is quiet: each CPU is calm, and all pending queues are empty
+pub record IsQuiet (s : Shown) : Type 0 where
+  pub calm : (c : CpuId) → c.0 < length s.cpus → calm_in c s ≡ true
+  pub pending : AllQueuesEmpty s
 
 -- no CPU's trace has more entries than there is room for
 abbrev pub TracesFit : Shown → Type 0

@@ -1,5 +1,5 @@
 -- What a system shows, and what holds of it after every list of steps.
-use Rattle.std.specs.Prelude.{◌≡◌, ◌⊎◌, ℕ, zero, suc, ◌+◌, Bool, true, List, [], ◌∷◌, map, length, Option, Some, None, slice_get, slice_index_or}
+use Rattle.std.specs.Prelude.{◌≡◌, ◌⊎◌, ℕ, zero, suc, ◌+◌, ◌<◌, Bool, true, List, [], ◌∷◌, map, length, Option, Some, None, slice_get, slice_index_or}
 use Rattle.std.specs.List.{AllByRecursion}
 use Rattle.event_log.specs.declared.entries.Entry.{Entry}
 use Rattle.event_log.specs.declared.ids.BufId.{BufId}
@@ -17,7 +17,7 @@ use Rattle.layer_traits.specs.declared.moves.Line.TheVariants.{Sleepers, Receive
 use Rattle.layer_traits.specs.BufferEffects.{contents_of}
 use Rattle.layer_traits.specs.BufferLaw.{Buffering}
 use Rattle.layer_traits.specs.OnePlace.{StandsOnce as InOnePlace, total}
-use Rattle.layer_traits.specs.Places.{Step, Threads, count_in, where_is}
+use Rattle.layer_traits.specs.Places.{AreMoves, Stands, Step, Threads, count_in, home_of, where_is}
 use Rattle.layer_traits.specs.Told.{IsOwnPlace, queue_place}
 use Rattle.cpu.specs.declared.guests.Guest.{Guest}
 use Rattle.cpu.specs.Guests.{is_ended}
@@ -156,3 +156,10 @@ StandsOnce s = (t : Tid) → InOnePlace s.homes (length s.cpus) s.moves (own_at 
 abbrev pub IsPlaceOf : Shown → Tid → Place → Type 0
 IsPlaceOf s t place = ((c : ℕ) × (p : CpuShown) × (slice_get s.cpus c ≡ Some p) × IsOwnPlace (record { 0 = c }) p.own t place)
     ⊎ (queue_place (where_is s.homes s.moves t) ≡ Some place)
+
+-- what each CPU has of its own agrees with the moves of threads: each of these may follow those before it, each CPU has the threads that
+-- they leave with it, and each thread is at home on one of the CPUs
+pub record MovesAgree (s : Shown) : Type 0 where
+  pub lawful : AreMoves s.homes s.moves
+  pub stands : (k : ℕ) (p : CpuShown) → slice_get s.cpus k ≡ Some p → Stands s.homes (record { 0 = k }) s.moves p.own
+  pub within : (t : Tid) (home : CpuId) → home_of s.homes t ≡ Some home → home.0 < length s.cpus

@@ -1,6 +1,7 @@
 -- One CPU over a layer of message calls: what it does next, why it is halted, and what always holds of it. Lists of entries are
 -- newest first; a trace is oldest first.
-use Rattle.std.specs.Prelude.{◌≡◌, ℕ, ◌+◌, ◌≤◌, ◌==◌, Bool, true, false, not, ◌&&◌, List, [], ◌∷◌, ◌++◌, length, map, filter, count_by, reverse, Option, Some, None, is_some, option_map, slice_index_or, slice_set, if◌then◌else◌}
+use Rattle.std.specs.Prelude.{◌≡◌, ℕ, ◌+◌, ◌≤◌, ◌==◌, Bool, true, false, not, ◌&&◌, List, [], ◌∷◌, ◌++◌, length, map, filter}
+use Rattle.std.specs.Prelude.{count_by, reverse, Option, Some, None, is_some, option_map, slice_index_or, slice_set, if◌then◌else◌}
 use Rattle.std.specs.List.{AllByRecursion, list_all}
 use Rattle.event_log.specs.declared.entries.Entry.{Entry}
 use Rattle.event_log.specs.declared.ids.CpuId.{CpuId}
@@ -26,7 +27,7 @@ use Rattle.cpu.specs.declared.guests.Todo.{Todo}
 use Rattle.cpu.specs.declared.guests.Todo.TheVariants.{Finish, PassOn, Compute, Calls}
 use Rattle.cpu.specs.declared.cpus.Choice.{Choice}
 use Rattle.cpu.specs.declared.cpus.Choice.TheVariants.{Polls, Passes, Computes}
-use Rattle.cpu.specs.Guests.{Follows, after_pass, fresh_effect, is_begun, is_calling, is_ended, todo_of}
+use Rattle.cpu.specs.Guests.{HasCome, after_pass, fresh_effect, is_begun, is_calling, is_ended, todo_of}
 
 -- the guest of a thread, in a table by thread
 abbrev pub guest_at : List (Option Guest) → ℕ → Option Guest
@@ -138,7 +139,7 @@ programs_of guests = map (λ g. option_map (λ x. x.program) g) guests
 
 -- each guest agrees with its entries and its talk
 abbrev pub AllFollow : List (Option Guest) → List Entry → List Talk → Type 0
-AllFollow guests es talks = (t : Tid) (g : Guest) → guest_at guests t.0 ≡ Some g → Follows g (of_thread t.0 es) (talk_of talks t)
+AllFollow guests es talks = (t : Tid) (g : Guest) → guest_at guests t.0 ≡ Some g → HasCome g (of_thread t.0 es) (talk_of talks t)
 
 -- the guests of the threads that have ended are at their end
 abbrev pub AreOver : List (Option Guest) → List Tid → Type 0

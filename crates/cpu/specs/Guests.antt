@@ -1,4 +1,4 @@
--- A thread's guest: what it does next, what a poll of its call makes of it, and how its private state follows its entries. Lists of
+-- A thread's guest: what it does next, what a poll of its call makes of it, and how its entries led to its private state. Lists of
 -- entries are newest first.
 use Rattle.std.specs.Prelude.{◌≡◌, Bool, true, false, List, Option, Some, None, option_map, option_to_list}
 use Rattle.event_log.specs.declared.entries.Entry.{Entry}
@@ -21,8 +21,8 @@ use Rattle.layer_traits.specs.declared.talks.Talk.{Talk}
 use Rattle.layer_traits.specs.declared.talks.Stage.TheVariants as talk_stage
 use Rattle.layer_traits.specs.BufferLaw.{IsEffectOf, begun_of, entry_of}
 use Rattle.cpu.specs.declared.guests.Guest.{Guest}
-use Rattle.cpu.specs.declared.guests.Stage.{Stage}
-use Rattle.cpu.specs.declared.guests.Stage.TheVariants.{Between, Begun, Done, Ended}
+use Rattle.cpu.specs.declared.guests.GuestStage.{GuestStage}
+use Rattle.cpu.specs.declared.guests.GuestStage.TheVariants.{Between, Begun, Done, Ended}
 use Rattle.cpu.specs.declared.guests.Todo.{Todo}
 use Rattle.cpu.specs.declared.guests.Todo.TheVariants.{Finish, PassOn, Compute, Calls}
 
@@ -66,14 +66,14 @@ after_pass (MakeReady t) g = g
 after_pass End g = ended g
 
 -- the effect that came in a poll, after which the thread's talk has this one: a call whose effect has come has no other
-abbrev pub fresh_effect : Stage → Option Effect → Option Effect
+abbrev pub fresh_effect : GuestStage → Option Effect → Option Effect
 fresh_effect Between effect = effect
 fresh_effect Begun effect = effect
 fresh_effect Done effect = None
 fresh_effect Ended effect = effect
 
 -- the stage after a poll of the call
-abbrev pub stage_after : Option Effect → Option Reply → Stage
+abbrev pub stage_after : Option Effect → Option Reply → GuestStage
 stage_after effect (Some reply) = Between
 stage_after (Some f) None = Done
 stage_after None None = Begun
@@ -104,22 +104,23 @@ after_effect (ins.Add r q) f s = s
 after_effect (ins.Sub r q) f s = s
 after_effect (ins.Jnz r k) f s = s
 
--- a guest follows its entries, by its stage: before its effect they lead to its state; after it, to the state after the effect
-abbrev pub FollowsIn : Stage → List Instruction → State → List Entry → Option Call → Option Effect → Type 0
-FollowsIn Between program s es begun effect = (begun ≡ None) × IsProgramsCalls program es s
-FollowsIn Begun program s es begun effect = (c : Call) × (todo_at s (next_of program s) ≡ Calls c) × (begun ≡ Some c)
+-- a guest has come by its entries to where it stands, by its stage: before its effect they lead to its state; after it, to the state
+-- after the effect
+abbrev pub HasComeIn : GuestStage → List Instruction → State → List Entry → Option Call → Option Effect → Type 0
+HasComeIn Between program s es begun effect = (begun ≡ None) × IsProgramsCalls program es s
+HasComeIn Begun program s es begun effect = (c : Call) × (todo_at s (next_of program s) ≡ Calls c) × (begun ≡ Some c)
     × (effect ≡ None) × IsProgramsCalls program es s
-FollowsIn Done program s es begun effect = (c : Call) × (f : Effect) × (todo_at s (next_of program s) ≡ Calls c) × (begun ≡ Some c)
+HasComeIn Done program s es begun effect = (c : Call) × (f : Effect) × (todo_at s (next_of program s) ≡ Calls c) × (begun ≡ Some c)
     × (effect ≡ Some f) × IsEffectOf c f × IsProgramsCalls program es (after_effect (next_of program s) f s)
-FollowsIn Ended program s es begun effect = (begun ≡ None) × IsProgramsCalls program es s × HasEnded program s
+HasComeIn Ended program s es begun effect = (begun ≡ None) × IsProgramsCalls program es s × HasEnded program s
 
 -- a talk in no call is between calls
 abbrev pub IsSettled : Talk → Type 0
 IsSettled talk = begun_of talk ≡ None → talk.stage ≡ talk_stage.Between
 
 -- a guest, its entries and its talk agree
-abbrev pub Follows : Guest → List Entry → Talk → Type 0
-Follows g es talk = IsSettled talk × FollowsIn g.stage g.program g.thread es (begun_of talk) talk.effect
+abbrev pub HasCome : Guest → List Entry → Talk → Type 0
+HasCome g es talk = IsSettled talk × HasComeIn g.stage g.program g.thread es (begun_of talk) talk.effect
 
 -- the effect that a call has had: one that begins now has had none
 abbrev pub had : Option Call → Option Effect → Option Effect
@@ -131,21 +132,21 @@ abbrev pub entries_of : CpuId → Tid → BufId → Option Effect → List Entry
 entries_of cpu t b effect = option_to_list (option_map (entry_of cpu t b) effect)
 
 -- whether a stage is that of a call without an effect
-abbrev pub is_begun : Stage → Bool
+abbrev pub is_begun : GuestStage → Bool
 is_begun Between = false
 is_begun Begun = true
 is_begun Done = false
 is_begun Ended = false
 
 -- whether a stage is the last one
-abbrev pub is_ended : Stage → Bool
+abbrev pub is_ended : GuestStage → Bool
 is_ended Between = false
 is_ended Begun = false
 is_ended Done = false
 is_ended Ended = true
 
 -- whether a stage is inside a call
-abbrev pub is_calling : Stage → Bool
+abbrev pub is_calling : GuestStage → Bool
 is_calling Between = false
 is_calling Begun = true
 is_calling Done = true

@@ -5,6 +5,8 @@ pub mod Cpus
 pub mod Tower
 pub mod Claims
 pub mod Systems
+pub mod Sound
+pub mod Told
 pub mod Calm
 pub mod Boots
 pub mod Tables

@@ -54,7 +54,7 @@ pub record IsAt {X : Type 0} (IsOne : X → Type 0) (number : X → CpuId) (k : 
 
 -- what always holds of a machine and its CPUs
 pub record IsSystem {X N : Type 0} (IsOne : X → Type 0) (number : X → CpuId) (ActsFor : CpuId → Type 0) (IsStepwise : Type 0) (acts : List (Action N))
-    (cpus : List X) (homes : List CpuId) (seen : List Entry) (room taken left : ℕ) : Type 0 where
+    (cpus : List X) (homes : List CpuId) (seen : List Entry) (room taken left : ℕ) (Sound : Type 0) : Type 0 where
   -- each CPU is numbered by its place, and is as it is to be; there is one, and no more than a machine may have
   pub each : (k : ℕ) (x : X) → slice_get cpus k ≡ Some x → IsAt IsOne number k x
   pub some : 0 < length cpus
@@ -69,6 +69,8 @@ pub record IsSystem {X N : Type 0} (IsOne : X → Type 0) (number : X → CpuId)
   pub used : taken ≤ room
   pub small : room < 2 ^ 64
   pub enough : room ≤ taken + left
+  -- and what the step table says of it
+  pub sound : Sound
 
 -- a system as the step table has it
 abbrev pub whole_of : Shown → Whole

@@ -6,7 +6,7 @@ ghost use Rattle.layer_traits.specs.BufferLaw.{buffer_of, entry_of};
 ghost use Rattle.cpu.specs.Guests.{computed, entries_of, polled};
 ghost use Rattle.cpu.specs.Cpus.{begins_at, begun_count, chosen_for, fresh_at, guest_at, is_begun_guest, is_over, passed_by, with_guest};
 
-use crate::guests::{Guest, Stage, Todo};
+use crate::guests::{Guest, GuestStage, Todo};
 use event_log::{CpuId, Entry, Tid};
 use layer_traits::{Call, Effect, IpcLayer, Pass, Reason, Reply, Step};
 
@@ -47,6 +47,7 @@ impl<I: IpcLayer> Cpu<I> {
     ghost use Rattle.cpu.specs.Cpus.{ActsGrow, IsCpu, SeenGrows, chosen, halted_at, programs_of, reason_in, step_answer};
 
     /// What the CPU does next, where it is not halted.
+    #[inline(always)]
     fn choice(&self) -> Choice
         requires { (t : _) → (I.threads self.now.part).current ≡ Some t → t.0 < length self.now.guests.items }
         ensures { result ≡ chosen (I.threads self.now.part) self.now.guests.items }
@@ -62,13 +63,30 @@ impl<I: IpcLayer> Cpu<I> {
         }
     }
 
+    /// Whether a thread runs whose guest has not ended: the cheap reason why not all have.
+    #[inline(always)]
+    fn goes_on(&self) -> bool
+        requires { (t : _) → (I.threads self.now.part).current ≡ Some t → t.0 < length self.now.guests.items }
+        ensures { result ≡ true → list_all is_over self.now.guests.items ≡ false }
+    {
+        match self.part.current() {
+            Some(thread) => !is_over(&self.guests[usize::from(thread.0)]),
+            None => false,
+        }
+    }
+
     /// Why the CPU takes no step where no section is under way: `AllEnded` or `TraceFull`.
+    #[inline(always)]
     pub fn halted(&self) -> Option<Reason>
         requires { (t : _) → (I.threads self.now.part).current ≡ Some t → t.0 < length self.now.guests.items }
         ensures { result ≡ halted_at (I.threads self.now.part) self.now.guests.items self.now.trace.items self.now.limit }
     {
-        if self.part.hand().is_none() && are_over(&self.guests) {
+        if self.part.hand().is_none() && !self.goes_on() && are_over(&self.guests) {
             return Some(Reason::AllEnded);
+        }
+        // No more calls have begun than there are guests: far from the limit nothing has to be counted.
+        if self.trace.len() + self.guests.len() < self.limit {
+            return None;
         }
         if let Choice::Polls(thread, _) = self.choice() {
             let begins = is_between(&self.guests[usize::from(thread.0)]);
@@ -82,6 +100,7 @@ impl<I: IpcLayer> Cpu<I> {
     /// Why the CPU takes no step: `AllEnded` where each of its threads has ended, and `TraceFull`
     /// where its trace has no room for the call that its thread is about to begin. Neither comes
     /// while a section is under way.
+    #[inline(always)]
     pub fn reason(&self) -> Option<Reason>
         requires { (t : _) → (I.threads self.now.part).current ≡ Some t → t.0 < length self.now.guests.items }
         ensures { result
@@ -101,13 +120,15 @@ impl<I: IpcLayer> Cpu<I> {
     }
 
     /// Polls this message call of the thread that runs.
+    #[inline(always)]
     fn call(&mut self, m: &mut I::Machine, thread: Tid, call: Call)
         requires fits { I.Fits self.old.part m.old }
         requires room { 0 < I.room m.old }
         requires number { I.cpu_of self.old.part ≡ self.old.number }
         requires is { IsCpu (I.homes_of m.old) (length (I.caps m.old)) (I.seen m.old) (I.threads self.old.part) (I.talks self.old.part)
             (I.doing self.old.part) self.old.number self.old.guests.items self.old.trace.items self.old.limit (vec_capacity self.old.trace) }
-        requires live { reason_in (I.is_inside self.old.part) (halted_at (I.threads self.old.part) self.old.guests.items self.old.trace.items self.old.limit) ≡ None }
+        requires live { reason_in (I.is_inside self.old.part) (halted_at (I.threads self.old.part) self.old.guests.items self.old.trace.items self.old.limit)
+            ≡ None }
         requires chosen { chosen (I.threads self.old.part) self.old.guests.items ≡ Polls thread call }
         requires not_full { begins_at (guest_at self.old.guests.items thread.0) ≡ true
             → length self.old.trace.items + begun_count self.old.guests.items < self.old.limit }
@@ -143,13 +164,15 @@ impl<I: IpcLayer> Cpu<I> {
     }
 
     /// Polls this pass from thread to thread.
+    #[inline(always)]
     fn pass(&mut self, m: &mut I::Machine, pass: Pass)
         requires fits { I.Fits self.old.part m.old }
         requires room { 0 < I.room m.old }
         requires number { I.cpu_of self.old.part ≡ self.old.number }
         requires is { IsCpu (I.homes_of m.old) (length (I.caps m.old)) (I.seen m.old) (I.threads self.old.part) (I.talks self.old.part)
             (I.doing self.old.part) self.old.number self.old.guests.items self.old.trace.items self.old.limit (vec_capacity self.old.trace) }
-        requires live { reason_in (I.is_inside self.old.part) (halted_at (I.threads self.old.part) self.old.guests.items self.old.trace.items self.old.limit) ≡ None }
+        requires live { reason_in (I.is_inside self.old.part) (halted_at (I.threads self.old.part) self.old.guests.items self.old.trace.items self.old.limit)
+            ≡ None }
         requires chosen { chosen (I.threads self.old.part) self.old.guests.items ≡ Passes pass }
         requires table { I.IsStepwise → IsTabled (I.homes_of m.old) (I.caps m.old) self.old.number (I.own self.old.part)
             (I.doing self.old.part) self.old.guests.items (I.opening m.old) }
@@ -184,13 +207,15 @@ impl<I: IpcLayer> Cpu<I> {
     }
 
     /// Lets this thread, which runs, do an instruction of its own.
+    #[inline(always)]
     fn compute(&mut self, m: &mut I::Machine, thread: Tid)
         requires fits { I.Fits self.old.part m.old }
         requires room { 0 < I.room m.old }
         requires number { I.cpu_of self.old.part ≡ self.old.number }
         requires is { IsCpu (I.homes_of m.old) (length (I.caps m.old)) (I.seen m.old) (I.threads self.old.part) (I.talks self.old.part)
             (I.doing self.old.part) self.old.number self.old.guests.items self.old.trace.items self.old.limit (vec_capacity self.old.trace) }
-        requires live { reason_in (I.is_inside self.old.part) (halted_at (I.threads self.old.part) self.old.guests.items self.old.trace.items self.old.limit) ≡ None }
+        requires live { reason_in (I.is_inside self.old.part) (halted_at (I.threads self.old.part) self.old.guests.items self.old.trace.items self.old.limit)
+            ≡ None }
         requires chosen { chosen (I.threads self.old.part) self.old.guests.items ≡ Computes thread }
         requires table { I.IsStepwise → IsTabled (I.homes_of m.old) (I.caps m.old) self.old.number (I.own self.old.part)
             (I.doing self.old.part) self.old.guests.items (I.opening m.old) }
@@ -221,10 +246,54 @@ impl<I: IpcLayer> Cpu<I> {
         let _ = m;
     }
 
+    /// The step of a CPU that is not halted and asks for no further look at a lock: one local action
+    /// or one atomic action.
+    #[inline(always)]
+    pub(crate) fn go(&mut self, m: &mut I::Machine)
+        requires fits { I.Fits self.old.part m.old }
+        requires room { 0 < I.room m.old }
+        requires number { I.cpu_of self.old.part ≡ self.old.number }
+        requires is { IsCpu (I.homes_of m.old) (length (I.caps m.old)) (I.seen m.old) (I.threads self.old.part) (I.talks self.old.part)
+            (I.doing self.old.part) self.old.number self.old.guests.items self.old.trace.items self.old.limit (vec_capacity self.old.trace) }
+        requires live { reason_in (I.is_inside self.old.part) (halted_at (I.threads self.old.part) self.old.guests.items self.old.trace.items self.old.limit)
+            ≡ None }
+        requires table { I.IsStepwise → IsTabled (I.homes_of m.old) (I.caps m.old) self.old.number (I.own self.old.part)
+            (I.doing self.old.part) self.old.guests.items (I.opening m.old) }
+        ensures fits { I.Fits self.new.part m.new }
+        ensures is { IsCpu (I.homes_of m.new) (length (I.caps m.new)) (I.seen m.new) (I.threads self.new.part) (I.talks self.new.part)
+            (I.doing self.new.part) self.new.number self.new.guests.items self.new.trace.items self.new.limit (vec_capacity self.new.trace) }
+        ensures number { self.new.number ≡ self.old.number }
+        ensures limit { self.new.limit ≡ self.old.limit }
+        ensures cpu { I.cpu_of self.new.part ≡ self.old.number }
+        ensures programs { programs_of self.new.guests.items ≡ programs_of self.old.guests.items }
+        ensures seen { SeenGrows (I.ActsFor m.old) self.old.number (I.seen m.old) (I.seen m.new) }
+        ensures moves { MovesGrow (I.ActsFor m.old) self.old.number (I.moves m.old) (I.moves m.new) }
+        ensures grows { I.IsStepwise → ActsGrow (I.ActsFor m.old) self.old.number (I.acts m.old) (I.acts m.new) }
+        ensures opening { I.opening m.new ≡ I.opening m.old }
+        ensures caps { I.caps m.new ≡ I.caps m.old }
+        ensures homes { I.homes_of m.new ≡ I.homes_of m.old }
+        ensures site { I.site m.new ≡ I.site m.old }
+        ensures room { I.room m.old ≤ I.room m.new + 1 }
+        ensures acts { (c : CpuId) → I.ActsFor m.old c → I.ActsFor m.new c }
+        ensures others { (p : I) → I.cpu_of p ≢ self.old.number → I.Fits p m.old → I.Fits p m.new }
+        ensures table { I.IsStepwise → IsTabled (I.homes_of m.new) (I.caps m.new) self.new.number (I.own self.new.part)
+            (I.doing self.new.part) self.new.guests.items (I.opening m.new) }
+        ensures steps { I.IsStepwise → WentByTable (I.ActsFor m.old) (I.homes_of m.old) (I.caps m.old) self.old.number self.old.limit
+            (I.own self.old.part) (I.own self.new.part) self.old.guests.items self.new.guests.items self.old.trace.items self.new.trace.items
+            (I.acts m.old) (I.acts m.new) Stepped }
+    {
+        match self.choice() {
+            Choice::Polls(thread, call) => self.call(m, thread, call),
+            Choice::Passes(pass) => self.pass(m, pass),
+            Choice::Computes(thread) => self.compute(m, thread),
+        }
+    }
+
     /// One step of the CPU that asks for no further look at a lock: one local action or one atomic
     /// action. `Halted` where it took none, and then nothing changed: `AllEnded` where each home
     /// thread of the CPU has ended, `TraceFull` where its thread is about to begin a call that its
     /// trace has no room for.
+    #[inline(always)]
     pub fn act(&mut self, m: &mut I::Machine) -> Step
         requires fits { I.Fits self.old.part m.old }
         requires room { 0 < I.room m.old }
@@ -250,7 +319,8 @@ impl<I: IpcLayer> Cpu<I> {
         ensures room { I.room m.old ≤ I.room m.new + 1 }
         ensures acts { (c : CpuId) → I.ActsFor m.old c → I.ActsFor m.new c }
         ensures others { (p : I) → I.cpu_of p ≢ self.old.number → I.Fits p m.old → I.Fits p m.new }
-        ensures answer { result ≡ step_answer (reason_in (I.is_inside self.old.part) (halted_at (I.threads self.old.part) self.old.guests.items self.old.trace.items self.old.limit)) }
+        ensures answer { result ≡ step_answer (reason_in (I.is_inside self.old.part)
+            (halted_at (I.threads self.old.part) self.old.guests.items self.old.trace.items self.old.limit)) }
         ensures still { (r : Reason) → result ≡ Halted r → (m.new ≡ m.old) × (self.new ≡ self.old) }
         ensures table { I.IsStepwise → IsTabled (I.homes_of m.new) (I.caps m.new) self.new.number (I.own self.new.part)
             (I.doing self.new.part) self.new.guests.items (I.opening m.new) }
@@ -261,16 +331,13 @@ impl<I: IpcLayer> Cpu<I> {
         if let Some(reason) = self.reason() {
             return Step::Halted(reason);
         }
-        match self.choice() {
-            Choice::Polls(thread, call) => self.call(m, thread, call),
-            Choice::Passes(pass) => self.pass(m, pass),
-            Choice::Computes(thread) => self.compute(m, thread),
-        }
+        self.go(m);
         Step::Stepped
     }
 
     /// Looks again for a section that waits at its lock, and tells whether it did. Where it tells
     /// `true` this was the CPU's step; where it tells `false` nothing has changed.
+    #[inline(always)]
     pub fn look(&mut self, m: &mut I::Machine) -> bool
         requires fits { I.Fits self.old.part m.old }
         requires room { 0 < I.room m.old }
@@ -297,7 +364,8 @@ impl<I: IpcLayer> Cpu<I> {
         ensures acts { (c : CpuId) → I.ActsFor m.old c → I.ActsFor m.new c }
         ensures others { (p : I) → I.cpu_of p ≢ self.old.number → I.Fits p m.old → I.Fits p m.new }
         ensures still { result ≡ false → (self.new ≡ self.old) × (m.new ≡ m.old) }
-        ensures live { result ≡ true → reason_in (I.is_inside self.old.part) (halted_at (I.threads self.old.part) self.old.guests.items self.old.trace.items self.old.limit) ≡ None }
+        ensures live { result ≡ true → reason_in (I.is_inside self.old.part)
+            (halted_at (I.threads self.old.part) self.old.guests.items self.old.trace.items self.old.limit) ≡ None }
         ensures table { I.IsStepwise → IsTabled (I.homes_of m.new) (I.caps m.new) self.new.number (I.own self.new.part)
             (I.doing self.new.part) self.new.guests.items (I.opening m.new) }
         ensures steps { I.IsStepwise → result ≡ true → WentByTable (I.ActsFor m.old) (I.homes_of m.old) (I.caps m.old) self.old.number self.old.limit
@@ -336,7 +404,8 @@ impl<I: IpcLayer> Cpu<I> {
         ensures room { I.room m.old ≤ I.room m.new + 1 }
         ensures acts { (c : CpuId) → I.ActsFor m.old c → I.ActsFor m.new c }
         ensures others { (p : I) → I.cpu_of p ≢ self.old.number → I.Fits p m.old → I.Fits p m.new }
-        ensures answer { result ≡ step_answer (reason_in (I.is_inside self.old.part) (halted_at (I.threads self.old.part) self.old.guests.items self.old.trace.items self.old.limit)) }
+        ensures answer { result ≡ step_answer (reason_in (I.is_inside self.old.part)
+            (halted_at (I.threads self.old.part) self.old.guests.items self.old.trace.items self.old.limit)) }
         ensures still { (r : Reason) → result ≡ Halted r → (m.new ≡ m.old) × (self.new ≡ self.old) }
         ensures table { I.IsStepwise → IsTabled (I.homes_of m.new) (I.caps m.new) self.new.number (I.own self.new.part)
             (I.doing self.new.part) self.new.guests.items (I.opening m.new) }
@@ -352,6 +421,7 @@ impl<I: IpcLayer> Cpu<I> {
 }
 
 /// What a CPU does next on which this thread runs, with this woken thread in its hand.
+#[inline(always)]
 fn choice_for(thread: Tid, hand: Option<Tid>, guest: &Option<Guest>) -> Choice
     ensures { result ≡ chosen_for thread hand guest.now }
 {
@@ -372,32 +442,35 @@ fn choice_for(thread: Tid, hand: Option<Tid>, guest: &Option<Guest>) -> Choice
 }
 
 /// Whether the guest is in a call that has had no effect.
+#[inline(always)]
 fn is_begun(guest: &Option<Guest>) -> bool
     ensures { result ≡ is_begun_guest guest.now }
 {
     match guest {
         Some(guest) => match guest.stage {
-            Stage::Begun => true,
-            Stage::Between | Stage::Done | Stage::Ended => false,
+            GuestStage::Begun => true,
+            GuestStage::Between | GuestStage::Done | GuestStage::Ended => false,
         },
         None => false,
     }
 }
 
 /// Whether there is no guest or it has ended.
+#[inline(always)]
 fn is_over(guest: &Option<Guest>) -> bool
     ensures { result ≡ is_over guest.now }
 {
     match guest {
         Some(guest) => match guest.stage {
-            Stage::Ended => true,
-            Stage::Between | Stage::Begun | Stage::Done => false,
+            GuestStage::Ended => true,
+            GuestStage::Between | GuestStage::Begun | GuestStage::Done => false,
         },
         None => true,
     }
 }
 
 /// Whether there is a guest and it is in no call.
+#[inline(always)]
 fn is_between(guest: &Option<Guest>) -> bool
     ensures { result ≡ begins_at guest.now }
 {
@@ -408,6 +481,7 @@ fn is_between(guest: &Option<Guest>) -> bool
 }
 
 /// Whether each of the guests has ended.
+#[inline(always)]
 fn are_over(guests: &[Option<Guest>]) -> bool
     ensures { result ≡ list_all is_over guests.now }
 {
@@ -415,6 +489,7 @@ fn are_over(guests: &[Option<Guest>]) -> bool
 }
 
 /// How many of the guests are in a call that has had no effect.
+#[inline(always)]
 fn count_begun(guests: &[Option<Guest>]) -> usize
     ensures { result ≡ begun_count guests.now }
 {
@@ -428,6 +503,7 @@ fn count_begun(guests: &[Option<Guest>]) -> usize
 }
 
 /// Notes what a poll of a thread's call answered, and gives the effect that it had.
+#[inline(always)]
 fn note_poll(
     guests: &mut Vec<Option<Guest>>,
     thread: Tid,
@@ -449,6 +525,7 @@ fn note_poll(
 }
 
 /// Notes that a pass is done which began while this thread ran.
+#[inline(always)]
 fn note_pass(guests: &mut Vec<Option<Guest>>, runs: Option<Tid>, pass: Pass)
     requires { (t : _) → runs ≡ Some t → t.0 < length guests.old.items }
     ensures { guests.new.items ≡ passed_by runs guests.old.items pass }
@@ -462,6 +539,7 @@ fn note_pass(guests: &mut Vec<Option<Guest>>, runs: Option<Tid>, pass: Pass)
 }
 
 /// Notes that a thread did an instruction of its own.
+#[inline(always)]
 fn note_compute(guests: &mut Vec<Option<Guest>>, thread: Tid)
     requires { thread.0 < length guests.old.items }
     ensures { guests.new.items ≡ with_guest guests.old.items thread.0 computed }
@@ -473,6 +551,7 @@ fn note_compute(guests: &mut Vec<Option<Guest>>, thread: Tid)
 }
 
 /// Writes the entry of a call's effect, where there is one; room for it is reserved.
+#[inline(always)]
 fn note_effect(
     trace: &mut Vec<Entry>,
     cpu: CpuId,
@@ -490,6 +569,7 @@ fn note_effect(
 }
 
 /// Writes an entry, for which room is reserved.
+#[inline(always)]
 fn put_entry(trace: &mut Vec<Entry>, entry: Entry)
     requires { length trace.old.items < vec_capacity trace.old }
     ensures items { trace.new.items ≡ trace.old.items ++ entry ∷ [] }
@@ -499,6 +579,7 @@ fn put_entry(trace: &mut Vec<Entry>, entry: Entry)
 }
 
 /// The entry of an effect of a call.
+#[inline(always)]
 fn entry(cpu: CpuId, thread: Tid, call: &Call, effect: Effect) -> Entry
     ensures { result ≡ entry_of cpu thread (buffer_of call.now) effect }
 {

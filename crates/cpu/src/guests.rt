@@ -7,7 +7,7 @@ use layer_traits::{Call, Effect, Pass, Reply};
 
 /// How a guest stands to its program.
 #[derive(Clone, Copy, Debug, PartialEq, Eq)]
-pub enum Stage {
+pub enum GuestStage {
     /// It stands before an instruction that it has not begun.
     Between,
     /// It has begun the message call at which it stands, and the call has had no effect yet.
@@ -39,7 +39,7 @@ pub struct Guest {
     /// Its line and registers.
     pub thread: Thread,
     /// How it stands to its program.
-    pub stage: Stage,
+    pub stage: GuestStage,
 }
 
 impl Guest {
@@ -52,11 +52,12 @@ impl Guest {
         Guest {
             program,
             thread: Thread::new(),
-            stage: Stage::Between,
+            stage: GuestStage::Between,
         }
     }
 
     /// What the guest does next.
+    #[inline(always)]
     pub fn todo(&self) -> Todo
         ensures { result ≡ todo_of self.now }
     {
@@ -75,16 +76,18 @@ impl Guest {
     }
 
     /// Whether the guest is inside a message call.
+    #[inline(always)]
     pub fn is_calling(&self) -> bool
         ensures { result ≡ is_calling self.now.stage }
     {
         match self.stage {
-            Stage::Between | Stage::Ended => false,
-            Stage::Begun | Stage::Done => true,
+            GuestStage::Between | GuestStage::Ended => false,
+            GuestStage::Begun | GuestStage::Done => true,
         }
     }
 
     /// Does the guest's instruction, which shares nothing.
+    #[inline(always)]
     pub fn compute(&mut self)
         ensures { self.new ≡ computed self.old }
     {
@@ -92,6 +95,7 @@ impl Guest {
     }
 
     /// Moves the guest past its `yield`.
+    #[inline(always)]
     fn pass_on(&mut self)
         ensures { self.new ≡ passed self.old }
     {
@@ -99,13 +103,15 @@ impl Guest {
     }
 
     /// Ends the guest.
+    #[inline(always)]
     fn end(&mut self)
         ensures { self.new ≡ ended self.old }
     {
-        self.stage = Stage::Ended;
+        self.stage = GuestStage::Ended;
     }
 
     /// Notes that a pass is done which began while this guest's thread ran.
+    #[inline(always)]
     pub fn pass(&mut self, pass: Pass)
         ensures { self.new ≡ after_pass pass self.old }
     {
@@ -118,24 +124,26 @@ impl Guest {
 
     /// The effect that a poll of the guest's call had, where `effect` is what the call has had
     /// after it.
+    #[inline(always)]
     pub fn fresh(&self, effect: &Option<Effect>) -> Option<Effect>
         ensures { result ≡ fresh_effect self.now.stage effect.now }
     {
         match self.stage {
-            Stage::Done => None,
-            Stage::Between | Stage::Begun | Stage::Ended => *effect,
+            GuestStage::Done => None,
+            GuestStage::Between | GuestStage::Begun | GuestStage::Ended => *effect,
         }
     }
 
     /// Notes what a poll of the guest's call answered, where `effect` is what the call has had
     /// after it.
+    #[inline(always)]
     pub fn note(&mut self, effect: &Option<Effect>, answer: &Option<Reply>)
         ensures { self.new ≡ polled self.old effect.now answer.now }
     {
         self.stage = match (answer, effect) {
-            (Some(_), _) => Stage::Between,
-            (None, Some(_)) => Stage::Done,
-            (None, None) => Stage::Begun,
+            (Some(_), _) => GuestStage::Between,
+            (None, Some(_)) => GuestStage::Done,
+            (None, None) => GuestStage::Begun,
         };
         match answer {
             None | Some(Reply::NoBuffer) => {}

@@ -9,7 +9,7 @@ mod laws;
 mod systems;
 
 pub use cpus::{Choice, Cpu};
-pub use guests::{Guest, Stage, Todo};
+pub use guests::{Guest, GuestStage, Todo};
 pub use laws::{
     calls_return_alone, free_locks_have_no_sleepers, halts_exactly, one_signal_loses_a_wake_up,
     order_loses_no_wake_up, plans_are_lines, premises_are_met, quiet_is_stuck, runs_alone,

@@ -3,6 +3,7 @@
 mod calm;
 mod opening;
 mod plans;
+mod quiet;
 
 ghost use Rattle.std.specs.Prelude.{◌≡◌, ◌<◌, ◌↔◌, true, false, All, IsOk, OnErr, OnOk, Some, None, [], length, map, slice_index_or};
 
@@ -26,6 +27,7 @@ where
 {
     machine: I::Machine,
     cpus: Vec<Cpu<I>>,
+    threads: u8,
     room: u64,
     taken: u64,
 }
@@ -38,17 +40,24 @@ where
     ghost use Rattle.cpu.specs.Cpus.{IsCpu};
     ghost use Rattle.cpu.specs.Claims.{Shown, cpu_shown, shown_of};
     ghost use Rattle.cpu.specs.Tables.{IsTabled};
+    ghost use Rattle.cpu.specs.Sound.{IsReachedByTable};
     ghost use Rattle.cpu.specs.Systems.{IsSystem};
 
     ghost Value = { Shown };
 
-    ghost view = { λ s. shown_of (I.caps s.machine) (I.homes_of s.machine) (I.seen s.machine) (I.lines s.machine) (I.owner s.machine) (I.moves s.machine) (I.acts s.machine)
+    ghost view = { λ s. shown_of (I.caps s.machine) (I.homes_of s.machine) (I.seen s.machine) (I.lines s.machine) (I.owner s.machine) (I.moves s.machine)
+        (I.acts s.machine)
         (map (λ c. cpu_shown (I.threads c.part) c.guests.items c.trace.items c.limit (I.is_inside c.part) (I.own c.part)) s.cpus.items) s.room s.taken };
 
     ghost invariant = { λ s. IsSystem (λ c. I.Fits c.part s.machine × (I.cpu_of c.part ≡ c.number)
-        × IsCpu (I.homes_of s.machine) (length (I.caps s.machine)) (I.seen s.machine) (I.threads c.part) (I.talks c.part) (I.doing c.part) c.number c.guests.items c.trace.items c.limit (vec_capacity c.trace)
+        × IsCpu (I.homes_of s.machine) (length (I.caps s.machine)) (I.seen s.machine) (I.threads c.part) (I.talks c.part)
+        (I.doing c.part) c.number c.guests.items c.trace.items c.limit (vec_capacity c.trace)
         × (I.IsStepwise → IsTabled (I.homes_of s.machine) (I.caps s.machine) c.number (I.own c.part) (I.doing c.part) c.guests.items (I.opening s.machine)))
-        (λ c. c.number) (λ c. I.ActsFor s.machine c) I.IsStepwise (I.acts s.machine) s.cpus.items (I.homes_of s.machine) (I.seen s.machine) s.room s.taken (I.room s.machine) };
+        (λ c. c.number) (λ c. I.ActsFor s.machine c) I.IsStepwise (I.acts s.machine) s.cpus.items (I.homes_of s.machine) (I.seen s.machine) s.room s.taken
+        (I.room s.machine)
+        ((s.threads ≡ length (I.homes_of s.machine)) × (I.IsStepwise
+        → IsReachedByTable (shown_of (I.caps s.machine) (I.homes_of s.machine) (I.seen s.machine) (I.lines s.machine) (I.owner s.machine) (I.moves s.machine) (I.acts s.machine)
+        (map (λ c. cpu_shown (I.threads c.part) c.guests.items c.trace.items c.limit (I.is_inside c.part) (I.own c.part)) s.cpus.items) s.room s.taken))) };
 }
 
 impl<I: Owned + Drop> System<I>
@@ -59,7 +68,9 @@ where
     ghost use Rattle.layer_traits.specs.declared.steps.Step.TheVariants.{Halted, Stepped};
     ghost use Rattle.event_log.specs.Buffers.{items_of};
     ghost use Rattle.cpu.specs.Cpus.{step_answer};
-    ghost use Rattle.cpu.specs.Claims.{FollowPrograms, HasOneOrder, IsPlaceOf, StandsOnce, StayHome, traces_of};
+    ghost use Rattle.cpu.specs.Claims.{FollowPrograms, HasOneOrder, IsPlaceOf, MovesAgree, StandsOnce, StayHome, traces_of};
+    ghost use Rattle.cpu.specs.Sound.{RanByTable, ReturnsAlone, SoundByTable};
+    ghost use Rattle.cpu.specs.Told.{ToldByTable};
     ghost use Rattle.cpu.specs.Systems.{HaltsByTable, Ran, SamePlan, SteppedByTable, halted_in, reason_of};
 
     /// Takes one step of `cpu`, which must exist: one local action or one atomic action.
@@ -68,6 +79,7 @@ where
     /// the CPU has ended, `TraceFull` where its thread is about to begin a call that its trace has
     /// no room for, and otherwise `StepsUsed` where the system's room is used. Neither of the first
     /// two comes while the CPU has a section under way.
+    #[inline(always)]
     pub fn step(&mut self, cpu: CpuId) -> Step
         requires { cpu.0 < length self.old.cpus }
         ensures answer { result ≡ step_answer (reason_of cpu self.old) }
@@ -77,6 +89,10 @@ where
         ensures steps { I.IsStepwise → result ≡ Stepped → SteppedByTable cpu self.old self.new Stepped }
         // And where none is taken, the step table takes none for the same reason.
         ensures halts { I.IsStepwise → (r : Reason) → result ≡ Halted r → SteppedByTable cpu self.old self.new (Halted r) }
+        // The step table reaches the system, no wake-up is lost, and the system tells what the
+        // table has.
+        ensures sound { I.IsStepwise → SoundByTable self.new }
+        ensures told { I.IsStepwise → ToldByTable self.new }
 
         // What holds after every list of steps.
         ensures one_order { HasOneOrder self.new }
@@ -98,6 +114,7 @@ where
     }
 
     /// Takes a step of `cpu` where it waits at a lock, and tells whether it did: it looks again.
+    #[inline(always)]
     fn looks(&mut self, cpu: CpuId) -> bool
         requires { cpu.0 < length self.old.cpus }
         ensures still { result ≡ false → self.new ≡ self.old }
@@ -117,6 +134,7 @@ where
     }
 
     /// Why `cpu` takes no step.
+    #[inline(always)]
     fn reason(&self, cpu: CpuId) -> Option<Reason>
         requires { cpu.0 < length self.now.cpus }
         ensures is { result ≡ reason_of cpu self.now }
@@ -133,6 +151,7 @@ where
 
     /// Why `cpu`, which must exist, takes no step whatever room the system has: `AllEnded` or
     /// `TraceFull`, and neither while it has a section under way.
+    #[inline(always)]
     pub fn halted(&self, cpu: CpuId) -> Option<Reason>
         requires { cpu.0 < length self.now.cpus }
         ensures is { result ≡ halted_in cpu self.now }
@@ -143,6 +162,7 @@ where
     }
 
     /// Takes one step of `cpu`, which is not halted, where it did not look again.
+    #[inline(always)]
     fn advance(&mut self, cpu: CpuId)
         requires exists { cpu.0 < length self.old.cpus }
         requires live { reason_of cpu self.old ≡ None }
@@ -151,7 +171,7 @@ where
     {
         self.taken += 1;
         let at = &mut self.cpus[usize::from(cpu.0)];
-        let _ = at.act(&mut self.machine);
+        at.go(&mut self.machine);
     }
 
     /// Takes one step of each CPU in `steps`, in their order. The steps of halted CPUs do nothing.
@@ -161,6 +181,11 @@ where
         ensures kept { OnErr result (self.new ≡ self.old) }
         ensures known { IsOk result ↔ All (λ c. c.0 < length self.old.cpus) steps.now }
         ensures ran { OnOk result (Ran I.IsStepwise self.old steps.now self.new) }
+        // The schedule is run by the step table, which reaches the system; no wake-up is lost, and
+        // the system tells what the table has.
+        ensures table { OnOk result (I.IsStepwise → RanByTable self.old steps.now self.new) }
+        ensures sound { I.IsStepwise → SoundByTable self.new }
+        ensures told { I.IsStepwise → ToldByTable self.new }
         ensures plan { SamePlan self.old self.new }
 
         // What holds after every list of steps.
@@ -246,10 +271,23 @@ where
 
     /// What holds of every system, whatever steps were taken.
     pub fn holds(&self)
+        ensures sound { I.IsStepwise → SoundByTable self.now }
+        ensures agree { MovesAgree self.now }
+        ensures told { I.IsStepwise → ToldByTable self.now }
         ensures one_order { HasOneOrder self.now }
         ensures follow { FollowPrograms self.now }
         ensures stay { StayHome self.now }
         ensures once { StandsOnce self.now }
+    {
+        let _ = &self.room;
+    }
+
+    /// A law of every system over layers whose polls are single actions. Where a thread stands at a
+    /// call that has not begun, on a free lock, with nobody in its line, and its buffer allows it,
+    /// the call has returned after 18 steps of its CPU alone, or after 21 where its first signal
+    /// wakes a thread of another CPU. It computes nothing.
+    pub fn alone(&self)
+        ensures { I.IsStepwise → ReturnsAlone self.now }
     {
         let _ = &self.room;
     }

@@ -1,7 +1,6 @@
 -- What truth values tell.
-use Rattle.std.proofs.Common.{◌≡◌, Bool, true, false, ◌&&◌, refl}
+use Rattle.std.proofs.Common.{◌≡◌, Bool, true, false}
 
--- where two tests pass together, each passes
-pub both_true : (a b : Bool) → (a && b) ≡ true → (a ≡ true) × (b ≡ true)
-both_true true b e = (refl, e)
-both_true false b e = absurd (cc)
+-- a test does not fail and pass
+pub refuted : {A : Type 0} {b : Bool} → b ≡ false → b ≡ true → A
+refuted off on = absurd (cc (off, on))

@@ -11,7 +11,7 @@ use Rattle.std.proofs.lemmas.Str.Parse.{IsNumeralModel, numerals_by_value, tells
 use Rattle.std.proofs.lemmas.Str.{digit_value_digit}
 use Rattle.std.proofs.lemmas.Int.Digits.{digits_value_more, digits_more}
 use Rattle.std.proofs.lemmas.Fmt.{decimal-digits_value, digits_decimal, digits_value-decimal, decimal_nonempty, first_decimal, decimal_digit}
-use Rattle.event_log.proofs.BoolLemmas.{both_true}
+use Rattle.std.proofs.lemmas.Bool.{and_parts}
 use Rattle.event_log.specs.Digits.{is_number, number_to}
 
 -- the digits of the library, in the words of `is_number`
@@ -105,7 +105,7 @@ pub number_to-Some : (most : ℕ) (text : List ℕ) (n : ℕ) → number_to most
 unfolding number_to
 number_to-Some most text n h =
     let value = kept (is_number text && nat_le (digits_value 10 text) most) (digits_value 10 text) n h in
-    let tests = both_true (is_number text) (nat_le (digits_value 10 text) most) value.0 in
+    let tests = and_parts (is_number text) (nat_le (digits_value 10 text) most) value.0 in
     let small : digits_value 10 text ≤ most = (let test = tests.1 in grind (arith, nat_tests)) in
     record { spelled = spelled_number text tests.0; value = value.1; within = rw (← value.1) small }
 

@@ -6,6 +6,7 @@ use Rattle.event_log.specs.declared.ids.LockId.{LockId}
 use Rattle.event_log.specs.declared.ids.TheConstants.{CPUS}
 use Rattle.event_log.specs.History.{same_cpu, same_lock}
 use Rattle.event_log.specs.Actions.{Action, Take, Try, Give, Phase, Rests, Waits, Holds, phase, left_in, doer, place, takes, gives, MayAct, AreLegal}
+use Rattle.event_log.proofs.BoolLemmas.{refuted}
 use Rattle.event_log.proofs.Same.{same_cpu_self, same_lock_self, same_lock_true}
 use Rattle.event_log.proofs.Line.{Line, crowd_none, crowd_within, by_cpu, line_stays, line_joined, line_left}
 
@@ -37,9 +38,6 @@ pub place_other : {N : Type 0} (a : Action N) (past : List (Action N)) (c : CpuI
 place_other (Take d m) past c other = ap (λ b. if b then takes m past else place c past) other
 place_other (Try d m hit) past c other = refl
 place_other (Give d m name) past c other = refl
-
-false_true : {A : Type 0} {b : Bool} → b ≡ false → b ≡ true → A
-false_true off on = absurd (cc (off, on))
 
 module _ {N : Type 0} (lock : LockId) (past : List (Action N)) (line : LineAt lock past) (a : Action N) where
   -- an action that neither joins nor leaves the line
@@ -73,7 +71,7 @@ line_take : {N : Type 0} (lock : LockId) (past : List (Action N)) → LineAt loc
     (λ c. is_at lock (phase c (Take d m ∷ past))) (λ c. is_holding lock (phase c (Take d m ∷ past))) (λ c. place c (Take d m ∷ past))
 line_take lock past line d m known rests false elsewhere =
     let was_not : is_at lock (phase d past) ≡ false = ap (is_at lock) rests in
-    acts_in_line lock past line (Take d m) (elsewhere ∙ sym was_not) (λ h. false_true was_not h) (λ h. absurd (cc h))
+    acts_in_line lock past line (Take d m) (elsewhere ∙ sym was_not) (λ h. refuted was_not h) (λ h. absurd (cc h))
 line_take {N = N} lock past line d m known rests true here =
     let same : lock ≡ m = same_lock_true lock m here in
     line_joined (takes lock past) (gives lock past) (λ c. is_at lock (phase c past)) (λ c. is_holding lock (phase c past)) (λ c. place c past)

@@ -65,7 +65,7 @@ pub record WordFits (word given held : ℕ) : Type 0 where
   pub written : word ≤ given → (k : ℕ) × (k ≤ given) × (given < k + CPUS) × (k % CPUS ≡ word) × (held ≡ (k + 1) % 2 ^ 64)
   pub unwritten : given < word → held ≡ 0
 
-fits_at_start : (word : ℕ) → word < CPUS → WordFits word 0 (if word == 0 then 1 else 0)
+pub fits_at_start : (word : ℕ) → word < CPUS → WordFits word 0 (if word == 0 then 1 else 0)
 fits_at_start word within = go (word == 0) refl
   where
     go : (b : Bool) → (word == 0) ≡ b → WordFits word 0 (if b then 1 else 0)
@@ -111,7 +111,7 @@ served_is_latest : (given spot ticket word held k : ℕ) → given ≡ spot → 
 served_is_latest given spot ticket word held k served is at le lt same holds = omega arith
 
 -- a waiter near the front reads its place plus 1 exactly where it is served
-served_exactly : (given spot ticket word held : ℕ) → given ≤ spot → spot < given + CPUS → ticket ≡ spot % 2 ^ 64 → word ≡ ticket % CPUS
+pub served_exactly : (given spot ticket word held : ℕ) → given ≤ spot → spot < given + CPUS → ticket ≡ spot % 2 ^ 64 → word ≡ ticket % CPUS
     → WordFits word given held
     → (held == (ticket + 1) % 2 ^ 64) ≡ (given == spot)
 served_exactly given spot ticket word held ahead close is at fits =
@@ -124,7 +124,7 @@ served_exactly given spot ticket word held ahead close is at fits =
     (λ served. let latest = fits.written (omega arith) in
     served_is_latest given spot ticket word held latest.0 served is at latest.1 latest.2 latest.3 latest.4)
 
-fits_after : (word given ticket held : ℕ) → word < CPUS → ticket ≡ given % 2 ^ 64 → WordFits word given held
+pub fits_after : (word given ticket held : ℕ) → word < CPUS → ticket ≡ given % 2 ^ 64 → WordFits word given held
     → WordFits word (given + 1) (after_give ticket word held)
 fits_after word given ticket held within is fits = go (word == (ticket + 1) % CPUS) refl
   where

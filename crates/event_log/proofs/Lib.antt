@@ -1,4 +1,5 @@
 pub mod BoolLemmas
+pub mod ListLemmas
 pub mod RunLemmas
 pub mod Same
 pub mod Forms

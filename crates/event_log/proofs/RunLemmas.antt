@@ -1,12 +1,13 @@
 -- How a run grows, and what its entries are by their index.
-use Rattle.std.proofs.Common.{◌≡◌, ℕ, zero, suc, ◌+◌, ◌==◌, ◌&&◌, if◌then◌else◌, List, [], ◌∷◌, ◌++◌, take, Some, refl, sym, append_assoc}
+use Rattle.std.proofs.Common.{◌≡◌, ℕ, zero, suc, ◌+◌, ◌==◌, Bool, ◌&&◌, if◌then◌else◌, List, [], ◌∷◌, ◌++◌, take, Some, refl, sym, ap, ◌∙◌, append_assoc, arith}
 use Rattle.std.specs.Prelude.{slice_get}
+use Rattle.std.proofs.lemmas.Bool.{eq-eqb}
 use Rattle.std.proofs.lemmas.List.{append-nil}
-use Rattle.std.proofs.lemmas.List.Sums.{sum_by_push}
+use Rattle.std.proofs.lemmas.List.Sums.{sum_by-cons, sum_by_push}
 use Rattle.event_log.specs.Messages.{Message}
 use Rattle.event_log.specs.declared.entries.Entry.{Entry}
 use Rattle.event_log.specs.declared.entries.Kind.{Kind}
-use Rattle.event_log.specs.Buffers.{empty_buffers}
+use Rattle.event_log.specs.Buffers.{empty_buffers, items_of}
 use Rattle.event_log.specs.Runs.{IsNext, IsRunFrom, IsRun, after_entry, contents_from, count_of, count_of_kind, kind_eq}
 use Rattle.event_log.specs.Traces.{HasOpOrderFrom}
 
@@ -67,3 +68,27 @@ count_more earlier e b = sum_by_push (λ (x : Entry). if x.buffer.0 == b then 1 
 pub count_kind_more : (earlier : List Entry) (e : Entry) (b : ℕ) (kind : Kind)
     → count_of_kind (earlier ++ e ∷ []) b kind ≡ count_of_kind earlier b kind + (if (e.buffer.0 == b) && kind_eq e.kind kind then 1 else 0)
 count_kind_more earlier e b kind = sum_by_push (λ (x : Entry). if (x.buffer.0 == b) && kind_eq x.kind kind then 1 else 0) earlier e
+
+-- ---- the numbers where the newest entry comes first
+
+pub count_cons : (e : Entry) (es : List Entry) (b : ℕ) → count_of (e ∷ es) b ≡ (if e.buffer.0 == b then 1 else 0) + count_of es b
+count_cons e es b = sum_by-cons (λ (x : Entry). if x.buffer.0 == b then 1 else 0) e es
+
+pub kind_cons : (e : Entry) (es : List Entry) (b : ℕ) (kind : Kind)
+    → count_of_kind (e ∷ es) b kind ≡ (if (e.buffer.0 == b) && kind_eq e.kind kind then 1 else 0) + count_of_kind es b kind
+kind_cons e es b kind = sum_by-cons (λ (x : Entry). if (x.buffer.0 == b) && kind_eq x.kind kind then 1 else 0) e es
+
+-- an entry of this buffer counts
+pub counts_here : (e : Entry) (es : List Entry) (b : ℕ) → e.buffer.0 ≡ b → count_of (e ∷ es) b ≡ count_of es b + 1
+counts_here e es b here = count_cons e es b ∙ ap (λ (v : Bool). (if v then 1 else 0) + count_of es b) (eq-eqb e.buffer.0 b here) ∙ omega arith
+
+pub kinds_here : (e : Entry) (es : List Entry) (b : ℕ) (kind : Kind) → e.buffer.0 ≡ b
+    → count_of_kind (e ∷ es) b kind ≡ (if kind_eq e.kind kind then 1 else 0) + count_of_kind es b kind
+kinds_here e es b kind here =
+    kind_cons e es b kind ∙ ap (λ (v : Bool). (if v && kind_eq e.kind kind then 1 else 0) + count_of_kind es b kind) (eq-eqb e.buffer.0 b here)
+
+-- a buffer that is empty at the start has no items
+pub items_none : (caps : List ℕ) (b : ℕ) → items_of (empty_buffers caps) b ≡ []
+items_none [] b = refl
+items_none (n ∷ caps) zero = refl
+items_none (n ∷ caps) (suc b) = items_none caps b

@@ -1,7 +1,7 @@
 -- One section of another caller leaves a thread's stance as it is.
 use Rattle.std.proofs.Common.{◌≡◌, ◌≢◌, ℕ, Bool, true, false, not, ◌&&◌, ◌||◌, List, [], ◌∷◌, ◌++◌, Option, Some, None}
 use Rattle.std.proofs.Common.{option_map, is_some, nat_lt, if◌then◌else◌, refl, ap, sym, ◌∙◌, subst, arith}
-use Rattle.std.proofs.lemmas.Bool.{and_right}
+use Rattle.std.proofs.lemmas.Bool.{and_parts, and_right, or_parts}
 use Rattle.event_log.specs.declared.ids.BufId.{BufId}
 use Rattle.event_log.specs.declared.ids.LockId.{LockId}
 use Rattle.event_log.specs.declared.ids.LockId.TheVariants.{Buffer}
@@ -30,10 +30,6 @@ use Rattle.layer_traits.proofs.CountLemmas.{count_append, same_tid_sym}
 use Rattle.thread_blocks.specs.Queues.{same_tid, is_in, first, rest}
 use Rattle.thread_blocks.proofs.Members.{same_tid_self, same_tid_true}
 use Rattle.fifo_buffer.specs.Stances.{Grip, Stance, TalkFits, holds_at, line_at, lined_at, same_side}
-
-pub or_false : (x y : Bool) → (x || y) ≡ false → (x ≡ false) × (y ≡ false)
-or_false true y e = absurd cc
-or_false false y e = (refl, e)
 
 pub not_some : (t u : Tid) → same_tid u t ≡ false → Some u ≢ Some t
 not_some t u other is = let one : u ≡ t = cc in absurd (cc (other, subst (λ v. same_tid u v ≡ true) one (same_tid_self u)))
@@ -68,12 +64,12 @@ in_joined t u q other = go (nat_lt u.0 THREADS && not (is_in u q))
 pub out_of_rest : (t : Tid) (q : List Tid) → is_in t q ≡ false → (first q ≢ Some t) × (is_in t (rest q) ≡ false)
 out_of_rest t [] out = (λ is. absurd (cc is), refl)
 out_of_rest t (x ∷ q) out =
-    let parts = or_false (same_tid t x) (is_in t q) out in
+    let parts = or_parts (same_tid t x) (is_in t q) out in
     (not_some t x (same_tid_sym x t ∙ parts.0), parts.1)
 
-and_first : (x y : Bool) → (x && y) ≡ true → x ≡ true
-and_first true y e = refl
-and_first false y e = absurd cc
+pub side_self : (side : Side) → same_side side side ≡ true
+side_self Receivers = refl
+side_self Senders = refl
 
 -- a grip on a lock, over one section there
 free_asked : (t u : Tid) (owner : Option Tid) (lock : BufferLock) → same_tid u t ≡ false → owner ≢ Some t → is_in t lock.sleepers ≡ false
@@ -130,12 +126,12 @@ line_edit t (Enter u at) side x other = go (may_join u (line_of at x))
 line_edit t (TryPut u m) side x other = go (is_turn Senders u x) refl
   where
     go : (b : Bool) → is_turn Senders u x ≡ b → count_in t (line_of side (if b then put_in m x else x)) ≡ count_in t (line_of side x)
-    go true turn = line_put t u m side x other (and_first (is_first u x.send_line) (may_go Senders x) turn)
+    go true turn = line_put t u m side x other (and_parts (is_first u x.send_line) (may_go Senders x) turn).0
     go false turn = refl
 line_edit t (TryTake u) side x other = go (is_turn Receivers u x) refl
   where
     go : (b : Bool) → is_turn Receivers u x ≡ b → count_in t (line_of side (if b then taken_out x else x)) ≡ count_in t (line_of side x)
-    go true turn = line_taken t u side x other (and_first (is_first u x.receive_line) (may_go Receivers x) turn)
+    go true turn = line_taken t u side x other (and_parts (is_first u x.receive_line) (may_go Receivers x) turn).0
     go false turn = refl
 
 -- an Acquire changes nothing above

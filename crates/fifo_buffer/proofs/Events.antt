@@ -35,7 +35,7 @@ use Rattle.thread_blocks.specs.Queues.{same_tid}
 use Rattle.thread_blocks.proofs.Members.{same_tid_true}
 use Rattle.fifo_buffer.specs.Stances.{Grip, InCall, Stance, TalkFits, line_at, same_side}
 use Rattle.fifo_buffer.specs.Turns.{BufferEvent}
-use Rattle.fifo_buffer.proofs.Apart.{fits_apart}
+use Rattle.fifo_buffer.proofs.Apart.{fits_apart, side_self}
 
 module _ (opening : LockId → Option (QueueBlock BufferLock)) where
   -- one event, none of whose callers is this thread
@@ -136,14 +136,10 @@ module _ (O : LockId → Option BufferLock) (past : List BufferSection) (t : Tid
   in_line side None once = absurd (omega (arith, once))
   in_line side (Some lock) once = counted_in t (line_of side lock.above) (omega (arith, once))
 
-  side_same : (side : Side) → same_side side side ≡ true
-  side_same Receivers = refl
-  side_same Senders = refl
-
   once_there : (b : BufId) (side : Side) (position : ℕ) → Stance O past t b side true false true position
       → count_in t (line_at side (buffer_at O past (Buffer b))) ≡ 1
   once_there b side position stance =
-      stance.line (Buffer b) side ∙ ap (λ v. one_if (true && (v && same_side side side))) (same_lock_self (Buffer b)) ∙ ap one_if (side_same side)
+      stance.line (Buffer b) side ∙ ap (λ v. one_if (true && (v && same_side side side))) (same_lock_self (Buffer b)) ∙ ap one_if (side_self side)
 
   -- its section is due
   pub due_now : (call : Call) (stage : Stage) (position : ℕ) (effect : Option Effect) → InCall O past t call None None stage position effect

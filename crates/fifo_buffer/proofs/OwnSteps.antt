@@ -1,7 +1,7 @@
 -- A thread's own sections: what each leaves of its stance, and its effect.
 use Rattle.std.proofs.Common.{◌≡◌, ◌<◌, ℕ, Bool, true, false, ◌&&◌, List, [], ◌∷◌, ◌++◌, Option, Some, None, option_map}
 use Rattle.std.proofs.Common.{is_some, nat_lt, if◌then◌else◌, refl, ap, sym, ◌∙◌, subst, arith, lt-ltb}
-use Rattle.std.proofs.lemmas.Bool.{and_right}
+use Rattle.std.proofs.lemmas.Bool.{and_parts, and_right}
 use Rattle.event_log.specs.declared.ids.BufId.{BufId}
 use Rattle.event_log.specs.declared.ids.CpuId.{CpuId}
 use Rattle.event_log.specs.declared.ids.LockId.{LockId}
@@ -42,7 +42,7 @@ use Rattle.layer_traits.proofs.CountLemmas.{count_append, not_counted}
 use Rattle.thread_blocks.specs.Queues.{same_tid, is_in, rest}
 use Rattle.thread_blocks.proofs.Members.{same_tid_self}
 use Rattle.fifo_buffer.specs.Stances.{Grip, Holds, InCall, IsFreeOf, Stance, TalkFits, heard_by, line_at, same_side, slept_by, talk_in, waits_by}
-use Rattle.fifo_buffer.proofs.Apart.{above_asked, out_of_rest}
+use Rattle.fifo_buffer.proofs.Apart.{above_asked, out_of_rest, side_self}
 
 and_true : (x : Bool) → (x && true) ≡ x
 and_true true = refl
@@ -51,14 +51,6 @@ and_true false = refl
 and_second : (x y : Bool) → (x && y) ≡ true → y ≡ true
 and_second true y e = e
 and_second false y e = absurd cc
-
-and_one : (x y : Bool) → (x && y) ≡ true → x ≡ true
-and_one true y e = refl
-and_one false y e = absurd cc
-
-side_self : (side : Side) → same_side side side ≡ true
-side_self Receivers = refl
-side_self Senders = refl
 
 -- what a section did, where it was told this: the stance and the talk after it, and its effect
 pub record Stepped (opening : LockId → Option BufferLock) (past : List BufferSection) (c : CpuId) (t : Tid) (call : Call) (stage : Stage)
@@ -237,7 +229,7 @@ module _ (opening : LockId → Option BufferLock) (past : List BufferSection) (c
     where
       lines : (at : Side) → count_in t (line_of at lock.above) ≡ one_if (same_side at Senders) → count_in t (line_of at (put_in m lock.above)) ≡ 0
       lines Receivers now = now
-      lines Senders now = gone_from t lock.above.send_line (and_one (is_first t lock.above.send_line) (may_go Senders lock.above) turn) now
+      lines Senders now = gone_from t lock.above.send_line (and_parts (is_first t lock.above.send_line) (may_go Senders lock.above) turn).0 now
 
   has_taken : is_turn Receivers t lock.above ≡ true → Stance opening past t b Receivers true false true position
       → Stance opening (section c (Buffer b) (Inside (Edit (TryTake t))) ∷ past) t b Receivers true false false position
@@ -247,7 +239,7 @@ module _ (opening : LockId → Option BufferLock) (past : List BufferSection) (c
       (λ at now. ap (λ (v : Bool). count_in t (line_of at (if v then taken_out lock.above else lock.above))) turn ∙ lines at now) (λ lines. absurd cc)
     where
       lines : (at : Side) → count_in t (line_of at lock.above) ≡ one_if (same_side at Receivers) → count_in t (line_of at (taken_out lock.above)) ≡ 0
-      lines Receivers now = gone_from t lock.above.receive_line (and_one (is_first t lock.above.receive_line) (may_go Receivers lock.above) turn) now
+      lines Receivers now = gone_from t lock.above.receive_line (and_parts (is_first t lock.above.receive_line) (may_go Receivers lock.above) turn).0 now
       lines Senders now = now
 
   put_in_vain : (m : Message) → is_turn Senders t lock.above ≡ false → Stance opening past t b Senders true false true position

@@ -26,6 +26,7 @@ use Rattle.layer_traits.specs.Queues.{QueueAllowed, buffer_sections, event_actor
 use Rattle.layer_traits.specs.Scheds.{SchedPolled, events_of, pass_call}
 use Rattle.layer_traits.specs.SleepLaw.{done_if}
 use Rattle.layer_traits.proofs.CallLemmas.{pass_polled}
+use Rattle.layer_traits.proofs.SleepLemmas.{done_same}
 use Rattle.fifo_buffer.specs.FifoFits.{PartFits}
 use Rattle.fifo_buffer.specs.Turns.{BufferEvent, BufferOutcome, NoSection, doing_at}
 use Rattle.fifo_buffer.proofs.Parts.{effects_append, effects_others, effects_over, part_on}
@@ -55,10 +56,6 @@ split : (homes : List CpuId) (c : CpuId) (p : Pass) (done : Bool) (past : List B
     → (if done then events_of c (pass_call homes c p) ++ past else past) ≡ pass_events homes c p done ++ past
 split homes c p true past = refl
 split homes c p false past = refl
-
-done_same : (O : Type 0) (result : Option (Unit {0})) → is_some (done_if {O = O} result) ≡ is_some result
-done_same O None = refl
-done_same O (Some u) = refl
 
 module _ (opening : LockId → Option (QueueBlock BufferLock)) (ActsFor Acts : CpuId → Type 0) (weaker : (d : CpuId) → Acts d → ActsFor d) (c : CpuId) (p : Pass)
     (result : Option (Unit {0})) (old new : List BufferEvent) (own own' : Threads)

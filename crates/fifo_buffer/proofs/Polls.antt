@@ -46,6 +46,7 @@ use Rattle.layer_traits.specs.Protocol.{section}
 use Rattle.layer_traits.specs.QueueBlocks.{homes_in, inner}
 use Rattle.layer_traits.specs.Queues.{QueueAllowed, buffer_sections, event, event_actor, out_at}
 use Rattle.layer_traits.specs.SleepLaw.{Deed, Does, Sends, Sleeping, Waits as WaitsStill, MayDo, left_with, must_send, seen_with}
+use Rattle.layer_traits.proofs.PlaceLemmas.{woken_current}
 use Rattle.thread_blocks.specs.Queues.{same_tid}
 use Rattle.fifo_buffer.specs.Stances.{InCall, IsMark, TalkFits, asks_at, heard_by, slept_by, talk_in, waits_at, waits_by}
 use Rattle.fifo_buffer.specs.Turns.{After, BufferEvent, BufferOutcome, Goes, Kept, MayTurn, Midway, Turned, heard_if, is_plain}
@@ -234,10 +235,6 @@ quiet_or_none t call AcquiresAgain talk lock = inl refl
 quiet_or_none t call Signals talk lock = inl refl
 quiet_or_none t call SignalsOwn talk lock = inl refl
 quiet_or_none t call Releases talk lock = inl refl
-
-woken_current : (homes : List CpuId) (c : CpuId) (woke : Option Tid) (own : Threads) → (own_woken homes c woke own).current ≡ own.current
-woken_current homes c None own = refl
-woken_current homes c (Some u) own = refl
 
 woken_ended : (homes : List CpuId) (c : CpuId) (woke : Option Tid) (own : Threads) → (own_woken homes c woke own).ended ≡ own.ended
 woken_ended homes c None own = refl

@@ -28,7 +28,7 @@ use Rattle.fifo_buffer.specs.Stances.{IsFreeOf, TalkFits, line_at}
 use Rattle.fifo_buffer.specs.Turns.{BufferEvent, FitsAt}
 
 -- what a list of equal items holds anywhere
-same_default : {A : Type 0} (n i : ℕ) (a : A) → slice_index_or (replicate n a) i a ≡ a
+pub same_default : {A : Type 0} (n i : ℕ) (a : A) → slice_index_or (replicate n a) i a ≡ a
 same_default zero i a = refl
 same_default (suc n) zero a = refl
 same_default (suc n) (suc i) a = same_default n i a

@@ -2,7 +2,7 @@
 use Rattle.std.proofs.Common.{◌≡◌, ℕ, zero, suc, ◌+◌, ◌<◌, ◌%◌, ◌^◌, Bool, true, false, ◌&&◌, ◌||◌, ◌==◌, List, [], ◌∷◌}
 use Rattle.std.proofs.Common.{◌++◌, length, drop, Option, Some, None, option_map, option_to_list, slice_get, slice_index}
 use Rattle.std.proofs.Common.{slice_set, if◌then◌else◌, refl, ap, sym, ◌∙◌, subst, arith, length-append}
-use Rattle.std.proofs.lemmas.Bool.{and_right, eq-eqb, eqb-false, ltb-true, ne_eqb}
+use Rattle.std.proofs.lemmas.Bool.{and_parts, and_right, eq-eqb, eqb-false, ltb-true, ne_eqb, or_parts}
 use Rattle.std.proofs.lemmas.List.{get_or-set_other, get_or-set_same, length-map, length-set}
 use Rattle.std.proofs.lemmas.List.Sums.{sum_by-cons}
 use Rattle.std.proofs.lemmas.Option.{get_or_from_slice_get, slice_get_within}
@@ -19,6 +19,7 @@ use Rattle.event_log.specs.History.{IsLawful, same_lock}
 use Rattle.event_log.proofs.Same.{same_lock_self, same_lock_true}
 use Rattle.event_log.specs.Messages.{Message}
 use Rattle.event_log.specs.Runs.{count_of, count_of_kind, kind_eq}
+use Rattle.event_log.proofs.RunLemmas.{count_cons, counts_here, items_none, kind_cons, kinds_here}
 use Rattle.layer_traits.specs.declared.buffer_edits.BufferEdit.{BufferEdit}
 use Rattle.layer_traits.specs.declared.buffer_edits.BufferEdit.TheVariants.{Enter, TryPut, TryTake}
 use Rattle.layer_traits.specs.declared.conditions.CvEdit.TheVariants.{Edit, SignalFront}
@@ -40,6 +41,7 @@ use Rattle.layer_traits.specs.Locking.{asked, lock_edited}
 use Rattle.layer_traits.specs.Protocol.{section}
 use Rattle.layer_traits.specs.QueueBlocks.{inner}
 use Rattle.layer_traits.specs.Queues.{QueueAllowed, buffer_sections, with_section}
+use Rattle.layer_traits.proofs.ItemLemmas.{drop_one, first_there, one_more}
 use Rattle.thread_blocks.specs.Queues.{same_tid, is_in, rest}
 use Rattle.thread_blocks.proofs.Members.{same_tid_self, same_tid_true}
 use Rattle.fifo_buffer.specs.Turns.{BufferEvent}
@@ -65,30 +67,16 @@ pub record Tally (caps : List ℕ) (b : ℕ) (es : List Entry) (position : Side 
   pub places : (side : Side) → places_of side x ≡ (count_of_kind es b (kind_on side) + length (line_of side x)) % 2 ^ 64
   pub numbered : (side : Side) → IsNumbered (position side) (count_of_kind es b (kind_on side)) (line_of side x)
 
-count_cons : (e : Entry) (es : List Entry) (b : ℕ) → count_of (e ∷ es) b ≡ (if e.buffer.0 == b then 1 else 0) + count_of es b
-count_cons e es b = sum_by-cons (λ (x : Entry). if x.buffer.0 == b then 1 else 0) e es
-
-kind_cons : (e : Entry) (es : List Entry) (b : ℕ) (kind : Kind)
-    → count_of_kind (e ∷ es) b kind ≡ (if (e.buffer.0 == b) && kind_eq e.kind kind then 1 else 0) + count_of_kind es b kind
-kind_cons e es b kind = sum_by-cons (λ (x : Entry). if (x.buffer.0 == b) && kind_eq x.kind kind then 1 else 0) e es
-
-one_more : (a n : ℕ) → a ≡ n % 2 ^ 64 → counted a ≡ (n + 1) % 2 ^ 64
-one_more a n is = omega (arith, is)
-
 -- numbers along a line
 numbered_same : (p q : Tid → ℕ) (n : ℕ) (queue : List Tid) → ((t : Tid) → q t ≡ p t) → IsNumbered p n queue → IsNumbered q n queue
 numbered_same p q n [] same numbered = tt
 numbered_same p q n (t ∷ queue) same numbered = (same t ∙ numbered.0, numbered_same p q (n + 1) queue same numbered.1)
 
-or_parts_false : (x y : Bool) → (x || y) ≡ false → (x ≡ false) × (y ≡ false)
-or_parts_false true y e = absurd cc
-or_parts_false false y e = (refl, e)
-
 numbered_apart : (p q : Tid → ℕ) (n : ℕ) (u : Tid) (queue : List Tid) → is_in u queue ≡ false → ((t : Tid) → same_tid u t ≡ false → q t ≡ p t)
     → IsNumbered p n queue → IsNumbered q n queue
 numbered_apart p q n u [] out same numbered = tt
 numbered_apart p q n u (t ∷ queue) out same numbered =
-    let parts = or_parts_false (same_tid u t) (is_in u queue) out in
+    let parts = or_parts (same_tid u t) (is_in u queue) out in
     (same t parts.0 ∙ numbered.0, numbered_apart p q (n + 1) u queue parts.1 same numbered.1)
 
 numbered_behind : (p : Tid → ℕ) (n : ℕ) (u : Tid) (queue : List Tid) → IsNumbered p n queue → p u ≡ (n + length queue) % 2 ^ 64
@@ -96,10 +84,6 @@ numbered_behind : (p : Tid → ℕ) (n : ℕ) (u : Tid) (queue : List Tid) → I
 numbered_behind p n u [] numbered is = (is ∙ ap (λ k. k % 2 ^ 64) (omega arith), tt)
 numbered_behind p n u (t ∷ queue) numbered is =
     (numbered.0, numbered_behind p (n + 1) u queue numbered.1 (is ∙ ap (λ k. k % 2 ^ 64) (omega arith)))
-
-and_two : (x y : Bool) → (x && y) ≡ true → (x ≡ true) × (y ≡ true)
-and_two true y e = (refl, e)
-and_two false y e = absurd cc
 
 module _ (caps : List ℕ) (b : ℕ) (es : List Entry) where
   -- no effect, or one on another buffer
@@ -187,14 +171,6 @@ module _ (caps : List ℕ) (b : ℕ) (es : List Entry) where
           (numbered_apart (p Receivers) (q Receivers) (count_of_kind es b Recv) u x.receive_line out (others Receivers) (tally.numbered Receivers))
           (drew ∙ tally.places Receivers)
 
-  -- an effect: the counts go up by one, and the first of its line leaves
-  counts_here : (e : Entry) → e.buffer.0 ≡ b → count_of (e ∷ es) b ≡ count_of es b + 1
-  counts_here e here = count_cons e es b ∙ ap (λ (v : Bool). (if v then 1 else 0) + count_of es b) (eq-eqb e.buffer.0 b here) ∙ omega arith
-
-  kinds_here : (e : Entry) (kind : Kind) → e.buffer.0 ≡ b → count_of_kind (e ∷ es) b kind ≡ (if kind_eq e.kind kind then 1 else 0) + count_of_kind es b kind
-  kinds_here e kind here =
-      kind_cons e es b kind ∙ ap (λ (v : Bool). (if v && kind_eq e.kind kind then 1 else 0) + count_of_kind es b kind) (eq-eqb e.buffer.0 b here)
-
   first_number : (p : Tid → ℕ) (n : ℕ) (u : Tid) (queue : List Tid) → is_first u queue ≡ true → IsNumbered p n queue → p u ≡ n % 2 ^ 64
   first_number p n u [] is numbered = absurd cc
   first_number p n u (v ∷ queue) is numbered = ap p (same_tid_true u v is) ∙ numbered.0
@@ -207,19 +183,11 @@ module _ (caps : List ℕ) (b : ℕ) (es : List Entry) where
   rest_length u [] is = absurd cc
   rest_length u (v ∷ queue) is = omega arith
 
-  drop_one : (items : List Message) → drop 1 items ≡ other_items items
-  drop_one [] = refl
-  drop_one (m ∷ items) = refl
-
-  first_there : (items : List Message) → 0 < length items → slice_get items 0 ≡ Some (first_item items)
-  first_there [] some = absurd (omega (arith, some))
-  first_there (m ∷ items) some = refl
-
   put_may : (cpu : CpuId) (at : BufId) → at.0 ≡ b → (p : Side → Tid → ℕ) (x : BufferState) (u : Tid) (m : Message) → is_turn Senders u x ≡ true
       → Tally caps b es p x
       → MayTakeEffect caps es (entry cpu u Send at m x.effects (p Senders u))
   put_may cpu at here p x u m turn tally =
-      let both = and_two (is_first u x.send_line) (may_go Senders x) turn in
+      let both = and_parts (is_first u x.send_line) (may_go Senders x) turn in
       let room : length x.items < x.capacity = ltb-true (length x.items) x.capacity both.1 in
       rw here (record {
         known = tally.known;
@@ -231,7 +199,7 @@ module _ (caps : List ℕ) (b : ℕ) (es : List Entry) where
   take_may : (cpu : CpuId) (at : BufId) → at.0 ≡ b → (p : Side → Tid → ℕ) (x : BufferState) (u : Tid) → is_turn Receivers u x ≡ true → Tally caps b es p x
       → MayTakeEffect caps es (entry cpu u Recv at (first_item x.items) x.effects (p Receivers u))
   take_may cpu at here p x u turn tally =
-      let both = and_two (is_first u x.receive_line) (may_go Receivers x) turn in
+      let both = and_parts (is_first u x.receive_line) (may_go Receivers x) turn in
       let some : 0 < length x.items = ltb-true 0 (length x.items) both.1 in
       rw here (record {
         known = tally.known;
@@ -251,7 +219,7 @@ module _ (caps : List ℕ) (b : ℕ) (es : List Entry) where
         ∙ ap (λ k. after_effect k (items_of (contents_of caps es) e.buffer.0) e.value) sends
         ∙ ap (λ i. items_of (contents_of caps es) i ++ e.value ∷ []) here ∙ ap (λ l. l ++ e.value ∷ []) tally.items ∙ ap (λ w. x.items ++ w ∷ []) value;
     capacity = tally.capacity;
-    effects = one_more x.effects (count_of es b) tally.effects ∙ ap (λ n. n % 2 ^ 64) (sym (counts_here e here));
+    effects = one_more x.effects (count_of es b) tally.effects ∙ ap (λ n. n % 2 ^ 64) (sym (counts_here e es b here));
     places = λ side. places_now side;
     numbered = λ side. numbers side;
   }
@@ -263,10 +231,10 @@ module _ (caps : List ℕ) (b : ℕ) (es : List Entry) where
       wide = tally.wide
 
       sent : count_of_kind (e ∷ es) b Send ≡ count_of_kind es b Send + 1
-      sent = kinds_here e Send here ∙ ap (λ k. (if kind_eq k Send then 1 else 0) + count_of_kind es b Send) sends ∙ omega arith
+      sent = kinds_here e es b Send here ∙ ap (λ k. (if kind_eq k Send then 1 else 0) + count_of_kind es b Send) sends ∙ omega arith
 
       received : count_of_kind (e ∷ es) b Recv ≡ count_of_kind es b Recv
-      received = kinds_here e Recv here ∙ ap (λ k. (if kind_eq k Recv then 1 else 0) + count_of_kind es b Recv) sends ∙ omega arith
+      received = kinds_here e es b Recv here ∙ ap (λ k. (if kind_eq k Recv then 1 else 0) + count_of_kind es b Recv) sends ∙ omega arith
 
       places_now : (side : Side) → places_of side (put_in m x) ≡ (count_of_kind (e ∷ es) b (kind_on side) + length (line_of side (put_in m x))) % 2 ^ 64
       places_now Receivers = tally.places Receivers ∙ ap (λ n. (n + length x.receive_line) % 2 ^ 64) (sym received)
@@ -291,7 +259,7 @@ module _ (caps : List ℕ) (b : ℕ) (es : List Entry) where
         ∙ ap (λ k. after_effect k (items_of (contents_of caps es) e.buffer.0) e.value) takes
         ∙ ap (λ i. drop 1 (items_of (contents_of caps es) i)) here ∙ ap (λ l. drop 1 l) tally.items ∙ drop_one x.items;
     capacity = tally.capacity;
-    effects = one_more x.effects (count_of es b) tally.effects ∙ ap (λ n. n % 2 ^ 64) (sym (counts_here e here));
+    effects = one_more x.effects (count_of es b) tally.effects ∙ ap (λ n. n % 2 ^ 64) (sym (counts_here e es b here));
     places = λ side. places_now side;
     numbered = λ side. numbers side;
   }
@@ -303,10 +271,10 @@ module _ (caps : List ℕ) (b : ℕ) (es : List Entry) where
       wide = tally.wide
 
       received : count_of_kind (e ∷ es) b Recv ≡ count_of_kind es b Recv + 1
-      received = kinds_here e Recv here ∙ ap (λ k. (if kind_eq k Recv then 1 else 0) + count_of_kind es b Recv) takes ∙ omega arith
+      received = kinds_here e es b Recv here ∙ ap (λ k. (if kind_eq k Recv then 1 else 0) + count_of_kind es b Recv) takes ∙ omega arith
 
       sent : count_of_kind (e ∷ es) b Send ≡ count_of_kind es b Send
-      sent = kinds_here e Send here ∙ ap (λ k. (if kind_eq k Send then 1 else 0) + count_of_kind es b Send) takes ∙ omega arith
+      sent = kinds_here e es b Send here ∙ ap (λ k. (if kind_eq k Send then 1 else 0) + count_of_kind es b Send) takes ∙ omega arith
 
       places_now : (side : Side) → places_of side (taken_out x) ≡ (count_of_kind (e ∷ es) b (kind_on side) + length (line_of side (taken_out x))) % 2 ^ 64
       places_now Senders = tally.places Senders ∙ ap (λ n. (n + length x.send_line) % 2 ^ 64) (sym sent)
@@ -359,7 +327,7 @@ module _ (caps : List ℕ) (b : ℕ) (es : List Entry) where
         λ e is. subst (MayTakeEffect caps es) (one it e (sym done ∙ is)) (put_may cpu at here p lock.above u m turn tally),
         subst (λ o. Tally caps b (option_to_list o ++ es) q (lock_edited buffer_rules (Inside (Edit (TryPut u m))) lock).above) (sym done)
             (subst (λ x. Tally caps b (it ∷ es) q x) after
-            (put_tally it here refl p q lock.above u m refl (and_two (is_first u lock.above.send_line) (may_go Senders lock.above) turn).0 same tally)),
+            (put_tally it here refl p q lock.above u m refl (and_parts (is_first u lock.above.send_line) (may_go Senders lock.above) turn).0 same tally)),
       )
     where
       one : (x y : Entry) → Some x ≡ Some y → x ≡ y
@@ -382,7 +350,7 @@ module _ (caps : List ℕ) (b : ℕ) (es : List Entry) where
         λ e is. subst (MayTakeEffect caps es) (one it e (sym done ∙ is)) (take_may cpu at here p lock.above u turn tally),
         subst (λ o. Tally caps b (option_to_list o ++ es) q (lock_edited buffer_rules (Inside (Edit (TryTake u))) lock).above) (sym done)
             (subst (λ x. Tally caps b (it ∷ es) q x) after
-            (take_tally it here refl p q lock.above u (and_two (is_first u lock.above.receive_line) (may_go Receivers lock.above) turn).0 same tally)),
+            (take_tally it here refl p q lock.above u (and_parts (is_first u lock.above.receive_line) (may_go Receivers lock.above) turn).0 same tally)),
       )
     where
       one : (x y : Entry) → Some x ≡ Some y → x ≡ y
@@ -557,11 +525,6 @@ section_tallied O caps past cpu d call due tallied b lock at = go (same_lock (Bu
 -- no messages
 abbrev no_items : List Message
 no_items = []
-
-items_none : (caps : List ℕ) (b : ℕ) → items_of (empty_buffers caps) b ≡ []
-items_none [] b = refl
-items_none (n ∷ caps) zero = refl
-items_none (n ∷ caps) (suc b) = items_none caps b
 
 start_tallied : (caps : List ℕ) (b : BufId) (o : Option ℕ) (lock : BufferLock) → slice_get caps b.0 ≡ o → option_map fresh_lock o ≡ Some lock
     → (p : Side → Tid → ℕ) → Tally caps b.0 [] p lock.above

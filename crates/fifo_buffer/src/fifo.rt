@@ -42,10 +42,12 @@ impl<C: CvLayer<BufferEdit>> Fifo<C> {
         requires buffer { IsSome (C.opening m.old (Buffer (buffer_of call.now))) }
         requires room { 0 < C.room m.old }
         requires sizes { Sizes (C.own self.old.lower) self.old.talks.talks }
-        requires may { MayTurn (inner (C.opening m.old)) (buffer_sections (C.seen m.old)) t call.now (going (talk_of self.old.talks.talks t) call.now) (C.own self.old.lower)
+        requires may { MayTurn (inner (C.opening m.old)) (buffer_sections (C.seen m.old)) t call.now (going (talk_of self.old.talks.talks t) call.now)
+            (C.own self.old.lower)
             (C.under_way self.old.lower) }
         ensures turned { Turned (homes_in (C.opening m.old)) (λ c. C.ActsFor m.old c) (inner (C.opening m.old)) (C.cpu_of self.old.lower) t call.now
-            (going (talk_of self.old.talks.talks t) call.now) (C.seen m.old) (C.seen m.new) (C.own self.old.lower) (C.own self.new.lower) (C.under_way self.new.lower) result
+            (going (talk_of self.old.talks.talks t) call.now) (C.seen m.old) (C.seen m.new) (C.own self.old.lower) (C.own self.new.lower)
+            (C.under_way self.new.lower) result
             (talk_of self.new.talks.talks t) }
         ensures talks { self.new.talks.talks ≡ slice_set self.old.talks.talks t.0 (talk_of self.new.talks.talks t) }
         ensures calling { self.new.calling ≡ self.old.calling }
@@ -61,12 +63,14 @@ impl<C: CvLayer<BufferEdit>> Fifo<C> {
         ensures follows { C.IsStepwise
             → Follows (C.ActsFor m.old) (table_of (queue_rules (lock_rules buffer_rules) (lock_moves buffer_rules))) (C.opening m.old)
             (C.cpu_of self.old.lower)
-            (plan_of (homes_in (C.opening m.old)) (C.cpu_of self.old.lower) t call.now (going (talk_of self.old.talks.talks t) call.now).stage (going (talk_of self.old.talks.talks t) call.now)
+            (plan_of (homes_in (C.opening m.old)) (C.cpu_of self.old.lower) t call.now (going (talk_of self.old.talks.talks t) call.now).stage
+            (going (talk_of self.old.talks.talks t) call.now)
             (buffering (C.own self.old.lower) self.old.talks.talks))
             (C.acts m.old) (C.acts m.new)
             (record {
               own = buffering (C.own self.new.lower) self.new.talks.talks;
-              answer = if result then replied call.now (going (talk_of self.old.talks.talks t) call.now) (going (talk_of self.old.talks.talks t) call.now).stage else None;
+              answer = if result then replied call.now (going (talk_of self.old.talks.talks t) call.now)
+                  (going (talk_of self.old.talks.talks t) call.now).stage else None;
             }) }
     {
         let edit = section(t, call, stage);
@@ -99,6 +103,7 @@ impl<C: CvLayer<BufferEdit>> Fifo<C> {
 impl<C: CvLayer<BufferEdit>> BufferLayer for Fifo<C> {
     ghost use Rattle.std.proofs.Common.{ap};
     ghost use Rattle.event_log.specs.declared.ids.LockId.TheVariants.{Buffer};
+    ghost use Rattle.layer_traits.proofs.ActedLemmas.{moves_told};
     ghost use Rattle.layer_traits.specs.BufferEffects.{effects_in};
     ghost use Rattle.layer_traits.specs.BufferLaw.{buffering};
     ghost use Rattle.layer_traits.specs.BufferProtocol.{buffer_deeds};
@@ -219,6 +224,9 @@ impl<C: CvLayer<BufferEdit>> BufferLayer for Fifo<C> {
 
     ghost seen_is = { λ step m. ap (λ seen. effects_in (inner (C.opening m)) (buffer_sections seen)) (C.seen_is step m) };
 
+    ghost moves_are = { λ step m c acts. moves_told (C.opening m) (C.acts m) (C.opens m c acts.0) (C.proper step m c acts.0) (C.seen m) (C.seen_is step m)
+        (C.moving m c acts.0) };
+
     ghost busy = { λ p m fits. C.busy p.lower m fits.0 };
 
     ghost rests = { λ p m fits nothing. C.idle p.lower m fits.0
@@ -229,6 +237,7 @@ impl<C: OwnedConds<BufferEdit>> OwnedBuffers for Fifo<C> {
     ghost use Rattle.std.specs.Prelude.{◌≡◌, true, option_map};
     ghost use Rattle.event_log.specs.Actions.{phase};
     ghost use Rattle.event_log.specs.Buffers.{items_of};
+    ghost use Rattle.layer_traits.proofs.ActedLemmas.{owner_by_acts};
     ghost use Rattle.layer_traits.specs.BufferEffects.{contents_of, effects_in};
     ghost use Rattle.layer_traits.specs.BufferProtocol.{buffer_deeds};
     ghost use Rattle.layer_traits.specs.Conditions.{cv_rules};
@@ -239,7 +248,8 @@ impl<C: OwnedConds<BufferEdit>> OwnedBuffers for Fifo<C> {
     ghost use Rattle.layer_traits.specs.QueueBlocks.{inner};
     ghost use Rattle.layer_traits.specs.Queues.{buffer_sections, moves_in};
     ghost use Rattle.fifo_buffer.specs.FifoFits.{caps_in};
-    ghost use Rattle.fifo_buffer.specs.OwnedLaws.{block_there, effects_known, items_in, items_told, lines_of, lines_told, lock_of, lock_told, owner_of, owner_told, queue_told};
+    ghost use Rattle.fifo_buffer.specs.OwnedLaws.{block_there, effects_known, items_in, items_told, lines_of};
+    ghost use Rattle.fifo_buffer.specs.OwnedLaws.{lines_told, lock_of, lock_told, owner_of, owner_told, queue_told};
 
     ghost owner = { λ m b. owner_in (lock_of (C.opening m) (C.seen m) b) };
 
@@ -327,6 +337,9 @@ impl<C: OwnedConds<BufferEdit>> OwnedBuffers for Fifo<C> {
         (lock_of (C.opening m) (C.seen m) b) owner_of (λ p. C.lock_with p b) (C.lock_at m b)
         (owner_in (lock_of (C.opening m) (C.seen m) b)) (owner_told (C.opening m) acts.1 b within (C.seen m))
         (C.shown m c b acts.0 (block_there (C.opening m) acts.1 b within)) };
+
+    ghost owner_is = { λ step m c b acts. owner_by_acts (C.opening m) (C.acts m) (C.opens m c acts.0) (C.proper step m c acts.0) (C.seen m)
+        (C.seen_is step m) b };
 
     ghost beds = { λ m c b acts within. lock_told (λ (p : Self). p.lower) (λ p. C.Fits p m) (λ (p : Self). Self.Fits p m)
         (λ p. C.cpu_of p) (λ d. C.IsStepwise × (is_in_section (phase d (C.acts m)) ≡ true)) (λ p fits. fits.0)

@@ -27,6 +27,7 @@ impl Register {
     ghost use Rattle.guest.specs.Instructions.{number_of};
 
     /// The register's number, from 0 to 3.
+    #[inline(always)]
     pub fn number(self) -> usize
         ensures number { result ≡ number_of self }
         ensures below { result < 4 }
@@ -161,6 +162,7 @@ impl Program {
     }
 
     /// The instruction of a line, counted from 0. Past the last line it is `exit`.
+    #[inline(always)]
     pub fn instruction(&self, line: usize) -> Instruction
         ensures instruction { result ≡ instruction_at self.now line }
         // Only `exit` stands past the last line.

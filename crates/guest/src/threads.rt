@@ -36,6 +36,7 @@ impl Thread {
     }
 
     /// The instruction at which the thread stands. Past the program's last line it is `exit`.
+    #[inline(always)]
     pub fn next(&self, program: &Program) -> Instruction
         ensures { result ≡ next_of program.now self.now }
     {
@@ -44,6 +45,7 @@ impl Thread {
     }
 
     /// The number in a register.
+    #[inline(always)]
     pub fn value(&self, register: Register) -> u64
         ensures { result ≡ value_in self.now register }
     {
@@ -53,6 +55,7 @@ impl Thread {
     /// Does the instruction at which the thread stands where that is `set`, `add`, `sub` or `jnz`,
     /// and moves the thread to its next line. Another instruction leaves the thread as it is.
     /// Takes no memory.
+    #[inline(always)]
     pub fn step_local(&mut self, program: &Program)
         ensures { self.new ≡ after_local (next_of program.now self.old) self.old }
     {
@@ -82,6 +85,7 @@ impl Thread {
 
     /// Moves the thread past the `send` at which it stands, once the call has returned. At another
     /// instruction nothing changes. Takes no memory.
+    #[inline(always)]
     pub fn after_send(&mut self, program: &Program)
         ensures { self.new ≡ after_send (next_of program.now self.old) self.old }
     {
@@ -93,6 +97,7 @@ impl Thread {
     /// Moves the thread past the `recv` at which it stands, once the call has returned with
     /// `message`, whose first word goes to the instruction's register. At another instruction
     /// nothing changes. Takes no memory.
+    #[inline(always)]
     pub fn after_recv(&mut self, program: &Program, message: Msg)
         ensures { self.new ≡ after_recv (next_of program.now self.old) message self.old }
     {
@@ -103,6 +108,7 @@ impl Thread {
 
     /// Moves the thread past the `yield` at which it stands. At another instruction nothing
     /// changes. Takes no memory.
+    #[inline(always)]
     pub fn after_yield(&mut self, program: &Program)
         ensures { self.new ≡ after_yield (next_of program.now self.old) self.old }
     {
@@ -112,6 +118,7 @@ impl Thread {
     }
 
     /// Writes a number to a register and moves to the following line.
+    #[inline(always)]
     fn put(&mut self, register: Register, number: u64)
         requires { self.old.line < 256 }
         ensures { self.new ≡ moved_with self.old register number }
@@ -122,6 +129,7 @@ impl Thread {
     }
 
     /// Moves to the following line.
+    #[inline(always)]
     fn move_on(&mut self)
         requires { self.old.line < 256 }
         ensures { self.new ≡ moved_on self.old }

@@ -7,11 +7,7 @@ use Rattle.layer_traits.specs.declared.talks.Stage.{Stage}
 use Rattle.layer_traits.specs.declared.talks.Stage.TheVariants.{Between, Acquires, Enters, Tries, Waits, AcquiresAgain, Signals, SignalsOwn, Releases}
 use Rattle.layer_traits.specs.declared.talks.Talk.{Talk}
 use Rattle.layer_traits.specs.BufferLaw.{MayTalk, begun_at, begun_of, going_at, quiet, talk_of}
-
-same_default : {A : Type 0} (n i : ℕ) (a : A) → slice_index_or (replicate n a) i a ≡ a
-same_default zero i a = refl
-same_default (suc n) zero a = refl
-same_default (suc n) (suc i) a = same_default n i a
+use Rattle.fifo_buffer.proofs.Starting.{same_default}
 
 -- who never called may begin any call
 pub may_begin : (talks : List Talk) (t : Tid) (call : Call) → talks ≡ replicate THREADS quiet → MayTalk (talk_of talks t) call

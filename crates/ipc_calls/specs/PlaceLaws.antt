@@ -1,5 +1,6 @@
 -- What a part tells of where a thread stands is so, and of each thread some part can tell it.
-use Rattle.std.specs.Prelude.{◌≡◌, ◌≢◌, ℕ, ◌<◌, Bool, true, false, ◌||◌, ◌&&◌, List, Option, Some, None, length, option_map, option_and_then, if◌then◌else◌, refl}
+use Rattle.std.specs.Prelude.{◌≡◌, ◌≢◌, ℕ, ◌<◌, Bool, true, false, ◌||◌, ◌&&◌, List, Option, Some}
+use Rattle.std.specs.Prelude.{None, length, option_map, option_and_then, if◌then◌else◌, refl}
 use Rattle.std.specs.Option.{option_or}
 use Rattle.std.proofs.lemmas.Option.{same_Some, slice_get-get_or}
 use Rattle.std.proofs.Common.{inl, inr, ap, subst, sym, ◌∙◌, arith}
@@ -15,7 +16,8 @@ use Rattle.layer_traits.specs.declared.moves.Line.TheVariants.{Sleepers, Receive
 use Rattle.layer_traits.specs.IpcLaw.{LinesAgree}
 use Rattle.layer_traits.specs.ListsAgree.{is_at}
 use Rattle.layer_traits.specs.Owned.{IsHeld, line_among}
-use Rattle.layer_traits.specs.Places.{AreMoves, Asleep, At, Hand, Home, Pend, Place, Stands, Step, Threads, Where, count_in, home_of, is_hand, is_here, is_home, is_pend, is_thread, one_if, pending_by, place_of, where_is}
+use Rattle.layer_traits.specs.Places.{AreMoves, Asleep, At, Hand, Home, Pend, Place, Stands, Step, Threads, Where, count_in, home_of}
+use Rattle.layer_traits.specs.Places.{is_hand, is_here, is_home, is_pend, is_thread, one_if, pending_by, place_of, where_is}
 use Rattle.layer_traits.specs.Told.{IsTold, Tells, queue_place}
 use Rattle.layer_traits.proofs.CountLemmas.{in_counted, is_cpu_of}
 use Rattle.layer_traits.proofs.ListsLemmas.{at_place, count_none, counted_in, place_here}
@@ -123,7 +125,8 @@ module _ {P : Type 0} (Fits : P → Type 0) (cpu_of : P → CpuId) (IsInside : C
         first_of ls same None at is = by_part (here p) refl is
         first_of ls same (Some other) at is = told_by ls same (at ∙ is)
 
-        by_machine : (o : Option (Line → List Tid)) → home ≡ o → option_or (option_and_then (line_among t) o) (option_and_then (line_among t) (here p)) ≡ Some line
+        by_machine : (o : Option (Line → List Tid)) → home ≡ o
+            → option_or (option_and_then (line_among t) o) (option_and_then (line_among t) (here p)) ≡ Some line
             → where_is homes moves t ≡ Asleep (At (Buffer b) line)
         by_machine None at is = by_part (here p) refl is
         by_machine (Some ls) at is = first_of ls (told.by_machine ls at) (line_among t ls) refl is
@@ -136,7 +139,8 @@ not_silent t (Some q) queue some same stands silent =
     let says : is_in t q ≡ true = ap (is_in t) (same q refl) ∙ stands in absurd (cc (says, silent))
 
 -- and so are lists
-not_quiet : (t : Tid) (told : Option (Line → List Tid)) (lines : Line → List Tid) (line : Line) → told ≢ None → ((ls : Line → List Tid) → told ≡ Some ls → ls ≡ lines)
+not_quiet : (t : Tid) (told : Option (Line → List Tid)) (lines : Line → List Tid) (line : Line)
+    → told ≢ None → ((ls : Line → List Tid) → told ≡ Some ls → ls ≡ lines)
     → is_in t (lines line) ≡ true → option_and_then (line_among t) told ≡ None → ⊥
 not_quiet t None lines line some same stands quiet = some refl
 not_quiet t (Some ls) lines line some same stands quiet =
@@ -243,7 +247,8 @@ module _ {P : Type 0} (Fits : P → Type 0) (cpu_of : P → CpuId) (IsInside : C
         cpu = it.cpu;
         may = inr (inr (it.known, it.inside));
         has = λ p same fits silent. let quiet = unlined t (lines_at b) (lines_with p b) (silent.lines b within) in
-            not_quiet t (lines_with p b) (lines b) line (it.has p same fits) (λ ls told. (beds b within).by_part p ls fits told) (in_line b line within is) quiet.1;
+            not_quiet t (lines_with p b) (lines b) line (it.has p same fits)
+            (λ ls told. (beds b within).by_part p ls fits told) (in_line b line within is) quiet.1;
       }
 
   asleep : (lock : LockId) (line : Line) → where_is homes moves t ≡ Asleep (At lock line) → Told (Asleep (At lock line))

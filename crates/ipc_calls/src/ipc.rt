@@ -191,6 +191,8 @@ impl<B: BufferLayer> IpcLayer for Ipc<B> {
 
     ghost seen_is = { B.seen_is };
 
+    ghost moves_are = { B.moves_are };
+
     ghost busy = { λ p m fits. B.busy p.lower m fits.0 };
 
     ghost opens = { λ step m homes c fresh. opens_so (B.caps m) homes c (B.opening m) (B.opens m c fresh.0) fresh.4 fresh.5 fresh.6 };
@@ -342,6 +344,8 @@ impl<B: OpensBuffers> Owned for Ipc<B> {
         (λ (p : Self). B.cpu_of p.lower) (λ d. B.IsStepwise × (is_in_section (phase d (B.acts m)) ≡ true))
         (λ d. B.IsStepwise × (is_in_section (phase d (B.acts m)) ≡ true)) (λ p. B.owner_with p b) (B.owner_at m b)
         (B.owner m b) (λ p fits. fits.0) (λ p fits. refl) (λ d inside. inside) (B.owners m c b acts within) };
+
+    ghost owner_is = { B.owner_is };
 
     ghost place = { λ p m t fits there.
         let home = home_there (homes_in (B.opening m)) t there in

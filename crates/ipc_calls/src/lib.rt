@@ -4,10 +4,12 @@
 
 mod ipc;
 mod opening;
+mod stepwise;
 mod tower;
 
 pub use ipc::Ipc;
 pub use opening::{OpensBuffers, OpensLocks};
+pub use stepwise::{StepwiseBuffers, StepwiseLocks, StepwiseSections, tower_is_stepwise};
 pub use tower::{LockEdit, Over, TowerBlock, TowerEdit, part_over, tower_blocks};
 
 #[cfg(test)]

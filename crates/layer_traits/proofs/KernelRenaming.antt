@@ -33,7 +33,7 @@ use Rattle.layer_traits.specs.Places.{Threads, Moved, step, MayEdit, MayPush, ho
 use Rattle.layer_traits.specs.Plans.{Left, Plan, Now, Act, Follows, raised, reply, table_of}
 use Rattle.layer_traits.specs.Protocol.{section}
 use Rattle.layer_traits.specs.QueueBlocks.{StartsAs, StartsWell, above_of, homes_in, homes_of, inner}
-use Rattle.layer_traits.specs.QueueRules.{queue_answer, queue_edited, queue_rules}
+use Rattle.layer_traits.specs.QueueRules.{AreProper, IsProper, queue_answer, queue_edited, queue_rules}
 use Rattle.layer_traits.specs.Queues.{Kernel, CallAllowed, IsKnownEvent, QueueAllowed, buffer_sections, call_move}
 use Rattle.layer_traits.specs.Queues.{event, event_actor, event_of, call_at, moves_in, out_at, with_section}
 use Rattle.layer_traits.specs.Renaming.{named, renamed_call, renamed_edit, renamed_event, renamed_events, renamed_sched, viewed, viewed_block}
@@ -139,6 +139,19 @@ module _ {D E : Type 0} (name : D → E) where
   pub seen_renamed : (acts : List (Action (QueueEdit D)))
       → renamed_events name (map event_of (sections_in acts)) ≡ map event_of (sections_in (map (renamed (renamed_edit name)) acts))
   seen_renamed acts = sections_seen (sections_in acts) ∙ ap (map event_of) (sym (sections_in_renamed (renamed_edit name) acts))
+
+  renamed_proper : (lock : LockId) (d : QueueEdit D) → IsProper lock d → IsProper lock (renamed_edit name d)
+  renamed_proper lock (edit.Push t) proper = proper
+  renamed_proper lock edit.TakeAll proper = proper
+  renamed_proper lock (edit.Above d) proper = proper
+
+  proper_sections : (past : List (Section (QueueEdit D))) → AreProper past → AreProper (map (renamed_section (renamed_edit name)) past)
+  proper_sections [] proper = tt
+  proper_sections (s ∷ past) proper = (renamed_proper s.lock s.edit proper.0, proper_sections past proper.1)
+
+  -- and their sections edit blocks of the same kinds
+  pub proper_renamed : (acts : List (Action (QueueEdit D))) → AreProper (sections_in acts) → AreProper (sections_in (map (renamed (renamed_edit name)) acts))
+  proper_renamed acts proper = subst AreProper (sym (sections_in_renamed (renamed_edit name) acts)) (proper_sections (sections_in acts) proper)
 
 -- Plans under other names.
 

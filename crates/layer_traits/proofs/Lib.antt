@@ -13,5 +13,7 @@ pub mod SleepLemmas
 pub mod SleepRenaming
 pub mod CallLemmas
 pub mod NestedLemmas
+pub mod ActedLemmas
 pub mod OwnedLemmas
 pub mod EffectRunLemmas
+pub mod ItemLemmas

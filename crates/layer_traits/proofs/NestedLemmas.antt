@@ -23,11 +23,12 @@ use Rattle.layer_traits.specs.declared.queues.QueueCall.{QueueCall}
 use Rattle.layer_traits.specs.declared.queues.QueueCall.TheVariants.{Push, TakeAll, OnBuffer}
 use Rattle.layer_traits.specs.declared.queues.QueueEvent.{QueueEvent}
 use Rattle.layer_traits.specs.MoveRules.{MoveRules, WakesSleepers, edit_move}
-use Rattle.layer_traits.specs.Places.{MayPush, pending_after, pending_by}
+use Rattle.layer_traits.specs.Places.{AreMoves, MayMove, MayPush, pending_after, pending_by}
 use Rattle.layer_traits.specs.Protocol.{IsKnown, Rules, StaysAllowed, section}
-use Rattle.layer_traits.specs.QueueBlocks.{StartsAs, StartsWell, above_of, homes_in, inner}
-use Rattle.layer_traits.specs.QueueRules.{IsProper, IsProperCall, SectionAllowed, pushed, queue_answer, queue_edited, queue_rules}
-use Rattle.layer_traits.specs.Queues.{CallAllowed, IsKnownEvent, Kernel, MayQueue, QueueAllowed, QueuePolled, StaysCallable, answer_of, buffer_sections}
+use Rattle.layer_traits.specs.QueueBlocks.{StartsAs, StartsWell, above_of, homes_in, inner, with_queue}
+use Rattle.layer_traits.specs.QueueRules.{AreProper, IsProper, IsProperCall, SectionAllowed, pushed, queue_answer, queue_edited, queue_rules}
+use Rattle.layer_traits.specs.Queues.{CallAllowed, call_move, IsKnownEvent, Kernel, MayQueue, QueueAllowed}
+use Rattle.layer_traits.specs.Queues.{QueuePolled, StaysCallable, answer_of, buffer_sections}
 use Rattle.layer_traits.specs.Queues.{call_at, edit_of, event, event_actor, event_of, kernel, lock_of, moves_in, out_at}
 use Rattle.layer_traits.specs.Turns.{MayPoll, Polled}
 use Rattle.layer_traits.proofs.CallLemmas.{moves_lawful}
@@ -85,12 +86,6 @@ event_grows ActsFor Acts weakens old new grows = record {
   is = ap (map event_of) grows.is ∙ map-append event_of grows.others old;
 }
 
--- The block with this queue in it, where it is a queue's.
-abbrev pub with_queue : {B : Type 0} → List Tid → Option (QueueBlock B) → Option (QueueBlock B)
-with_queue queue None = None
-with_queue queue (Some (block.Queue old homes)) = Some (block.Queue queue homes)
-with_queue queue (Some (block.Above b)) = Some (block.Above b)
-
 module _ {E B O : Type 0} (rules : Rules E B O) (mv : MoveRules E O) (opening : LockId → Option (QueueBlock B)) where
   abbrev beneath : Kernel E B O
   beneath = kernel rules mv opening
@@ -102,6 +97,11 @@ module _ {E B O : Type 0} (rules : Rules E B O) (mv : MoveRules E O) (opening : 
   pub lawful_events : (log : List (Section (QueueEdit E))) → Lawful log → IsLawful (QueueAllowed beneath) (map event_of log)
   lawful_events [] lawful = tt
   lawful_events (s ∷ past) lawful = (lawful.0.call, lawful_events past lawful.1)
+
+  -- allowed sections edit blocks of their kinds
+  pub lawful_proper : (log : List (Section (QueueEdit E))) → Lawful log → AreProper log
+  lawful_proper [] lawful = tt
+  lawful_proper (s ∷ past) lawful = (lawful.0.proper, lawful_proper past lawful.1)
 
   -- a call that stays allowed is a section that does
   pub stays_section : (old : List (Section (QueueEdit E))) (c : CpuId) (call : QueueCall E)
@@ -154,87 +154,98 @@ module _ {E B O : Type 0} (rules : Rules E B O) (mv : MoveRules E O) (opening : 
         (block_after rules.edited (inner opening) (Buffer b) (buffer_sections (map event_of past))) is
 
     -- a buffer's block is that which the sections of the layer above leave
+    pub proper_buffer : (b : BufId) (log : List (Section (QueueEdit E))) → AreProper log
+        → block_after (queue_edited rules.edited) opening (Buffer b) log
+        ≡ option_map block.Above (block_after rules.edited (inner opening) (Buffer b) (buffer_sections (map event_of log)))
+    proper_buffer b [] proper = opens_buffer b (opening (Buffer b)) (starts.kinds (Buffer b))
+    proper_buffer b (s ∷ past) proper = buffer_step b s.lock s.edit s.cpu past proper.0 (proper_buffer b past proper.1)
+
     pub buffer_block : (b : BufId) (log : List (Section (QueueEdit E))) → Lawful log
         → block_after (queue_edited rules.edited) opening (Buffer b) log
         ≡ option_map block.Above (block_after rules.edited (inner opening) (Buffer b) (buffer_sections (map event_of log)))
-    buffer_block b [] lawful = opens_buffer b (opening (Buffer b)) (starts.kinds (Buffer b))
-    buffer_block b (s ∷ past) lawful = buffer_step b s.lock s.edit s.cpu past lawful.0.proper (buffer_block b past lawful.1)
+    buffer_block b log lawful = proper_buffer b log (lawful_proper log lawful)
+
+    opens_queue : (d : CpuId) (found : Option (QueueBlock B)) → StartsAs (Pending d) found → found ≡ with_queue [] found
+    opens_queue d None kind = refl
+    opens_queue d (Some (block.Queue queue homes)) kind = ap (λ q. Some (block.Queue q homes)) kind
+    opens_queue d (Some (block.Above x)) kind = absurd kind
+
+    -- who may be pushed is one of the machine's threads, and does not stand in the queue
+    pub push_known : (past : List (QueueEvent E)) (c d : CpuId) (t : Tid) → MayPush (homes_in opening) (moves_in beneath past) c d t → t.0 < THREADS
+    push_known past c d t may =
+        let within = slice_get_within (homes_in opening) t.0 d may.home in
+        let most = starts.room in
+        omega (arith, within, most)
+
+    pub push_new : (past : List (QueueEvent E)) → AreMoves (homes_in opening) (moves_in beneath past) → (c d e : CpuId) (t : Tid)
+        → MayPush (homes_in opening) (moves_in beneath past) c d t
+        → is_in t (pending_by (moves_in beneath past) e) ≡ false
+    push_new past moving c d e t may = go (is_in t (pending_by (moves_in beneath past) e)) refl
+      where
+        go : (b : Bool) → is_in t (pending_by (moves_in beneath past) e) ≡ b → b ≡ false
+        go false is = refl
+        go true is =
+            let pends = pend_where (homes_in opening) (moves_in beneath past) moving e t is in
+            let held = may.held in
+            absurd (cc (pends, held))
+
+    pushed_is : (t : Tid) (queue : List Tid) → t.0 < THREADS → is_in t queue ≡ false → pushed t queue ≡ queue ++ t ∷ []
+    pushed_is t queue known new = λ i. if (lt-ltb t.0 THREADS known i) && not (new i) then queue ++ t ∷ [] else queue
+
+    edits_queue : (x : QueueEdit E) (at : Bool) (found opened : Option (QueueBlock B)) (queue next : List Tid) → found ≡ with_queue queue opened
+        → ((homes : _) → queue_edited rules.edited x (block.Queue queue homes) ≡ block.Queue next homes)
+        → ((b : B) → queue_edited rules.edited x (block.Above b) ≡ block.Above b)
+        → (if at then option_map (queue_edited rules.edited x) found else found) ≡ with_queue (if at then next else queue) opened
+    edits_queue x false found opened queue next is edits leaves = is
+    edits_queue x true found None queue next is edits leaves = ap (option_map (queue_edited rules.edited x)) is
+    edits_queue x true found (Some (block.Queue old homes)) queue next is edits leaves = ap (option_map (queue_edited rules.edited x)) is
+        ∙ ap Some (edits homes)
+    edits_queue x true found (Some (block.Above b)) queue next is edits leaves = ap (option_map (queue_edited rules.edited x)) is ∙ ap Some (leaves b)
+
+    still_pending : (b : BufId) (e : E) (d : CpuId) (queue : List Tid) (out : Option O) → pending_after (edit_move mv (Buffer b) e out) d queue ≡ queue
+    still_pending b e d queue None = refl
+    still_pending b e d queue (Some o) = refl
+
+    queue_step : (d : CpuId) (lock : LockId) (x : QueueEdit E) (c : CpuId) (past : List (Section (QueueEdit E))) → IsProper lock x
+        → MayMove (homes_in opening) (moves_in beneath (map event_of past)) c (call_move beneath (map event_of past) (call_at lock x))
+        → AreMoves (homes_in opening) (moves_in beneath (map event_of past))
+        → block_after (queue_edited rules.edited) opening (Pending d) past
+        ≡ with_queue (pending_by (moves_in beneath (map event_of past)) d) (opening (Pending d))
+        → block_after (queue_edited rules.edited) opening (Pending d) (section c lock x ∷ past)
+        ≡ with_queue (pending_by (moves_in beneath (map event_of (section c lock x ∷ past))) d) (opening (Pending d))
+    queue_step d (Pending at) (edit.Push t) c past proper may moving is =
+        let queue = pending_by (moves_in beneath (map event_of past)) d in
+        edits_queue (edit.Push t) (same_cpu d at) (block_after (queue_edited rules.edited) opening (Pending d) past) (opening (Pending d)) queue
+        (queue ++ t ∷ []) is
+        (λ homes. ap (λ q. block.Queue q homes)
+        (pushed_is t queue (push_known (map event_of past) c at t may) (push_new (map event_of past) moving c at d t may)))
+        (λ b. refl)
+        ∙ ap (λ b. with_queue (if b then queue ++ t ∷ [] else queue) (opening (Pending d))) (same_cpu_sym d at)
+    queue_step d (Pending at) edit.TakeAll c past proper may moving is =
+        let queue = pending_by (moves_in beneath (map event_of past)) d in
+        edits_queue edit.TakeAll (same_cpu d at) (block_after (queue_edited rules.edited) opening (Pending d) past) (opening (Pending d)) queue [] is
+        (λ homes. refl) (λ b. refl)
+        ∙ ap (λ b. with_queue (if b then [] else queue) (opening (Pending d))) (same_cpu_sym d at)
+    queue_step d (Pending at) (edit.Above e) c past proper may moving is = absurd cc
+    queue_step d (Buffer at) (edit.Push t) c past proper may moving is = absurd cc
+    queue_step d (Buffer at) edit.TakeAll c past proper may moving is = absurd cc
+    queue_step d (Buffer at) (edit.Above e) c past proper may moving is =
+        is ∙ ap (λ q. with_queue q (opening (Pending d)))
+        (sym (still_pending at e d (pending_by (moves_in beneath (map event_of past)) d) (out_at beneath (map event_of past) at e)))
+
+    -- a queue's block holds who is pending there by the moves
+    pub proper_queue : (d : CpuId) (log : List (Section (QueueEdit E))) → AreProper log → AreMoves (homes_in opening) (moves_in beneath (map event_of log))
+        → block_after (queue_edited rules.edited) opening (Pending d) log
+        ≡ with_queue (pending_by (moves_in beneath (map event_of log)) d) (opening (Pending d))
+    proper_queue d [] proper moving = opens_queue d (opening (Pending d)) (starts.kinds (Pending d))
+    proper_queue d (s ∷ past) proper moving = queue_step d s.lock s.edit s.cpu past proper.0 moving.0 moving.1 (proper_queue d past proper.1 moving.1)
 
     module _ (wakes : WakesSleepers rules mv) where
-      opens_queue : (d : CpuId) (found : Option (QueueBlock B)) → StartsAs (Pending d) found → found ≡ with_queue [] found
-      opens_queue d None kind = refl
-      opens_queue d (Some (block.Queue queue homes)) kind = ap (λ q. Some (block.Queue q homes)) kind
-      opens_queue d (Some (block.Above x)) kind = absurd kind
-
-      -- who may be pushed is one of the machine's threads, and does not stand in the queue
-      pub push_known : (past : List (QueueEvent E)) (c d : CpuId) (t : Tid) → MayPush (homes_in opening) (moves_in beneath past) c d t → t.0 < THREADS
-      push_known past c d t may =
-          let within = slice_get_within (homes_in opening) t.0 d may.home in
-          let most = starts.room in
-          omega (arith, within, most)
-
-      pub push_new : (past : List (QueueEvent E)) → IsLawful (QueueAllowed beneath) past → (c d e : CpuId) (t : Tid)
-          → MayPush (homes_in opening) (moves_in beneath past) c d t
-          → is_in t (pending_by (moves_in beneath past) e) ≡ false
-      push_new past lawful c d e t may = go (is_in t (pending_by (moves_in beneath past) e)) refl
-        where
-          go : (b : Bool) → is_in t (pending_by (moves_in beneath past) e) ≡ b → b ≡ false
-          go false is = refl
-          go true is =
-              let pends = pend_where (homes_in opening) (moves_in beneath past) (moves_lawful beneath wakes past lawful) e t is in
-              let held = may.held in
-              absurd (cc (pends, held))
-
-      pushed_is : (t : Tid) (queue : List Tid) → t.0 < THREADS → is_in t queue ≡ false → pushed t queue ≡ queue ++ t ∷ []
-      pushed_is t queue known new = λ i. if (lt-ltb t.0 THREADS known i) && not (new i) then queue ++ t ∷ [] else queue
-
-      edits_queue : (x : QueueEdit E) (at : Bool) (found opened : Option (QueueBlock B)) (queue next : List Tid) → found ≡ with_queue queue opened
-          → ((homes : _) → queue_edited rules.edited x (block.Queue queue homes) ≡ block.Queue next homes)
-          → ((b : B) → queue_edited rules.edited x (block.Above b) ≡ block.Above b)
-          → (if at then option_map (queue_edited rules.edited x) found else found) ≡ with_queue (if at then next else queue) opened
-      edits_queue x false found opened queue next is edits leaves = is
-      edits_queue x true found None queue next is edits leaves = ap (option_map (queue_edited rules.edited x)) is
-      edits_queue x true found (Some (block.Queue old homes)) queue next is edits leaves = ap (option_map (queue_edited rules.edited x)) is
-          ∙ ap Some (edits homes)
-      edits_queue x true found (Some (block.Above b)) queue next is edits leaves = ap (option_map (queue_edited rules.edited x)) is ∙ ap Some (leaves b)
-
-      still_pending : (b : BufId) (e : E) (d : CpuId) (queue : List Tid) (out : Option O) → pending_after (edit_move mv (Buffer b) e out) d queue ≡ queue
-      still_pending b e d queue None = refl
-      still_pending b e d queue (Some o) = refl
-
-      queue_step : (d : CpuId) (lock : LockId) (x : QueueEdit E) (c : CpuId) (past : List (Section (QueueEdit E))) → IsProper lock x
-          → CallAllowed beneath (map event_of past) c (call_at lock x) → IsLawful (QueueAllowed beneath) (map event_of past)
-          → block_after (queue_edited rules.edited) opening (Pending d) past
-          ≡ with_queue (pending_by (moves_in beneath (map event_of past)) d) (opening (Pending d))
-          → block_after (queue_edited rules.edited) opening (Pending d) (section c lock x ∷ past)
-          ≡ with_queue (pending_by (moves_in beneath (map event_of (section c lock x ∷ past))) d) (opening (Pending d))
-      queue_step d (Pending at) (edit.Push t) c past proper allowed lawful is =
-          let queue = pending_by (moves_in beneath (map event_of past)) d in
-          edits_queue (edit.Push t) (same_cpu d at) (block_after (queue_edited rules.edited) opening (Pending d) past) (opening (Pending d)) queue
-          (queue ++ t ∷ []) is
-          (λ homes. ap (λ q. block.Queue q homes)
-          (pushed_is t queue (push_known (map event_of past) c at t allowed) (push_new (map event_of past) lawful c at d t allowed)))
-          (λ b. refl)
-          ∙ ap (λ b. with_queue (if b then queue ++ t ∷ [] else queue) (opening (Pending d))) (same_cpu_sym d at)
-      queue_step d (Pending at) edit.TakeAll c past proper allowed lawful is =
-          let queue = pending_by (moves_in beneath (map event_of past)) d in
-          edits_queue edit.TakeAll (same_cpu d at) (block_after (queue_edited rules.edited) opening (Pending d) past) (opening (Pending d)) queue [] is
-          (λ homes. refl) (λ b. refl)
-          ∙ ap (λ b. with_queue (if b then [] else queue) (opening (Pending d))) (same_cpu_sym d at)
-      queue_step d (Pending at) (edit.Above e) c past proper allowed lawful is = absurd cc
-      queue_step d (Buffer at) (edit.Push t) c past proper allowed lawful is = absurd cc
-      queue_step d (Buffer at) edit.TakeAll c past proper allowed lawful is = absurd cc
-      queue_step d (Buffer at) (edit.Above e) c past proper allowed lawful is =
-          is ∙ ap (λ q. with_queue q (opening (Pending d)))
-          (sym (still_pending at e d (pending_by (moves_in beneath (map event_of past)) d) (out_at beneath (map event_of past) at e)))
-
-      -- a queue's block holds who is pending there by the moves
       pub queue_block : (d : CpuId) (log : List (Section (QueueEdit E))) → Lawful log
           → block_after (queue_edited rules.edited) opening (Pending d) log
           ≡ with_queue (pending_by (moves_in beneath (map event_of log)) d) (opening (Pending d))
-      queue_block d [] lawful = opens_queue d (opening (Pending d)) (starts.kinds (Pending d))
-      queue_block d (s ∷ past) lawful = queue_step d s.lock s.edit s.cpu past lawful.0.proper lawful.0.call (lawful_events past lawful.1)
-          (queue_block d past lawful.1)
+      queue_block d log lawful =
+          proper_queue d log (lawful_proper log lawful) (moves_lawful beneath wakes (map event_of log) (lawful_events log lawful))
 
       -- What a poll of a section means as a poll of its call.
 

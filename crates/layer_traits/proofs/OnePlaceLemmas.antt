@@ -1,5 +1,6 @@
 -- Each thread stands in exactly one place: the sums over all CPUs, by cases on the thread's home and place.
-use Rattle.std.proofs.Common.{◌≡◌, ℕ, zero, suc, ◌+◌, ◌<◌, ◌⊎◌, inl, inr, true, false, ◌&&◌, List, Option, Some, None, is_some, refl, ap, sym, subst, arith}
+use Rattle.std.proofs.Common.{◌≡◌, ℕ, zero, suc, ◌+◌, ◌<◌, ◌⊎◌, inl, inr, true, false, ◌&&◌, List}
+use Rattle.std.proofs.Common.{Option, Some, None, is_some, refl, ap, sym, ◌∙◌, subst, arith}
 use Rattle.std.proofs.lemmas.Bool.{and_right, cases_eq, ne_eqb}
 use Rattle.event_log.specs.declared.ids.CpuId.{CpuId}
 use Rattle.event_log.specs.declared.ids.Tid.{Tid}
@@ -10,14 +11,14 @@ use Rattle.layer_traits.specs.Places.{Step, Threads, Where, Home, Hand, Pend, As
 use Rattle.layer_traits.specs.Places.{is_asleep, is_home, is_hand, is_pend, where_is, pending_by, one_if, count_in, copies}
 use Rattle.layer_traits.proofs.PlaceLemmas.{pend_home, away_known, hand_home, pend_count}
 
-total_same : (f g : ℕ → ℕ) (n : ℕ) → ((k : ℕ) → k < n → f k ≡ g k) → total f n ≡ total g n
+pub total_same : (f g : ℕ → ℕ) (n : ℕ) → ((k : ℕ) → k < n → f k ≡ g k) → total f n ≡ total g n
 total_same f g zero same = refl
 total_same f g (suc n) same =
     let below = total_same f g n (λ k within. same k (omega arith)) in
     let here = same n (omega arith) in
     omega (arith, below, here)
 
-total_none : (f : ℕ → ℕ) (n : ℕ) → ((k : ℕ) → k < n → f k ≡ 0) → total f n ≡ 0
+pub total_none : (f : ℕ → ℕ) (n : ℕ) → ((k : ℕ) → k < n → f k ≡ 0) → total f n ≡ 0
 total_none f zero none = refl
 total_none f (suc n) none =
     let below = total_none f n (λ k within. none k (omega arith)) in
@@ -28,23 +29,27 @@ total_sum : (f g : ℕ → ℕ) (n : ℕ) → total (λ k. f k + g k) n ≡ tota
 total_sum f g zero = omega arith
 total_sum f g (suc n) = let below = total_sum f g n in omega (arith, below)
 
--- where f is 1 at d and 0 elsewhere
-total_one : (d : ℕ) (f : ℕ → ℕ) (n : ℕ) → d < n → f d ≡ 1 → ((k : ℕ) → (d ≡ k → ⊥) → f k ≡ 0) → total f n ≡ 1
-total_one d f zero within one none = absurd (omega arith)
-total_one d f (suc n) within one none = go (cases_eq d n) (λ before. total_one d f n before one none)
+-- where f is 0 but at d
+pub total_at : (f : ℕ → ℕ) (n d : ℕ) → d < n → ((k : ℕ) → k < n → (k ≡ d → ⊥) → f k ≡ 0) → total f n ≡ f d
+total_at f zero d within none = absurd (omega arith)
+total_at f (suc n) d within none = go (cases_eq d n) (λ before. total_at f n d before (λ k under. none k (omega arith)))
   where
-    go : (d ≡ n) ⊎ (d ≡ n → ⊥) → (d < n → total f n ≡ 1) → total f n + f n ≡ 1
+    go : (d ≡ n) ⊎ (d ≡ n → ⊥) → (d < n → total f n ≡ f d) → total f n + f n ≡ f d
     go (inl last) more =
-        let below : total f n ≡ 0 = total_none f n (λ k before. none k (λ e. omega arith)) in
-        let here : f n ≡ 1 = subst (λ k. f k ≡ 1) last one in
+        let below : total f n ≡ 0 = total_none f n (λ k before. none k (omega arith) (λ e. omega arith)) in
+        let here : f d ≡ f n = ap f last in
         omega (arith, below, here)
     go (inr other) more =
-        let below : total f n ≡ 1 = more (before d n within other) in
-        let here : f n ≡ 0 = none n other in
+        let below : total f n ≡ f d = more (before d n within other) in
+        let here : f n ≡ 0 = none n (omega arith) (λ e. other (sym e)) in
         omega (arith, below, here)
       where
         before : (d n : ℕ) → d < suc n → (d ≡ n → ⊥) → d < n
         before d n within other = grind arith
+
+-- where f is 1 at d and 0 elsewhere
+pub total_one : (d : ℕ) (f : ℕ → ℕ) (n : ℕ) → d < n → f d ≡ 1 → ((k : ℕ) → (d ≡ k → ⊥) → f k ≡ 0) → total f n ≡ 1
+total_one d f n within one none = total_at f n d within (λ k under other. none k (λ e. other (sym e))) ∙ one
 
 -- of all CPUs the one that is d passes a test that asks whether it is d
 one_cpu : (d : CpuId) (n : ℕ) → d.0 < n → total (λ k. one_if (same_cpu d (cpu_at k))) n ≡ 1

@@ -11,7 +11,7 @@ use Rattle.event_log.proofs.Same.{same_cpu_self, same_cpu_true}
 use Rattle.thread_blocks.specs.Queues.{same_tid, is_in}
 use Rattle.thread_blocks.proofs.Members.{tid_numbered, same_tid_true}
 use Rattle.layer_traits.specs.declared.moves.Line.{Line}
-use Rattle.layer_traits.specs.Passes.{as_list, switched, took, passed_on, finished, own_slept, own_woken}
+use Rattle.layer_traits.specs.Passes.{as_list, or_else, switched, took, passed_on, finished, own_slept, own_woken}
 use Rattle.layer_traits.specs.Places.{home_of, is_cpu, is_thread, Place, At, Where, Home, Hand, Pend, Asleep, Move, Pushed, Took}
 use Rattle.layer_traits.specs.Places.{Moved, Still, Step, step, stepper, where_woken, where_taken, where_slept, where_after}
 use Rattle.layer_traits.specs.Places.{where_is, is_asleep, is_home, is_hand, is_pend, pending_after, pending_by, MayEdit, MayMove}
@@ -572,3 +572,13 @@ stands_boot homes c = record {
     and_true : (b : Bool) → one_if (b && true) ≡ one_if b
     and_true true = refl
     and_true false = refl
+
+-- Homes, and who runs after a wake.
+
+pub home_there : (c : CpuId) (o : Option CpuId) → IsSome o → o ≡ Some (or_else c o)
+home_there c None there = absurd (cc there)
+home_there c (Some d) there = refl
+
+pub woken_current : (homes : List CpuId) (c : CpuId) (woke : Option Tid) (own : Threads) → (own_woken homes c woke own).current ≡ own.current
+woken_current homes c None own = refl
+woken_current homes c (Some u) own = refl

@@ -1,5 +1,5 @@
 -- A poll of a sleeping layer is one poll of the scheduler's call that is due.
-use Rattle.std.proofs.Common.{◌≡◌, List, ◌++◌, Option, Some, None, IsSome, option_map, refl, ap, sym, ◌∙◌, subst}
+use Rattle.std.proofs.Common.{◌≡◌, List, ◌++◌, Option, Some, None, IsSome, is_some, option_map, refl, ap, sym, ◌∙◌, subst}
 use Rattle.event_log.specs.declared.ids.BufId.{BufId}
 use Rattle.event_log.specs.declared.ids.CpuId.{CpuId}
 use Rattle.event_log.specs.declared.ids.Tid.{Tid}
@@ -10,7 +10,7 @@ use Rattle.layer_traits.specs.declared.sleeps.Outcome.{Outcome}
 use Rattle.layer_traits.specs.Places.{Threads}
 use Rattle.layer_traits.specs.Queues.{Kernel, out_at}
 use Rattle.layer_traits.specs.Scheds.{SchedPolled, own_answered}
-use Rattle.layer_traits.specs.SleepLaw.{Sleeping, SleepPolled, Waits, Does, Sends, due, left_done, left_told}
+use Rattle.layer_traits.specs.SleepLaw.{Sleeping, SleepPolled, Waits, Does, Sends, due, done_if, left_done, left_told}
 
 -- an outcome is kept exactly while a thread stands in the hand
 abbrev pub HandKept : {O : Type 0} → Option Tid → Option (Outcome O) → Type 0
@@ -78,3 +78,8 @@ module _ {E B O : Type 0} (k : Kernel E B (Outcome O)) (ActsFor : CpuId → Type
   sleep_polled (Some t) (Some outcome) (Some (Answer out)) in_hand is_kept fits polled = let other = polled.answers in absurd cc
   sleep_polled None (Some outcome) answer in_hand is_kept fits polled = absurd fits
   sleep_polled (Some t) None answer in_hand is_kept fits polled = absurd fits
+
+-- whether a pass is done, told as an answer of the scheduler
+pub done_same : (O : Type 0) (result : Option (Unit {0})) → is_some (done_if {O = O} result) ≡ is_some result
+done_same O None = refl
+done_same O (Some u) = refl

@@ -1,8 +1,10 @@
 pub mod Protocol
 pub mod WordsProtocol
+pub mod GrantProtocol
 pub mod Turns
 pub mod OneLock
 pub mod Plans
+pub mod Acted
 pub mod Along
 pub mod Places
 pub mod MoveRules

@@ -20,6 +20,12 @@ above_of (Some (Above block)) = Some block
 abbrev pub inner : {B : Type 0} → (LockId → Option (QueueBlock B)) → LockId → Option B
 inner opening lock = above_of (opening lock)
 
+-- the block with this queue in it, where it is a queue's
+abbrev pub with_queue : {B : Type 0} → List Tid → Option (QueueBlock B) → Option (QueueBlock B)
+with_queue queue None = None
+with_queue queue (Some (Queue old homes)) = Some (Queue queue homes)
+with_queue queue (Some (Above block)) = Some (Above block)
+
 -- the homes that a pending queue's block tells
 abbrev pub homes_of : {B : Type 0} → Option (QueueBlock B) → List CpuId
 homes_of None = []

@@ -1,5 +1,6 @@
 -- What the edits of shared queues mean as edits of locks' blocks, and which sections of them are allowed.
 use Rattle.std.specs.Prelude.{◌≡◌, ◌&&◌, not, nat_lt, List, [], ◌∷◌, ◌++◌, Option, Some, None, map, if◌then◌else◌}
+use Rattle.std.specs.List.{AllByRecursion}
 use Rattle.event_log.specs.declared.ids.LockId.{LockId}
 use Rattle.event_log.specs.declared.ids.Tid.{Tid}
 use Rattle.event_log.specs.declared.ids.TheConstants.{THREADS}
@@ -39,6 +40,10 @@ queue_answer answer (Above e) (block.Above b) = Answer (answer e b)
 -- the edit is of the kind of the lock's block
 abbrev pub IsProper : {E : Type 0} → LockId → QueueEdit E → Type 0
 IsProper lock edit = lock_of (call_at lock edit) ≡ lock
+
+-- each of these sections edits a block of its kind
+abbrev pub AreProper : {E : Type 0} → List (Section (QueueEdit E)) → Type 0
+AreProper sections = AllByRecursion (λ s. IsProper s.lock s.edit) sections
 
 -- a section under way, if there is one, edits a block of its kind
 abbrev pub IsProperCall : {E : Type 0} → Option (Section (QueueEdit E)) → Type 0

@@ -27,6 +27,7 @@ pub trait BufferLayer {
     ghost use Rattle.layer_traits.specs.declared.moves.Line.{Line};
     ghost use Rattle.layer_traits.specs.declared.queue_edits.QueueEdit.{QueueEdit};
     ghost use Rattle.layer_traits.specs.declared.queue_edits.QueueBlock.{QueueBlock};
+    ghost use Rattle.layer_traits.specs.Acted.{MovesAre};
     ghost use Rattle.layer_traits.specs.Conditions.{CvCall};
     ghost use Rattle.layer_traits.specs.Places.{Step, Stands, AreMoves};
     ghost use Rattle.layer_traits.specs.Plans.{Follows, table_of, is_in_section};
@@ -38,7 +39,8 @@ pub trait BufferLayer {
     ghost use Rattle.layer_traits.specs.Locking.{lock_moves, lock_rules};
     ghost use Rattle.layer_traits.specs.BufferProtocol.{BufferLock, buffer_rules};
     ghost use Rattle.layer_traits.specs.BufferEffects.{MayTakeEffect, effects_in, opening_locks};
-    ghost use Rattle.layer_traits.specs.BufferLaw.{Buffering, Called, Calling, Doing, IsRefused, MayGoOn, MayTalk, MovesGrow, OthersSeen, Passing, RunsOn, buffer_of, buffering_at_start, fifo_pass_plan, fifo_plan, still_calling, still_passing, talk_of};
+    ghost use Rattle.layer_traits.specs.BufferLaw.{Buffering, Called, Calling, Doing, IsRefused, MayGoOn, MayTalk, MovesGrow, OthersSeen, Passing, RunsOn};
+    ghost use Rattle.layer_traits.specs.BufferLaw.{buffer_of, buffering_at_start, fifo_pass_plan, fifo_plan, still_calling, still_passing, talk_of};
     ghost use Rattle.layer_traits.specs.IpcLaw.{LinesAgree};
 
     /// What lies beneath.
@@ -236,6 +238,11 @@ pub trait BufferLayer {
     /// each has the position that its thread drew.
     ghost seen_is: { IsStepwise → (m : Self.Machine)
         → seen m ≡ effects_in (inner (opening m)) (buffer_sections (map event_of (sections_in (acts m)))) };
+
+    /// Law: where a poll is one action, what the layer tells of threads, their moves and the waiting
+    /// lists, is what the sections of the actions make of it, and so are the pending queues.
+    ghost moves_are: { IsStepwise → (m : Self.Machine) (c : CpuId) → ActsFor m c
+        → MovesAre (opening m) (acts m) (moves m) (lines m) };
 
     /// Law: where a poll is one action, a part has a section under way exactly while its CPU waits
     /// at a lock or holds one.

@@ -1,6 +1,7 @@
 //! The layer of conditions.
 
-ghost use Rattle.std.specs.Prelude.{◌≡◌, ◌≢◌, ℕ, ◌+◌, ◌<◌, ◌≤◌, Bool, true, false, List, [], Option, Some, None, IsSome, OnSome, is_some, length, map, if◌then◌else◌};
+ghost use Rattle.std.specs.Prelude.{◌≡◌, ◌≢◌, ℕ, ◌+◌, ◌<◌, ◌≤◌, Bool, true, false, List, [], Option};
+ghost use Rattle.std.specs.Prelude.{Some, None, IsSome, OnSome, is_some, length, map, if◌then◌else◌};
 
 use crate::conditions::{CvEdit, CvLeave, CvOut, Guarded};
 use crate::locked::{QEdit, QOut};
@@ -35,7 +36,7 @@ pub trait CvLayer<G: Guarded> {
     ghost use Rattle.layer_traits.specs.Looks.{Tries};
     ghost use Rattle.layer_traits.specs.QueueBlocks.{StartsWell, homes_in, inner};
     ghost use Rattle.layer_traits.specs.Queues.{QueueAllowed, IsKnownEvent, buffer_sections, event_actor, event_of, moves_in};
-    ghost use Rattle.layer_traits.specs.QueueRules.{queue_rules};
+    ghost use Rattle.layer_traits.specs.QueueRules.{AreProper, queue_rules};
     ghost use Rattle.layer_traits.specs.Passes.{MayPass, IsLocalPass};
     ghost use Rattle.layer_traits.specs.Scheds.{SchedPolled};
     ghost use Rattle.layer_traits.specs.SleepLaw.{MayCall, done_if};
@@ -247,6 +248,9 @@ pub trait CvLayer<G: Guarded> {
 
     /// Law: where a poll is one action, the events that were seen are the sections of the actions.
     ghost seen_is: { IsStepwise → (m : Self.Machine) → seen m ≡ map event_of (sections_in (acts m)) };
+
+    /// Law: where a poll is one action, each section of the actions edits a block of its kind.
+    ghost proper: { IsStepwise → (m : Self.Machine) (c : CpuId) → ActsFor m c → AreProper (sections_in (acts m)) };
 
     /// Law: where a poll is one action, a part has a section under way exactly while its CPU waits
     /// at a lock or holds one.

@@ -20,6 +20,7 @@ pub trait OwnedBuffers: BufferLayer {
     ghost use Rattle.event_log.specs.Buffers.{items_of};
     ghost use Rattle.event_log.specs.Messages.{Message};
     ghost use Rattle.layer_traits.specs.declared.moves.Line.{Line};
+    ghost use Rattle.layer_traits.specs.Acted.{owner_after};
     ghost use Rattle.layer_traits.specs.BufferEffects.{contents_of};
     ghost use Rattle.layer_traits.specs.Owned.{line_among};
     ghost use Rattle.layer_traits.specs.Places.{pending_by};
@@ -110,24 +111,33 @@ pub trait OwnedBuffers: BufferLayer {
     /// Law: the items that the machine or a part tells of a buffer are those that the effects leave
     /// in it.
     ghost items: { (m : Self.Machine) (c : CpuId) (b : BufId) → Self.ActsFor m c → b.0 < length (Self.caps m)
-        → IsTold (λ (p : Self). Self.Fits p m) (λ p. Self.cpu_of p) (λ d. Self.IsStepwise × (is_in_section (phase d (Self.acts m)) ≡ true)) (λ p. items_with p b) (items_at m b)
+        → IsTold (λ (p : Self). Self.Fits p m) (λ p. Self.cpu_of p) (λ d. Self.IsStepwise × (is_in_section (phase d (Self.acts m)) ≡ true))
+        (λ p. items_with p b) (items_at m b)
         (items_of (contents_of (Self.caps m) (Self.seen m)) b.0) };
 
     /// Law: the owner that the machine or a part tells of a buffer's lock is the one that its last
     /// section left.
     ghost owners: { (m : Self.Machine) (c : CpuId) (b : BufId) → Self.ActsFor m c → b.0 < length (Self.caps m)
-        → IsTold (λ (p : Self). Self.Fits p m) (λ p. Self.cpu_of p) (λ d. Self.IsStepwise × (is_in_section (phase d (Self.acts m)) ≡ true)) (λ p. owner_with p b) (owner_at m b)
+        → IsTold (λ (p : Self). Self.Fits p m) (λ p. Self.cpu_of p) (λ d. Self.IsStepwise × (is_in_section (phase d (Self.acts m)) ≡ true))
+        (λ p. owner_with p b) (owner_at m b)
         (owner m b) };
+
+    /// Law: where a poll is one action, the owner of a buffer's lock is the one that the sections of
+    /// the actions leave.
+    ghost owner_is: { Self.IsStepwise → (m : Self.Machine) (c : CpuId) (b : BufId) → Self.ActsFor m c
+        → owner m b ≡ owner_after (Self.opening m) (Self.acts m) b };
 
     /// Law: the waiting lists that the machine or a part tells of a buffer are those that its last
     /// section left.
     ghost beds: { (m : Self.Machine) (c : CpuId) (b : BufId) → Self.ActsFor m c → b.0 < length (Self.caps m)
-        → IsTold (λ (p : Self). Self.Fits p m) (λ p. Self.cpu_of p) (λ d. Self.IsStepwise × (is_in_section (phase d (Self.acts m)) ≡ true)) (λ p. lines_with p b) (lines_at m b)
+        → IsTold (λ (p : Self). Self.Fits p m) (λ p. Self.cpu_of p) (λ d. Self.IsStepwise × (is_in_section (phase d (Self.acts m)) ≡ true))
+        (λ p. lines_with p b) (lines_at m b)
         (Self.lines m b) };
 
     /// Law: the threads that the machine or a part tells of a pending queue are those that the moves
     /// leave in it.
     ghost queues: { (m : Self.Machine) (c d : CpuId) → Self.ActsFor m c → IsSome (Self.opening m (Pending d))
-        → IsTold (λ (p : Self). Self.Fits p m) (λ p. Self.cpu_of p) (λ d. Self.IsStepwise × (is_in_section (phase d (Self.acts m)) ≡ true)) (λ p. queue_with p d) (queue_at m d)
+        → IsTold (λ (p : Self). Self.Fits p m) (λ p. Self.cpu_of p) (λ d. Self.IsStepwise × (is_in_section (phase d (Self.acts m)) ≡ true))
+        (λ p. queue_with p d) (queue_at m d)
         (pending_by (Self.moves m) d) };
 }

@@ -54,6 +54,7 @@ pub trait OwnedLocks<E: Edit>: LockLayer<E> {
 
     /// Law: what the machine or a part tells of a block is what the sections make of it.
     ghost shown: { (m : Self.Machine) (c : CpuId) (lock : LockId) → Self.ActsFor m c → IsSome (Self.opening m lock)
-        → IsShown (λ (p : Self). Self.Fits p m) (λ p. Self.cpu_of p) (λ d. Self.IsStepwise × (is_in_section (phase d (Self.acts m)) ≡ true)) (λ p. block_with p lock) (block_at m lock)
+        → IsShown (λ (p : Self). Self.Fits p m) (λ p. Self.cpu_of p) (λ d. Self.IsStepwise × (is_in_section (phase d (Self.acts m)) ≡ true))
+        (λ p. block_with p lock) (block_at m lock)
         (block_after E.rules.edited (Self.opening m) lock (Self.seen m)) };
 }

@@ -85,11 +85,13 @@ pub trait OwnedQLocks<F: Locked>: QLockLayer<F> {
 
     /// Law: what the machine or a part tells of a buffer is what the events make of it.
     ghost shown: { (m : Self.Machine) (c : CpuId) (b : BufId) → Self.ActsFor m c → IsSome (Self.opening m (Buffer b))
-        → IsShown (λ (p : Self). Self.Fits p m) (λ p. Self.cpu_of p) (λ d. Self.IsStepwise × (is_in_section (phase d (Self.acts m)) ≡ true)) (λ p. lock_with p b) (lock_at m b)
+        → IsShown (λ (p : Self). Self.Fits p m) (λ p. Self.cpu_of p) (λ d. Self.IsStepwise × (is_in_section (phase d (Self.acts m)) ≡ true))
+        (λ p. lock_with p b) (lock_at m b)
         (lock_after F.rules (inner (Self.opening m)) (Buffer b) (buffer_sections (Self.seen m))) };
 
     /// Law: what the machine or a part tells of a pending queue is what the moves make of it.
     ghost queues: { (m : Self.Machine) (c d : CpuId) → Self.ActsFor m c → IsSome (Self.opening m (Pending d))
-        → IsShown (λ (p : Self). Self.Fits p m) (λ p. Self.cpu_of p) (λ d. Self.IsStepwise × (is_in_section (phase d (Self.acts m)) ≡ true)) (λ p. queue_with p d) (queue_at m d)
+        → IsShown (λ (p : Self). Self.Fits p m) (λ p. Self.cpu_of p) (λ d. Self.IsStepwise × (is_in_section (phase d (Self.acts m)) ≡ true))
+        (λ p. queue_with p d) (queue_at m d)
         (Some (pending_by (moves_in (lock_kernel F.rules (Self.opening m)) (Self.seen m)) d)) };
 }

@@ -1,6 +1,7 @@
 //! The layer of locks that are handed from owner to owner.
 
-ghost use Rattle.std.specs.Prelude.{◌≡◌, ◌≢◌, ℕ, ◌+◌, ◌<◌, ◌≤◌, Bool, true, false, List, [], length, map, Option, Some, None, IsSome, OnSome, is_some, if◌then◌else◌};
+ghost use Rattle.std.specs.Prelude.{◌≡◌, ◌≢◌, ℕ, ◌+◌, ◌<◌, ◌≤◌, Bool, true, false, List, [], length};
+ghost use Rattle.std.specs.Prelude.{map, Option, Some, None, IsSome, OnSome, is_some, if◌then◌else◌};
 
 use crate::locked::{Locked, QEdit, QOut};
 use crate::passes::Pass;
@@ -31,13 +32,14 @@ pub trait QLockLayer<F: Locked> {
     ghost use Rattle.layer_traits.specs.declared.scheds.SchedCall.{SchedCall};
     ghost use Rattle.layer_traits.specs.declared.scheds.SchedCall.TheVariants as sched;
     ghost use Rattle.layer_traits.specs.Looks.{Tries};
-    ghost use Rattle.layer_traits.specs.LockLaw.{HasOrAwaits, Locking, LockPolled, LocksAgree, MayGo, MayLock, MustWait, at_start, is_handed, lock_kernel, lock_pass_plan, lock_plan, slept_for};
+    ghost use Rattle.layer_traits.specs.LockLaw.{HasOrAwaits, Locking, LockPolled, LocksAgree, MayGo, MayLock, MustWait};
+    ghost use Rattle.layer_traits.specs.LockLaw.{at_start, is_handed, lock_kernel, lock_pass_plan, lock_plan, slept_for};
     ghost use Rattle.layer_traits.specs.Locking.{AreAtRest, LockState, lock_after, lock_caller, lock_moves, lock_rules};
     ghost use Rattle.layer_traits.specs.Passes.{IsLocalPass, MayPass};
     ghost use Rattle.layer_traits.specs.Places.{AreMoves, Stands};
     ghost use Rattle.layer_traits.specs.Plans.{Follows, IsWhole, is_in_section, table_of};
     ghost use Rattle.layer_traits.specs.QueueBlocks.{StartsWell, homes_in, inner};
-    ghost use Rattle.layer_traits.specs.QueueRules.{queue_rules};
+    ghost use Rattle.layer_traits.specs.QueueRules.{AreProper, queue_rules};
     ghost use Rattle.layer_traits.specs.Queues.{IsKnownEvent, QueueAllowed, buffer_sections, event_actor, event_of, moves_in};
     ghost use Rattle.layer_traits.specs.Scheds.{SchedPolled};
     ghost use Rattle.layer_traits.specs.SleepLaw.{MayCall, done_if};
@@ -165,7 +167,8 @@ pub trait QLockLayer<F: Locked> {
         requires buffer { IsSome (opening m.old (Buffer buffer)) }
         requires room { 0 < room m.old }
         requires caller { (own self.old).sleep.threads.current ≡ Some (lock_caller F.rules edit.now) }
-        requires call { MayGo (slept_for (own self.old).slept (lock_caller F.rules edit.now)) (under_way self.old) buffer edit.now (lock_caller F.rules edit.now)
+        requires call { MayGo (slept_for (own self.old).slept (lock_caller F.rules edit.now)) (under_way self.old) buffer edit.now
+            (lock_caller F.rules edit.now)
             (MayLock F.rules (lock_kernel F.rules (opening m.old)) (cpu_of self.old) (seen m.old) (own self.old).sleep.threads.hand buffer edit.now) }
         ensures fits { Fits self.new m.new }
         ensures cpu { cpu_of self.new ≡ cpu_of self.old }
@@ -179,7 +182,8 @@ pub trait QLockLayer<F: Locked> {
         ensures acts { (c : CpuId) → ActsFor m.old c → ActsFor m.new c }
         ensures others { (p : Self) → cpu_of p ≢ cpu_of self.old → Fits p m.old → Fits p m.new }
         ensures prompt { IsWhole IsStepwise → result ≡ None → MustWait (lock_caller F.rules edit.now) buffer (own self.old) (own self.new) }
-        ensures follows { IsStepwise → Follows (ActsFor m.old) (table_of (queue_rules (lock_rules F.rules) (lock_moves F.rules))) (opening m.old) (cpu_of self.old)
+        ensures follows { IsStepwise → Follows (ActsFor m.old) (table_of (queue_rules (lock_rules F.rules) (lock_moves F.rules))) (opening m.old)
+            (cpu_of self.old)
             (lock_plan (lock_moves F.rules) (homes_in (opening m.old)) (cpu_of self.old) buffer edit.now (own self.old))
             (acts m.old) (acts m.new) (record { own = own self.new; answer = result }) };
 
@@ -204,7 +208,8 @@ pub trait QLockLayer<F: Locked> {
         ensures outside { OnSome result ((IsLocalPass call → ⊥) → IsOutside m.new (cpu_of self.old)) }
         ensures others { (p : Self) → cpu_of p ≢ cpu_of self.old → Fits p m.old → Fits p m.new }
         ensures prompt { IsWhole IsStepwise → IsSome result }
-        ensures follows { IsStepwise → Follows (ActsFor m.old) (table_of (queue_rules (lock_rules F.rules) (lock_moves F.rules))) (opening m.old) (cpu_of self.old)
+        ensures follows { IsStepwise → Follows (ActsFor m.old) (table_of (queue_rules (lock_rules F.rules) (lock_moves F.rules))) (opening m.old)
+            (cpu_of self.old)
             (lock_pass_plan (lock_moves F.rules) (homes_in (opening m.old)) (cpu_of self.old) call (own self.old))
             (acts m.old) (acts m.new) (record { own = own self.new; answer = result }) };
 
@@ -239,6 +244,9 @@ pub trait QLockLayer<F: Locked> {
 
     /// Law: where a poll is one action, the events that were seen are those of the actions.
     ghost seen_is: { IsStepwise → (m : Self.Machine) → seen m ≡ map event_of (sections_in (acts m)) };
+
+    /// Law: where a poll is one action, each section of the actions edits a block of its kind.
+    ghost proper: { IsStepwise → (m : Self.Machine) (c : CpuId) → ActsFor m c → AreProper (sections_in (acts m)) };
 
     /// Law: where a poll is one action, a CPU is inside exactly while it waits at a lock or holds one.
     ghost busy: { (p : Self) (m : Self.Machine) → Fits p m → IsStepwise → is_inside p ≡ is_in_section (phase (cpu_of p) (acts m)) };

@@ -4,7 +4,7 @@ ghost use Rattle.std.specs.Prelude.{◌≡◌, ◌≢◌, ℕ, ◌+◌, ◌<◌,
 
 use crate::moves::Moves;
 use event_log::{BufId, CpuId, LockId, Tid};
-use thread_blocks::ThreadQueue;
+use thread_blocks::ThreadList;
 
 /// A call at shared queues.
 #[derive(Clone, Copy, Debug, PartialEq, Eq)]
@@ -32,7 +32,7 @@ pub enum QueueAnswer<O> {
     /// The thread was pushed.
     Done,
     /// The threads that were taken, in their order.
-    Taken(ThreadQueue),
+    Taken(ThreadList),
     /// What the edit answers.
     Answer(O),
 }
@@ -55,7 +55,7 @@ pub trait QueueLayer<E: Moves> {
     ghost use Rattle.layer_traits.specs.Looks.{Tries};
     ghost use Rattle.layer_traits.specs.Plans.{Follows, IsWhole, table_of, answered, is_in_section};
     ghost use Rattle.layer_traits.specs.QueueBlocks.{StartsWell};
-    ghost use Rattle.layer_traits.specs.QueueRules.{queue_rules};
+    ghost use Rattle.layer_traits.specs.QueueRules.{AreProper, queue_rules};
     ghost use Rattle.layer_traits.specs.Queues.{IsKnownEvent, MayQueue, QueueAllowed, QueuePolled, event, event_actor, event_of, kernel, lock_of, queue_plan};
 
     /// What lies beneath.
@@ -169,6 +169,9 @@ pub trait QueueLayer<E: Moves> {
 
     /// Law: where a poll is one action, the calls that were seen are the sections of the actions.
     ghost seen_is: { IsStepwise → (m : Self.Machine) → seen m ≡ map event_of (sections_in (acts m)) };
+
+    /// Law: where a poll is one action, each section of the actions edits a block of its kind.
+    ghost proper: { IsStepwise → (m : Self.Machine) (c : CpuId) → ActsFor m c → AreProper (sections_in (acts m)) };
 
     /// Law: where a poll is one action, a part has a call under way exactly while its CPU waits at a
     /// lock or holds one.

@@ -8,7 +8,7 @@ use crate::edits::Edit;
 use event_log::{NoMemory, Tid};
 use std::alloc::Global;
 use std::marker::Model;
-use thread_blocks::ThreadQueue;
+use thread_blocks::{ThreadList, ThreadQueue};
 
 /// A block behind a pointer: to move it moves no content. It is seen as what it holds.
 #[derive(Drop)]
@@ -64,7 +64,7 @@ pub fn push_in(room: &mut Room<ThreadQueue>, t: Tid)
 
 /// Takes all threads of the queue that the room holds, and leaves it empty.
 #[inline(always)]
-pub fn take_from(room: &mut Room<ThreadQueue>) -> ThreadQueue
+pub fn take_from(room: &mut Room<ThreadQueue>) -> ThreadList
     ensures all { result ≡ room.old }
     ensures empty { room.new ≡ [] }
 {

@@ -49,7 +49,7 @@ pub trait SchedLayer<E: Moves> {
     ghost use Rattle.layer_traits.specs.Places.{Stands, Threads, at_boot};
     ghost use Rattle.layer_traits.specs.Plans.{Follows, IsWhole, table_of, is_in_section};
     ghost use Rattle.layer_traits.specs.QueueBlocks.{StartsWell, homes_in};
-    ghost use Rattle.layer_traits.specs.QueueRules.{queue_rules};
+    ghost use Rattle.layer_traits.specs.QueueRules.{AreProper, queue_rules};
     ghost use Rattle.layer_traits.specs.Queues.{IsKnownEvent, QueueAllowed, event_actor, event_of, kernel, moves_in};
     ghost use Rattle.layer_traits.specs.Scheds.{BufferIsThere, IsLocal, IsShared, MaySched, SchedPolled, left, sched_plan};
 
@@ -194,6 +194,9 @@ pub trait SchedLayer<E: Moves> {
 
     /// Law: where a poll is one action, the calls that were seen are the sections of the actions.
     ghost seen_is: { IsStepwise → (m : Self.Machine) → seen m ≡ map event_of (sections_in (acts m)) };
+
+    /// Law: where a poll is one action, each section of the actions edits a block of its kind.
+    ghost proper: { IsStepwise → (m : Self.Machine) (c : CpuId) → ActsFor m c → AreProper (sections_in (acts m)) };
 
     /// Law: where a poll is one action, a part has a call under way that touches something shared
     /// exactly while its CPU waits at a lock or holds one.

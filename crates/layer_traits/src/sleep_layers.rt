@@ -1,6 +1,7 @@
 //! The layer of sections that put threads to sleep and wake them.
 
-ghost use Rattle.std.specs.Prelude.{◌≡◌, ◌≢◌, ℕ, ◌+◌, ◌<◌, ◌≤◌, Bool, true, false, List, [], length, map, Option, Some, None, IsSome, OnSome, is_some, if◌then◌else◌};
+ghost use Rattle.std.specs.Prelude.{◌≡◌, ◌≢◌, ℕ, ◌+◌, ◌<◌, ◌≤◌, Bool, true, false, List, [], length};
+ghost use Rattle.std.specs.Prelude.{map, Option, Some, None, IsSome, OnSome, is_some, if◌then◌else◌};
 
 use crate::passes::Pass;
 use crate::scheds::SchedCall;
@@ -36,7 +37,7 @@ pub trait SleepLayer<E: Sleeps> {
     ghost use Rattle.layer_traits.specs.Places.{AreMoves, Stands, at_boot};
     ghost use Rattle.layer_traits.specs.Plans.{Follows, IsWhole, is_in_section, table_of};
     ghost use Rattle.layer_traits.specs.QueueBlocks.{StartsWell, homes_in, inner};
-    ghost use Rattle.layer_traits.specs.QueueRules.{queue_rules};
+    ghost use Rattle.layer_traits.specs.QueueRules.{AreProper, queue_rules};
     ghost use Rattle.layer_traits.specs.Queues.{IsKnownEvent, QueueAllowed, event_actor, event_of, moves_in};
     ghost use Rattle.layer_traits.specs.Scheds.{SchedPolled};
     ghost use Rattle.layer_traits.specs.SleepLaw.{MayCall, MaySleep, MustSend, SleepPolled, Sleeping, done_if, pass_plan, sleep_kernel, sleep_plan};
@@ -166,7 +167,8 @@ pub trait SleepLayer<E: Sleeps> {
         ensures outside { OnSome result (IsOutside m.new (cpu_of self.old)) }
         ensures others { (p : Self) → cpu_of p ≢ cpu_of self.old → Fits p m.old → Fits p m.new }
         ensures prompt { IsWhole IsStepwise → result ≡ None → MustSend (own self.old) (own self.new) }
-        ensures follows { IsStepwise → Follows (ActsFor m.old) (table_of (queue_rules (sleep_rules E.rules) (sleep_moves E.rules))) (opening m.old) (cpu_of self.old)
+        ensures follows { IsStepwise → Follows (ActsFor m.old) (table_of (queue_rules (sleep_rules E.rules) (sleep_moves E.rules))) (opening m.old)
+            (cpu_of self.old)
             (sleep_plan (sleep_moves E.rules) (homes_in (opening m.old)) (cpu_of self.old) buffer edit (own self.old))
             (acts m.old) (acts m.new) (record { own = own self.new; answer = result }) };
 
@@ -190,7 +192,8 @@ pub trait SleepLayer<E: Sleeps> {
         ensures outside { OnSome result ((IsLocalPass call → ⊥) → IsOutside m.new (cpu_of self.old)) }
         ensures others { (p : Self) → cpu_of p ≢ cpu_of self.old → Fits p m.old → Fits p m.new }
         ensures prompt { IsWhole IsStepwise → IsSome result }
-        ensures follows { IsStepwise → Follows (ActsFor m.old) (table_of (queue_rules (sleep_rules E.rules) (sleep_moves E.rules))) (opening m.old) (cpu_of self.old)
+        ensures follows { IsStepwise → Follows (ActsFor m.old) (table_of (queue_rules (sleep_rules E.rules) (sleep_moves E.rules))) (opening m.old)
+            (cpu_of self.old)
             (pass_plan (sleep_moves E.rules) (homes_in (opening m.old)) (cpu_of self.old) call (own self.old))
             (acts m.old) (acts m.new) (record { own = own self.new; answer = result }) };
 
@@ -221,6 +224,9 @@ pub trait SleepLayer<E: Sleeps> {
 
     /// Law: where a poll is one action, the events that were seen are those of the actions.
     ghost seen_is: { IsStepwise → (m : Self.Machine) → seen m ≡ map event_of (sections_in (acts m)) };
+
+    /// Law: where a poll is one action, each section of the actions edits a block of its kind.
+    ghost proper: { IsStepwise → (m : Self.Machine) (c : CpuId) → ActsFor m c → AreProper (sections_in (acts m)) };
 
     /// Law: where a poll is one action, a CPU is inside exactly while it waits at a lock or holds one.
     ghost busy: { (p : Self) (m : Self.Machine) → Fits p m → IsStepwise → is_inside p ≡ is_in_section (phase (cpu_of p) (acts m)) };

@@ -10,7 +10,10 @@ use Rattle.event_log.specs.declared.events.Event.TheVariants.{Draw, Look, Free}
 use Rattle.event_log.specs.History.{same_lock}
 use Rattle.event_log.specs.WordsLog.{Inside, Outside, Standing, Waiting, frees, standing}
 use Rattle.event_log.specs.Sections.{Section, block_after, sections_of}
-use Rattle.event_log.specs.Actions.{Rests, acts_of, phase}
+use Rattle.event_log.specs.Actions.{Action, Rests, acts_of, phase}
+use Rattle.spinlock.specs.declared.stages.TicketStage.{TicketStage}
+use Rattle.spinlock.specs.declared.stages.TicketStage.TheVariants.{Out, Drawn, Held}
+use Rattle.spinlock.specs.Stages.{StageFits, stage_section}
 use Rattle.event_log.proofs.Tickets.{phase_acts, phase_of}
 use Rattle.layer_traits.specs.declared.edits.Mark.{Mark}
 use Rattle.layer_traits.specs.WordsProtocol.{edit_of, sections}
@@ -55,6 +58,13 @@ outside_at_rest log cpu rests = go (standing cpu log) refl where
   go Outside is = refl
   go (Waiting lock ticket) is = let waits = sym rests ∙ phase_acts edit_of cpu log ∙ ap phase_of is in cc waits
   go (Inside lock ticket) is = let holds = sym rests ∙ phase_acts edit_of cpu log ∙ ap phase_of is in cc holds
+
+-- a lock with no section under way has a CPU whose actions rest
+pub rests_without_section : (opening : LockId → Option ℕ) (acts : List (Action AddOne)) (cpu : CpuId) (stage : TicketStage AddOne ℕ)
+    → StageFits counting opening acts cpu stage → stage_section cpu stage ≡ None → phase cpu acts ≡ Rests
+rests_without_section opening acts cpu Out fits none = fits
+rests_without_section opening acts cpu (Drawn lock edit ticket) fits none = absurd (cc none)
+rests_without_section opening acts cpu (Held lock edit block) fits none = absurd (cc none)
 
 -- an option that is not None is Some
 pub some_where_not_none : {X : Type 0} (o : Option X) → (IsNone o → ⊥) → IsSome o

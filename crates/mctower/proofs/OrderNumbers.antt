@@ -16,7 +16,8 @@ use Rattle.mctower.proofs.ListLemmas.{get_set}
 -- where all traces are used up, they hold nothing together
 all_used : (traces : List (List Entry)) → ((k : ℕ) → get_or traces k [] ≡ []) → sum_by length traces ≡ 0
 all_used [] used = refl
-all_used (trace ∷ traces) used = sum_by-cons length trace traces ∙ (ap (λ t. length t + sum_by length traces) (used 0) ∙ omega (arith, all_used traces (λ k. used (suc k))))
+all_used (trace ∷ traces) used =
+    sum_by-cons length trace traces ∙ (ap (λ t. length t + sum_by length traces) (used 0) ∙ omega (arith, all_used traces (λ k. used (suc k))))
 
 -- an order has as many entries as the traces together
 pub order_length : (traces : List (List Entry)) (order : List Entry) → IsInterleaving traces order → length order ≡ sum_by length traces
@@ -24,12 +25,14 @@ order_length traces [] keeps = sym (all_used traces keeps)
 order_length traces (e ∷ order) keeps =
     let within : keeps.0 < length traces = slice_get_within traces keeps.0 (e ∷ keeps.1) keeps.2 in
     let here : length (get_or traces keeps.0 []) ≡ suc (length keeps.1) = ap length (get_or_from_slice_get traces keeps.0 (e ∷ keeps.1) [] keeps.2) in
-    let one_less : sum_by length (set traces keeps.0 keeps.1) + length (get_or traces keeps.0 []) ≡ sum_by length traces + length keeps.1 = sum_by-set length traces keeps.0 keeps.1 [] within in
+    let one_less : sum_by length (set traces keeps.0 keeps.1) + length (get_or traces keeps.0 []) ≡ sum_by length traces + length keeps.1 =
+    sum_by-set length traces keeps.0 keeps.1 [] within in
     let others : length order ≡ sum_by length (set traces keeps.0 keeps.1) = order_length (set traces keeps.0 keeps.1) order keeps.3 in
     omega arith
 
 -- what holds of the entries of all traces holds of the entries of an order
-pub order_all : (P : Entry → Type 0) (traces : List (List Entry)) (order : List Entry) → ((k : ℕ) (trace : List Entry) → slice_get traces k ≡ Some trace → AllByRecursion P trace) → IsInterleaving traces order → AllByRecursion P order
+pub order_all : (P : Entry → Type 0) (traces : List (List Entry)) (order : List Entry)
+    → ((k : ℕ) (trace : List Entry) → slice_get traces k ≡ Some trace → AllByRecursion P trace) → IsInterleaving traces order → AllByRecursion P order
 order_all P traces [] each keeps = tt
 order_all P traces (e ∷ order) each keeps =
     let here : AllByRecursion P (e ∷ keeps.1) = each keeps.0 (e ∷ keeps.1) keeps.2 in (
@@ -43,7 +46,8 @@ order_all P traces (e ∷ order) each keeps =
     )
 
 -- the numbers of a run's entries are below any number that is not below its length
-pub run_numbers : (n : ℕ) (caps : List ℕ) (earlier : List Entry) (contents : List (List ℕ)) (es : List Entry) (left : List (List ℕ)) → length earlier + length es ≤ n → IsRunFrom caps earlier contents es left
+pub run_numbers : (n : ℕ) (caps : List ℕ) (earlier : List Entry) (contents : List (List ℕ)) (es : List Entry) (left : List (List ℕ))
+    → length earlier + length es ≤ n → IsRunFrom caps earlier contents es left
     → AllByRecursion (λ e. (e.buffer.0 < length caps) × (e.op < n) × (e.pos < n)) es
 run_numbers n caps earlier contents [] left few run = tt
 run_numbers n caps earlier contents (e ∷ es) left few run =
@@ -63,12 +67,14 @@ effect_all P Send items value all here = push_all P items value all here
 effect_all P Recv [] value all here = tt
 effect_all P Recv (x ∷ items) value all here = all.1
 
-items_all : (P : ℕ → Type 0) (contents : List (List ℕ)) (b : ℕ) → AllByRecursion (λ items. AllByRecursion P items) contents → AllByRecursion P (items_of contents b)
+items_all : (P : ℕ → Type 0) (contents : List (List ℕ)) (b : ℕ) → AllByRecursion (λ items. AllByRecursion P items) contents
+    → AllByRecursion P (items_of contents b)
 items_all P [] b all = tt
 items_all P (items ∷ contents) zero all = all.0
 items_all P (items ∷ contents) (suc b) all = items_all P contents b all.1
 
-set_all : (P : ℕ → Type 0) (contents : List (List ℕ)) (b : ℕ) (items : List ℕ) → AllByRecursion (λ x. AllByRecursion P x) contents → AllByRecursion P items → AllByRecursion (λ x. AllByRecursion P x) (set contents b items)
+set_all : (P : ℕ → Type 0) (contents : List (List ℕ)) (b : ℕ) (items : List ℕ) → AllByRecursion (λ x. AllByRecursion P x) contents
+    → AllByRecursion P items → AllByRecursion (λ x. AllByRecursion P x) (set contents b items)
 set_all P [] b items all here = tt
 set_all P (x ∷ contents) zero items all here = (here, all.1)
 set_all P (x ∷ contents) (suc b) items all here = (all.0, set_all P contents b items all.1 here)
@@ -77,16 +83,19 @@ pub empty_values : (P : ℕ → Type 0) (caps : List ℕ) → AllByRecursion (λ
 empty_values P [] = tt
 empty_values P (capacity ∷ caps) = (tt, empty_values P caps)
 
-pub run_values : (P : ℕ → Type 0) (caps : List ℕ) (earlier : List Entry) (contents : List (List ℕ)) (es : List Entry) (left : List (List ℕ)) → AllByRecursion (λ items. AllByRecursion P items) contents → AllByRecursion (λ e. P e.value) es → IsRunFrom caps earlier contents es left
+pub run_values : (P : ℕ → Type 0) (caps : List ℕ) (earlier : List Entry) (contents : List (List ℕ)) (es : List Entry) (left : List (List ℕ))
+    → AllByRecursion (λ items. AllByRecursion P items) contents → AllByRecursion (λ e. P e.value) es → IsRunFrom caps earlier contents es left
     → AllByRecursion (λ items. AllByRecursion P items) left
 run_values P caps earlier contents [] left now all run = subst (λ l. AllByRecursion (λ items. AllByRecursion P items) l) run now
 run_values P caps earlier contents (e ∷ es) left now all run =
     run_values P caps (earlier ++ e ∷ []) (after_entry contents e) es left
-    (set_all P contents e.buffer.0 (after_effect e.kind (items_of contents e.buffer.0) e.value) now (effect_all P e.kind (items_of contents e.buffer.0) e.value (items_all P contents e.buffer.0 now) all.0))
+    (set_all P contents e.buffer.0 (after_effect e.kind (items_of contents e.buffer.0) e.value) now
+    (effect_all P e.kind (items_of contents e.buffer.0) e.value (items_all P contents e.buffer.0 now) all.0))
     all.1 run.1
 
 -- a run ends with as many buffers as it begins with
-pub run_length : (caps : List ℕ) (earlier : List Entry) (contents : List (List ℕ)) (es : List Entry) (left : List (List ℕ)) → IsRunFrom caps earlier contents es left
+pub run_length : (caps : List ℕ) (earlier : List Entry) (contents : List (List ℕ)) (es : List Entry) (left : List (List ℕ))
+    → IsRunFrom caps earlier contents es left
     → length left ≡ length contents
 run_length caps earlier contents [] left run = sym (ap length run)
 run_length caps earlier contents (e ∷ es) left run =

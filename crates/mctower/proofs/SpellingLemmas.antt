@@ -1,5 +1,6 @@
 -- The trace of a plan's system has a spelling, and what writing it answers.
-use Rattle.std.proofs.Common.{◌≡◌, ℕ, zero, suc, ◌+◌, ◌*◌, ◌^◌, ◌<◌, ◌≤◌, Bool, false, List, [], ◌∷◌, length, get_or, map, replicate, Some, refl, sym, ap, ◌∙◌, subst, arith}
+use Rattle.std.proofs.Common.{◌≡◌, ℕ, zero, suc, ◌+◌, ◌*◌, ◌^◌, ◌<◌, ◌≤◌, Bool, false, List, [], ◌∷◌}
+use Rattle.std.proofs.Common.{length, get_or, map, replicate, Some, refl, sym, ap, ◌∙◌, subst, arith}
 use Rattle.std.specs.Prelude.{slice_get, All, Option, Result, Ok, Err, IsErrAnd}
 use Rattle.std.specs.List.{AllByRecursion, sum_by}
 use Rattle.std.proofs.lemmas.List.{length-map}
@@ -10,7 +11,7 @@ use Rattle.event_log.specs.declared.entries.Entry.{Entry}
 use Rattle.event_log.specs.Runs.{IsRun}
 use Rattle.event_log.specs.Buffers.{empty_buffers, IsCapacity}
 use Rattle.event_log.specs.Traces.{IsInterleaving}
-use Rattle.boot.specs.Plan.{Plan, IsPlan}
+use Rattle.boot.specs.Plan.{BootPlan, IsPlan}
 use Rattle.tracer.specs.declared.gathering.GatherError.{GatherError}
 use Rattle.tracer.specs.declared.gathering.GatherError.TheVariants as gathering
 use Rattle.tracer.specs.Gather.{IsOrder, TakesFirstReady, HasNoOrder}
@@ -33,9 +34,11 @@ all_by : {X : Type 0} (P : X → Type 0) (xs : List X) → All P xs → AllByRec
 all_by P [] all = tt
 all_by P (x ∷ xs) all = (all 0 x (omega arith), all_by P xs (λ k d lt. all (suc k) d (omega arith)))
 
-few_together : (traces : List (List Entry)) → ((k : ℕ) (trace : List Entry) → slice_get traces k ≡ Some trace → length trace ≤ TRACE) → sum_by length traces ≤ length traces * TRACE
+few_together : (traces : List (List Entry)) → ((k : ℕ) (trace : List Entry) → slice_get traces k ≡ Some trace → length trace ≤ TRACE)
+    → sum_by length traces ≤ length traces * TRACE
 few_together [] each = omega arith
-few_together (trace ∷ traces) each = omega (arith, sum_by-cons length trace traces, each 0 trace refl, few_together traces (λ k other at. each (suc k) other at))
+few_together (trace ∷ traces) each =
+    omega (arith, sum_by-cons length trace traces, each 0 trace refl, few_together traces (λ k other at. each (suc k) other at))
 
 own_range : (homes : List CpuId) (c : ℕ) → length homes ≤ THREADS → c < CPUS → (es : List Entry) → AllByRecursion (IsOfHome homes (record { 0 = c })) es
     → AllByRecursion (λ e. (e.cpu.0 < CPUS) × (e.thread.0 < THREADS)) es
@@ -56,17 +59,21 @@ get_mapped f (y ∷ xs) zero x at = let same : y ≡ x = cc in ap (λ z. Some (f
 get_mapped f (y ∷ xs) (suc k) x at = get_mapped f xs k x at
 
 -- a CPU of a plan's system has room for as many entries as the plan says
-pub limit_at : (plan : Plan) (s : Shown) (k : ℕ) (p : CpuShown) → IsSystemOf plan s → slice_get s.cpus k ≡ Some p → p.limit ≡ plan.trace
+pub limit_at : (plan : BootPlan) (s : Shown) (k : ℕ) (p : CpuShown) → IsSystemOf plan s → slice_get s.cpus k ≡ Some p → p.limit ≡ plan.trace
 limit_at plan s k p of at =
     replicated plan.cpus k plan.trace p.limit (ap (λ l. slice_get l k) (sym of.limits) ∙ get_mapped (λ (x : CpuShown). x.limit) s.cpus k p at)
 
-in_range : (buffers : ℕ) (es : List Entry) → AllByRecursion (λ e. (e.cpu.0 < CPUS) × (e.thread.0 < THREADS)) es → AllByRecursion (λ e. (e.buffer.0 < buffers) × (e.op < ENTRIES) × (e.pos < ENTRIES)) es → AllByRecursion (λ e. e.value < 2 ^ 64) es → AllByRecursion (IsEntryOf buffers) es
+in_range : (buffers : ℕ) (es : List Entry) → AllByRecursion (λ e. (e.cpu.0 < CPUS) × (e.thread.0 < THREADS)) es
+    → AllByRecursion (λ e. (e.buffer.0 < buffers) × (e.op < ENTRIES) × (e.pos < ENTRIES)) es
+    → AllByRecursion (λ e. e.value < 2 ^ 64) es → AllByRecursion (IsEntryOf buffers) es
 in_range buffers [] own numbers values = tt
-in_range buffers (e ∷ es) own numbers values =
-    (record { cpu = own.0.0; thread = own.0.1; buffer = numbers.0.0; value = values.0; op = numbers.0.1; pos = numbers.0.2 }, in_range buffers es own.1 numbers.1 values.1)
+in_range buffers (e ∷ es) own numbers values = (
+  record { cpu = own.0.0; thread = own.0.1; buffer = numbers.0.0; value = values.0; op = numbers.0.1; pos = numbers.0.2 },
+  in_range buffers es own.1 numbers.1 values.1,
+)
 
 -- the order of the traces of a plan's system has a spelling
-pub has_spelling : (plan : Plan) (s : Shown) (order : List Entry) → IsPlan plan → IsSystemOf plan s → TracesFit s → StayHome s
+pub has_spelling : (plan : BootPlan) (s : Shown) (order : List Entry) → IsPlan plan → IsSystemOf plan s → TracesFit s → StayHome s
     → IsInterleaving (traces_of s) order → IsRun plan.caps order s.contents → AllByRecursion (λ e. e.value < 2 ^ 64) order
     → AllByRecursion (λ items. AllByRecursion (λ v. v < 2 ^ 64) items) s.contents → IsSpellable plan.caps order s.contents
 has_spelling plan s order within of fits stay keeps run values left =
@@ -115,12 +122,16 @@ pub contents_length : (s : Shown) → HasOneOrder s → length s.contents ≡ le
 contents_length s one = run_length s.caps [] (empty_buffers s.caps) one.order s.contents one.run ∙ empty_length s.caps
 
 -- a refusal to gather is want of memory
-pub gather_refused : (A : Type 0) (caps : List ℕ) (s : Shown) (error : GatherError) (failed : Bool) (old : Option (List ℕ)) → HasOneOrder s → failed ≡ false → (error ≡ gathering.NoOrder → HasNoOrder (traces_of s)) → Writes {A = A} caps s (Err (from_gather error)) failed old old
+pub gather_refused : (A : Type 0) (caps : List ℕ) (s : Shown) (error : GatherError) (failed : Bool) (old : Option (List ℕ)) → HasOneOrder s → failed ≡ false
+    → (error ≡ gathering.NoOrder → HasNoOrder (traces_of s)) → Writes {A = A} caps s (Err (from_gather error)) failed old old
 gather_refused A caps s gathering.NoMemory failed old one live none = (live, refl)
-gather_refused A caps s gathering.NoOrder failed old one live none = absurd (runs_have_order (traces_of s) s.caps one.order s.contents one.keeps one.run (none refl))
+gather_refused A caps s gathering.NoOrder failed old one live none =
+    absurd (runs_have_order (traces_of s) s.caps one.order s.contents one.keeps one.run (none refl))
 
 -- what is out of a spellable text
-pub text_out : (caps : List ℕ) (s : Shown) (order : List Entry) (failed : Bool) (old new : Option (List ℕ)) → IsOrder (traces_of s) order → TakesFirstReady (traces_of s) order → IsRun caps order s.contents → IsSpellable caps order s.contents → Outs failed old new (spelling caps order s.contents) → IsOut caps s failed old new
+pub text_out : (caps : List ℕ) (s : Shown) (order : List Entry) (failed : Bool) (old new : Option (List ℕ)) → IsOrder (traces_of s) order
+    → TakesFirstReady (traces_of s) order → IsRun caps order s.contents → IsSpellable caps order s.contents
+    → Outs failed old new (spelling caps order s.contents) → IsOut caps s failed old new
 text_out caps s order failed old new keeps first run spellable out = record {
   text = spelling caps order s.contents;
   is = record { order = order; keeps = keeps; first = first; run = run; spelled = record { spellable = spellable; spelled = refl } };
@@ -128,22 +139,26 @@ text_out caps s order failed old new keeps first run spellable out = record {
 }
 
 -- what is written of a plan's system: a text that has a spelling
-pub spelled_as : (cpus : ℕ) (caps : List ℕ) (s : Shown) (es : List Entry) (left : List (List ℕ)) → IsOfPlan cpus caps s → TracesFit s → StayHome s → HasOneOrder s → IsOrder (traces_of s) es → left ≡ s.contents
+pub spelled_as : (cpus : ℕ) (caps : List ℕ) (s : Shown) (es : List Entry) (left : List (List ℕ)) → IsOfPlan cpus caps s
+    → TracesFit s → StayHome s → HasOneOrder s → IsOrder (traces_of s) es → left ≡ s.contents
     → ((k : ℕ) (d : Entry) → k < length es → (get_or es k d).value < 2 ^ 64) → IsSpellable caps es left
 spelled_as cpus caps s es left plan fits stay one is same values =
     let fit : AllByRecursion (λ (e : Entry). e.value < 2 ^ 64) es = all_by (λ e. e.value < 2 ^ 64) es (λ k d lt. values k d lt) in
     let run : IsRun plan.plan.caps es s.contents = gathered_run s plan.plan.caps es plan.system.caps one is in
     subst (λ l. IsSpellable l es left) (sym plan.caps) (subst (λ l. IsSpellable plan.plan.caps es l) (sym same)
-    (has_spelling plan.plan s es plan.within plan.system fits stay is.0 run fit (run_values (λ v. v < 2 ^ 64) plan.plan.caps [] (empty_buffers plan.plan.caps) es s.contents (empty_values (λ v. v < 2 ^ 64) plan.plan.caps) fit run)))
+    (has_spelling plan.plan s es plan.within plan.system fits stay is.0 run fit
+    (run_values (λ v. v < 2 ^ 64) plan.plan.caps [] (empty_buffers plan.plan.caps) es s.contents (empty_values (λ v. v < 2 ^ 64) plan.plan.caps) fit run)))
 
 -- what is out of it
-pub out_as : (cpus : ℕ) (caps : List ℕ) (s : Shown) (es : List Entry) (left : List (List ℕ)) (failed : Bool) (old new : Option (List ℕ)) → IsOfPlan cpus caps s → HasOneOrder s → IsOrder (traces_of s) es → TakesFirstReady (traces_of s) es → left ≡ s.contents
+pub out_as : (cpus : ℕ) (caps : List ℕ) (s : Shown) (es : List Entry) (left : List (List ℕ)) (failed : Bool) (old new : Option (List ℕ)) → IsOfPlan cpus caps s
+    → HasOneOrder s → IsOrder (traces_of s) es → TakesFirstReady (traces_of s) es → left ≡ s.contents
     → IsSpellable caps es left → Outs failed old new (spelling caps es left) → IsOut caps s failed old new
 out_as cpus caps s es left failed old new plan one is first same spellable out =
     text_out caps s es failed old new is first (gathered_run s caps es (plan.system.caps ∙ sym plan.caps) one is)
     (subst (λ l. IsSpellable caps es l) same spellable) (subst (λ l. Outs failed old new (spelling caps es l)) same out)
 
 -- a fault that is passed on
-pub err_writes : {A : Type 0} (caps : List ℕ) (s : Shown) (r : Result A Fault) (e : Fault) (failed : Bool) (old new : Option (List ℕ)) → IsErrAnd r (λ f. f ≡ e) → Writes {A = A} caps s (Err e) failed old new → Writes caps s r failed old new
+pub err_writes : {A : Type 0} (caps : List ℕ) (s : Shown) (r : Result A Fault) (e : Fault) (failed : Bool) (old new : Option (List ℕ))
+    → IsErrAnd r (λ f. f ≡ e) → Writes {A = A} caps s (Err e) failed old new → Writes caps s r failed old new
 err_writes caps s (Ok x) e failed old new is writes = absurd is
 err_writes {A = A} caps s (Err f) e failed old new is writes = subst (λ x. Writes {A = A} caps s (Err x) failed old new) (sym is) writes

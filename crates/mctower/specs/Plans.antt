@@ -1,27 +1,41 @@
 -- The system of a plan, and what its steps leave as the plan has it.
 use Rattle.std.specs.Prelude.{◌≡◌, ℕ, List, length, map, replicate}
+use Rattle.event_log.specs.declared.ids.CpuId.{CpuId}
 use Rattle.boot.specs.declared.refusals.BootError.{BootError}
 use Rattle.boot.specs.declared.refusals.BootError.TheVariants as refused
-use Rattle.boot.specs.Plan.{Plan, IsPlan}
+use Rattle.boot.specs.Plan.{BootPlan, IsPlan}
 use Rattle.tracer.specs.declared.gathering.GatherError.{GatherError}
 use Rattle.tracer.specs.declared.gathering.GatherError.TheVariants as gathering
 use Rattle.cpu.specs.Boots.{homes_for, tables_for}
 use Rattle.cpu.specs.Cpus.{programs_of}
 use Rattle.cpu.specs.Claims.{Shown, programs_in}
+use Rattle.cpu.specs.Sound.{after_steps, setup_for}
+use Rattle.cpu.specs.Table.Steps.{Whole, whole_at_boot}
 use Rattle.mctower.specs.declared.run.Fault.{Fault}
 use Rattle.mctower.specs.declared.run.Fault.TheVariants.{NoMemory, Boot, NoOrder}
 
 -- the system has the CPUs, the threads with their programs, the buffers and the room of each trace that the plan says
-pub record IsSystemOf (plan : Plan) (s : Shown) : Type 0 where
+pub record IsSystemOf (plan : BootPlan) (s : Shown) : Type 0 where
   pub caps : s.caps ≡ plan.caps
   pub homes : s.homes ≡ homes_for plan
   pub programs : programs_in s ≡ map programs_of (tables_for plan)
   pub cpus : length s.cpus ≡ plan.cpus
   pub limits : map (λ p. p.limit) s.cpus ≡ replicate plan.cpus plan.trace
 
+-- the step table's system of a plan after these steps, one after the other from boot, with room for just these
+abbrev pub table_run : BootPlan → List CpuId → Whole
+table_run plan steps = after_steps (setup_for plan) steps (whole_at_boot (setup_for plan) (length steps))
+
+-- the system is the plan's before its first step, with room for so many steps: each home has its threads' guests, all at their start
+pub record IsOpened (plan : BootPlan) (room : ℕ) (s : Shown) : Type 0 where
+  pub system : IsSystemOf plan s
+  pub guests : map (λ p. p.guests) s.cpus ≡ tables_for plan
+  pub room_is : s.room ≡ room
+  pub taken : s.taken ≡ 0
+
 -- the system is that of a plan with so many CPUs and threads and these capacities
 pub record IsOfPlan (count : ℕ) (capacities : List ℕ) (s : Shown) : Type 0 where
-  pub plan : Plan
+  pub plan : BootPlan
   pub within : IsPlan plan
   pub cpus : count ≡ plan.cpus
   pub caps : capacities ≡ plan.caps

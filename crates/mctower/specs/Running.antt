@@ -7,14 +7,23 @@ use Rattle.tracer.specs.Gather.{IsOrder, TakesFirstReady}
 use Rattle.tracer.specs.Sinks.{Outs}
 use Rattle.tracer.specs.TraceText.{IsTraceText}
 use Rattle.boot.specs.declared.refusals.BootError.{BootError}
-use Rattle.boot.specs.Plan.{Plan}
+use Rattle.boot.specs.Plan.{BootPlan}
 use Rattle.cpu.specs.Claims.{FollowPrograms, HasOneOrder, Shown, StandsOnce, StayHome, traces_of}
+use Rattle.cpu.specs.Sound.{SoundByTable}
+use Rattle.cpu.specs.Systems.{Ran, whole_of}
 use Rattle.mctower.specs.declared.run.Fault.{Fault}
 use Rattle.mctower.specs.declared.run.Fault.TheVariants.{NoMemory, Boot, BadCpu, NoOrder, WriteFault}
-use Rattle.mctower.specs.Plans.{IsSystemOf}
+use Rattle.mctower.specs.Plans.{IsOpened, IsSystemOf, table_run}
 
--- the system of a plan, after a schedule's steps: it has room for just these, and what holds after every list of steps holds of it
-pub record IsRunOf (plan : Plan) (steps : List CpuId) (s : Shown) : Type 0 where
+-- The system of a plan, after a schedule's steps: it was opened with room for just these and took them in their order; where its machine
+-- does one action a step it is the step table's system of the plan after them, and no wake-up is lost; and what holds after every list of
+-- steps holds of it.
+pub record IsRunOf (IsStepwise : Type 0) (plan : BootPlan) (steps : List CpuId) (s : Shown) : Type 0 where
+  pub start : Shown
+  pub opened : IsOpened plan (length steps) start
+  pub ran : Ran IsStepwise start steps s
+  pub table : IsStepwise → whole_of s ≡ table_run plan steps
+  pub sound : IsStepwise → SoundByTable s
   pub system : IsSystemOf plan s
   pub room : s.room ≡ length steps
   pub one_order : HasOneOrder s
@@ -55,20 +64,20 @@ Writes caps s (Err NoOrder) failed old new = ⊥
 Writes caps s (Err WriteFault) failed old new = (failed ≡ true) × IsOut caps s failed old new
 
 -- a system that the plan's may be after these steps has its text out, or a beginning of it
-pub record IsTold (plan : Plan) (steps : List CpuId) (s : Shown) (failed : Bool) (old new : Option (List ℕ)) : Type 0 where
+pub record IsTold (IsStepwise : Type 0) (plan : BootPlan) (steps : List CpuId) (s : Shown) (failed : Bool) (old new : Option (List ℕ)) : Type 0 where
   pub cpus : AreCpus plan.cpus steps
-  pub ran : IsRunOf plan steps s
+  pub ran : IsRunOf IsStepwise plan steps s
   pub out : IsOut plan.caps s failed old new
 
 -- what a run of a plan answers: a step of a CPU that the plan has not is refused before anything is written; else the plan's
 -- system takes the steps, and its text is written
-abbrev pub RunsPlan : Plan → List CpuId → Result Shown Fault → Bool → Option (List ℕ) → Option (List ℕ) → Type 0
-RunsPlan plan steps (Ok s) failed old new = (failed ≡ false) × IsTold plan steps s failed old new
-RunsPlan plan steps (Err NoMemory) failed old new = IsUntouched failed old new
-RunsPlan plan steps (Err (Boot e)) failed old new = ⊥
-RunsPlan plan steps (Err BadCpu) failed old new = (¬ AreCpus plan.cpus steps) × IsUntouched failed old new
-RunsPlan plan steps (Err NoOrder) failed old new = ⊥
-RunsPlan plan steps (Err WriteFault) failed old new = (failed ≡ true) × ((s : Shown) × IsTold plan steps s failed old new)
+abbrev pub RunsPlan : Type 0 → BootPlan → List CpuId → Result Shown Fault → Bool → Option (List ℕ) → Option (List ℕ) → Type 0
+RunsPlan IsStepwise plan steps (Ok s) failed old new = (failed ≡ false) × IsTold IsStepwise plan steps s failed old new
+RunsPlan IsStepwise plan steps (Err NoMemory) failed old new = IsUntouched failed old new
+RunsPlan IsStepwise plan steps (Err (Boot e)) failed old new = ⊥
+RunsPlan IsStepwise plan steps (Err BadCpu) failed old new = (¬ AreCpus plan.cpus steps) × IsUntouched failed old new
+RunsPlan IsStepwise plan steps (Err NoOrder) failed old new = ⊥
+RunsPlan IsStepwise plan steps (Err WriteFault) failed old new = (failed ≡ true) × ((s : Shown) × IsTold IsStepwise plan steps s failed old new)
 
 -- what a run answers where the plan's text is refused: that refusal, before anything is written
 abbrev pub Refuses : BootError → Result Shown Fault → Bool → Option (List ℕ) → Option (List ℕ) → Type 0
@@ -80,9 +89,9 @@ Refuses e (Err NoOrder) failed old new = ⊥
 Refuses e (Err WriteFault) failed old new = ⊥
 
 -- what a run of a text answers, by the plan that the text gives or its first fault; want of memory aside
-abbrev pub RunsText : Result Plan BootError → List CpuId → Result Shown Fault → Bool → Option (List ℕ) → Option (List ℕ) → Type 0
-RunsText (Ok plan) steps result failed old new = RunsPlan plan steps result failed old new
-RunsText (Err e) steps result failed old new = Refuses e result failed old new
+abbrev pub RunsText : Type 0 → Result BootPlan BootError → List CpuId → Result Shown Fault → Bool → Option (List ℕ) → Option (List ℕ) → Type 0
+RunsText IsStepwise (Ok plan) steps result failed old new = RunsPlan IsStepwise plan steps result failed old new
+RunsText IsStepwise (Err e) steps result failed old new = Refuses e result failed old new
 
 -- an answer without what is told beside it
 abbrev pub first_of : {A B : Type 0} → Result (A × B) Fault → Result A Fault

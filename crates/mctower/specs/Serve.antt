@@ -7,7 +7,7 @@ use Rattle.clap.specs.Walk.{Text}
 use Rattle.event_log.specs.declared.ids.CpuId.{CpuId}
 use Rattle.boot.specs.declared.refusals.BootError.{BootError}
 use Rattle.boot.specs.declared.refusals.BootError.TheVariants.{BadToml}
-use Rattle.boot.specs.Plan.{Plan, plan_of}
+use Rattle.boot.specs.Plan.{BootPlan, plan_of}
 use Rattle.tracer.specs.declared.verdicts.Verdict.{Verdict}
 use Rattle.tracer.specs.declared.verdicts.Verdict.TheVariants as verdict
 use Rattle.tracer.specs.Judging.{verdict_of}
@@ -89,32 +89,33 @@ abbrev pub PutsRun : Shown → List ℕ → Result Done Refusal → Bool → Opt
 PutsRun s text answer false old new = (state : State) × IsStateOf s state × (answer ≡ Ok (Ran state)) × Outs false old new text
 PutsRun s text answer true old new = (answer ≡ Err WriteFault) × Outs true old new text
 
--- the plan's system took the steps, and its trace text is written
-pub record RunsTrace (plan : Plan) (steps : List CpuId) (answer : Result Done Refusal) (failed : Bool) (old new : Option (List ℕ)) : Type 0 where
+-- the plan's system took the steps, by the step table where its machine does one action a step, and its trace text is written
+pub record RunsTrace (IsStepwise : Type 0) (plan : BootPlan) (steps : List CpuId) (answer : Result Done Refusal) (failed : Bool)
+    (old new : Option (List ℕ)) : Type 0 where
   pub cpus : AreCpus plan.cpus steps
   pub system : Shown
-  pub ran : IsRunOf plan steps system
+  pub ran : IsRunOf IsStepwise plan steps system
   pub trace : List ℕ
   pub traced : IsTextOf plan.caps system trace
   pub put : PutsRun system trace answer failed old new
 
 -- the plan is run, or a step is of no CPU of it; or the text is no plan, and that is told as its first fault
-abbrev pub RunsPlan : Result Plan BootError → List CpuId → Result Done Refusal → Bool → Option (List ℕ) → Option (List ℕ) → Type 0
-RunsPlan (Ok plan) steps answer failed old new = ((¬ AreCpus plan.cpus steps) × RefusedBy BadCpu answer failed old new)
-    ⊎ RunsTrace plan steps answer failed old new
-RunsPlan (Err error) steps answer failed old new = RefusedBy (BadPlan error) answer failed old new
+abbrev pub RunsPlan : Type 0 → Result BootPlan BootError → List CpuId → Result Done Refusal → Bool → Option (List ℕ) → Option (List ℕ) → Type 0
+RunsPlan IsStepwise (Ok plan) steps answer failed old new = ((¬ AreCpus plan.cpus steps) × RefusedBy BadCpu answer failed old new)
+    ⊎ RunsTrace IsStepwise plan steps answer failed old new
+RunsPlan IsStepwise (Err error) steps answer failed old new = RefusedBy (BadPlan error) answer failed old new
 
 -- the plan of these bytes is run; bytes that are no UTF-8 are no document; want of memory aside
-abbrev pub RunsBytes : List ℕ → List CpuId → Result Done Refusal → Bool → Option (List ℕ) → Option (List ℕ) → Type 0
-RunsBytes bytes steps answer failed old new = RefusedBy NoMemory answer failed old new
+abbrev pub RunsBytes : Type 0 → List ℕ → List CpuId → Result Done Refusal → Bool → Option (List ℕ) → Option (List ℕ) → Type 0
+RunsBytes IsStepwise bytes steps answer failed old new = RefusedBy NoMemory answer failed old new
     ⊎ (((¬ IsUtf8 bytes) × RefusedBy (BadPlan BadToml) answer failed old new)
-    ⊎ (IsUtf8 bytes × RunsPlan (plan_of bytes) steps answer failed old new))
+    ⊎ (IsUtf8 bytes × RunsPlan IsStepwise (plan_of bytes) steps answer failed old new))
 
 -- the input's plan is run under these steps, or the input was not read
-abbrev pub Runs : Option (List ℕ) → List CpuId → Result Done Refusal → Bool → Option (List ℕ) → Option (List ℕ) → Type 0
-Runs input steps answer failed old new = RefusedBy NoMemory answer failed old new
+abbrev pub Runs : Type 0 → Option (List ℕ) → List CpuId → Result Done Refusal → Bool → Option (List ℕ) → Option (List ℕ) → Type 0
+Runs IsStepwise input steps answer failed old new = RefusedBy NoMemory answer failed old new
     ⊎ (RefusedBy ReadFault answer failed old new
-    ⊎ ((bytes : List ℕ) × IsInput input bytes × RunsBytes bytes steps answer failed old new))
+    ⊎ ((bytes : List ℕ) × IsInput input bytes × RunsBytes IsStepwise bytes steps answer failed old new))
 
 -- the steps that a schedule asks for: none without one
 abbrev pub steps_asked : Option Text → Option (List CpuId)
@@ -122,21 +123,21 @@ steps_asked None = Some []
 steps_asked (Some text) = steps_of text
 
 -- the steps are run; what is no schedule is a bad command line, want of memory aside
-abbrev pub RunsAsked : Option (List CpuId) → Option (List ℕ) → Result Done Refusal → Bool → Option (List ℕ) → Option (List ℕ) → Type 0
-RunsAsked (Some steps) input answer failed old new = Runs input steps answer failed old new
-RunsAsked None input answer failed old new = RefusedBy NoMemory answer failed old new ⊎ RefusedBy BadSchedule answer failed old new
+abbrev pub RunsAsked : Type 0 → Option (List CpuId) → Option (List ℕ) → Result Done Refusal → Bool → Option (List ℕ) → Option (List ℕ) → Type 0
+RunsAsked IsStepwise (Some steps) input answer failed old new = Runs IsStepwise input steps answer failed old new
+RunsAsked IsStepwise None input answer failed old new = RefusedBy NoMemory answer failed old new ⊎ RefusedBy BadSchedule answer failed old new
 
 -- ---- any order
 
 -- Serving what the words mean: the answer, whether standard output failed, and its bytes before and after. The bytes on standard
 -- input are `input`, where they are known. Memory or the input may be wanting always.
-abbrev pub Serves : Option Meant → Option (List ℕ) → Result Done Refusal → Bool → Option (List ℕ) → Option (List ℕ) → Type 0
-Serves None input answer failed old new = RefusedBy NoMemory answer failed old new ⊎ RefusedBy BadLine answer failed old new
-Serves (Some (count cpus times)) input answer failed old new = Counts (times * cpus) answer failed old new
-Serves (Some check) input answer failed old new = Checks input answer failed old new
-Serves (Some (run schedule)) input answer failed old new = RunsAsked (steps_asked schedule) input answer failed old new
+abbrev pub Serves : Type 0 → Option Meant → Option (List ℕ) → Result Done Refusal → Bool → Option (List ℕ) → Option (List ℕ) → Type 0
+Serves IsStepwise None input answer failed old new = RefusedBy NoMemory answer failed old new ⊎ RefusedBy BadLine answer failed old new
+Serves IsStepwise (Some (count cpus times)) input answer failed old new = Counts (times * cpus) answer failed old new
+Serves IsStepwise (Some check) input answer failed old new = Checks input answer failed old new
+Serves IsStepwise (Some (run schedule)) input answer failed old new = RunsAsked IsStepwise (steps_asked schedule) input answer failed old new
 -- no such order is taken
-Serves (Some (threads turns)) input answer failed old new = ⊥
+Serves IsStepwise (Some (threads turns)) input answer failed old new = ⊥
 
 -- ---- standard error
 
@@ -154,11 +155,11 @@ pub record EndsTold (words : List Text) (status : ℕ) (failed : Bool) (old new 
   pub told : Reports words answer failed old new
 
 -- A command line is served: there is one answer by which the exit status, standard output and standard error are.
-pub record Ends (words : List Text) (meant : Option Meant) (input : Option (List ℕ)) (status : ℕ)
+pub record Ends (IsStepwise : Type 0) (words : List Text) (meant : Option Meant) (input : Option (List ℕ)) (status : ℕ)
     (out_failed : Bool) (out_old out_new : Option (List ℕ)) (err_failed : Bool) (err_old err_new : Option (List ℕ)) : Type 0 where
   pub answer : Result Done Refusal
   pub ends : status ≡ status_of answer
-  pub served : Serves meant input answer out_failed out_old out_new
+  pub served : Serves IsStepwise meant input answer out_failed out_old out_new
   pub told : Reports words answer err_failed err_old err_new
 
 -- ---- standard input

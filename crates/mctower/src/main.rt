@@ -21,24 +21,21 @@ pub mod run;
 mod run_tests;
 pub mod schedule;
 pub mod serve;
+#[cfg(test)]
+mod serve_tests;
 pub mod states;
+pub mod tower;
 pub mod workers;
 
-use ipc_calls::{Ipc, Over, TowerEdit};
 use line::LineError;
-use plain_machine::Plain;
 use refusals::{Refusal, line_refused, status_of_refusal, tell};
-use spinlock::Ticket;
 use std::io::{BufWriter, Write};
 use std::process::ExitCode;
 use std::sync::Wait;
 use std::thread::Threads;
 use std::{env, io};
+use tower::serve_tower;
 use tracer::Sink;
-
-/// The tower that serves a run: message calls over buffers, conditions, queuing locks, sleep and
-/// wakeup, a scheduler and shared queues, over ticket locks of one owned machine.
-pub type Tower = Ipc<Over<Ticket<Plain<TowerEdit>>>>;
 
 fn main(rt: HostRuntime) -> ExitCode {
     let mut err = Sink::new(rt.stderr());
@@ -70,7 +67,8 @@ fn words_after_the_name(rt: &HostRuntime) -> Result<Vec<String>, LineError> {
 /// Tells a refusal of these words, and gives the exit status of the process.
 fn refused<E: Write>(err: &mut Sink<E>, words: &[&str], refusal: Refusal) -> ExitCode
     requires { has_failed err.old ≡ false }
-    ensures { EndsTold (map (λ w. w.now) words.now) (exit_status result) (has_failed err.new) (E.contents (writer_of err.old)) (E.contents (writer_of err.new)) }
+    ensures { EndsTold (map (λ w. w.now) words.now) (exit_status result) (has_failed err.new) (E.contents (writer_of err.old))
+        (E.contents (writer_of err.new)) }
 {
     tell(err, words, refusal);
     ExitCode::from(status_of_refusal(refusal))
@@ -84,19 +82,13 @@ fn serve_words<T: AllocGlobal + Input + Print + Threads + Wait + Sync, E: Write>
     err: &mut Sink<E>,
 ) -> ExitCode
     requires { has_failed err.old ≡ false }
-    ensures { EndsTold (map (λ w. w.now) words.now) (exit_status result) (has_failed err.new) (E.contents (writer_of err.old)) (E.contents (writer_of err.new)) }
+    ensures { EndsTold (map (λ w. w.now) words.now) (exit_status result) (has_failed err.new) (E.contents (writer_of err.old))
+        (E.contents (writer_of err.new)) }
 {
     let Ok(buffered) = BufWriter::new(rt.alloc(), io::writer(rt)) else {
         return refused(err, words, Refusal::NoMemory);
     };
     let mut out = Sink::new(buffered);
-    let status = serve::serve::<Tower, _, _, _, _>(
-        rt,
-        rt.alloc(),
-        words,
-        &mut rt.reader(),
-        &mut out,
-        err,
-    );
+    let status = serve_tower(rt, rt.alloc(), words, &mut rt.reader(), &mut out, err);
     ExitCode::from(status)
 }

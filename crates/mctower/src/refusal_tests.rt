@@ -1,18 +1,12 @@
 //! Bad plans and bad schedules as the command line refuses them: the error line, the status, and
 //! nothing on standard output.
 
-use crate::Tower;
-use crate::serve::serve;
+use crate::serve_tests::{ONE_SEND, is_answered};
 use std::sync::Wait;
 use std::test::Fail;
 use std::thread::Threads;
-use tracer::Sink;
 
-/// One thread that sends 7.
-const ONE_SEND: &str =
-    "cpus = 1\ntrace = 4\nbuffers = [1]\n\n[[thread]]\ncpu = 0\nprogram = [\"set r0 7\", \"send 0 r0\", \"exit\"]\n";
-
-/// Each change of that plan: a part of its text, what stands there instead, and the error line.
+/// Each change of the plan of one send: a part of its text, what stands there instead, and the error line.
 const CHANGES: [(&str, &str, &str); 20] = [
     ("cpus = 1", "cpus = \"1\"", "MissingKey(21) cpus"),
     ("cpus = 1", "cpus = 9", "OutOfRange(22) cpus"),
@@ -64,22 +58,12 @@ const CHANGES: [(&str, &str, &str); 20] = [
 fn is_refused<T: AllocGlobal + Threads + Wait + Sync>(
     rt: &T,
     words: &[&str],
-    mut input: &[u8],
+    input: &[u8],
     status: u8,
     line: &str,
 ) -> Result<bool, Fail> {
-    let mut out = Vec::new(rt.alloc());
-    let mut err = Vec::new(rt.alloc());
-    let given = serve::<Tower, _, _, _, _>(
-        rt,
-        rt.alloc(),
-        words,
-        &mut input,
-        &mut Sink::new(&mut out),
-        &mut Sink::new(&mut err),
-    );
     let text = format!(in rt.alloc(); "error: {line}\n")?;
-    Ok(given == status && out.is_empty() && err.as_slice() == text.as_bytes())
+    Ok(is_answered(rt, words, input, status, b"", text.as_str()))
 }
 
 #[test]
@@ -194,46 +178,5 @@ fn a_cpu_that_the_plan_has_not_is_told_after_the_plan(rt: HostRuntime) -> Result
             "{schedule}"
         );
     }
-    Ok(())
-}
-
-/// A trace whose third entry takes from an empty buffer.
-const TAKES: &str = r#"mctower-trace 1
-buffers 1
-cap 0 2
-e 0 0 send 0 7 0 0
-e 1 1 recv 0 7 1 0
-e 1 1 recv 0 8 2 1
-e 0 0 send 0 8 3 1
-left 0
-end
-"#;
-
-/// Whether `check` answers this line, with the status of a no.
-fn is_no<T: AllocGlobal + Threads + Wait + Sync>(rt: &T, text: &str, line: &str) -> bool {
-    let mut out = Vec::new(rt.alloc());
-    let mut err = Vec::new(rt.alloc());
-    let status = serve::<Tower, _, _, _, _>(
-        rt,
-        rt.alloc(),
-        ["check"].as_slice(),
-        &mut text.as_bytes(),
-        &mut Sink::new(&mut out),
-        &mut Sink::new(&mut err),
-    );
-    status == 3 && out.as_slice() == line.as_bytes() && err.is_empty()
-}
-
-#[test]
-fn three_texts_have_their_lines(rt: HostRuntime) -> Result<(), Fail> {
-    assert!(rt; is_no(&rt, TAKES, "no 6 EmptyTake(35)\n"));
-    let cut = TAKES.replace(
-        rt.alloc(),
-        "e 1 1 recv 0 8 2 1\ne 0 0 send 0 8 3 1\nleft 0\nend\n",
-        "left 0\n",
-    )?;
-    assert!(rt; is_no(&rt, cut.as_str(), "no 7 Spelling(30)\n"));
-    let zero = TAKES.replace(rt.alloc(), "7 1 0\n", "7 01 0\n")?;
-    assert!(rt; is_no(&rt, zero.as_str(), "no 5 Spelling(30)\n"));
     Ok(())
 }

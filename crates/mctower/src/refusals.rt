@@ -92,7 +92,8 @@ pub(crate) fn status_of_refusal(refusal: Refusal) -> u8
 
 /// The whole text that tells a refusal of these words, or why the plan is refused, which tells it.
 fn text_of(words: &[&str], refusal: Refusal) -> Result<&'static str, BootError>
-    ensures { MatchResult result (λ text. text_of (map (λ w. w.now) words.now) refusal ≡ Ok text.now) (λ error. text_of (map (λ w. w.now) words.now) refusal ≡ Err error) }
+    ensures { MatchResult result (λ text. text_of (map (λ w. w.now) words.now) refusal ≡ Ok text.now)
+        (λ error. text_of (map (λ w. w.now) words.now) refusal ≡ Err error) }
 {
     match refusal {
         Refusal::BadLine => Ok(help_on(words)),

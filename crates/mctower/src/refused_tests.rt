@@ -2,13 +2,9 @@
 //! written. With ample memory they give their answers; bench/refuse.sh refuses each allocation of
 //! these tests in turn, until none is left to refuse.
 
-use crate::Tower;
 use crate::count::count_plain;
-use crate::run::{Fault, run_text};
-use crate::schedule::{MOST_STEPS, StepsError, read_steps};
+use crate::tower::serve_tower;
 use arrayvec::ArrayVec;
-use boot::{Boot, BootError};
-use cpu::System;
 use event_log::NoMemory;
 use tracer::Sink;
 
@@ -48,32 +44,23 @@ fn count_with_a_refused_allocation(rt: HostRuntime) {
 }
 
 #[test]
-fn open_with_a_refused_allocation(rt: HostRuntime) {
-    match Boot::read(rt.alloc(), PLAN) {
-        Ok(boot) => assert!(rt;
-            matches!(
-                System::<Tower>::open(rt.alloc(), &boot, 80),
-                Ok(_) | Err(NoMemory)
-            )
-        ),
-        Err(error) => assert_eq!(rt; error, BootError::NoMemory),
-    }
-}
-
-#[test]
 fn run_with_a_refused_allocation(rt: HostRuntime) {
     let mut page = ArrayVec::<u8, 200>::new();
-    match read_steps(rt.alloc(), "0*32,1*60,0*60") {
-        Ok(steps) => {
-            assert!(rt; steps.len() <= MOST_STEPS);
-            match run_text::<Tower, _>(rt.alloc(), PLAN, &steps, &mut Sink::new(&mut page)) {
-                Ok(_) => assert_eq!(rt; page.as_slice(), TRACE.as_bytes()),
-                Err(fault) => {
-                    assert_eq!(rt; fault, Fault::NoMemory);
-                    assert!(rt; page.is_empty());
-                }
-            }
-        }
-        Err(error) => assert_eq!(rt; error, StepsError::NoMemory),
+    let mut told = ArrayVec::<u8, 200>::new();
+    let words = ["run", "--schedule", "0*32,1*60,0*60"];
+    let status = serve_tower(
+        &rt,
+        rt.alloc(),
+        words.as_slice(),
+        &mut PLAN.as_bytes(),
+        &mut Sink::new(&mut page),
+        &mut Sink::new(&mut told),
+    );
+    if status == 0 {
+        assert_eq!(rt; page.as_slice(), TRACE.as_bytes());
+    } else {
+        assert_eq!(rt; status, 1);
+        assert!(rt; page.is_empty());
+        assert_eq!(rt; told.as_slice(), b"error: NoMemory(1)\n".as_slice());
     }
 }

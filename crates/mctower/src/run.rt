@@ -124,7 +124,8 @@ where
     I::Machine: Drop,
     requires live { has_failed sink.old ≡ false }
     requires few { length steps.now ≤ 1048576 }
-    ensures runs { RunsText (plan_of plan.now) steps.now (first_of result) (has_failed sink.new) (W.contents (writer_of sink.old)) (W.contents (writer_of sink.new)) }
+    ensures runs { RunsText I.IsStepwise (plan_of plan.now) steps.now (first_of result) (has_failed sink.new) (W.contents (writer_of sink.old))
+        (W.contents (writer_of sink.new)) }
     ensures state { IfOk result (λ ran. IsStateOf ran.0 ran.1) }
 {
     let boot = Boot::read(alloc, plan)?;
@@ -158,7 +159,8 @@ where
     I::Machine: Drop,
     requires live { has_failed sink.old ≡ false }
     requires few { length steps.now ≤ 1048576 }
-    ensures { RunsText (plan_of plan.now) steps.now result (has_failed sink.new) (W.contents (writer_of sink.old)) (W.contents (writer_of sink.new)) }
+    ensures { RunsText I.IsStepwise (plan_of plan.now) steps.now result (has_failed sink.new) (W.contents (writer_of sink.old))
+        (W.contents (writer_of sink.new)) }
 {
     match run_plan(alloc, plan, steps, sink) {
         Ok((system, _)) => Ok(system),

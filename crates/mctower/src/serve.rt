@@ -169,7 +169,7 @@ where
     I::Machine: Drop,
     requires live { has_failed out.old ≡ false }
     requires few { length steps.now ≤ MOST_STEPS }
-    ensures runs { RunsBytes bytes.now steps.now result (has_failed out.new) (O.contents (writer_of out.old)) (O.contents (writer_of out.new)) }
+    ensures runs { RunsBytes I.IsStepwise bytes.now steps.now result (has_failed out.new) (O.contents (writer_of out.old)) (O.contents (writer_of out.new)) }
     ensures flushed { IfOk result (λ _. is_flushed out.new ≡ true) }
 {
     let Ok(plan) = str::from_utf8(bytes) else {
@@ -193,7 +193,8 @@ where
     I::Machine: Drop,
     requires live { has_failed out.old ≡ false }
     requires few { length steps.now ≤ MOST_STEPS }
-    ensures runs { Runs (R.remaining input.old) steps.now result (has_failed out.new) (O.contents (writer_of out.old)) (O.contents (writer_of out.new)) }
+    ensures runs { Runs I.IsStepwise (R.remaining input.old) steps.now result (has_failed out.new) (O.contents (writer_of out.old))
+        (O.contents (writer_of out.new)) }
     ensures flushed { IfOk result (λ _. is_flushed out.new ≡ true) }
 {
     let bytes = match read_all(alloc, input) {
@@ -214,7 +215,7 @@ fn answer<I: Owned + Drop, R: Read, O: Write, T: Threads + Wait + Sync>(
 where
     I::Machine: Drop,
     requires { has_failed out.old ≡ false }
-    ensures served { Serves (order_of (map (λ w. w.now) words.now)) (R.remaining input.old) result
+    ensures served { Serves I.IsStepwise (order_of (map (λ w. w.now) words.now)) (R.remaining input.old) result
         (has_failed out.new) (O.contents (writer_of out.old)) (O.contents (writer_of out.new)) }
     ensures flushed { IfOk result (λ _. is_flushed out.new ≡ true) }
     ensures unread { reads_input (order_of (map (λ w. w.now) words.now)) ≡ false → input.new ≡ input.old }
@@ -252,7 +253,7 @@ where
     I::Machine: Drop,
     requires out { has_failed out.old ≡ false }
     requires err { has_failed err.old ≡ false }
-    ensures served { Ends (map (λ w. w.now) words.now) (order_of (map (λ w. w.now) words.now)) (R.remaining input.old) result
+    ensures served { Ends I.IsStepwise (map (λ w. w.now) words.now) (order_of (map (λ w. w.now) words.now)) (R.remaining input.old) result
         (has_failed out.new) (O.contents (writer_of out.old)) (O.contents (writer_of out.new))
         (has_failed err.new) (E.contents (writer_of err.old)) (E.contents (writer_of err.new)) }
     ensures flushed { (result ≡ 0) ⊎ (result ≡ 3) → is_flushed out.new ≡ true }

@@ -59,6 +59,8 @@ use Rattle.layer_traits.specs.Scheds.{SchedPolled, events_of, own_answered, pass
 use Rattle.layer_traits.specs.Sleeping.{NobodySleeps, line_at}
 use Rattle.layer_traits.specs.SleepLaw.{done_if, sleep_kernel}
 use Rattle.layer_traits.proofs.CallLemmas.{pass_polled}
+use Rattle.layer_traits.proofs.SleepLemmas.{done_same}
+use Rattle.layer_traits.proofs.PlaceLemmas.{woken_current}
 use Rattle.plain_layers.specs.declared.attempts.Attempt.{Attempt}
 use Rattle.plain_layers.specs.declared.attempts.Tried.{Tried}
 use Rattle.plain_layers.specs.Attempts.{attempts}
@@ -109,10 +111,6 @@ lawful_rest : {E : Type 0} (P : List E → E → Type 0) (mine past : List E) �
 lawful_rest P [] past lawful = lawful
 lawful_rest P (e ∷ mine) past lawful = lawful_rest P mine past lawful.1
 
-done_same : (O : Type 0) (result : Option (Unit {0})) → is_some (done_if {O = O} result) ≡ is_some result
-done_same O None = refl
-done_same O (Some u) = refl
-
 module _ (opening : LockId → Option (QueueBlock PlainLocked)) (ActsFor Acts : CpuId → Type 0) (weaker : (d : CpuId) → Acts d → ActsFor d)
     (all : (d : CpuId) → d.0 < CPUS → ActsFor d) (c : CpuId) (p : Pass) (result : Option (Unit {0})) (old new : List (QueueEvent Attempt))
     (own own' : Threads) (known : IsLawful IsKnownEvent new)
@@ -126,7 +124,8 @@ module _ (opening : LockId → Option (QueueBlock PlainLocked)) (ActsFor Acts : 
   same_sections : (b : Bool) → polled.others ≡ []
       → new ≡ (if b then events_of c (pass_call (homes_in opening) c p) ++ (polled.others ++ old) else polled.others ++ old)
       → buffer_sections new ≡ buffer_sections old
-  same_sections true none is = ap buffer_sections is ∙ no_section (homes_in opening) c p (polled.others ++ old) ∙ ap (λ more. buffer_sections (more ++ old)) none
+  same_sections true none is =
+      ap buffer_sections is ∙ no_section (homes_in opening) c p (polled.others ++ old) ∙ ap (λ more. buffer_sections (more ++ old)) none
   same_sections false none is = ap buffer_sections is ∙ ap (λ more. buffer_sections (more ++ old)) none
 
   -- a pass adds no effect
@@ -233,10 +232,6 @@ effect_kinds t (Recv b) x f is = go (allows Receivers x) is
         let one : effect_at no_message Receivers x ≡ f = ap (λ o. unwrap_or o f) is in
         sym (ap (λ (e : Effect). e.kind) one)
 
-woken_current : (homes : List CpuId) (c : CpuId) (w : Option Tid) (x : Threads) → (own_woken homes c w x).current ≡ x.current
-woken_current homes c None x = refl
-woken_current homes c (Some u) x = refl
-
 slept_current : (side : Side) (own : Threads) → (own_slept (line_for (Some side)) own).current ≡ None
 slept_current Receivers own = refl
 slept_current Senders own = refl
@@ -319,9 +314,15 @@ module _ (opening : LockId → Option (QueueBlock PlainLocked)) (c : CpuId) (b :
     others = [];
     mine = outcome.out.effect;
     foreign = λ d acts. tt;
-    is = done_entries ∙ ap (λ u. option_to_list (option_map (entry_of c u b) outcome.out.effect) ++ entries_in (inner opening) (buffer_sections old)) (by_caller call attempt)
+    is = done_entries ∙ ap (λ u. option_to_list (option_map (entry_of c u b) outcome.out.effect) ++ entries_in (inner opening) (buffer_sections old))
+        (by_caller call attempt)
         ∙ ap (λ x. option_to_list (option_map (entry_of c t x) outcome.out.effect) ++ entries_in (inner opening) (buffer_sections old)) at;
-    fresh = λ f has. (none_before (talk_of talks t) (waits t), ap (λ (x : Talk). x.effect) mine_now ∙ after_effect outcome.out.effect f has, done_kind t call attempt f has);
+    fresh = λ f has. (
+      none_before (talk_of talks t) (waits t),
+      ap (λ (x : Talk). x.effect) mine_now
+          ∙ after_effect outcome.out.effect f has,
+      done_kind t call attempt f has,
+    );
     stays = λ none. ap (λ (x : Talk). x.effect) mine_now ∙ after_none outcome.out.effect none ∙ sym (none_before (talk_of talks t) (waits t));
     answers = subst₂ (λ x r. Answered call x r) (sym mine_now) (sym replies) (answered outcome.out.effect);
     apart = λ u other. ap (λ l. talk_of l u) set ∙ talk_there talks t.0 u.0 (talk_after call outcome.out.effect) other;

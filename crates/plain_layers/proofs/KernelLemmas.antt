@@ -14,6 +14,7 @@ use Rattle.event_log.specs.declared.ids.TheConstants.{CPUS, THREADS}
 use Rattle.event_log.specs.History.{same_cpu}
 use Rattle.event_log.specs.Sections.{block_after}
 use Rattle.event_log.proofs.Same.{same_cpu_true}
+use Rattle.event_log.proofs.ListLemmas.{set_else, set_there}
 use Rattle.thread_blocks.specs.Queues.{is_in}
 use Rattle.layer_traits.specs.declared.queue_edits.QueueBlock.{QueueBlock}
 use Rattle.layer_traits.specs.declared.queue_edits.QueueBlock.TheVariants.{Queue, Above}
@@ -28,6 +29,7 @@ use Rattle.layer_traits.specs.Protocol.{Rules}
 use Rattle.layer_traits.specs.QueueBlocks.{StartsAs, above_of, homes_in, homes_of, inner}
 use Rattle.layer_traits.specs.Queues.{CallAllowed, Kernel, answer_of, buffer_sections, event, kernel, lock_of, moves_in, out_at}
 use Rattle.layer_traits.proofs.Alone.{block_there}
+use Rattle.layer_traits.proofs.CallLemmas.{moves_lawful}
 use Rattle.layer_traits.proofs.NestedLemmas.{push_known, push_new}
 use Rattle.plain_layers.specs.declared.kernel.Lists.{Lists}
 use Rattle.plain_layers.specs.declared.kernel.Opening.{Opening}
@@ -37,20 +39,6 @@ use Rattle.plain_layers.specs.Kernels.{CanDo, IsDone, IsKernel, SetsBlock, SetsQ
 -- a list of events that has grown by one, newest first
 pub grown : {A F X : Type 0} (r : Result A F) (a : A) (old new : List X) (x : X) → r ≡ Ok a → OnOk r (new ≡ old ++ x ∷ []) → reverse new ≡ x ∷ reverse old
 grown r a old new x is pushed = ap reverse (subst (λ o. OnOk o (new ≡ old ++ x ∷ [])) is pushed) ∙ reverse-append old (x ∷ [])
-
--- what is written at a place is there
-get_set : {X : Type 0} (xs : List X) (i : ℕ) (x : X) → i < length xs → slice_get (slice_set xs i x) i ≡ Some x
-get_set [] i x within = absurd (omega (arith, within))
-get_set (y ∷ xs) zero x within = refl
-get_set (y ∷ xs) (suc i) x within = let below : i < length xs = omega (arith, within) in get_set xs i x below
-
--- and each other place has what it had
-get_other : {X : Type 0} (xs : List X) (i j : ℕ) (x : X) → j ≢ i → slice_get (slice_set xs i x) j ≡ slice_get xs j
-get_other [] i j x other = refl
-get_other (y ∷ xs) zero zero x other = absurd (other refl)
-get_other (y ∷ xs) zero (suc j) x other = refl
-get_other (y ∷ xs) (suc i) zero x other = refl
-get_other (y ∷ xs) (suc i) (suc j) x other = get_other xs i j x (λ same. other (ap suc same))
 
 not_equal : (i j : ℕ) → (i == j) ≡ false → i ≢ j
 not_equal i j other same = let equal : (i == j) ≡ true = eq-eqb i j same in absurd (cc (equal, other))
@@ -97,7 +85,8 @@ module _ {E B O : Type 0} (rules : Rules E B O) (mv : MoveRules E O) (wakes : Wa
   queue_within d there = slice_get_within lists.pending.items d.0 (pending_by (moves_in K past) d) (queue_is d there)
 
   -- a buffer that opened has its block
-  block_some : (b : BufId) → IsSome (opening_of start (Buffer b)) → IsSome (block_after rules.edited (inner (opening_of start)) (Buffer b) (buffer_sections past))
+  block_some : (b : BufId) → IsSome (opening_of start (Buffer b))
+      → IsSome (block_after rules.edited (inner (opening_of start)) (Buffer b) (buffer_sections past))
   block_some b there = block_there rules.edited (inner (opening_of start)) (Buffer b) (buffer_sections past)
       (go (slice_get start.lists.value.buffers.items b.0) there)
     where
@@ -112,8 +101,8 @@ module _ {E B O : Type 0} (rules : Rules E B O) (mv : MoveRules E O) (wakes : Wa
   pub can_do : (c : CpuId) (call : QueueCall E) → IsSome (opening_of start (lock_of call)) → CallAllowed K past c call → CanDo call lists
   can_do c (Push d t) there allowed = (
     queue_within d there,
-    push_known rules mv (opening_of start) sound.starts wakes past c d t allowed,
-    ap (is_in t) (pending_is d there) ∙ push_new rules mv (opening_of start) sound.starts wakes past sound.lawful c d d t allowed,
+    push_known rules mv (opening_of start) sound.starts past c d t allowed,
+    ap (is_in t) (pending_is d there) ∙ push_new rules mv (opening_of start) sound.starts past (moves_lawful K wakes past sound.lawful) c d d t allowed,
   )
   can_do c (TakeAll d) there allowed = queue_within d there
   can_do c (OnBuffer b e) there allowed = block_within b there
@@ -139,11 +128,12 @@ module _ {E B O : Type 0} (rules : Rules E B O) (mv : MoveRules E O) (wakes : Wa
           ≡ option_map (λ opened. if b then after e else pending_by (moves_in K past) e) (slice_get start.lists.value.pending.items e.0)
       go true same =
           let one = same_cpu_true d e same in
-          subst (λ x. slice_get (slice_set lists.pending.items d.0 queue) x.0 ≡ option_map (λ opened. after x) (slice_get start.lists.value.pending.items x.0)) one
-          (get_set lists.pending.items d.0 queue (queue_within d there)
+          subst (λ x. slice_get (slice_set lists.pending.items d.0 queue) x.0 ≡ option_map (λ opened. after x) (slice_get start.lists.value.pending.items x.0))
+          one
+          (set_there lists.pending.items d.0 queue (queue_within d there)
           ∙ (ap Some is ∙ opened (after d) (slice_get start.lists.value.pending.items d.0) there))
       go false other =
-          get_other lists.pending.items d.0 e.0 queue (λ same. not_equal d.0 e.0 other (sym same)) ∙ sound.queues e
+          set_else lists.pending.items d.0 e.0 queue (λ same. not_equal d.0 e.0 other (sym same)) ∙ sound.queues e
 
   -- an edit moves nobody into a queue
   still : (b : BufId) (e : E) (queue : List Tid) (d : CpuId) (out : Option O) → pending_after (edit_move mv (Buffer b) e out) d queue ≡ queue
@@ -162,13 +152,16 @@ module _ {E B O : Type 0} (rules : Rules E B O) (mv : MoveRules E O) (wakes : Wa
           else block_after rules.edited (inner (opening_of start)) (Buffer at) (buffer_sections past))
       go true same =
           let one : b.0 ≡ at.0 = sym (eqb-true at.0 b.0 same) in
-          subst (λ n. slice_get (slice_set lists.buffers.items b.0 (rules.edited e block)) n ≡ option_map (rules.edited e) (slice_get lists.buffers.items n)) one
-          (get_set lists.buffers.items b.0 (rules.edited e block) (slice_get_within lists.buffers.items b.0 block was) ∙ sym (ap (option_map (rules.edited e)) was))
+          subst (λ n. slice_get (slice_set lists.buffers.items b.0 (rules.edited e block)) n ≡ option_map (rules.edited e) (slice_get lists.buffers.items n))
+          one
+          (set_there lists.buffers.items b.0 (rules.edited e block) (slice_get_within lists.buffers.items b.0 block was)
+          ∙ sym (ap (option_map (rules.edited e)) was))
           ∙ ap (option_map (rules.edited e)) (sound.blocks at)
-      go false other = get_other lists.buffers.items b.0 at.0 (rules.edited e block) (not_equal at.0 b.0 other) ∙ sound.blocks at
+      go false other = set_else lists.buffers.items b.0 at.0 (rules.edited e block) (not_equal at.0 b.0 other) ∙ sound.blocks at
 
   -- what was done at a block that is there
-  done_block : (b : BufId) (e : E) (new : Lists B) (answer : QueueAnswer O) → IsSome (opening_of start (Buffer b)) → IsDone rules (OnBuffer b e) lists new answer
+  done_block : (b : BufId) (e : E) (new : Lists B) (answer : QueueAnswer O) → IsSome (opening_of start (Buffer b))
+      → IsDone rules (OnBuffer b e) lists new answer
       → (block : B) × (slice_get lists.buffers.items b.0 ≡ Some block) × SetsBlock b (rules.edited e block) lists new × (answer ≡ Answer (rules.answer e block))
   done_block b e new answer there done = go (slice_get lists.buffers.items b.0) refl (subst (λ x. IsSome x) (sym (sound.blocks b)) (block_some b there)) done
     where

@@ -18,6 +18,7 @@ use Rattle.event_log.specs.History.{IsLawful}
 use Rattle.event_log.specs.Messages.{Message}
 use Rattle.event_log.specs.Runs.{count_of, count_of_kind, kind_eq}
 use Rattle.event_log.specs.Sections.{Section}
+use Rattle.event_log.proofs.RunLemmas.{count_cons, counts_here, items_none, kind_cons, kinds_here}
 use Rattle.layer_traits.specs.declared.calls.Effect.{Effect}
 use Rattle.layer_traits.specs.declared.locked.Side.{Side}
 use Rattle.layer_traits.specs.declared.locked.Side.TheVariants.{Receivers, Senders}
@@ -25,6 +26,7 @@ use Rattle.layer_traits.specs.BufferBlocks.{counted, first_item, other_items}
 use Rattle.layer_traits.specs.BufferEffects.{MayTakeEffect, contents_of}
 use Rattle.layer_traits.specs.BufferLaw.{entry_of}
 use Rattle.layer_traits.specs.Sleeping.{sleep_edited}
+use Rattle.layer_traits.proofs.ItemLemmas.{drop_one, first_there, one_more}
 use Rattle.plain_layers.specs.declared.attempts.Attempt.{Attempt}
 use Rattle.plain_layers.specs.declared.attempts.Tried.{Tried}
 use Rattle.plain_layers.specs.Attempts.{PlainState, allows, attempted, attempts, done, effect_at, told, waits, wakes}
@@ -39,24 +41,6 @@ pub record Tally (caps : List ℕ) (b : ℕ) (es : List Entry) (x : PlainState) 
   pub effects : x.effects ≡ count_of es b % 2 ^ 64
   pub sends : x.sends ≡ count_of_kind es b kind.Send % 2 ^ 64
   pub receives : x.receives ≡ count_of_kind es b kind.Recv % 2 ^ 64
-
-count_cons : (e : Entry) (es : List Entry) (b : ℕ) → count_of (e ∷ es) b ≡ (if e.buffer.0 == b then 1 else 0) + count_of es b
-count_cons e es b = sum_by-cons (λ (x : Entry). if x.buffer.0 == b then 1 else 0) e es
-
-kind_cons : (e : Entry) (es : List Entry) (b : ℕ) (kind : Kind)
-    → count_of_kind (e ∷ es) b kind ≡ (if (e.buffer.0 == b) && kind_eq e.kind kind then 1 else 0) + count_of_kind es b kind
-kind_cons e es b kind = sum_by-cons (λ (x : Entry). if (x.buffer.0 == b) && kind_eq x.kind kind then 1 else 0) e es
-
-one_more : (a n : ℕ) → a ≡ n % 2 ^ 64 → counted a ≡ (n + 1) % 2 ^ 64
-one_more a n is = omega (arith, is)
-
-drop_one : (items : List Message) → drop 1 items ≡ other_items items
-drop_one [] = refl
-drop_one (m ∷ items) = refl
-
-first_there : (items : List Message) → 0 < length items → slice_get items 0 ≡ Some (first_item items)
-first_there [] some = absurd (omega (arith, some))
-first_there (m ∷ items) some = refl
 
 module _ (caps : List ℕ) (b : ℕ) (es : List Entry) where
   -- an effect on another buffer
@@ -97,13 +81,6 @@ module _ (caps : List ℕ) (b : ℕ) (es : List Entry) where
     receives = tally.receives;
   }
 
-  counts_here : (e : Entry) → e.buffer.0 ≡ b → count_of (e ∷ es) b ≡ count_of es b + 1
-  counts_here e here = count_cons e es b ∙ ap (λ (v : Bool). (if v then 1 else 0) + count_of es b) (eq-eqb e.buffer.0 b here) ∙ omega arith
-
-  kinds_here : (e : Entry) (kind : Kind) → e.buffer.0 ≡ b → count_of_kind (e ∷ es) b kind ≡ (if kind_eq e.kind kind then 1 else 0) + count_of_kind es b kind
-  kinds_here e kind here =
-      kind_cons e es b kind ∙ ap (λ (v : Bool). (if v && kind_eq e.kind kind then 1 else 0) + count_of_kind es b kind) (eq-eqb e.buffer.0 b here)
-
   -- an effect that the buffer allows may come
   may : (c : CpuId) (t : Tid) (at : BufId) → at.0 ≡ b → (m : Message) (side : Side) (x : PlainState) → allows side x ≡ true → Tally caps b es x
       → MayTakeEffect caps es (entry_of c t at (effect_at m side x))
@@ -131,7 +108,7 @@ module _ (caps : List ℕ) (b : ℕ) (es : List Entry) where
         ∙ ap (λ k. after_effect k (items_of (contents_of caps es) e.buffer.0) e.value) sends
         ∙ ap (λ i. items_of (contents_of caps es) i ++ e.value ∷ []) here ∙ ap (λ l. l ++ e.value ∷ []) tally.items ∙ ap (λ w. x.items ++ w ∷ []) value;
     capacity = tally.capacity;
-    effects = one_more x.effects (count_of es b) tally.effects ∙ ap (λ n. n % 2 ^ 64) (sym (counts_here e here));
+    effects = one_more x.effects (count_of es b) tally.effects ∙ ap (λ n. n % 2 ^ 64) (sym (counts_here e es b here));
     sends = one_more x.sends (count_of_kind es b kind.Send) tally.sends ∙ ap (λ n. n % 2 ^ 64) (sym sent);
     receives = tally.receives ∙ ap (λ n. n % 2 ^ 64) (sym received);
   }
@@ -143,10 +120,10 @@ module _ (caps : List ℕ) (b : ℕ) (es : List Entry) where
       wide = tally.wide
 
       sent : count_of_kind (e ∷ es) b kind.Send ≡ count_of_kind es b kind.Send + 1
-      sent = kinds_here e kind.Send here ∙ ap (λ k. (if kind_eq k kind.Send then 1 else 0) + count_of_kind es b kind.Send) sends ∙ omega arith
+      sent = kinds_here e es b kind.Send here ∙ ap (λ k. (if kind_eq k kind.Send then 1 else 0) + count_of_kind es b kind.Send) sends ∙ omega arith
 
       received : count_of_kind (e ∷ es) b kind.Recv ≡ count_of_kind es b kind.Recv
-      received = kinds_here e kind.Recv here ∙ ap (λ k. (if kind_eq k kind.Recv then 1 else 0) + count_of_kind es b kind.Recv) sends ∙ omega arith
+      received = kinds_here e es b kind.Recv here ∙ ap (λ k. (if kind_eq k kind.Recv then 1 else 0) + count_of_kind es b kind.Recv) sends ∙ omega arith
   tallied e here m Receivers x takes value tally = record {
     known = tally.known;
     wide = length-set (contents_of caps es) e.buffer.0 _ ∙ tally.wide;
@@ -155,7 +132,7 @@ module _ (caps : List ℕ) (b : ℕ) (es : List Entry) where
         ∙ ap (λ k. after_effect k (items_of (contents_of caps es) e.buffer.0) e.value) takes
         ∙ ap (λ i. drop 1 (items_of (contents_of caps es) i)) here ∙ ap (λ l. drop 1 l) tally.items ∙ drop_one x.items;
     capacity = tally.capacity;
-    effects = one_more x.effects (count_of es b) tally.effects ∙ ap (λ n. n % 2 ^ 64) (sym (counts_here e here));
+    effects = one_more x.effects (count_of es b) tally.effects ∙ ap (λ n. n % 2 ^ 64) (sym (counts_here e es b here));
     sends = tally.sends ∙ ap (λ n. n % 2 ^ 64) (sym sent);
     receives = one_more x.receives (count_of_kind es b kind.Recv) tally.receives ∙ ap (λ n. n % 2 ^ 64) (sym received);
   }
@@ -167,10 +144,10 @@ module _ (caps : List ℕ) (b : ℕ) (es : List Entry) where
       wide = tally.wide
 
       received : count_of_kind (e ∷ es) b kind.Recv ≡ count_of_kind es b kind.Recv + 1
-      received = kinds_here e kind.Recv here ∙ ap (λ k. (if kind_eq k kind.Recv then 1 else 0) + count_of_kind es b kind.Recv) takes ∙ omega arith
+      received = kinds_here e es b kind.Recv here ∙ ap (λ k. (if kind_eq k kind.Recv then 1 else 0) + count_of_kind es b kind.Recv) takes ∙ omega arith
 
       sent : count_of_kind (e ∷ es) b kind.Send ≡ count_of_kind es b kind.Send
-      sent = kinds_here e kind.Send here ∙ ap (λ k. (if kind_eq k kind.Send then 1 else 0) + count_of_kind es b kind.Send) takes ∙ omega arith
+      sent = kinds_here e es b kind.Send here ∙ ap (λ k. (if kind_eq k kind.Send then 1 else 0) + count_of_kind es b kind.Send) takes ∙ omega arith
 
 -- the effect of an attempt where the buffer allows one, or does not, and the buffer after it
 abbrev effect_if : Bool → Attempt → PlainState → Option Effect
@@ -181,7 +158,8 @@ state_if v a x = if v then done a.message a.side x else waits a.thread a.side x
 
 abbrev told_if : Bool → Attempt → PlainState → Tried
 told_if v a x =
-    if v then record { side = a.side; effect = Some (effect_at a.message a.side x); woke = wakes a.side x } else record { side = a.side; effect = None; woke = None }
+    if v then record { side = a.side; effect = Some (effect_at a.message a.side x); woke = wakes a.side x } else record
+    { side = a.side; effect = None; woke = None }
 
 effect_told : (a : Attempt) (x : PlainState) → (told a x).effect ≡ effect_if (allows a.side x) a x
 effect_told a x = go (allows a.side x)
@@ -206,11 +184,6 @@ here_step caps es c d a x true is tally = (
 
 abbrev no_items : List Message
 no_items = []
-
-items_none : (caps : List ℕ) (b : ℕ) → items_of (empty_buffers caps) b ≡ []
-items_none [] b = refl
-items_none (n ∷ caps) zero = refl
-items_none (n ∷ caps) (suc b) = items_none caps b
 
 start_told : (caps : List ℕ) (b : BufId) (o : Option ℕ) (state : PlainLocked) → slice_get caps b.0 ≡ o → option_map fresh_buffer o ≡ Some state
     → Tally caps b.0 [] state.above
@@ -286,14 +259,16 @@ module _ (caps : List ℕ) where
       go : (v : Bool) → (b.0 == d.0) ≡ v
           → (if v then option_map (sleep_edited attempts a) (locked_after (fresh_buffers caps) (Buffer b) past)
           else locked_after (fresh_buffers caps) (Buffer b) past) ≡ Some state
-          → Tally caps b.0 (option_to_list (entry_at c (Buffer d) a (locked_after (fresh_buffers caps) (Buffer d) past)) ++ entries_in (fresh_buffers caps) past)
+          → Tally caps b.0 (option_to_list (entry_at c (Buffer d) a (locked_after (fresh_buffers caps) (Buffer d) past)) ++ entries_in
+          (fresh_buffers caps) past)
           state.above
       go false other at =
           other_effect b.0 (entries_in (fresh_buffers caps) past) c a.thread d (effect_by a (locked_after (fresh_buffers caps) (Buffer d) past)) state.above
           (ne_eqb d.0 b.0 (λ is. absurd (eqb-false b.0 d.0 other (sym is)))) (tells b state at)
       go true same at =
           let one : d.0 ≡ b.0 = sym (eqb-true b.0 d.0 same) in
-          let found = subst (λ n. option_map (sleep_edited attempts a) (locked_after (fresh_buffers caps) (Buffer (record { 0 = n })) past) ≡ Some state) (sym one) at in
+          let found = subst (λ n. option_map (sleep_edited attempts a) (locked_after (fresh_buffers caps) (Buffer (record { 0 = n })) past) ≡ Some state)
+          (sym one) at in
           subst (λ n. Tally caps n (option_to_list (entry_at c (Buffer d) a (locked_after (fresh_buffers caps) (Buffer d) past))
           ++ entries_in (fresh_buffers caps) past) state.above) one
           (edited (locked_after (fresh_buffers caps) (Buffer d) past) (tells d) found)
@@ -310,7 +285,8 @@ module _ (caps : List ℕ) where
 -- each effect may come after those before it
 pub plain_lawful : (locks : LockId → Option PlainLocked) (caps : List ℕ) (past : List (Section Attempt)) → locks ≡ fresh_buffers caps
     → IsLawful (MayTakeEffect caps) (entries_in locks past)
-plain_lawful locks caps past fresh = subst (λ (o : LockId → Option PlainLocked). IsLawful (MayTakeEffect caps) (entries_in o past)) (sym fresh) (all_lawful caps past)
+plain_lawful locks caps past fresh =
+    subst (λ (o : LockId → Option PlainLocked). IsLawful (MayTakeEffect caps) (entries_in o past)) (sym fresh) (all_lawful caps past)
 
 -- and a buffer tells them
 pub plain_tally : (locks : LockId → Option PlainLocked) (caps : List ℕ) (past : List (Section Attempt)) → locks ≡ fresh_buffers caps

@@ -65,7 +65,8 @@ IsDone rules (OnBuffer b e) old new answer =
     IfSome (slice_get old.buffers.items b.0) (λ block. SetsBlock b (rules.edited e block) old new × (answer ≡ Answer (rules.answer e block)))
 
 -- a machine is sound: it opened well formed, its calls kept the protocol, and its lists are those that they leave
-pub record IsKernel {E B O : Type 0} (rules : Rules E B O) (mv : MoveRules E O) (start : Opening B) (past : List (QueueEvent E)) (lists : Lists B) : Type 0 where
+pub record IsKernel {E B O : Type 0} (rules : Rules E B O) (mv : MoveRules E O) (start : Opening B)
+    (past : List (QueueEvent E)) (lists : Lists B) : Type 0 where
   pub starts : StartsWell (opening_of start)
   pub lawful : IsLawful (QueueAllowed (kernel rules mv (opening_of start))) past
   pub known : IsLawful IsKnownEvent past

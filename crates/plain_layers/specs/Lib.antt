@@ -5,4 +5,8 @@ pub mod Attempts
 pub mod Wholes
 pub mod Fifos
 pub mod FifoLaws
+pub mod FifoOwned
 pub mod FifoTallies
+pub mod Naps
+pub mod LockTurns
+pub mod CondTurns

@@ -6,6 +6,7 @@ ghost use Rattle.layer_traits.specs.Sleeping.{joined};
 ghost use Rattle.layer_traits.specs.declared.locked.Side.TheVariants.{Receivers, Senders};
 ghost use Rattle.plain_layers.specs.Attempts.{allows, done, effect_at, empty_buffer, waits, wakes};
 
+use arrayvec::ArrayVec;
 use event_log::{CAPACITY, Kind, Msg, Ring, THREADS, Tid};
 use layer_traits::{Effect, Leave, Line, Side, Sleeps};
 use std::marker::Model;
@@ -81,6 +82,13 @@ impl PlainBuffer {
             receivers: ThreadQueue::new(),
             senders: ThreadQueue::new(),
         }
+    }
+
+    /// The items, first in front.
+    pub fn items(&self) -> ArrayVec<Msg, CAPACITY>
+        ensures { result.items ≡ self.now.items }
+    {
+        self.items.items()
     }
 
     /// Whether a call of this side may take effect: a send where there is room, a receive where

@@ -7,9 +7,11 @@ ghost use Rattle.plain_layers.specs.Fifos.{attempt_of, reply_to, talk_after};
 
 use crate::attempts::{Attempt, Tried};
 use crate::wholes::whole;
-use event_log::{BufId, CpuId, Msg, THREADS, Tid};
+use arrayvec::ArrayVec;
+use event_log::{BufId, CAPACITY, CpuId, Msg, THREADS, Tid};
 use layer_traits::{
-    BufferLayer, Call, Effect, Outcome, Pass, Reply, Side, SleepLayer, Stage, Talk,
+    BufferLayer, Call, Effect, Line, Outcome, OwnedBuffers, OwnedSleeps, Pass, Reply, Side,
+    SleepLayer, Stage, Talk,
 };
 
 /// One CPU's part of first-in first-out blocking buffers as they are meant, over a part `S` of sleep
@@ -200,7 +202,121 @@ impl<S: SleepLayer<Attempt>> BufferLayer for PlainFifo<S> {
 
     ghost seen_is = { λ step m. absurd step };
 
+    ghost moves_are = { λ step m c acts. absurd step };
+
     ghost busy = { λ p m fits step. absurd step };
 
     ghost rests = { λ p m fits none. refl };
+}
+
+impl<S: OwnedSleeps<Attempt>> OwnedBuffers for PlainFifo<S> {
+    ghost use Rattle.std.specs.Prelude.{true, option_map};
+    ghost use Rattle.std.proofs.Common.{sym};
+    ghost use Rattle.event_log.specs.declared.ids.LockId.TheVariants.{Buffer, Pending};
+    ghost use Rattle.event_log.specs.Actions.{phase};
+    ghost use Rattle.event_log.specs.Buffers.{items_of};
+    ghost use Rattle.layer_traits.specs.BufferEffects.{contents_of};
+    ghost use Rattle.layer_traits.specs.Places.{pending_by};
+    ghost use Rattle.layer_traits.specs.Plans.{is_in_section};
+    ghost use Rattle.layer_traits.specs.QueueBlocks.{inner};
+    ghost use Rattle.layer_traits.specs.Queues.{buffer_sections, moves_in};
+    ghost use Rattle.layer_traits.specs.Renaming.{viewed_block};
+    ghost use Rattle.layer_traits.specs.SleepLaw.{sleep_kernel};
+    ghost use Rattle.plain_layers.specs.Attempts.{attempts};
+    ghost use Rattle.plain_layers.specs.Fifos.{caps_in, entries_in, lines_in, locked_after, shown};
+    ghost use Rattle.plain_layers.specs.FifoOwned.{buffer_there, entries_known, items_in, items_told, lines_of, lines_told};
+    ghost use Rattle.plain_layers.specs.FifoOwned.{nobody, nobody_owns, nothing_told, pending_told, there_viewed, view_told};
+
+    ghost owner = { λ m b. nobody };
+
+    ghost items_at = { λ m b. option_map items_in (S.state_at m b) };
+
+    ghost items_with = { λ p b. option_map items_in (S.state_with p.lower b) };
+
+    ghost owner_at = { λ m b. Some nobody };
+
+    ghost owner_with = { λ p b. nothing_told };
+
+    ghost lines_at = { λ m b. option_map lines_of (S.state_at m b) };
+
+    ghost lines_with = { λ p b. option_map lines_of (S.state_with p.lower b) };
+
+    ghost queue_at = { λ m d. S.queue_at m d };
+
+    ghost queue_with = { λ p d. S.queue_with p.lower d };
+
+    fn is_ready(&self, t: Tid) -> bool {
+        self.lower.is_ready(t)
+    }
+
+    fn has_ended(&self, t: Tid) -> bool {
+        self.lower.has_ended(t)
+    }
+
+    fn items_in(m: &S::Machine, b: BufId) -> Option<ArrayVec<Msg, CAPACITY>> {
+        match S::block_in(m, b) {
+            None => None,
+            Some(block) => Some(block.items()),
+        }
+    }
+
+    fn items_here(&self, b: BufId) -> Option<ArrayVec<Msg, CAPACITY>> {
+        match self.lower.block_here(b) {
+            None => None,
+            Some(block) => Some(block.items()),
+        }
+    }
+
+    fn owner_in(_m: &S::Machine, _b: BufId) -> Option<Option<Tid>> {
+        Some(None)
+    }
+
+    fn owner_here(&self, _b: BufId) -> Option<Option<Tid>> {
+        None
+    }
+
+    fn line_in(m: &S::Machine, b: BufId, t: Tid) -> Option<Line> {
+        S::line_in(m, b, t)
+    }
+
+    fn line_here(&self, b: BufId, t: Tid) -> Option<Line> {
+        self.lower.line_here(b, t)
+    }
+
+    fn pends_in(m: &S::Machine, d: CpuId, t: Tid) -> Option<bool> {
+        S::pends_in(m, d, t)
+    }
+
+    fn pends_here(&self, d: CpuId, t: Tid) -> Option<bool> {
+        self.lower.pends_here(d, t)
+    }
+
+    ghost known = { λ m c acts. entries_known (inner (S.opening m)) (S.seen m) (S.known m c acts.0) };
+
+    ghost items = { λ m c b acts within. view_told (λ (p : Self). p.lower) (λ p. S.Fits p m) (λ (p : Self). Self.Fits p m) (λ p. S.cpu_of p)
+        (λ d. S.IsStepwise × (is_in_section (phase d (S.acts m)) ≡ true)) (λ d. ⊥ × (is_in_section (phase d (Self.acts m)) ≡ true)) (λ p fits. fits.0)
+        (λ d inside. absurd (acts.1 inside.0)) (locked_after (inner (S.opening m)) (Buffer b) (buffer_sections (S.seen m))) items_in
+        (λ p. S.state_with p b) (S.state_at m b)
+        (items_of (contents_of (caps_in (inner (S.opening m))) (entries_in (inner (S.opening m)) (buffer_sections (S.seen m)))) b.0)
+        (items_told (S.opening m) acts.2.fresh b within (buffer_sections (S.seen m)))
+        (S.shown m c b acts.0 (buffer_there (S.opening m) acts.2.fresh b within)) };
+
+    ghost owners = { λ m c b acts within. nobody_owns (λ (p : Self). Self.Fits p m) (λ p. S.cpu_of p.lower)
+        (λ d. ⊥ × (is_in_section (phase d (Self.acts m)) ≡ true)) };
+
+    ghost owner_is = { λ step m c b acts. absurd step };
+
+    ghost beds = { λ m c b acts within. view_told (λ (p : Self). p.lower) (λ p. S.Fits p m) (λ (p : Self). Self.Fits p m) (λ p. S.cpu_of p)
+        (λ d. S.IsStepwise × (is_in_section (phase d (S.acts m)) ≡ true)) (λ d. ⊥ × (is_in_section (phase d (Self.acts m)) ≡ true)) (λ p fits. fits.0)
+        (λ d inside. absurd (acts.1 inside.0)) (locked_after (inner (S.opening m)) (Buffer b) (buffer_sections (S.seen m))) lines_of
+        (λ p. S.state_with p b) (S.state_at m b)
+        (λ line. lines_in (inner (S.opening m)) (buffer_sections (S.seen m)) b line)
+        (lines_told (S.opening m) acts.2.fresh b within (buffer_sections (S.seen m)))
+        (S.shown m c b acts.0 (buffer_there (S.opening m) acts.2.fresh b within)) };
+
+    ghost queues = { λ m c d acts there. pending_told (λ (p : Self). p.lower) (λ p. S.Fits p m) (λ (p : Self). Self.Fits p m) (λ p. S.cpu_of p)
+        (λ d. S.IsStepwise × (is_in_section (phase d (S.acts m)) ≡ true)) (λ d. ⊥ × (is_in_section (phase d (Self.acts m)) ≡ true)) (λ p fits. fits.0)
+        (λ d inside. absurd (acts.1 inside.0)) (λ p. S.queue_with p d) (S.queue_at m d)
+        (pending_by (moves_in (sleep_kernel attempts (S.opening m)) (S.seen m)) d)
+        (S.queues m c d acts.0 (there_viewed (viewed_block shown) (S.opening m (Pending d)) there)) };
 }

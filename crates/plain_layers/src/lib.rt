@@ -25,6 +25,16 @@ pub use sleepers::{
 pub use wholes::whole;
 
 #[cfg(test)]
-mod sleep_tests;
+mod cond_tests;
 #[cfg(test)]
-mod tests;
+mod cond_turns;
+#[cfg(test)]
+mod lock_tests;
+#[cfg(test)]
+mod lock_turns;
+#[cfg(test)]
+mod openings;
+#[cfg(test)]
+mod sched_tests;
+#[cfg(test)]
+mod sleep_tests;

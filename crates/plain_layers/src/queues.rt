@@ -73,6 +73,8 @@ impl<E: Moves> QueueLayer<E> for PlainQueues<E> {
 
     ghost seen_is = { λ step m. absurd step };
 
+    ghost proper = { λ step m c acts. absurd step };
+
     ghost busy = { λ p m fits step. absurd step };
 }
 

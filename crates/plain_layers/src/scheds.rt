@@ -113,6 +113,8 @@ impl<E: Moves> SchedLayer<E> for PlainSched<E> {
 
     ghost seen_is = { λ step m. absurd step };
 
+    ghost proper = { λ step m c acts. absurd step };
+
     ghost busy = { λ p m fits step. absurd step };
 
     ghost stands = { λ p m fits. fits.2.stands };

@@ -1,16 +1,24 @@
-//! Threads that sleep and are woken in one-step machines, run.
+//! Threads that sleep and are woken, run over ticket locks and over one-step schedulers.
 
-ghost use Rattle.std.specs.Prelude.{◌≡◌, ◌≢◌, ◌+◌, ◌<◌, ◌≤◌, [], ◌∷◌, true, Some, None, IsSome, IfOk, is_some, if◌then◌else◌};
+ghost use Rattle.std.specs.Prelude.{◌≡◌, ◌≢◌, ◌+◌, ◌<◌, ◌≤◌, [], ◌∷◌, true, Some, None, IsSome, IfOk, is_some};
+ghost use Rattle.event_log.specs.declared.ids.CpuId.{CpuId};
 ghost use Rattle.event_log.specs.declared.ids.LockId.TheVariants.{Buffer, Pending};
 ghost use Rattle.event_log.specs.declared.ids.TheConstants.{CPUS};
 ghost use Rattle.layer_traits.specs.declared.scheds.SchedCall.TheVariants.{OnBuffer};
 ghost use Rattle.layer_traits.specs.QueueBlocks.{homes_in, inner};
+ghost use Rattle.layer_traits.specs.Renaming.{viewed};
 ghost use Rattle.layer_traits.specs.Sleeping.{NobodySleeps};
+ghost use Rattle.sleep_wakeup.specs.Nested.{state_of};
 
-use crate::{PlainKernel, PlainSleep};
+use crate::PlainSched;
+use crate::openings::Opens;
 use event_log::{BufId, CPUS, CpuId, NoMemory, Tid};
-use layer_traits::{Leave, Line, Outcome, Pass, SleepLayer, Sleeps};
-use sleep_wakeup::{SleepEdit, sleep_blocks};
+use layer_traits::{Leave, Line, Outcome, OwnedSleeps, Pass, QueueEdit, SleepLayer, Sleeps};
+use plain_machine::Plain;
+use scheduler::Sched;
+use shared_queue::SharedQueues;
+use sleep_wakeup::{SleepEdit, Sleeper, sleep_blocks};
+use spinlock::Ticket;
 use std::alloc::Global;
 use std::test::Fail;
 
@@ -87,10 +95,10 @@ fn switches<S: SleepLayer<Nap>>(part: &mut S, m: &mut S::Machine) -> bool
     requires idle { S.under_way part.old ≡ None }
     requires room { 0 < S.room m.old }
     ensures fits { S.Fits part.new m.new }
-    ensures idle { result ≡ true → S.under_way part.new ≡ None }
     ensures cpu { S.cpu_of part.new ≡ S.cpu_of part.old }
     ensures opening { S.opening m.new ≡ S.opening m.old }
     ensures room { S.room m.old ≤ S.room m.new + 1 }
+    ensures idle { result ≡ true → S.under_way part.new ≡ None }
     ensures others { (p : S) → S.cpu_of p ≢ S.cpu_of part.old → S.Fits p m.old → S.Fits p m.new }
 {
     if part.current().is_some() || part.hand().is_some() || !part.has_ready() {
@@ -99,147 +107,209 @@ fn switches<S: SleepLayer<Nap>>(part: &mut S, m: &mut S::Machine) -> bool
     part.pass(m, Pass::Switch).is_some()
 }
 
-/// Who is pending becomes ready, and so does the thread that runs, if one does and nobody stands in
-/// the hand.
-fn yields<S: SleepLayer<Nap>>(part: &mut S, m: &mut S::Machine) -> bool
-    requires fits { S.Fits part.old m.old }
-    requires idle { S.under_way part.old ≡ None }
-    requires room { 0 < S.room m.old }
-    ensures fits { S.Fits part.new m.new }
-    ensures idle { result ≡ true → S.under_way part.new ≡ None }
-    ensures room { S.room m.old ≤ S.room m.new + 1 }
-{
-    if part.current().is_none() || part.hand().is_some() {
-        return false;
-    }
-    part.pass(m, Pass::YieldNow).is_some()
-}
-
-/// The section in one poll, if its caller runs and nobody stands in the hand; `None` if it goes
-/// otherwise.
-fn at_once<S: SleepLayer<Nap>>(part: &mut S, m: &mut S::Machine, nap: Nap) -> Option<Outcome<Nap>>
+/// Polls a section, if its caller runs and nobody stands in the hand, until it answers, at most three
+/// times, and tells at which poll it did; `None` where it may not call or none of them answered.
+fn ends_at<S: SleepLayer<Nap>>(
+    part: &mut S,
+    m: &mut S::Machine,
+    nap: Nap,
+) -> Option<(u8, Outcome<Nap>)>
     requires fits { S.Fits part.old m.old }
     requires idle { S.under_way part.old ≡ None }
     requires buffer { IsSome (S.opening m.old (Buffer (record { 0 = 0 }))) }
-    requires room { 0 < S.room m.old }
+    requires room { 3 ≤ S.room m.old }
     ensures fits { S.Fits part.new m.new }
-    ensures idle { is_some result ≡ true → S.under_way part.new ≡ None }
     ensures cpu { S.cpu_of part.new ≡ S.cpu_of part.old }
     ensures opening { S.opening m.new ≡ S.opening m.old }
-    ensures room { S.room m.old ≤ S.room m.new + 1 }
+    ensures room { S.room m.old ≤ S.room m.new + 3 }
+    ensures idle { is_some result ≡ true → S.under_way part.new ≡ None }
     ensures others { (p : S) → S.cpu_of p ≢ S.cpu_of part.old → S.Fits p m.old → S.Fits p m.new }
 {
     if part.current() != Some(nap.caller) || part.hand().is_some() {
         return None;
     }
-    part.poll(m, BufId(0), nap)
+    if let Some(outcome) = part.poll(m, BufId(0), nap) {
+        return Some((1, outcome));
+    }
+    if let Some(outcome) = part.poll(m, BufId(0), nap) {
+        return Some((2, outcome));
+    }
+    match part.poll(m, BufId(0), nap) {
+        None => None,
+        Some(outcome) => Some((3, outcome)),
+    }
 }
 
-/// The first poll of a section that wakes a thread of another CPU: it does not answer yet.
-fn begins<S: SleepLayer<Nap>>(part: &mut S, m: &mut S::Machine, nap: Nap) -> bool
+/// Polls a section that wakes a thread of another CPU until that thread stands in the hand, at most
+/// three times, and tells at which poll it did; 0 where it may not call, or where it answers sooner.
+fn takes_in_hand_at<S: SleepLayer<Nap>>(part: &mut S, m: &mut S::Machine, nap: Nap) -> u8
     requires fits { S.Fits part.old m.old }
     requires idle { S.under_way part.old ≡ None }
     requires buffer { IsSome (S.opening m.old (Buffer (record { 0 = 0 }))) }
-    requires room { 0 < S.room m.old }
+    requires room { 3 ≤ S.room m.old }
     ensures fits { S.Fits part.new m.new }
-    ensures call { result ≡ true → S.under_way part.new ≡ Some (OnBuffer (record { 0 = 0 }) nap) }
     ensures cpu { S.cpu_of part.new ≡ S.cpu_of part.old }
     ensures opening { S.opening m.new ≡ S.opening m.old }
-    ensures room { S.room m.old ≤ S.room m.new + 1 }
+    ensures room { S.room m.old ≤ S.room m.new + 3 }
+    ensures call { result ≢ 0 → S.under_way part.new ≡ Some (OnBuffer (record { 0 = 0 }) nap) }
     ensures others { (p : S) → S.cpu_of p ≢ S.cpu_of part.old → S.Fits p m.old → S.Fits p m.new }
 {
     if part.current() != Some(nap.caller) || part.hand().is_some() {
-        return false;
+        return 0;
     }
-    part.poll(m, BufId(0), nap).is_none()
+    if part.poll(m, BufId(0), nap).is_some() {
+        return 0;
+    }
+    if part.hand().is_some() {
+        return 1;
+    }
+    if part.poll(m, BufId(0), nap).is_some() {
+        return 0;
+    }
+    if part.hand().is_some() {
+        return 2;
+    }
+    if part.poll(m, BufId(0), nap).is_some() {
+        return 0;
+    }
+    if part.hand().is_some() { 3 } else { 0 }
 }
 
-/// The second poll of that section, which sends the woken thread home.
-fn ends<S: SleepLayer<Nap>>(part: &mut S, m: &mut S::Machine, nap: Nap) -> Option<Outcome<Nap>>
+/// Polls a section under way until it answers, at most three times, and tells at which poll it did.
+fn sends_at<S: SleepLayer<Nap>>(
+    part: &mut S,
+    m: &mut S::Machine,
+    nap: Nap,
+) -> Option<(u8, Outcome<Nap>)>
     requires fits { S.Fits part.old m.old }
     requires call { S.under_way part.old ≡ Some (OnBuffer (record { 0 = 0 }) nap) }
     requires buffer { IsSome (S.opening m.old (Buffer (record { 0 = 0 }))) }
-    requires room { 0 < S.room m.old }
+    requires room { 3 ≤ S.room m.old }
+    ensures fits { S.Fits part.new m.new }
     ensures cpu { S.cpu_of part.new ≡ S.cpu_of part.old }
     ensures opening { S.opening m.new ≡ S.opening m.old }
-    ensures room { S.room m.old ≤ S.room m.new + 1 }
+    ensures room { S.room m.old ≤ S.room m.new + 3 }
+    ensures idle { is_some result ≡ true → S.under_way part.new ≡ None }
     ensures others { (p : S) → S.cpu_of p ≢ S.cpu_of part.old → S.Fits p m.old → S.Fits p m.new }
 {
-    part.poll(m, BufId(0), nap)
+    if let Some(outcome) = part.poll(m, BufId(0), nap) {
+        return Some((1, outcome));
+    }
+    if let Some(outcome) = part.poll(m, BufId(0), nap) {
+        return Some((2, outcome));
+    }
+    match part.poll(m, BufId(0), nap) {
+        None => None,
+        Some(outcome) => Some((3, outcome)),
+    }
 }
 
-/// Thread 0 falls asleep in one poll; thread 1 of another CPU wakes it in one, after which it stands
-/// in that CPU's hand alone, and sends it home in one more; it is ready there once thread 2 has yielded.
-fn across<S: SleepLayer<Nap>>(home: &mut S, away: &mut S, m: &mut S::Machine) -> bool
+/// Thread 0 falls asleep as a waiting receiver in the polls of a section, and its CPU has no current
+/// thread; then thread 1 of another CPU wakes it in as many, after which it stands in that CPU's hand
+/// alone, and sends it home in as many more.
+fn across<S: SleepLayer<Nap>>(home: &mut S, away: &mut S, m: &mut S::Machine, polls: u8) -> bool
     requires home { S.Fits home.old m.old }
     requires away { S.Fits away.old m.old }
     requires apart { S.cpu_of home.old ≢ S.cpu_of away.old }
     requires first { S.under_way home.old ≡ None }
     requires second { S.under_way away.old ≡ None }
     requires buffer { IsSome (S.opening m.old (Buffer (record { 0 = 0 }))) }
-    requires room { 8 < S.room m.old }
+    requires room { 12 ≤ S.room m.old }
 {
     if !switches(away, m) || !switches(home, m) {
         return false;
     }
-    let Some(slept) = at_once(home, m, sleep(Tid(0))) else {
+    let Some((at, slept)) = ends_at(home, m, sleep(Tid(0))) else {
         return false;
     };
-    if !slept.slept || slept.woke.is_some() || home.current().is_some() {
+    if at != polls || !slept.slept || slept.woke.is_some() || home.current().is_some() {
         return false;
     }
     let wake = wake(Tid(1), Tid(0));
-    if !begins(away, m, wake) || away.hand() != Some(Tid(0)) {
+    let taken = takes_in_hand_at(away, m, wake);
+    if taken == 0 || taken != polls || away.hand() != Some(Tid(0)) {
         return false;
     }
     if home.current().is_some() || home.hand().is_some() || home.is_ready(Tid(0)) {
         return false;
     }
-    let Some(woke) = ends(away, m, wake) else {
+    let Some((sent, woke)) = sends_at(away, m, wake) else {
         return false;
     };
-    if woke.woke != Some(Tid(0)) || woke.slept || away.hand().is_some() {
-        return false;
-    }
-    switches(home, m) && yields(home, m) && home.is_ready(Tid(0)) && home.is_ready(Tid(2))
+    sent == polls && woke.woke == Some(Tid(0)) && !woke.slept && away.hand().is_none()
 }
 
-/// Thread 0 falls asleep, and thread 2 of the same CPU wakes it: it is ready after that same poll.
-fn at_home<S: SleepLayer<Nap>>(home: &mut S, m: &mut S::Machine) -> bool
+/// Thread 0 falls asleep, and thread 2 of the same CPU wakes it: it is ready there after that same
+/// poll, and thread 2 may end.
+fn at_home<S: SleepLayer<Nap>>(home: &mut S, m: &mut S::Machine, polls: u8) -> bool
     requires fits { S.Fits home.old m.old }
     requires idle { S.under_way home.old ≡ None }
     requires buffer { IsSome (S.opening m.old (Buffer (record { 0 = 0 }))) }
-    requires room { 3 < S.room m.old }
+    requires room { 12 ≤ S.room m.old }
 {
-    if !switches(home, m) || at_once(home, m, sleep(Tid(0))).is_none() {
+    if !switches(home, m) || ends_at(home, m, sleep(Tid(0))).is_none() || !switches(home, m) {
         return false;
     }
-    if !switches(home, m) {
+    let Some((at, woke)) = ends_at(home, m, wake(Tid(2), Tid(0))) else {
+        return false;
+    };
+    if at != polls || woke.woke != Some(Tid(0)) || !home.is_ready(Tid(0)) {
         return false;
     }
-    match at_once(home, m, wake(Tid(2), Tid(0))) {
-        None => false,
-        Some(woke) => woke.woke == Some(Tid(0)) && home.is_ready(Tid(0)) && home.hand().is_none(),
+    if home.current().is_none() || home.hand().is_some() || home.pass(m, Pass::End).is_none() {
+        return false;
+    }
+    home.has_ended(Tid(2)) && home.current().is_none()
+}
+
+/// Thread 0 sleeps: the machine tells in which line, and the part has no block in its hands.
+fn is_told<S: OwnedSleeps<Nap>>(home: &mut S, m: &mut S::Machine) -> bool
+    requires fits { S.Fits home.old m.old }
+    requires idle { S.under_way home.old ≡ None }
+    requires buffer { IsSome (S.opening m.old (Buffer (record { 0 = 0 }))) }
+    requires queue { IsSome (S.opening m.old (Pending (record { 0 = 1 }))) }
+    requires room { 12 ≤ S.room m.old }
+{
+    if !switches(home, m) || ends_at(home, m, sleep(Tid(0))).is_none() {
+        return false;
+    }
+    if S::line_in(m, BufId(0), Tid(0)) != Some(Line::Receivers)
+        || S::block_in(m, BufId(0)) != Some(&7)
+    {
+        return false;
+    }
+    if home.line_here(BufId(0), Tid(0)).is_some() || home.block_here(BufId(0)).is_some() {
+        return false;
+    }
+    S::pends_in(m, CpuId(1), Tid(0)) == Some(false) && home.pends_here(CpuId(1), Tid(0)).is_none()
+}
+
+/// One block.
+fn one_block(alloc: Global) -> Result<Vec<u8>, NoMemory>
+    ensures { IfOk result (λ blocks. blocks.items ≡ 7 ∷ []) }
+{
+    let mut blocks = Vec::new(alloc);
+    match blocks.push(7) {
+        Ok(()) => Ok(blocks),
+        Err(_) => Err(NoMemory),
     }
 }
 
-/// A machine of two CPUs and one buffer, with room for 20 calls; threads 0 and 2 are at home on
-/// CPU 0, and thread 1 on CPU 1.
-fn machine(alloc: Global) -> Result<PlainKernel<SleepEdit<Nap>>, NoMemory>
-    ensures acts { IfOk result (λ m. (c : _) → c.0 < CPUS → ⟦<PlainSleep<Nap> as SleepLayer<Nap>>⟧.ActsFor m c) }
-    ensures homes { IfOk result (λ m. homes_in (⟦<PlainSleep<Nap> as SleepLayer<Nap>>⟧.opening m) ≡ record { 0 = 0 } ∷ record { 0 = 1 } ∷ record { 0 = 0 } ∷ []) }
-    ensures queues { IfOk result (λ m. (c : _) → c.0 < 2 → IsSome (⟦<PlainSleep<Nap> as SleepLayer<Nap>>⟧.opening m (Pending c))) }
-    ensures nobody { IfOk result (λ m. NobodySleeps (inner (⟦<PlainSleep<Nap> as SleepLayer<Nap>>⟧.opening m))) }
-    ensures buffer { IfOk result (λ m. IsSome (⟦<PlainSleep<Nap> as SleepLayer<Nap>>⟧.opening m (Buffer (record { 0 = 0 })))) }
-    ensures seen { IfOk result (λ m. ⟦<PlainSleep<Nap> as SleepLayer<Nap>>⟧.seen m ≡ []) }
-    ensures room { IfOk result (λ m. ⟦<PlainSleep<Nap> as SleepLayer<Nap>>⟧.room m ≡ 20) }
+/// A machine of two CPUs and one buffer, with room for 20 events; threads 0 and 2 are at home on CPU 0,
+/// and thread 1 on CPU 1.
+fn machine<S: Opens<SleepEdit<Nap>>>(alloc: Global) -> Result<S::Machine, NoMemory>
+    ensures acts { IfOk result (λ m. (c : CpuId) → c.0 < CPUS → S.ActsFor m c) }
+    ensures outside { IfOk result (λ m. (c : CpuId) → S.IsOutside m c) }
+    ensures seen { IfOk result (λ m. S.seen m ≡ []) }
+    ensures room { IfOk result (λ m. S.room m ≡ 20) }
+    ensures homes { IfOk result (λ m. homes_in (S.opening m) ≡ record { 0 = 0 } ∷ record { 0 = 1 } ∷ record { 0 = 0 } ∷ []) }
+    ensures queues { IfOk result (λ m. (c : CpuId) → c.0 < 2 → IsSome (S.opening m (Pending c))) }
+    ensures nobody { IfOk result (λ m. NobodySleeps (inner (viewed state_of (S.opening m)))) }
+    ensures buffer { IfOk result (λ m. IsSome (S.opening m (Buffer (record { 0 = 0 })))) }
 {
-    let mut above = Vec::new(alloc);
-    if above.push(7).is_err() {
-        return Err(NoMemory);
-    }
+    let above = one_block(alloc)?;
     let blocks = sleep_blocks(alloc, above)?;
-    PlainKernel::open(alloc, blocks, 2, &[CpuId(0), CpuId(1), CpuId(0)], 20)
+    S::open(alloc, blocks, 2, &[CpuId(0), CpuId(1), CpuId(0)], 20)
 }
 
 /// The part of a CPU at boot.
@@ -258,19 +328,43 @@ fn part<S: SleepLayer<Nap>>(m: &S::Machine, cpu: CpuId) -> S
     S::part(cpu, &[CpuId(0), CpuId(1), CpuId(0)], 1)
 }
 
+/// All this over a machine of these schedulers, on which a section takes so many polls.
+fn sleeps_and_wakes<S: Opens<SleepEdit<Nap>> + Drop>(
+    alloc: Global,
+    polls: u8,
+) -> Result<bool, NoMemory>
+where
+    S::Machine: Drop,
+{
+    let mut m = machine::<S>(alloc)?;
+    let mut home: Sleeper<Nap, S> = part(&m, CpuId(0));
+    let mut away: Sleeper<Nap, S> = part(&m, CpuId(1));
+    if !across(&mut home, &mut away, &mut m, polls) {
+        return Ok(false);
+    }
+    let mut m = machine::<S>(alloc)?;
+    let mut home: Sleeper<Nap, S> = part(&m, CpuId(0));
+    if !at_home(&mut home, &mut m, polls) {
+        return Ok(false);
+    }
+    let mut m = machine::<S>(alloc)?;
+    let mut home: Sleeper<Nap, S> = part(&m, CpuId(0));
+    Ok(is_told(&mut home, &mut m))
+}
+
 #[test]
-fn a_thread_sleeps_and_is_woken_by_another_cpu(rt: HostRuntime) -> Result<(), Fail> {
-    let mut m = machine(rt.alloc())?;
-    let mut home: PlainSleep<Nap> = part(&m, CpuId(0));
-    let mut away: PlainSleep<Nap> = part(&m, CpuId(1));
-    assert!(rt; across(&mut home, &mut away, &mut m));
+fn threads_sleep_and_wake_over_ticket_locks(rt: HostRuntime) -> Result<(), Fail> {
+    assert!(rt;
+        sleeps_and_wakes::<Sched<SharedQueues<Ticket<Plain<QueueEdit<SleepEdit<Nap>>>>>>>(
+            rt.alloc(),
+            3
+        )?
+    );
     Ok(())
 }
 
 #[test]
-fn a_thread_that_is_woken_at_home_is_ready(rt: HostRuntime) -> Result<(), Fail> {
-    let mut m = machine(rt.alloc())?;
-    let mut home: PlainSleep<Nap> = part(&m, CpuId(0));
-    assert!(rt; at_home(&mut home, &mut m));
+fn threads_sleep_and_wake_in_one_step(rt: HostRuntime) -> Result<(), Fail> {
+    assert!(rt; sleeps_and_wakes::<PlainSched<SleepEdit<Nap>>>(rt.alloc(), 1)?);
     Ok(())
 }

@@ -9,7 +9,7 @@ use Rattle.layer_traits.specs.OneLock.{AreDistinct, IsMissing}
 use Rattle.plain_machine.specs.declared.cells.Cell.{Cell}
 use Rattle.event_log.proofs.Same.{lock_number_other}
 use Rattle.event_log.specs.Locks.{lock_number}
-use Rattle.plain_machine.specs.Table.{cell_at, with_cell, fresh_cell, AreFresh}
+use Rattle.plain_machine.specs.Table.{cell_at, with_cell, given_cell, AreFresh}
 
 get_or_past : {X : Type 0} (xs : List X) (i : ℕ) (d : X) → length xs ≤ i → get_or xs i d ≡ d
 get_or_past [] i d past = refl
@@ -19,7 +19,7 @@ get_or_past (x ∷ xs) (suc i) d past = get_or_past xs i d (omega arith)
 within_or_past : (i n : ℕ) → (i < n) ⊎ (n ≤ i)
 within_or_past i n = grind arith
 
-module _ {B : Type 0} (cells : List (Option (Cell B))) (lock : LockId) where
+module _ {K B : Type 0} (cells : List (Option (Cell K B))) (lock : LockId) where
   -- a lock that has a cell has its place within the table
   pub cell_within : IsSome (cell_at cells lock) → lock_number lock < length cells
   cell_within has = elim (within_or_past (lock_number lock) (length cells)) [
@@ -29,11 +29,11 @@ module _ {B : Type 0} (cells : List (Option (Cell B))) (lock : LockId) where
   ]
 
   -- the cell that was put is there
-  pub cell_put : (cell : Cell B) → lock_number lock < length cells → cell_at (with_cell cells lock cell) lock ≡ Some cell
+  pub cell_put : (cell : Cell K B) → lock_number lock < length cells → cell_at (with_cell cells lock cell) lock ≡ Some cell
   cell_put cell within = get_or-set_same cells (lock_number lock) (Some cell) None within
 
   -- and each other lock has the cell that it had
-  pub cell_other : (cell : Cell B) (l : LockId) → same_lock l lock ≡ false → cell_at (with_cell cells lock cell) l ≡ cell_at cells l
+  pub cell_other : (cell : Cell K B) (l : LockId) → same_lock l lock ≡ false → cell_at (with_cell cells lock cell) l ≡ cell_at cells l
   cell_other cell l other = get_or-set_other cells (lock_number lock) (lock_number l) (Some cell) None (lock_number_other l lock other)
 
 missing_mid : {B : Type 0} (lock : LockId) (xs : List (LockId × B)) (o : LockId × B) (ys : List (LockId × B)) → IsMissing lock (xs ++ o ∷ ys)
@@ -42,21 +42,31 @@ missing_mid lock [] o ys missing = missing.0
 missing_mid lock (x ∷ xs) o ys missing = missing_mid lock xs o ys missing.1
 
 -- one more fresh cell
-pub fresh_more : {B : Type 0} (xs : List (LockId × B)) (o : LockId × B) (ys : List (LockId × B)) (cells : List (Option (Cell B))) → AreDistinct (xs ++ o ∷ ys)
-    → lock_number o.0 < length cells → AreFresh xs cells → AreFresh (xs ++ o ∷ []) (with_cell cells o.0 (fresh_cell o.1))
-fresh_more [] o ys cells distinct within fresh = (cell_put cells o.0 (fresh_cell o.1) within, tt)
-fresh_more (x ∷ xs) o ys cells distinct within fresh =
-    (cell_other cells o.0 (fresh_cell o.1) x.0 (missing_mid x.0 xs o ys distinct.0) ∙ fresh.0, fresh_more xs o ys cells distinct.1 within fresh.1)
+pub fresh_more : {K B : Type 0} (IsNew : K → Type 0) (xs : List (LockId × B)) (o : LockId × B) (ys : List (LockId × B)) (cells : List (Option (Cell K B)))
+    → AreDistinct (xs ++ o ∷ ys) → lock_number o.0 < length cells → (words : K) → IsNew words
+    → AreFresh IsNew xs cells → AreFresh IsNew (xs ++ o ∷ []) (with_cell cells o.0 (given_cell words o.1))
+fresh_more IsNew [] o ys cells distinct within words new fresh =
+    (record { words = words; new = new; is = cell_put cells o.0 (given_cell words o.1) within }, tt)
+fresh_more IsNew (x ∷ xs) o ys cells distinct within words new fresh = (
+  record {
+    words = fresh.0.words;
+    new = fresh.0.new;
+    is = cell_other cells o.0 (given_cell words o.1) x.0 (missing_mid x.0 xs o ys distinct.0) ∙ fresh.0.is;
+  },
+  fresh_more IsNew xs o ys cells distinct.1 within words new fresh.1,
+)
 
 all_mid : {X : Type 0} (P : X → Type 0) (xs : List X) (o : X) (ys : List X) → All P (xs ++ o ∷ ys) → P o
 all_mid P [] o ys all = All-head P o ys all
 all_mid P (x ∷ xs) o ys all = all_mid P xs o ys (All-tail P x (xs ++ o ∷ ys) all)
 
 -- one pass of the loop that fills the table
-pub fresh_pass : {B : Type 0} (blocks xs : List (LockId × B)) (o : LockId × B) (ys : List (LockId × B)) (cells : List (Option (Cell B))) → xs ++ o ∷ ys ≡ blocks
-    → AreDistinct blocks
-    → All (λ entry. lock_number entry.0 < length cells) blocks → AreFresh xs cells → AreFresh (xs ++ o ∷ []) (with_cell cells o.0 (fresh_cell o.1))
-fresh_pass blocks xs o ys cells is distinct within fresh =
+pub fresh_pass : {K B : Type 0} (IsNew : K → Type 0) (blocks xs : List (LockId × B)) (o : LockId × B) (ys : List (LockId × B))
+    (cells : List (Option (Cell K B))) → xs ++ o ∷ ys ≡ blocks → AreDistinct blocks
+    → All (λ entry. lock_number entry.0 < length cells) blocks → (words : K) → IsNew words → AreFresh IsNew xs cells
+    → AreFresh IsNew (xs ++ o ∷ []) (with_cell cells o.0 (given_cell words o.1))
+fresh_pass IsNew blocks xs o ys cells is distinct within words new fresh =
     let reaches : All (λ entry. lock_number entry.0 < length cells) (xs ++ o ∷ ys) =
     subst (λ l. All (λ entry. lock_number entry.0 < length cells) l) (sym is) within in
-    fresh_more xs o ys cells (subst (λ l. AreDistinct l) (sym is) distinct) (all_mid (λ entry. lock_number entry.0 < length cells) xs o ys reaches) fresh
+    fresh_more IsNew xs o ys cells (subst (λ l. AreDistinct l) (sym is) distinct) (all_mid (λ entry. lock_number entry.0 < length cells) xs o ys reaches)
+    words new fresh

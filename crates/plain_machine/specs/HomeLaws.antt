@@ -1,5 +1,5 @@
 -- What the table has at home is what the sections leave, and what it has not some CPU has in its hands.
-use Rattle.std.specs.Prelude.{◌≡◌, List, Option, Some, None, MatchOption}
+use Rattle.std.specs.Prelude.{◌≡◌, ℕ, List, Option, Some, None, MatchOption}
 use Rattle.std.proofs.Common.{sym, subst}
 use Rattle.event_log.specs.declared.events.Event.{Event}
 use Rattle.event_log.specs.declared.ids.LockId.{LockId}
@@ -11,13 +11,13 @@ use Rattle.plain_machine.specs.declared.cells.Cell.{Cell}
 use Rattle.plain_machine.specs.Machine.{HasCell}
 use Rattle.plain_machine.specs.Table.{home_at, home_in}
 
-pub home_tells : {E B : Type 0} (edited : E → B → B) (opening : LockId → Option B) (log : List (Event (Mark E))) (cells : List (Option (Cell B)))
-    (lock : LockId)
-    → HasCell edited opening log cells lock
+pub home_tells : {E B K : Type 0} (Fit : ℕ → ℕ → K → Type 0) (edited : E → B → B) (opening : LockId → Option B) (log : List (Event (Mark E)))
+    (cells : List (Option (Cell K B))) (lock : LockId)
+    → HasCell Fit edited opening log cells lock
     → MatchOption (home_at cells lock) (SomeoneInside lock log) (λ block. block_after edited opening lock (sections log) ≡ Some block)
-home_tells {B = B} edited opening log cells lock has =
+home_tells {B = B} Fit edited opening log cells lock has =
     subst (λ c. MatchOption (home_in c) (SomeoneInside lock log) (λ block. block_after edited opening lock (sections log) ≡ Some block)) (sym has.is)
-    (go has.cell.home has.fits.home_is)
+    (go has.cell.home has.home_is.home_is)
   where
     go : (home : Option B) → MatchOption home (SomeoneInside lock log)
         (λ block. NobodyInside lock log × (block_after edited opening lock (sections log) ≡ Some block))

@@ -1,7 +1,8 @@
 -- What the owned machine shows, and when its table agrees with its log.
-use Rattle.std.specs.Prelude.{◌≡◌, ℕ, ◌-◌, ◌%◌, ◌^◌, List, [], ◌∷◌, length, reverse, Option, Some, IsSome}
+use Rattle.std.specs.Prelude.{◌≡◌, ℕ, ◌-◌, ◌%◌, ◌^◌, ◌<◌, List, [], ◌∷◌, length, reverse, Option, Some, IsSome}
 use Rattle.event_log.specs.declared.ids.CpuId.{CpuId}
 use Rattle.event_log.specs.declared.ids.LockId.{LockId}
+use Rattle.event_log.specs.declared.ids.TheConstants.{CPUS}
 use Rattle.event_log.specs.declared.events.Event.{Event}
 use Rattle.event_log.specs.declared.events.Event.TheVariants as event
 use Rattle.event_log.specs.Grants.{ticket_in}
@@ -43,19 +44,34 @@ told (note ∷ notes) marks = with_event note.act note.cpu note.lock marks (told
 abbrev pub history : {M : Type 0} → Notes M → List (Event M)
 history log = told (reverse (events_in log.notes)) (reverse (events_in log.marks))
 
+-- the home of a lock is empty exactly while a CPU is inside, and else it holds the block that the sections leave
+abbrev pub HomeFits : {E B : Type 0} → (E → B → B) → (LockId → Option B) → List (Event (Mark E)) → LockId → Option B → Type 0
+HomeFits edited opening log lock home = LockFits edited opening log lock (draws lock log % 2 ^ 64) (frees lock log % 2 ^ 64) home
+
+-- the past after a look of a CPU with its ticket: it reads the number of earlier frees
+abbrev pub looked : {M : Type 0} → CpuId → LockId → ℕ → List (Event M) → List (Event M)
+looked cpu lock ticket past = event.Look cpu lock ticket (frees lock past % 2 ^ 64) ∷ past
+
 -- for how many more events a log has room
 abbrev pub room_left : {M : Type 0} → Notes M → ℕ
 room_left log = room_of log.notes - length (events_in log.notes)
 
--- the lock has a cell, whose words and home are those that the log says
-pub record HasCell {E B : Type 0} (edited : E → B → B) (opening : LockId → Option B) (log : List (Event (Mark E))) (cells : List (Option (Cell B)))
-    (lock : LockId) : Type 0 where
-  pub cell : Cell B
+-- the lock has a cell, whose words are those of the two counts that the log says, and whose home is the one that it says
+pub record HasCell {E B K : Type 0} (Fit : ℕ → ℕ → K → Type 0) (edited : E → B → B) (opening : LockId → Option B) (log : List (Event (Mark E)))
+    (cells : List (Option (Cell K B))) (lock : LockId) : Type 0 where
+  pub cell : Cell K B
   pub is : cell_at cells lock ≡ Some cell
-  pub fits : LockFits edited opening log lock cell.next cell.serving cell.home
+  pub words : Fit (draws lock log) (frees lock log) cell.words
+  pub home_is : HomeFits edited opening log lock cell.home
 
 -- the log keeps the protocol, and each lock's cell is what the log says
-pub record IsSound {E B O : Type 0} (rules : Rules E B O) (opening : LockId → Option B) (log : List (Event (Mark E))) (cells : List (Option (Cell B))) : Type 0
+pub record IsSound {E B O K : Type 0} (Fit : ℕ → ℕ → K → Type 0) (rules : Rules E B O) (opening : LockId → Option B) (log : List (Event (Mark E)))
+    (cells : List (Option (Cell K B))) : Type 0
   where
     pub legal : IsLawful (MayCome (rules.allowed opening)) log
-    pub fits : (lock : LockId) → IsSome (opening lock) → HasCell rules.edited opening log cells lock
+    pub fits : (lock : LockId) → IsSome (opening lock) → HasCell Fit rules.edited opening log cells lock
+
+-- the machine acts for a CPU: it is one that a machine may have, and the table agrees with the log
+abbrev pub IsServed : {E B O K : Type 0} → (ℕ → ℕ → K → Type 0) → Rules E B O → (LockId → Option B) → List (Event (Mark E)) → List (Option (Cell K B))
+    → CpuId → Type 0
+IsServed Fit rules opening log cells cpu = (cpu.0 < CPUS) × IsSound Fit rules opening log cells

@@ -1,59 +1,54 @@
 //! The words and the block of each lock, in a table that is indexed by the lock.
 
-ghost use Rattle.std.specs.Prelude.{◌≡◌, ℕ, ◌+◌, ◌<◌, ◌==◌, IsSome, IfSome, IfOk, All, Some, None, option_map, if◌then◌else◌, length};
+ghost use Rattle.std.specs.Prelude.{◌≡◌, ℕ, Bool, ◌+◌, ◌%◌, ◌^◌, ◌<◌, ◌≤◌, ◌==◌, IsSome, IfSome, IfOk, All, Some, None, option_map, if◌then◌else◌, length};
 ghost use Rattle.event_log.specs.Locks.{lock_number};
+ghost use Rattle.event_log.specs.declared.ids.TheConstants.{CPUS};
 ghost use Rattle.layer_traits.specs.OneLock.{AreDistinct};
-ghost use Rattle.plain_machine.specs.Table.{cell_at, with_cell, fresh_cell, drawn_cell, looked_cell, freed_cell, AreFresh};
+ghost use Rattle.plain_machine.specs.Table.{cell_at, with_cell, worded_cell, looked_cell, given_cell, AreFresh};
 
+use crate::turn_words::TurnWords;
 use event_log::{LockId, NoMemory};
 use std::alloc::Global;
 
-/// The two words of a ticket lock, both modulo 2^64.
-#[derive(Clone, Copy, Debug, PartialEq, Eq)]
-pub struct LockWords {
-    /// The ticket that the next draw gives: how often the lock was drawn at.
-    pub next: u64,
-    /// The ticket whose look hits: how often the lock was freed.
-    pub serving: u64,
-}
-
 /// The words of one lock, and its block while that is home.
 #[derive(Drop)]
-pub struct Cell<B> {
-    /// The ticket that the next draw gives.
-    pub next: u64,
-    /// The ticket whose look hits.
-    pub serving: u64,
+pub struct Cell<K, B> {
+    /// The lock's words.
+    pub words: K,
     /// The block; None while a CPU has it.
     pub home: Option<B>,
 }
 
-/// Draws at `lock`, and gives the ticket.
+/// Takes a place in the line of `lock`, and gives its ticket.
 #[inline(always)]
-pub fn draw<B>(cells: &mut Vec<Option<Cell<B>>>, lock: LockId) -> u64
+pub fn take<K: TurnWords, B>(cells: &mut Vec<Option<Cell<K, B>>>, lock: LockId) -> u64
     requires { IsSome (cell_at cells.old.items lock) }
-    ensures { IfSome (cell_at cells.old.items lock) (λ cell. (result ≡ cell.next) × (cells.new.items ≡ with_cell cells.old.items lock (drawn_cell cell))) }
+    ensures { IfSome (cell_at cells.old.items lock) (λ cell. (words : _)
+        × ((taken given : ℕ) → K.Fit taken given cell.words → (result ≡ taken % 2 ^ 64) × K.Fit (taken + 1) given words)
+        × (cells.new.items ≡ with_cell cells.old.items lock (worded_cell cell words))) }
 {
     match &mut cells[lock.number()] {
-        Some(cell) => {
-            let ticket = cell.next;
-            cell.next = ticket.wrapping_add(1);
-            ticket
-        }
+        Some(cell) => cell.words.take(),
         None => unreachable!(),
     }
 }
 
-/// Looks at `lock` with `ticket`, and gives the block, if the look hits and the block is home.
+/// Looks at `lock` with `ticket`, and gives the block, if the ticket is served and the block is
+/// home.
 #[inline(always)]
-pub fn look<B>(cells: &mut Vec<Option<Cell<B>>>, lock: LockId, ticket: u64) -> Option<B>
+pub fn look<K: TurnWords, B>(
+    cells: &mut Vec<Option<Cell<K, B>>>,
+    lock: LockId,
+    ticket: u64,
+) -> Option<B>
     requires { IsSome (cell_at cells.old.items lock) }
-    ensures { IfSome (cell_at cells.old.items lock) (λ cell. (result ≡ (if cell.serving == ticket then cell.home else None))
-        × (cells.new.items ≡ with_cell cells.old.items lock (looked_cell cell ticket))) }
+    ensures { IfSome (cell_at cells.old.items lock) (λ cell. (hit : Bool)
+        × ((taken given spot : ℕ) → K.Fit taken given cell.words → given ≤ spot → spot < given + CPUS → ticket ≡ spot % 2 ^ 64 → hit ≡ (given == spot))
+        × (result ≡ (if hit then cell.home else None)) × (cells.new.items ≡ with_cell cells.old.items lock (looked_cell cell hit))) }
 {
     match &mut cells[lock.number()] {
         Some(cell) => {
-            if cell.serving == ticket {
+            if cell.words.serves(ticket) {
                 cell.home.take()
             } else {
                 None
@@ -63,15 +58,17 @@ pub fn look<B>(cells: &mut Vec<Option<Cell<B>>>, lock: LockId, ticket: u64) -> O
     }
 }
 
-/// Frees `lock`, and `block` is home.
+/// Gives `lock` on, and `block` is home.
 #[inline(always)]
-pub fn free<B: Drop>(cells: &mut Vec<Option<Cell<B>>>, lock: LockId, block: B)
+pub fn give<K: TurnWords, B: Drop>(cells: &mut Vec<Option<Cell<K, B>>>, lock: LockId, block: B)
     requires { IsSome (cell_at cells.old.items lock) }
-    ensures { IfSome (cell_at cells.old.items lock) (λ cell. cells.new.items ≡ with_cell cells.old.items lock (freed_cell cell block)) }
+    ensures { IfSome (cell_at cells.old.items lock) (λ cell. (words : _)
+        × ((taken given : ℕ) → K.Fit taken given cell.words → K.Fit taken (given + 1) words)
+        × (cells.new.items ≡ with_cell cells.old.items lock (given_cell words block))) }
 {
     match &mut cells[lock.number()] {
         Some(cell) => {
-            cell.serving = cell.serving.wrapping_add(1);
+            cell.words.give();
             cell.home = Some(block);
         }
         None => unreachable!(),
@@ -79,7 +76,7 @@ pub fn free<B: Drop>(cells: &mut Vec<Option<Cell<B>>>, lock: LockId, block: B)
 }
 
 /// The block of `lock`, if it is home.
-pub fn home<B>(cells: &Vec<Option<Cell<B>>>, lock: LockId) -> Option<&B>
+pub fn home<K, B>(cells: &Vec<Option<Cell<K, B>>>, lock: LockId) -> Option<&B>
     requires { IsSome (cell_at cells.now.items lock) }
     ensures { IfSome (cell_at cells.now.items lock) (λ cell. option_map (λ block. block.now) result ≡ cell.home) }
 {
@@ -90,15 +87,12 @@ pub fn home<B>(cells: &Vec<Option<Cell<B>>>, lock: LockId) -> Option<&B>
 }
 
 /// The words of `lock`.
-pub fn words<B>(cells: &Vec<Option<Cell<B>>>, lock: LockId) -> LockWords
+pub fn words<K: Copy, B>(cells: &Vec<Option<Cell<K, B>>>, lock: LockId) -> K
     requires { IsSome (cell_at cells.now.items lock) }
-    ensures { IfSome (cell_at cells.now.items lock) (λ cell. (result.next ≡ cell.next) × (result.serving ≡ cell.serving)) }
+    ensures { IfSome (cell_at cells.now.items lock) (λ cell. result ≡ cell.words) }
 {
     match &cells[lock.number()] {
-        Some(cell) => LockWords {
-            next: cell.next,
-            serving: cell.serving,
-        },
+        Some(cell) => cell.words,
         None => unreachable!(),
     }
 }
@@ -118,7 +112,10 @@ pub fn table_len<B>(blocks: &Vec<(LockId, B)>) -> usize
 }
 
 /// A table of `len` places, all empty.
-pub fn empty_table<B: Drop>(alloc: Global, len: usize) -> Result<Vec<Option<Cell<B>>>, NoMemory>
+pub fn empty_table<K: Drop, B: Drop>(
+    alloc: Global,
+    len: usize,
+) -> Result<Vec<Option<Cell<K, B>>>, NoMemory>
     ensures { IfOk result (λ cells. length cells.items ≡ len) }
 {
     let Ok(mut cells) = Vec::with_capacity(alloc, len) else {
@@ -130,23 +127,22 @@ pub fn empty_table<B: Drop>(alloc: Global, len: usize) -> Result<Vec<Option<Cell
     Ok(cells)
 }
 
-/// Puts a fresh cell with this block in the place of `lock`.
-pub fn put<B: Drop>(cells: &mut Vec<Option<Cell<B>>>, lock: LockId, block: B)
+/// Puts a cell with fresh words and this block in the place of `lock`.
+pub fn put<K: TurnWords, B: Drop>(cells: &mut Vec<Option<Cell<K, B>>>, lock: LockId, block: B)
     requires { lock_number lock < length cells.old.items }
-    ensures { cells.new.items ≡ with_cell cells.old.items lock (fresh_cell block) }
+    ensures { (words : _) × K.Fit 0 0 words × (cells.new.items ≡ with_cell cells.old.items lock (given_cell words block)) }
 {
     cells[lock.number()] = Some(Cell {
-        next: 0,
-        serving: 0,
+        words: K::fresh(),
         home: Some(block),
     });
 }
 
-/// Puts a fresh cell with its block in the place of each lock.
-pub fn fill<B: Drop>(cells: &mut Vec<Option<Cell<B>>>, blocks: Vec<(LockId, B)>)
+/// Puts a cell with fresh words and its block in the place of each lock.
+pub fn fill<K: TurnWords, B: Drop>(cells: &mut Vec<Option<Cell<K, B>>>, blocks: Vec<(LockId, B)>)
     requires distinct { AreDistinct blocks.items }
     requires within { All (λ entry. lock_number entry.0 < length cells.old.items) blocks.items }
-    ensures { AreFresh blocks.items cells.new.items }
+    ensures { AreFresh (K.Fit 0 0) blocks.items cells.new.items }
 {
     for (lock, block) in blocks {
         put(cells, lock, block);

@@ -1,5 +1,6 @@
 //! The owned machine: one state that has the words and the blocks of all locks, and stores the log
-//! of what happened to them.
+//! of what happened to them. Its locks have the two words of a ticket lock, or a grant word for
+//! each waiter.
 #![tactic(auto)]
 
 mod cells;
@@ -7,6 +8,7 @@ mod notes;
 mod plain;
 #[cfg(test)]
 mod tests;
+mod turn_words;
 
-pub use cells::LockWords;
-pub use plain::Plain;
+pub use plain::{GrantPlain, Plain};
+pub use turn_words::{GrantLockWords, Granting, LockWords, TurnWords};

@@ -1,11 +1,12 @@
 //! The owned machine, run.
 
 ghost use Rattle.std.specs.Prelude.{◌≡◌, ◌+◌, ◌%◌, ◌^◌, ◌<◌, [], ◌∷◌, IsSome, IfOk};
+ghost use Rattle.event_log.specs.Grants.{grant_standing};
 ghost use Rattle.event_log.specs.WordsLog.{standing, Outside};
 
-use crate::{LockWords, Plain};
+use crate::{GrantLockWords, GrantPlain, LockWords, Plain};
 use event_log::{BufId, CPUS, CpuId, LockId, NoMemory};
-use layer_traits::{Edit, Words};
+use layer_traits::{Edit, GrantWords, Words};
 use std::alloc::Global;
 use std::test::Fail;
 
@@ -74,6 +75,42 @@ fn add_one<W: Words<Edit = AddOne>>(words: &mut W, cpu: CpuId, lock: LockId) -> 
     Some(number)
 }
 
+/// A machine with one lock that has grant words, whose block is this number.
+fn grant_machine_with(
+    alloc: Global,
+    lock: LockId,
+    number: u64,
+    room: usize,
+) -> Result<GrantPlain<AddOne>, NoMemory>
+    ensures acts { IfOk result (λ w. (c : _) → c.0 < CPUS → ⟦<GrantPlain<AddOne> as GrantWords>⟧.ActsFor w c) }
+    ensures exists { IfOk result (λ w. IsSome (⟦<GrantPlain<AddOne> as GrantWords>⟧.opening w lock)) }
+    ensures seen { IfOk result (λ w. ⟦<GrantPlain<AddOne> as GrantWords>⟧.seen w ≡ []) }
+    ensures room { IfOk result (λ w. ⟦<GrantPlain<AddOne> as GrantWords>⟧.room w ≡ room) }
+{
+    let blocks = one_block(alloc, lock, number)?;
+    Plain::open(alloc, blocks, room)
+}
+
+/// Takes a ticket, peeks once, and gives on if the peek hit: the number that stood there.
+fn add_one_granted<W: GrantWords<Edit = AddOne>>(
+    words: &mut W,
+    cpu: CpuId,
+    lock: LockId,
+) -> Option<u64>
+    requires cpu { W.ActsFor words.old cpu }
+    requires lock { IsSome (W.opening words.old lock) }
+    requires room { 2 < W.room words.old }
+    requires outside { grant_standing cpu (W.seen words.old) ≡ Outside }
+    ensures acts { (c : _) → W.ActsFor words.old c → W.ActsFor words.new c }
+    ensures opening { W.opening words.new ≡ W.opening words.old }
+{
+    let ticket = words.take(cpu, lock);
+    let mut block = words.peek(cpu, lock, ticket)?;
+    let number = AddOne.apply(&mut block);
+    words.give(cpu, lock, block, W::mark(AddOne));
+    Some(number)
+}
+
 #[test]
 fn opens_with_the_block_at_home(rt: HostRuntime) -> Result<(), Fail> {
     let lock = LockId::Buffer(BufId(3));
@@ -104,6 +141,28 @@ fn a_section_adds_one(rt: HostRuntime) -> Result<(), Fail> {
         LockWords {
             next: 1,
             serving: 1
+        }
+    );
+    assert_eq!(rt; home, Some(&41));
+    Ok(())
+}
+
+#[test]
+fn a_granted_section_adds_one(rt: HostRuntime) -> Result<(), Fail> {
+    let lock = LockId::Pending(CpuId(3));
+    let mut machine = grant_machine_with(rt.alloc(), lock, 40, 3)?;
+    let number = add_one_granted(&mut machine, CpuId(1), lock);
+    let words = machine.words(lock);
+    let home = machine.home(lock);
+    let mut granted = [0; CPUS];
+    granted[0] = 1;
+    granted[1] = 2;
+    assert_eq!(rt; number, Some(40));
+    assert_eq!(rt;
+        words,
+        GrantLockWords {
+            next: 1,
+            words: granted
         }
     );
     assert_eq!(rt; home, Some(&41));

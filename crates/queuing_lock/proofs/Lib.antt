@@ -3,5 +3,4 @@ pub mod SleptLemmas
 pub mod KeptLemmas
 pub mod PollLemmas
 pub mod PartLemmas
-pub mod TurnLemmas
 pub mod BootLemmas

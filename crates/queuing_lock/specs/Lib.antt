@@ -4,4 +4,3 @@ pub mod Edits
 pub mod NestedLaws
 pub mod Steady
 pub mod OwnedLaws
-pub mod Turns

@@ -4,12 +4,8 @@
 
 mod blocks;
 mod edits;
-#[cfg(test)]
-mod polling;
 mod qlock;
 mod slept;
-#[cfg(test)]
-mod tests;
 
 pub use blocks::lock_blocks;
 pub use edits::{QBlock, QLockEdit};

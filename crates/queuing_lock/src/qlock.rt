@@ -21,7 +21,7 @@ impl<F: Locked, S: SleepLayer<QLockEdit<F, F::Release>>> QLockLayer<F> for QLock
     ghost use Rattle.event_log.specs.Actions.{renamed};
     ghost use Rattle.event_log.proofs.Renaming.{legal_renamed};
     ghost use Rattle.layer_traits.specs.Renaming.{renamed_edit, renamed_events, renamed_sched, viewed};
-    ghost use Rattle.layer_traits.proofs.KernelRenaming.{known_renamed, seen_renamed, starts_viewed};
+    ghost use Rattle.layer_traits.proofs.KernelRenaming.{known_renamed, proper_renamed, seen_renamed, starts_viewed};
     ghost use Rattle.queuing_lock.specs.Nested.{edit_in, lock_of};
     ghost use Rattle.queuing_lock.specs.NestedLaws.{locks_busy, locks_lawful, locks_lists, locks_moving, locks_stand, none_beneath};
     ghost use Rattle.queuing_lock.specs.Parts.{KeptFits, SleptFits};
@@ -153,6 +153,8 @@ impl<F: Locked, S: SleepLayer<QLockEdit<F, F::Release>>> QLockLayer<F> for QLock
     ghost legal = { λ m c acts. legal_renamed (renamed_edit edit_in) (S.acts m) (S.legal m c acts) };
 
     ghost seen_is = { λ step m. ap (renamed_events edit_in) (S.seen_is step m) ∙ seen_renamed edit_in (S.acts m) };
+
+    ghost proper = { λ step m c acts. proper_renamed edit_in (S.acts m) (S.proper step m c acts) };
 
     ghost busy = { λ p m fits step. locks_busy (S.cpu_of p.lower) (S.acts m) (S.is_inside p.lower) (S.busy p.lower m fits.0 step) };
 

@@ -37,6 +37,7 @@ use Rattle.layer_traits.proofs.CallLemmas.{follows_raised, moves_append, moves_l
 use Rattle.layer_traits.proofs.CountLemmas.{not_counted}
 use Rattle.layer_traits.proofs.PlaceLemmas.{away_from, away_known, current_at, current_new, hand_free, hand_at, pending_at, stands_finished, stands_moved}
 use Rattle.layer_traits.proofs.PlaceLemmas.{stands_others, stands_pushed, stands_switched, stands_taken}
+use Rattle.layer_traits.proofs.PlaceLemmas.{home_there}
 use Rattle.scheduler.specs.Owns.{MayFinish, MayJoin, MaySettle, MayTake, local_after}
 use Rattle.scheduler.specs.Parts.{IsCalling, PartFits, UnderFits, sched_call, sched_under}
 
@@ -119,10 +120,6 @@ module _ {E B O : Type 0} (rules : Rules E B O) (mv : MoveRules E O) (opening : 
       → UpperNow c (more ++ past) s
   upper_stays c past more (call.Pass p) stays others lawful = tt
   upper_stays c past more (call.OnBuffer b e) stays others lawful = stays more others lawful
-
-  home_there : (c : CpuId) (o : Option CpuId) → IsSome o → o ≡ Some (or_else c o)
-  home_there c None there = absurd cc
-  home_there c (Some d) there = refl
 
   module _ (c : CpuId) (past : List (QueueEvent E)) (own : Threads) (lawful : Lawful past) (stands : Stands H c (moves_in K past) own) where
     moves : AreMoves H (moves_in K past)

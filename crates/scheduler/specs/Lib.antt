@@ -1,3 +1,2 @@
 pub mod Owns
 pub mod Parts
-pub mod Naps

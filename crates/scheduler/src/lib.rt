@@ -8,6 +8,3 @@ mod sched;
 pub use calls::call_beneath;
 pub use owns::OwnThreads;
 pub use sched::Sched;
-
-#[cfg(test)]
-mod tests;

@@ -12,7 +12,7 @@ ghost use Rattle.scheduler.specs.Owns.{MayFinish, MayJoin, MaySettle, MayTake, l
 use event_log::{CpuId, Tid};
 use layer_traits::{Line, Moves, Pass, QueueAnswer, SchedAnswer, SchedCall};
 use std::marker::Model;
-use thread_blocks::ThreadQueue;
+use thread_blocks::{ThreadList, ThreadQueue};
 
 /// What a CPU has of its own: the thread that runs, the woken thread in its hand whose home is
 /// elsewhere, who is ready, and who has ended.
@@ -96,7 +96,7 @@ impl OwnThreads {
 
     /// The front of the ready threads runs.
     #[inline(always)]
-    pub fn switch(&mut self)
+    fn switch(&mut self)
         ensures { self.new ≡ switched self.old }
     {
         self.current = self.ready.pop();
@@ -104,7 +104,7 @@ impl OwnThreads {
 
     /// The thread that runs has ended.
     #[inline(always)]
-    pub fn finish(&mut self)
+    fn finish(&mut self)
         requires { MayFinish self.old }
         ensures { self.new ≡ finished self.old }
     {
@@ -116,7 +116,7 @@ impl OwnThreads {
 
     /// The threads of `queue` join those that are ready, and behind them the thread that runs.
     #[inline(always)]
-    pub fn take(&mut self, queue: ThreadQueue)
+    fn take(&mut self, queue: ThreadList)
         requires { MayJoin queue self.old }
         ensures { self.new ≡ took queue self.old }
     {
@@ -130,7 +130,7 @@ impl OwnThreads {
 
     /// The hand has passed its thread on.
     #[inline(always)]
-    pub fn pass_on(&mut self)
+    fn pass_on(&mut self)
         ensures { self.new ≡ passed_on self.old }
     {
         self.hand = None;
@@ -139,7 +139,7 @@ impl OwnThreads {
     /// The thread that runs went to sleep, if `slept` tells a line, and `woke` was woken: that one is
     /// ready if `cpu` is its home, and else in hand.
     #[inline(always)]
-    pub fn settle(&mut self, homes: &[CpuId], cpu: CpuId, slept: Option<Line>, woke: Option<Tid>)
+    fn settle(&mut self, homes: &[CpuId], cpu: CpuId, slept: Option<Line>, woke: Option<Tid>)
         requires { MaySettle woke self.old }
         ensures { self.new ≡ own_woken homes.now cpu woke (own_slept slept self.old) }
     {

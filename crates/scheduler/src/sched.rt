@@ -45,7 +45,8 @@ impl<E: Moves, Q: QueueLayer<E>> SchedLayer<E> for Sched<Q> {
 
     ghost under_way = { λ p. sched_under (Q.under_way p.lower) p.own.current };
 
-    ghost Fits = { λ p m. Q.Fits p.lower m × PartFits E.rules E.moves (Q.opening m) p.cpu (Q.cpu_of p.lower) p.homes.items (Q.under_way p.lower) (Q.seen m) p.own };
+    ghost Fits = { λ p m. Q.Fits p.lower m × PartFits E.rules E.moves (Q.opening m) p.cpu (Q.cpu_of p.lower) p.homes.items (Q.under_way p.lower)
+        (Q.seen m) p.own };
 
     ghost IsStepwise = { Q.IsStepwise };
 
@@ -122,7 +123,10 @@ impl<E: Moves, Q: QueueLayer<E>> SchedLayer<E> for Sched<Q> {
 
     ghost seen_is = { λ step m. Q.seen_is step m };
 
-    ghost busy = { λ p m fits step. busy_under (Q.acts m) (Q.under_way p.lower) p.own.current p.cpu (Q.cpu_of p.lower) fits.1.cpu (Q.busy p.lower m fits.0 step) };
+    ghost proper = { λ step m c acts. Q.proper step m c acts };
+
+    ghost busy = { λ p m fits step. busy_under (Q.acts m) (Q.under_way p.lower) p.own.current p.cpu (Q.cpu_of p.lower) fits.1.cpu
+        (Q.busy p.lower m fits.0 step) };
 
     ghost stands = { λ p m fits. fits.1.stands };
 }
@@ -166,12 +170,14 @@ impl<E: Moves, Q: OwnedQueues<E>> OwnedScheds<E> for Sched<Q> {
         self.lower.pends_here(d, t)
     }
 
-    ghost shown = { λ m c b acts there. shown_under (λ (p : Self). p.lower) (λ p. Q.Fits p m) (λ (p : Self). Self.Fits p m) (λ p. Q.cpu_of p) (λ (p : Self). p.cpu)
+    ghost shown = { λ m c b acts there. shown_under (λ (p : Self). p.lower) (λ p. Q.Fits p m) (λ (p : Self). Self.Fits p m) (λ p. Q.cpu_of p)
+        (λ (p : Self). p.cpu)
         (λ d. Q.IsStepwise × (is_in_section (phase d (Q.acts m)) ≡ true)) (λ d. Q.IsStepwise × (is_in_section (phase d (Q.acts m)) ≡ true))
         (λ p. Q.block_with p b) (Q.block_at m b) (block_after E.rules.edited (inner (Q.opening m)) (Buffer b) (buffer_sections (Q.seen m)))
         (λ p fits. fits.0) (λ p fits. fits.1.cpu) (λ d inside. inside) (Q.shown m c b acts there) };
 
-    ghost queues = { λ m c d acts there. shown_under (λ (p : Self). p.lower) (λ p. Q.Fits p m) (λ (p : Self). Self.Fits p m) (λ p. Q.cpu_of p) (λ (p : Self). p.cpu)
+    ghost queues = { λ m c d acts there. shown_under (λ (p : Self). p.lower) (λ p. Q.Fits p m) (λ (p : Self). Self.Fits p m) (λ p. Q.cpu_of p)
+        (λ (p : Self). p.cpu)
         (λ d. Q.IsStepwise × (is_in_section (phase d (Q.acts m)) ≡ true)) (λ d. Q.IsStepwise × (is_in_section (phase d (Q.acts m)) ≡ true))
         (λ p. Q.queue_with p d) (Q.queue_at m d) (Some (pending_by (moves_in (kernel E.rules E.moves (Q.opening m)) (Q.seen m)) d))
         (λ p fits. fits.0) (λ p fits. fits.1.cpu) (λ d inside. inside) (Q.queues m c d acts there) };

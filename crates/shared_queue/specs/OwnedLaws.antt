@@ -16,10 +16,10 @@ use Rattle.layer_traits.specs.MoveRules.{MoveRules, WakesSleepers}
 use Rattle.layer_traits.specs.Owned.{IsHeld, IsShown}
 use Rattle.layer_traits.specs.Places.{pending_by}
 use Rattle.layer_traits.specs.Protocol.{Rules}
-use Rattle.layer_traits.specs.QueueBlocks.{StartsAs, StartsWell, inner}
+use Rattle.layer_traits.specs.QueueBlocks.{StartsAs, StartsWell, inner, with_queue}
 use Rattle.layer_traits.specs.QueueRules.{SectionAllowed, queue_edited}
 use Rattle.layer_traits.specs.Queues.{buffer_sections, event_of, kernel, moves_in}
-use Rattle.layer_traits.proofs.NestedLemmas.{buffer_block, queue_block, with_queue}
+use Rattle.layer_traits.proofs.NestedLemmas.{buffer_block, queue_block}
 
 -- the block of the layer above, where it is one
 abbrev pub above_in : {B : Type 0} → QueueBlock B → Option B

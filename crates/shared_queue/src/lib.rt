@@ -6,6 +6,3 @@ mod shared;
 
 pub use opening::queue_blocks;
 pub use shared::SharedQueues;
-
-#[cfg(test)]
-mod tests;

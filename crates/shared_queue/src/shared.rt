@@ -30,11 +30,11 @@ pub struct SharedQueues<L> {
 
 impl<E: Moves, L: LockLayer<QueueEdit<E>>> QueueLayer<E> for SharedQueues<L> {
     ghost use Rattle.std.specs.Prelude.{map, option_map};
-    ghost use Rattle.std.proofs.Common.{ap, ◌∙◌};
+    ghost use Rattle.std.proofs.Common.{ap, ◌∙◌, subst};
     ghost use Rattle.layer_traits.specs.QueueBlocks.{StartsWell};
-    ghost use Rattle.layer_traits.specs.QueueRules.{IsProperCall};
+    ghost use Rattle.layer_traits.specs.QueueRules.{AreProper, IsProperCall};
     ghost use Rattle.layer_traits.specs.Queues.{event_of};
-    ghost use Rattle.layer_traits.proofs.NestedLemmas.{known_events, lawful_events};
+    ghost use Rattle.layer_traits.proofs.NestedLemmas.{known_events, lawful_events, lawful_proper};
     ghost use Rattle.shared_queue.specs.SharedLaws.{same_busy};
 
     type Machine = L::Machine;
@@ -95,6 +95,8 @@ impl<E: Moves, L: LockLayer<QueueEdit<E>>> QueueLayer<E> for SharedQueues<L> {
 
     ghost seen_is = { λ step m. ap (map event_of) (L.seen_is step m) };
 
+    ghost proper = { λ step m c acts. subst AreProper (L.seen_is step m) (lawful_proper E.rules E.moves (L.opening m) (L.seen m) (L.lawful m c acts.0)) };
+
     ghost busy = { λ p m fits step. same_busy event_of (L.under_way p.lower) ∙ L.busy p.lower m fits.0 step };
 }
 
@@ -149,15 +151,18 @@ impl<E: Moves, L: OwnedLocks<QueueEdit<E>>> OwnedQueues<E> for SharedQueues<L> {
         (λ (p : Self). L.Fits p.lower m × StartsWell (L.opening m) × IsProperCall (L.under_way p.lower)) (λ p. L.cpu_of p.lower)
         (λ d. L.IsStepwise × (is_in_section (phase d (L.acts m)) ≡ true)) b (λ p. L.block_with p.lower (Buffer b)) (L.block_at m (Buffer b))
         (shown_under (λ (p : Self). p.lower) (λ p. L.Fits p m) (λ p. L.Fits p.lower m × StartsWell (L.opening m) × IsProperCall (L.under_way p.lower))
-        (λ p. L.cpu_of p) (λ p. L.cpu_of p.lower) (λ d. L.IsStepwise × (is_in_section (phase d (L.acts m)) ≡ true)) (λ d. L.IsStepwise × (is_in_section (phase d (L.acts m)) ≡ true))
+        (λ p. L.cpu_of p) (λ p. L.cpu_of p.lower) (λ d. L.IsStepwise × (is_in_section (phase d (L.acts m)) ≡ true))
+        (λ d. L.IsStepwise × (is_in_section (phase d (L.acts m)) ≡ true))
         (λ p. L.block_with p (Buffer b)) (L.block_at m (Buffer b)) (block_after (queue_edited E.rules.edited) (L.opening m) (Buffer b) (L.seen m))
         (λ p fits. fits.0) (λ p fits. refl) (λ d inside. inside) (L.shown m c (Buffer b) acts.0 there)) };
 
     ghost queues = { λ m c d acts there. queue_shown E.rules E.moves (L.opening m) (L.seen m) acts.1 (L.lawful m c acts.0)
         (λ (p : Self). L.Fits p.lower m × StartsWell (L.opening m) × IsProperCall (L.under_way p.lower)) (λ p. L.cpu_of p.lower)
-        (λ d. L.IsStepwise × (is_in_section (phase d (L.acts m)) ≡ true)) E.wakes_sleepers d there (λ p. L.block_with p.lower (Pending d)) (L.block_at m (Pending d))
+        (λ d. L.IsStepwise × (is_in_section (phase d (L.acts m)) ≡ true)) E.wakes_sleepers d there (λ p. L.block_with p.lower (Pending d))
+        (L.block_at m (Pending d))
         (shown_under (λ (p : Self). p.lower) (λ p. L.Fits p m) (λ p. L.Fits p.lower m × StartsWell (L.opening m) × IsProperCall (L.under_way p.lower))
-        (λ p. L.cpu_of p) (λ p. L.cpu_of p.lower) (λ d. L.IsStepwise × (is_in_section (phase d (L.acts m)) ≡ true)) (λ d. L.IsStepwise × (is_in_section (phase d (L.acts m)) ≡ true))
+        (λ p. L.cpu_of p) (λ p. L.cpu_of p.lower) (λ d. L.IsStepwise × (is_in_section (phase d (L.acts m)) ≡ true))
+        (λ d. L.IsStepwise × (is_in_section (phase d (L.acts m)) ≡ true))
         (λ p. L.block_with p (Pending d)) (L.block_at m (Pending d)) (block_after (queue_edited E.rules.edited) (L.opening m) (Pending d) (L.seen m))
         (λ p fits. fits.0) (λ p fits. refl) (λ d inside. inside) (L.shown m c (Pending d) acts.0 there)) };
 }

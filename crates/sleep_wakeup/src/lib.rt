@@ -5,8 +5,6 @@ mod blocks;
 mod edits;
 mod kept;
 mod sleeper;
-#[cfg(test)]
-mod tests;
 
 pub use blocks::sleep_blocks;
 pub use edits::{SleepBlock, SleepEdit};

@@ -22,7 +22,7 @@ impl<E: Sleeps, S: SchedLayer<SleepEdit<E>>> SleepLayer<E> for Sleeper<E, S> {
     ghost use Rattle.event_log.proofs.Renaming.{legal_renamed};
     ghost use Rattle.layer_traits.specs.QueueBlocks.{inner};
     ghost use Rattle.layer_traits.specs.Renaming.{renamed_edit, renamed_events, viewed};
-    ghost use Rattle.layer_traits.proofs.KernelRenaming.{known_renamed, seen_renamed, starts_viewed};
+    ghost use Rattle.layer_traits.proofs.KernelRenaming.{known_renamed, proper_renamed, seen_renamed, starts_viewed};
     ghost use Rattle.layer_traits.specs.Sleeping.{NobodySleeps};
     ghost use Rattle.sleep_wakeup.specs.Nested.{edit_in, state_of, states};
     ghost use Rattle.sleep_wakeup.specs.NestedLaws.{nested_busy, nested_idle, nested_lawful, nested_lists, nested_moving, nested_stands};
@@ -131,6 +131,8 @@ impl<E: Sleeps, S: SchedLayer<SleepEdit<E>>> SleepLayer<E> for Sleeper<E, S> {
     ghost legal = { λ m c acts. legal_renamed (renamed_edit edit_in) (S.acts m) (S.legal m c acts) };
 
     ghost seen_is = { λ step m. ap (renamed_events edit_in) (S.seen_is step m) ∙ seen_renamed edit_in (S.acts m) };
+
+    ghost proper = { λ step m c acts. proper_renamed edit_in (S.acts m) (S.proper step m c acts) };
 
     ghost busy = { λ p m fits step. nested_busy (S.cpu_of p.lower) (S.acts m) (is_some (S.under_way p.lower)) (S.busy p.lower m fits.0 step) };
 

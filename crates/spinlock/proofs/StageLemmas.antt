@@ -1,23 +1,19 @@
--- What one event of a machine does to the stages of sections and to the history of sections.
-use Rattle.std.proofs.Common.{◌≡◌, ◌≢◌, ℕ, Bool, true, false, List, [], ◌∷◌, ◌++◌, Option, Some, None, IsSome, MatchOption, option_map, refl, ap, sym, ◌∙◌}
-use Rattle.std.proofs.Common.{subst}
+-- What one action at the locks does to the stages of sections and to the history of sections.
+use Rattle.std.proofs.Common.{◌≡◌, ◌≢◌, ℕ, ◌%◌, ◌^◌, ◌==◌, Bool, true, false, List, [], ◌∷◌, ◌++◌, Option, Some, None, IsSome, MatchOption, option_map}
+use Rattle.std.proofs.Common.{refl, ap, sym, ◌∙◌, subst, if◌then◌else◌}
 use Rattle.event_log.specs.declared.ids.CpuId.{CpuId}
 use Rattle.event_log.specs.declared.ids.LockId.{LockId}
-use Rattle.event_log.specs.declared.events.Event.{Event}
-use Rattle.event_log.specs.declared.events.Event.TheVariants.{Draw, Look, Free}
-use Rattle.event_log.specs.History.{Adds, Grows, AreOthers, IsLawful, same_cpu}
-use Rattle.event_log.specs.WordsLog.{IsLegalWords, Waiting, Inside, actor, standing}
-use Rattle.event_log.specs.Sections.{section_actor, block_after}
-use Rattle.event_log.proofs.Same.{same_cpu_true}
-use Rattle.layer_traits.proofs.OneLockLemmas.{standing_own}
-use Rattle.layer_traits.proofs.PlanLemmas.{draw_follows, look_follows, free_follows}
-use Rattle.layer_traits.proofs.Seen.{standing_others, sections-append, others_sections, foreign_sections, words_legal, stays_on, block_stays}
-use Rattle.layer_traits.specs.declared.edits.Mark.{Mark}
-use Rattle.layer_traits.specs.Plans.{Follows, table_of, section_plan, answered}
+use Rattle.event_log.specs.Actions.{Action, Take, Try, Give, Rests, Waits, Holds, AreLegal, action_in, doer, gives, phase, place}
+use Rattle.event_log.specs.History.{Adds, Grows, AreOthers, same_cpu, same_lock}
+use Rattle.event_log.specs.Sections.{section_actor, block_after, sections_in}
+use Rattle.event_log.proofs.Exclusion.{one_holds, phase_own}
+use Rattle.event_log.proofs.Foreign.{phase_others, place_others, sections_in-append, others_sections_in}
+use Rattle.event_log.proofs.Same.{same_cpu_self, same_cpu_true, same_lock_true}
+use Rattle.layer_traits.proofs.Seen.{stays_on}
+use Rattle.layer_traits.specs.Looks.{Tries}
+use Rattle.layer_traits.specs.Plans.{Follows, table_of, at_give, section_plan, answered}
 use Rattle.layer_traits.specs.Protocol.{Rules, StaysAllowed, section}
-use Rattle.layer_traits.specs.WordsProtocol.{MayCome, edit_of, mark_of, sections}
 use Rattle.layer_traits.specs.Turns.{Polled}
-use Rattle.event_log.specs.Actions.{acts_of}
 use Rattle.spinlock.specs.declared.stages.TicketStage.{TicketStage}
 use Rattle.spinlock.specs.declared.stages.TicketStage.TheVariants.{Out, Drawn, Held}
 use Rattle.spinlock.specs.Stages.{StageFits, hit_by}
@@ -29,25 +25,51 @@ cpu_differs a b other = go (same_cpu a b) refl
     go true same = absurd (other (sym (same_cpu_true a b same)))
     go false differs = differs
 
-module _ {E B O : Type 0} (rules : Rules E B O) (opening : LockId → Option B) where
-  -- a section stays allowed after events of others
-  allowed_stays : (cpu : CpuId) (lock : LockId) (edit : E) (more log : List (Event (Mark E))) → AreOthers actor cpu more
-      → StaysAllowed (rules.allowed opening) (sections log) (section cpu lock edit)
-      → StaysAllowed (rules.allowed opening) (sections (more ++ log)) (section cpu lock edit)
-  allowed_stays cpu lock edit more log others stays =
-      subst (λ l. StaysAllowed (rules.allowed opening) l (section cpu lock edit)) (sym (sections-append more log))
-      (stays_on (rules.allowed opening) (sections more) (sections log) (section cpu lock edit) (others_sections cpu more others) stays)
+module _ {E B : Type 0} (edited : E → B → B) (opening : LockId → Option B) (cpu : CpuId) (lock : LockId) where
+  -- while a CPU holds a lock, another gives another lock on
+  gives_elsewhere : (by : CpuId) (at : LockId) (edit : E) (past : List (Action E)) → AreLegal past → same_cpu by cpu ≡ false
+      → phase by past ≡ Holds at → phase cpu past ≡ Holds lock → (b : Bool) → same_lock lock at ≡ b
+      → (if b then option_map (edited edit) (block_after edited opening lock (sections_in past)) else block_after edited opening lock (sections_in past))
+      ≡ block_after edited opening lock (sections_in past)
+  gives_elsewhere by at edit past legal other there here false elsewhere = refl
+  gives_elsewhere by at edit past legal other there here true same =
+      let at_lock : phase by past ≡ Holds lock = subst (λ l. phase by past ≡ Holds l) (sym (same_lock_true lock at same)) there in
+      let one : by ≡ cpu = one_holds past legal by cpu lock at_lock here in
+      let itself : same_cpu by cpu ≡ true = subst (λ c. same_cpu c cpu ≡ true) (sym one) (same_cpu_self cpu) in
+      absurd (cc (other, itself))
 
-  -- a stage fits after events of others
-  pub stage_stays : (cpu : CpuId) (stage : TicketStage E B) (more log : List (Event (Mark E))) → AreOthers actor cpu more → IsLegalWords (more ++ log)
-      → StageFits rules opening log cpu stage → StageFits rules opening (more ++ log) cpu stage
-  stage_stays cpu Out more log others legal fits = standing_others cpu more log others ∙ fits
-  stage_stays cpu (Drawn lock edit ticket) more log others legal fits =
-      (standing_others cpu more log others ∙ fits.0, allowed_stays cpu lock edit more log others fits.1, fits.2)
-  stage_stays cpu (Held lock edit block) more log others legal fits = (
-    (fits.0.0, standing_others cpu more log others ∙ fits.0.1),
-    allowed_stays cpu lock edit more log others fits.1,
-    block_stays rules.edited opening cpu lock fits.0.0 more log legal others fits.0.1 ∙ fits.2,
+  -- so no action of others changes the block that the sections leave there
+  block_stays : (more acts : List (Action E)) → AreLegal (more ++ acts) → AreOthers doer cpu more → phase cpu acts ≡ Holds lock
+      → block_after edited opening lock (sections_in (more ++ acts)) ≡ block_after edited opening lock (sections_in acts)
+  block_stays [] acts legal others holds = refl
+  block_stays (Take by at ∷ more) acts legal others holds = block_stays more acts legal.1 others.1 holds
+  block_stays (Try by at hit ∷ more) acts legal others holds = block_stays more acts legal.1 others.1 holds
+  block_stays (Give by at edit ∷ more) acts legal others holds =
+      gives_elsewhere by at edit (more ++ acts) legal.1 others.0 legal.0 (phase_others cpu more acts others.1 ∙ holds) (same_lock lock at) refl
+      ∙ block_stays more acts legal.1 others.1 holds
+
+module _ {E B O : Type 0} (rules : Rules E B O) (opening : LockId → Option B) where
+  -- a section stays allowed after actions of others
+  allowed_stays : (cpu : CpuId) (lock : LockId) (edit : E) (more acts : List (Action E)) → AreOthers doer cpu more
+      → StaysAllowed (rules.allowed opening) (sections_in acts) (section cpu lock edit)
+      → StaysAllowed (rules.allowed opening) (sections_in (more ++ acts)) (section cpu lock edit)
+  allowed_stays cpu lock edit more acts others stays =
+      subst (λ l. StaysAllowed (rules.allowed opening) l (section cpu lock edit)) (sym (sections_in-append more acts))
+      (stays_on (rules.allowed opening) (sections_in more) (sections_in acts) (section cpu lock edit) (others_sections_in cpu more others) stays)
+
+  -- a stage fits after actions of others
+  stage_stays : (cpu : CpuId) (stage : TicketStage E B) (more acts : List (Action E)) → AreOthers doer cpu more → AreLegal (more ++ acts)
+      → StageFits rules opening acts cpu stage → StageFits rules opening (more ++ acts) cpu stage
+  stage_stays cpu Out more acts others legal fits = phase_others cpu more acts others ∙ fits
+  stage_stays cpu (Drawn lock edit ticket) more acts others legal fits = (
+    (phase_others cpu more acts others ∙ fits.0.0, fits.0.1 ∙ ap (λ n. n % 2 ^ 64) (sym (place_others cpu more acts others))),
+    allowed_stays cpu lock edit more acts others fits.1,
+    fits.2,
+  )
+  stage_stays cpu (Held lock edit block) more acts others legal fits = (
+    phase_others cpu more acts others ∙ fits.0,
+    allowed_stays cpu lock edit more acts others fits.1,
+    block_stays rules.edited opening cpu lock more acts legal others fits.0 ∙ fits.2,
   )
 
 -- what a CPU that waits makes of another look is what it makes of the look of its poll
@@ -61,121 +83,162 @@ hit_found lock edit ticket (Some block) stage is = is
 pub grown_by_none : {E : Type 0} (ActsFor : CpuId → Type 0) (by : E → CpuId) (past : List E) → Grows ActsFor by past past
 grown_by_none ActsFor by past = record { others = []; foreign = λ c acts. tt; is = refl }
 
--- one event of a CPU came after foreign ones, and left the opening blocks as they were
+-- one action of a CPU came after foreign ones, and left the opening blocks as they were
 module _ {E B O : Type 0} (rules : Rules E B O) (opening opening' : LockId → Option B) (same : opening' ≡ opening) (ActsFor : CpuId → Type 0) (cpu : CpuId)
-    (old new : List (Event (Mark E))) (lawful : IsLawful (MayCome (rules.allowed opening')) new) where
-  legal : IsLegalWords new
-  legal = words_legal (rules.allowed opening') new lawful
-
-  grown : (e : Event (Mark E)) (adds : Adds ActsFor actor e old new) → IsLegalWords (e ∷ (adds.others ++ old))
-  grown e adds = subst (λ l. IsLegalWords l) adds.is legal
+    (old new : List (Action E)) (legal : AreLegal new) where
+  grown : (a : Action E) (adds : Adds ActsFor doer a old new) → AreLegal (a ∷ (adds.others ++ old))
+  grown a adds = subst (λ l. AreLegal l) adds.is legal
 
   -- the parts of other CPUs still fit
-  pub others_fit : (e : Event (Mark E)) → actor e ≡ cpu → Adds ActsFor actor e old new → (q : CpuId) (stage : TicketStage E B) → q ≢ cpu → ActsFor q
+  pub others_fit : (a : Action E) → doer a ≡ cpu → Adds ActsFor doer a old new → (q : CpuId) (stage : TicketStage E B) → q ≢ cpu → ActsFor q
       → StageFits rules opening old q stage → StageFits rules opening' new q stage
-  others_fit e acts adds q stage other acts_q fits =
-      let others : AreOthers actor q (e ∷ adds.others) = (subst (λ a. same_cpu a q ≡ false) (sym acts) (cpu_differs cpu q other), adds.foreign q acts_q) in
+  others_fit a acts adds q stage other acts_q fits =
+      let others : AreOthers doer q (a ∷ adds.others) = (subst (λ c. same_cpu c q ≡ false) (sym acts) (cpu_differs cpu q other), adds.foreign q acts_q) in
       subst (λ o. StageFits rules o new q stage) (sym same)
-      (subst (λ l. StageFits rules opening l q stage) (sym adds.is) (stage_stays rules opening q stage (e ∷ adds.others) old others (grown e adds) fits))
+      (subst (λ l. StageFits rules opening l q stage) (sym adds.is) (stage_stays rules opening q stage (a ∷ adds.others) old others (grown a adds) fits))
 
-  -- a CPU that drew waits with its ticket
-  pub drawn_fits : (lock : LockId) (edit : E) (ticket : ℕ) → Adds ActsFor actor (Draw cpu lock ticket) old new → ActsFor cpu
-      → StaysAllowed (rules.allowed opening) (sections old) (section cpu lock edit) → IsSome (opening lock)
+  -- a CPU that joined the line waits with the ticket of its place
+  pub joined_fits : (lock : LockId) (edit : E) (ticket : ℕ) → Adds ActsFor doer (Take cpu lock) old new → ticket ≡ place cpu new % 2 ^ 64 → ActsFor cpu
+      → StaysAllowed (rules.allowed opening) (sections_in old) (section cpu lock edit) → IsSome (opening lock)
       → StageFits rules opening' new cpu (Drawn lock edit ticket)
-  drawn_fits lock edit ticket adds acts stays there =
-      subst (λ o. StageFits rules o new cpu (Drawn lock edit ticket)) (sym same)
-      (subst (λ l. StageFits rules opening l cpu (Drawn lock edit ticket)) (sym adds.is) (
-        standing_own (Draw cpu lock ticket) (adds.others ++ old),
-        allowed_stays rules opening cpu lock edit adds.others old (adds.foreign cpu acts) stays,
+  joined_fits lock edit ticket adds has acts stays there =
+      subst (λ o. StageFits rules o new cpu (Drawn lock edit ticket)) (sym same) (
+        (ap (phase cpu) adds.is ∙ phase_own (Take cpu lock) (adds.others ++ old), has),
+        subst (λ l. StaysAllowed (rules.allowed opening) (sections_in l) (section cpu lock edit)) (sym adds.is)
+            (allowed_stays rules opening cpu lock edit adds.others old (adds.foreign cpu acts) stays),
         there,
-      ))
+      )
 
-  -- a CPU that looked waits on, or is inside with the block
-  pub looked_fits : (lock : LockId) (edit : E) (ticket read : ℕ) → Adds ActsFor actor (Look cpu lock ticket read) old new → ActsFor cpu
-      → StaysAllowed (rules.allowed opening) (sections old) (section cpu lock edit) → IsSome (opening lock) → (found : Option B)
-      → MatchOption found (standing cpu new ≡ Waiting lock ticket)
-      (λ block. (standing cpu new ≡ Inside lock ticket) × (block_after rules.edited opening' lock (sections new) ≡ Some block))
+  -- a CPU that tried waits on, or holds the lock with the block
+  pub tried_fits : (lock : LockId) (edit : E) (ticket : ℕ) (hit : Bool) → Adds ActsFor doer (Try cpu lock hit) old new → ticket ≡ place cpu old % 2 ^ 64
+      → ActsFor cpu → StaysAllowed (rules.allowed opening) (sections_in old) (section cpu lock edit) → IsSome (opening lock) → (found : Option B)
+      → MatchOption found (phase cpu new ≡ Waits lock)
+      (λ block. (phase cpu new ≡ Holds lock) × (block_after rules.edited opening' lock (sections_in new) ≡ Some block))
       → (stage : TicketStage E B) → MatchOption found (stage ≡ Drawn lock edit ticket) (λ block. stage ≡ Held lock edit block)
       → StageFits rules opening' new cpu stage
-  looked_fits lock edit ticket read adds acts stays there found hits stage is =
-      let still : StaysAllowed (rules.allowed opening) (sections new) (section cpu lock edit)
-      = subst (λ l. StaysAllowed (rules.allowed opening) (sections l) (section cpu lock edit)) (sym adds.is)
+  tried_fits lock edit ticket hit adds has acts stays there found hits stage is =
+      let still : StaysAllowed (rules.allowed opening) (sections_in new) (section cpu lock edit)
+      = subst (λ l. StaysAllowed (rules.allowed opening) (sections_in l) (section cpu lock edit)) (sym adds.is)
       (allowed_stays rules opening cpu lock edit adds.others old (adds.foreign cpu acts) stays) in
-      by_find found hits is (subst (λ o. StaysAllowed (rules.allowed o) (sections new) (section cpu lock edit)) (sym same) still)
+      let spot : place cpu old ≡ place cpu new = sym (ap (place cpu) adds.is ∙ place_others cpu adds.others old (adds.foreign cpu acts)) in
+      by_find found hits is (has ∙ ap (λ n. n % 2 ^ 64) spot)
+      (subst (λ o. StaysAllowed (rules.allowed o) (sections_in new) (section cpu lock edit)) (sym same) still)
       (subst (λ o. IsSome (o lock)) (sym same) there)
     where
       by_find : (f : Option B)
-          → MatchOption f (standing cpu new ≡ Waiting lock ticket)
-          (λ block. (standing cpu new ≡ Inside lock ticket) × (block_after rules.edited opening' lock (sections new) ≡ Some block))
-          → MatchOption f (stage ≡ Drawn lock edit ticket) (λ block. stage ≡ Held lock edit block)
-          → StaysAllowed (rules.allowed opening') (sections new) (section cpu lock edit) → IsSome (opening' lock) → StageFits rules opening' new cpu stage
-      by_find None waits at still there' = subst (λ s. StageFits rules opening' new cpu s) (sym at) (waits, still, there')
-      by_find (Some block) hit at still there' = subst (λ s. StageFits rules opening' new cpu s) (sym at) ((ticket, hit.0), still, hit.1)
+          → MatchOption f (phase cpu new ≡ Waits lock)
+          (λ block. (phase cpu new ≡ Holds lock) × (block_after rules.edited opening' lock (sections_in new) ≡ Some block))
+          → MatchOption f (stage ≡ Drawn lock edit ticket) (λ block. stage ≡ Held lock edit block) → ticket ≡ place cpu new % 2 ^ 64
+          → StaysAllowed (rules.allowed opening') (sections_in new) (section cpu lock edit) → IsSome (opening' lock) → StageFits rules opening' new cpu stage
+      by_find None waits at has' still there' = subst (λ s. StageFits rules opening' new cpu s) (sym at) ((waits, has'), still, there')
+      by_find (Some block) hit at has' still there' = subst (λ s. StageFits rules opening' new cpu s) (sym at) (hit.0, still, hit.1)
 
-  -- a draw ends no section
-  pub draw_polled : (lock : LockId) (edit : E) (ticket : ℕ) → Adds ActsFor actor (Draw cpu lock ticket) old new
-      → Polled rules opening ActsFor (section cpu lock edit) None (sections old) (sections new)
-  draw_polled lock edit ticket adds = record {
-    others = sections adds.others;
-    foreign = foreign_sections ActsFor adds.others adds.foreign;
-    is = ap sections adds.is ∙ sections-append adds.others old;
+  -- an action that ends no section brings foreign ones alone
+  unended : (a : Action E) → ((past : List (Action E)) → sections_in (a ∷ past) ≡ sections_in past)
+      → (adds : Adds ActsFor doer a old new) → sections_in new ≡ sections_in adds.others ++ sections_in old
+  unended a ends adds = ap sections_in adds.is ∙ (ends (adds.others ++ old) ∙ sections_in-append adds.others old)
+
+  foreign_sections : (more : List (Action E)) → ((c : CpuId) → ActsFor c → AreOthers doer c more)
+      → (c : CpuId) → ActsFor c → AreOthers section_actor c (sections_in more)
+  foreign_sections more foreign c acts = others_sections_in c more (foreign c acts)
+
+  -- a Take ends no section
+  pub joined_polled : (lock : LockId) (edit : E) → Adds ActsFor doer (Take cpu lock) old new
+      → Polled rules opening ActsFor (section cpu lock edit) None (sections_in old) (sections_in new)
+  joined_polled lock edit adds = record {
+    others = sections_in adds.others;
+    foreign = foreign_sections adds.others adds.foreign;
+    is = unended (Take cpu lock) (λ past. refl) adds;
     answers = tt;
   }
 
-  -- nor does a look
-  pub look_polled : (lock : LockId) (edit : E) (ticket read : ℕ) → Adds ActsFor actor (Look cpu lock ticket read) old new
-      → Polled rules opening ActsFor (section cpu lock edit) None (sections old) (sections new)
-  look_polled lock edit ticket read adds = record {
-    others = sections adds.others;
-    foreign = foreign_sections ActsFor adds.others adds.foreign;
-    is = ap sections adds.is ∙ sections-append adds.others old;
+  -- nor does a Try
+  pub tried_polled : (lock : LockId) (edit : E) (hit : Bool) → Adds ActsFor doer (Try cpu lock hit) old new
+      → Polled rules opening ActsFor (section cpu lock edit) None (sections_in old) (sections_in new)
+  tried_polled lock edit hit adds = record {
+    others = sections_in adds.others;
+    foreign = foreign_sections adds.others adds.foreign;
+    is = unended (Try cpu lock hit) (λ past. refl) adds;
     answers = tt;
   }
 
-  -- a look of a section that waits brings foreign sections alone
-  pub look_grows : (lock : LockId) (ticket read : ℕ) → Adds ActsFor actor (Look cpu lock ticket read) old new
-      → Grows ActsFor section_actor (sections old) (sections new)
-  look_grows lock ticket read adds = record {
-    others = sections adds.others;
-    foreign = foreign_sections ActsFor adds.others adds.foreign;
-    is = ap sections adds.is ∙ sections-append adds.others old;
+  -- a Try of a section that waits brings foreign sections alone
+  pub tried_grows : (lock : LockId) (hit : Bool) → Adds ActsFor doer (Try cpu lock hit) old new
+      → Grows ActsFor section_actor (sections_in old) (sections_in new)
+  tried_grows lock hit adds = record {
+    others = sections_in adds.others;
+    foreign = foreign_sections adds.others adds.foreign;
+    is = unended (Try cpu lock hit) (λ past. refl) adds;
   }
 
-  -- while a CPU is inside, foreign events leave its block as it was
-  found_still : (lock : LockId) (ticket : ℕ) (mark : Mark E) (adds : Adds ActsFor actor (Free cpu lock mark) old new) → ActsFor cpu
-      → standing cpu old ≡ Inside lock ticket
-      → block_after rules.edited opening lock (sections (adds.others ++ old)) ≡ block_after rules.edited opening lock (sections old)
-  found_still lock ticket mark adds acts inside =
-      block_stays rules.edited opening cpu lock ticket adds.others old (grown (Free cpu lock mark) adds).1 (adds.foreign cpu acts) inside
+  -- while a CPU holds a lock, foreign actions leave its block as it was
+  found_still : (lock : LockId) (edit : E) (adds : Adds ActsFor doer (Give cpu lock edit) old new) → ActsFor cpu → phase cpu old ≡ Holds lock
+      → block_after rules.edited opening lock (sections_in (adds.others ++ old)) ≡ block_after rules.edited opening lock (sections_in old)
+  found_still lock edit adds acts holds =
+      block_stays rules.edited opening cpu lock adds.others old (grown (Give cpu lock edit) adds).1 (adds.foreign cpu acts) holds
 
-  -- a free ends its section, with the answer of its edit on the block that the look gave
-  pub free_polled : (lock : LockId) (edit : E) (ticket : ℕ) (adds : Adds ActsFor actor (Free cpu lock (mark_of edit)) old new) → ActsFor cpu
-      → standing cpu old ≡ Inside lock ticket
-      → (block : B) → block_after rules.edited opening lock (sections old) ≡ Some block → (out : O) → out ≡ rules.answer edit block
-      → Polled rules opening ActsFor (section cpu lock edit) (Some out) (sections old) (sections new)
-  free_polled lock edit ticket adds acts inside block found out answers =
-      let found_then : block_after rules.edited opening lock (sections (adds.others ++ old)) ≡ Some block =
-      found_still lock ticket (mark_of edit) adds acts inside ∙ found in
+  -- a Give ends its section, with the answer of its edit on the block with which the CPU entered
+  pub left_polled : (lock : LockId) (edit : E) (adds : Adds ActsFor doer (Give cpu lock edit) old new) → ActsFor cpu → phase cpu old ≡ Holds lock
+      → (block : B) → block_after rules.edited opening lock (sections_in old) ≡ Some block → (out : O) → out ≡ rules.answer edit block
+      → Polled rules opening ActsFor (section cpu lock edit) (Some out) (sections_in old) (sections_in new)
+  left_polled lock edit adds acts holds block found out answers =
+      let found_then : block_after rules.edited opening lock (sections_in (adds.others ++ old)) ≡ Some block = found_still lock edit adds acts holds ∙ found in
       record {
-        others = sections adds.others;
-        foreign = foreign_sections ActsFor adds.others adds.foreign;
-        is = ap sections adds.is ∙ ap (λ l. section cpu lock edit ∷ l) (sections-append adds.others old);
-        answers = subst (λ l. option_map (rules.answer edit) (block_after rules.edited opening lock l) ≡ Some out) (sections-append adds.others old)
+        others = sections_in adds.others;
+        foreign = foreign_sections adds.others adds.foreign;
+        is = ap sections_in adds.is ∙ ap (λ l. section cpu lock edit ∷ l) (sections_in-append adds.others old);
+        answers = subst (λ l. option_map (rules.answer edit) (block_after rules.edited opening lock l) ≡ Some out) (sections_in-append adds.others old)
             (ap (option_map (rules.answer edit)) found_then ∙ ap Some (sym answers));
       }
 
-  pub free_acts : (lock : LockId) (edit : E) (ticket : ℕ) (adds : Adds ActsFor actor (Free cpu lock (mark_of edit)) old new) → ActsFor cpu
-      → standing cpu old ≡ Inside lock ticket
-      → (block : B) → block_after rules.edited opening lock (sections old) ≡ Some block → (out : O) → out ≡ rules.answer edit block
-      → Follows ActsFor (table_of rules) opening cpu (section_plan lock edit) (acts_of edit_of old) (acts_of edit_of new) (answered (Some out))
-  free_acts lock edit ticket adds acts inside block found out answers =
-      free_follows rules opening ActsFor cpu lock edit old new ticket adds (standing_others cpu adds.others old (adds.foreign cpu acts) ∙ inside) out
-      (ap (option_map (rules.answer edit)) (found_still lock ticket (mark_of edit) adds acts inside ∙ found) ∙ ap Some (sym answers))
+  -- the action was the one that was due
+  follows : (lock : LockId) (edit : E) (a : Action E) (adds : Adds ActsFor doer a old new) (result : Option O)
+      → a ≡ action_in cpu lock edit (adds.others ++ old) (phase cpu (adds.others ++ old))
+      → result ≡ at_give (phase cpu (adds.others ++ old))
+      (option_map (rules.answer edit) (block_after rules.edited opening lock (sections_in (adds.others ++ old))))
+      → Follows ActsFor (table_of rules) opening cpu (section_plan lock edit) old new (answered result)
+  follows lock edit a adds result due answers = record {
+    past = adds.others ++ old;
+    acted = record { others = adds.others; foreign = adds.foreign; joined = refl; grows = adds.is ∙ ap (λ x. x ∷ (adds.others ++ old)) due };
+    moves = ap answered answers;
+  }
 
-  pub draw_acts : (lock : LockId) (edit : E) (ticket : ℕ) → Adds ActsFor actor (Draw cpu lock ticket) old new
-      → Follows ActsFor (table_of rules) opening cpu (section_plan lock edit) (acts_of edit_of old) (acts_of edit_of new) (answered None)
-  draw_acts lock edit ticket adds = draw_follows rules opening ActsFor cpu lock edit old new ticket adds legal
+  pub joined_follows : (lock : LockId) (edit : E) → Adds ActsFor doer (Take cpu lock) old new
+      → Follows ActsFor (table_of rules) opening cpu (section_plan lock edit) old new (answered None)
+  joined_follows lock edit adds =
+      let past = adds.others ++ old in
+      let rests : phase cpu past ≡ Rests = (grown (Take cpu lock) adds).0.1 in
+      follows lock edit (Take cpu lock) adds None (ap (action_in cpu lock edit past) (sym rests))
+      (ap (λ p. at_give p (option_map (rules.answer edit) (block_after rules.edited opening lock (sections_in past)))) (sym rests))
 
-  pub look_acts : (lock : LockId) (edit : E) (ticket read : ℕ) → Adds ActsFor actor (Look cpu lock ticket read) old new
-      → Follows ActsFor (table_of rules) opening cpu (section_plan lock edit) (acts_of edit_of old) (acts_of edit_of new) (answered None)
-  look_acts lock edit ticket read adds = look_follows rules opening ActsFor cpu lock edit old new ticket read adds legal
+  pub tried_follows : (lock : LockId) (edit : E) (hit : Bool) → Adds ActsFor doer (Try cpu lock hit) old new
+      → Follows ActsFor (table_of rules) opening cpu (section_plan lock edit) old new (answered None)
+  tried_follows lock edit hit adds =
+      let past = adds.others ++ old in
+      let may = (grown (Try cpu lock hit) adds).0 in
+      follows lock edit (Try cpu lock hit) adds None (ap (Try cpu lock) may.1 ∙ ap (action_in cpu lock edit past) (sym may.0))
+      (ap (λ p. at_give p (option_map (rules.answer edit) (block_after rules.edited opening lock (sections_in past)))) (sym may.0))
+
+  pub left_follows : (lock : LockId) (edit : E) (adds : Adds ActsFor doer (Give cpu lock edit) old new) → ActsFor cpu → phase cpu old ≡ Holds lock
+      → (block : B) → block_after rules.edited opening lock (sections_in old) ≡ Some block → (out : O) → out ≡ rules.answer edit block
+      → Follows ActsFor (table_of rules) opening cpu (section_plan lock edit) old new (answered (Some out))
+  left_follows lock edit adds acts holds block found out answers =
+      let past = adds.others ++ old in
+      let still : phase cpu past ≡ Holds lock = (grown (Give cpu lock edit) adds).0 in
+      follows lock edit (Give cpu lock edit) adds (Some out) (ap (action_in cpu lock edit past) (sym still))
+      (sym (ap (option_map (rules.answer edit)) (found_still lock edit adds acts holds ∙ found) ∙ ap Some (sym answers))
+      ∙ ap (λ p. at_give p (option_map (rules.answer edit) (block_after rules.edited opening lock (sections_in past)))) (sym still))
+
+  -- a look is one more Try of a CPU that waits at its lock
+  pub tried_again : (lock : LockId) (hit : Bool) → Adds ActsFor doer (Try cpu lock hit) old new → Tries ActsFor cpu old new
+  tried_again lock hit adds =
+      let may = (grown (Try cpu lock hit) adds).0 in
+      record {
+        others = adds.others;
+        foreign = adds.foreign;
+        past = adds.others ++ old;
+        joined = refl;
+        lock = lock;
+        waits = may.0;
+        grows = adds.is ∙ ap (λ h. Try cpu lock h ∷ (adds.others ++ old)) may.1;
+      }

@@ -1,3 +1,4 @@
 pub mod Stages
 pub mod StageLaws
 pub mod OwnedLaws
+pub mod LineLaws

@@ -1,14 +1,11 @@
--- How far a section of a ticket lock has come, read against the words log.
-use Rattle.std.specs.Prelude.{◌≡◌, ℕ, List, Option, Some, None, IsSome, if◌then◌else◌}
+-- How far a section has come, read against the actions at the locks.
+use Rattle.std.specs.Prelude.{◌≡◌, ℕ, ◌%◌, ◌^◌, List, Option, Some, None, IsSome, if◌then◌else◌}
 use Rattle.event_log.specs.declared.ids.CpuId.{CpuId}
 use Rattle.event_log.specs.declared.ids.LockId.{LockId}
-use Rattle.event_log.specs.declared.events.Event.{Event}
+use Rattle.event_log.specs.Actions.{Action, Rests, Waits, Holds, phase, place}
 use Rattle.event_log.specs.History.{same_lock}
-use Rattle.event_log.specs.WordsLog.{Outside, Waiting, Inside, standing}
-use Rattle.event_log.specs.Sections.{Section, block_after}
-use Rattle.layer_traits.specs.declared.edits.Mark.{Mark}
+use Rattle.event_log.specs.Sections.{Section, block_after, sections_in}
 use Rattle.layer_traits.specs.Protocol.{Rules, StaysAllowed, section}
-use Rattle.layer_traits.specs.WordsProtocol.{sections}
 use Rattle.spinlock.specs.declared.stages.TicketStage.{TicketStage}
 use Rattle.spinlock.specs.declared.stages.TicketStage.TheVariants.{Out, Drawn, Held}
 
@@ -31,13 +28,14 @@ held_block lock Out = None
 held_block lock (Drawn at edit ticket) = None
 held_block lock (Held at edit block) = if same_lock lock at then Some block else None
 
--- the stage is where the log leaves the CPU: outside, waiting with its ticket, or inside with the lock's block in its hands; the
--- lock that waits is there, and the section under way stays allowed
-abbrev pub StageFits : {E B O : Type 0} → Rules E B O → (LockId → Option B) → List (Event (Mark E)) → CpuId → TicketStage E B → Type 0
-StageFits rules opening log cpu Out = standing cpu log ≡ Outside
-StageFits rules opening log cpu (Drawn lock edit ticket) =
-    (standing cpu log ≡ Waiting lock ticket) × StaysAllowed (rules.allowed opening) (sections log) (section cpu lock edit) × IsSome (opening lock)
-StageFits rules opening log cpu (Held lock edit block) =
-    ((ticket : ℕ) × (standing cpu log ≡ Inside lock ticket))
-    × StaysAllowed (rules.allowed opening) (sections log) (section cpu lock edit)
-    × (block_after rules.edited opening lock (sections log) ≡ Some block)
+-- the stage is where the actions leave the CPU: at rest, waiting with the ticket of its place, or with the lock that it holds and the
+-- lock's block in its hands; the lock that waits is there, and the section under way stays allowed
+abbrev pub StageFits : {E B O : Type 0} → Rules E B O → (LockId → Option B) → List (Action E) → CpuId → TicketStage E B → Type 0
+StageFits rules opening acts cpu Out = phase cpu acts ≡ Rests
+StageFits rules opening acts cpu (Drawn lock edit ticket) =
+    ((phase cpu acts ≡ Waits lock) × (ticket ≡ place cpu acts % 2 ^ 64))
+    × StaysAllowed (rules.allowed opening) (sections_in acts) (section cpu lock edit) × IsSome (opening lock)
+StageFits rules opening acts cpu (Held lock edit block) =
+    (phase cpu acts ≡ Holds lock)
+    × StaysAllowed (rules.allowed opening) (sections_in acts) (section cpu lock edit)
+    × (block_after rules.edited opening lock (sections_in acts) ≡ Some block)

@@ -79,7 +79,8 @@ fn returned<E: Edit>(
     requires empty { blocks.items ≡ [] }
     requires room { length locks.items ≤ vec_capacity blocks }
     ensures count { length result.items ≡ length locks.items }
-    ensures blocks { (i : ℕ) (lock : LockId) (y : Home _ _) (b : _) → get_elem? locks.items i ≡ some lock → get_elem? (slots_items closed.slots) i ≡ some y → y.block ≡ Some b → get_elem? result.items i ≡ some (lock, b) }
+    ensures blocks { (i : ℕ) (lock : LockId) (y : Home _ _) (b : _) → get_elem? locks.items i ≡ some lock → get_elem? (slots_items closed.slots) i ≡ some y
+        → y.block ≡ Some b → get_elem? result.items i ≡ some (lock, b) }
 {
     for i in 0..locks.len() {
         let home = closed.take(i);

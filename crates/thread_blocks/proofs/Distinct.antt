@@ -1,11 +1,11 @@
 -- Queues as lists in which no thread stands twice.
 use Rattle.std.proofs.Common.{◌≡◌, ℕ, ◌<◌, ◌≤◌, Bool, true, false, List, [], ◌∷◌, ◌++◌, length, refl}
-use Rattle.std.proofs.Common.{sym, ap, ◌∙◌, arith, subst, eqb, ◌||◌, ◌⊎◌, inl, inr, suc, Some, None, if◌then◌else◌}
+use Rattle.std.proofs.Common.{sym, ap, ◌∙◌, arith, subst, eqb, ◌||◌, ◌⊎◌, inl, inr, suc, ◌==◌, slice_index_or, remove, Some, None, if◌then◌else◌}
 use Rattle.std.specs.Cmp.{IsEquivalence, nat_eq_equiv}
 use Rattle.std.specs.List.{IsDistinct, AllByRecursion, list_any}
 use Rattle.std.proofs.lemmas.Bool.{or_parts, or_cases, true≢false, cond_both}
 use Rattle.std.proofs.lemmas.List.Folds.{list_any-append}
-use Rattle.std.proofs.lemmas.Map.Keys.{IsDistinct-head, IsDistinct-cons, IsDistinct-push}
+use Rattle.std.proofs.lemmas.Map.Keys.{IsDistinct-head, IsDistinct-tail, IsDistinct-cons, IsDistinct-push}
 use Rattle.std.proofs.lemmas.Map.Steps.{length-le_from_distinct_below}
 use Rattle.event_log.specs.declared.ids.Tid.{Tid}
 use Rattle.event_log.specs.declared.ids.TheConstants.{THREADS}
@@ -225,6 +225,15 @@ split t queue distinct found =
 -- the first thread is one of the machine's, and does not stand behind itself
 pub first_known : (t : Tid) (queue : List Tid) → IsQueue (t ∷ queue) → t.0 < THREADS
 first_known t queue is = is.1 t (or_first _ _ (same_tid_self t))
+
+-- the others are a queue too
+pub behind : (t : Tid) (queue : List Tid) → IsQueue (t ∷ queue) → IsQueue queue
+behind t queue is = (IsDistinct-tail same_tid t queue is.0, λ u found. is.1 u (or_second _ _ found))
+
+-- a list that is not empty is the thread at 0 before the others
+pub front_out : (queue : List Tid) (t : Tid) → (length queue == 0) ≡ false → t ≡ slice_index_or queue 0 t → queue ≡ t ∷ remove queue 0
+front_out [] t some is = absurd (true≢false some)
+front_out (x ∷ queue) t some is = ap (λ (y : Tid). y ∷ queue) (sym is)
 
 pub first_once : (t : Tid) (queue : List Tid) → IsQueue (t ∷ queue) → is_in t queue ≡ false
 first_once t queue is = apart_is t queue (IsDistinct-head same_tid t queue is.0)

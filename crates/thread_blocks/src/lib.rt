@@ -2,8 +2,10 @@
 #![tactic(auto)]
 
 mod links;
+mod lists;
 mod queues;
 
+pub use lists::ThreadList;
 pub use queues::ThreadQueue;
 
 #[cfg(test)]

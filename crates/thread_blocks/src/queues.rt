@@ -6,9 +6,9 @@ ghost use Rattle.thread_blocks.specs.Queues.{is_in, first, rest, without, AreApa
 ghost use Rattle.thread_blocks.specs.Links.{Hold};
 
 use crate::links::Links;
+use crate::lists::ThreadList;
 use event_log::{Cells, THREADS, Ticks, Tid};
 use std::marker::{Brand, Model};
-use std::mem;
 use std::sync::ledger::{Blank, Ledger};
 
 /// A queue of threads, the first one first. No thread stands in it twice, so it has room for all
@@ -16,7 +16,8 @@ use std::sync::ledger::{Blank, Ledger};
 ///
 /// It lies in tables by thread number: for each thread the one behind it, the one before it, and
 /// whether it stands in the queue. So each call touches few cells, wherever its thread stands: at
-/// most 8, and 16 for each thread that [`drain_into`](ThreadQueue::drain_into) moves.
+/// most 8, and 16 for each thread that [`drain_into`](ThreadQueue::drain_into) moves. A
+/// [`take`](ThreadQueue::take) pops one thread after another.
 #[derive(Drop)]
 pub struct ThreadQueue {
     nexts: Links,
@@ -176,12 +177,16 @@ impl ThreadQueue {
         remove_from::<Brand>(self, t, Blank::new(1))
     }
 
-    /// Takes all threads, and leaves an empty queue in their place.
-    pub fn take(&mut self) -> ThreadQueue
+    /// Takes all threads, and leaves the queue empty.
+    pub fn take(&mut self) -> ThreadList
         ensures all { result ≡ self.old }
         ensures empty { self.new ≡ [] }
     {
-        mem::replace(self, ThreadQueue::new())
+        let mut taken = ThreadList::new();
+        while let Some(t) = self.pop() {
+            taken.push(t);
+        }
+        taken
     }
 
     /// Moves all threads behind those of `to`, in which none of them stands, and keeps their order.

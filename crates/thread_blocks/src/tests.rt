@@ -101,7 +101,11 @@ fn a_thread_is_taken_out_from_between_two(rt: HostRuntime) {
     assert_eq!(rt; queue.front(), Some(Tid(3)));
     let mut taken = queue.take();
     pops(&rt, &mut queue, &[]);
-    pops(&rt, &mut taken, &[3, 2]);
+    assert_eq!(rt; taken.len(), 2);
+    let mut to = ThreadQueue::new();
+    taken.drain_into(&mut to);
+    assert_eq!(rt; taken.len(), 0);
+    pops(&rt, &mut to, &[3, 2]);
 }
 
 #[test]

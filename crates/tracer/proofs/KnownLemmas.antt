@@ -172,7 +172,7 @@ some_range : {A : Type 0} (found : Option A) (x : A) → or_range found ≡ Ok x
 some_range None x e = absurd (cc)
 some_range (Some y) x e = ap Some (same_ok y x e)
 
-same_some : (x y : Seen) → Some x ≡ Some y → x ≡ y
+pub same_some : (x y : Seen) → Some x ≡ Some y → x ≡ y
 same_some x y e = cc
 
 -- an entry that is taken may come

@@ -7,7 +7,7 @@ use Rattle.std.specs.List.{AllByRecursion, slice_split, join_with_byte}
 use Rattle.std.proofs.lemmas.Bool.Decides.{nat_tests}
 use Rattle.std.proofs.lemmas.List.Elements.{All-from_recursion}
 use Rattle.std.proofs.lemmas.List.Splits.{slice_split_at, slice_split_none}
-use Rattle.event_log.proofs.BoolLemmas.{both_true}
+use Rattle.std.proofs.lemmas.Bool.{and_parts}
 use Rattle.event_log.proofs.DigitsLemmas.{decimal-spelled}
 use Rattle.tracer.specs.TraceText.{line_of}
 use Rattle.tracer.specs.Judging.{Progress, pieces_of, lines_in, step, verdict_from}
@@ -42,7 +42,7 @@ no_digit at c lt digit = grind (arith, nat_tests)
 digits_lack : (at : ℕ) (cs : List ℕ) → at < 48 → all_ascii_digits cs ≡ true → Lacks at cs
 digits_lack at [] lt digits = tt
 digits_lack at (c ∷ cs) lt digits =
-    let parts = both_true (is_ascii_digit c) (all_ascii_digits cs) digits in
+    let parts = and_parts (is_ascii_digit c) (all_ascii_digits cs) digits in
     (no_digit at c lt parts.0, digits_lack at cs lt parts.1)
 
 pub decimal_lacks : (at n : ℕ) → at < 48 → n < 2 ^ 64 → Lacks at (decimal n)

@@ -6,7 +6,6 @@ use Rattle.std.specs.Str.{bytes_eq}
 use Rattle.std.specs.List.{AllByRecursion, list_all, join_with_byte}
 use Rattle.std.proofs.lemmas.List.{length_push}
 use Rattle.std.proofs.lemmas.Slice.Eq.{bytes_eq-Decides}
-use Rattle.event_log.proofs.BoolLemmas.{both_true}
 use Rattle.event_log.specs.Messages.{Message}
 use Rattle.event_log.specs.declared.ids.TheConstants.{CPUS, THREADS, BUFFERS, ENTRIES}
 use Rattle.event_log.specs.declared.entries.Kind.{Kind}
@@ -25,8 +24,9 @@ use Rattle.tracer.specs.Judging.{Digits, Seen, Progress, wanted, piece_at, word_
 use Rattle.tracer.specs.Judging.{entry_among, entry_line, left_digits, left_line, entries_line, step}
 use Rattle.tracer.proofs.SplitLemmas.{Lacks, IsLine, decimal_lacks, pieces_again}
 use Rattle.tracer.proofs.ReadLemmas.{bind_ok, wanted_ok, same_ok, piece_taken, word_taken, is_just_taken, is_value_taken, decimal_is_number, is_value_again}
-use Rattle.tracer.proofs.KnownLemmas.{seen_of, known_from, length-known_from, slice_get-known, among_again, among_taken}
+use Rattle.tracer.proofs.KnownLemmas.{same_some, seen_of, known_from, length-known_from, slice_get-known, among_again, among_taken}
 use Rattle.std.proofs.lemmas.Option.{slice_get_within}
+use Rattle.std.proofs.lemmas.Bool.{and_parts}
 use Rattle.tracer.proofs.EntryLemmas.{progress, behind_e, shape_of, IsSmall, entry_digits_taken, entry_digits_again, entry_in_taken, entry_in_again}
 
 -- ---- an entry
@@ -207,7 +207,7 @@ values_taken [] [] e = (refl, tt)
 values_taken [] (v ∷ vs) e = absurd (cc)
 values_taken (p ∷ ps) [] e = absurd (cc)
 values_taken (p ∷ ps) (v ∷ vs) e =
-    let parts = both_true (is_value p v) (are_values ps vs) e in
+    let parts = and_parts (is_value p v) (are_values ps vs) e in
     let rest = values_taken ps vs parts.1 in
     (rw (is_value_taken p v parts.0, rest.0) refl, (small_value p v parts.0, rest.1))
 
@@ -239,9 +239,6 @@ holds_of : (values : List (List ℕ)) (found : Option Seen) → is_left values f
 holds_of values None e = absurd (cc)
 holds_of values (Some seen) e = (seen, refl, e)
 
-some_seen : (x y : Seen) → Some x ≡ Some y → x ≡ y
-some_seen x y e = cc
-
 left_found : (at : NextLine) (b : ℕ) (caps : List ℕ) (earlier : List Entry) (contents : List (List Message)) (ps values : List (List ℕ)) (after : Progress)
     (seen : Seen) → ps ≡ codes "left" ∷ decimal b ∷ values → slice_get (known_from earlier contents 0 caps) b ≡ Some seen → are_values values seen.items ≡ true
     → record {
@@ -252,7 +249,7 @@ left_found : (at : NextLine) (b : ℕ) (caps : List ℕ) (earlier : List Entry) 
 left_found at b caps earlier contents ps values after seen shape found holds is =
     let inside : b < length caps = omega (arith, slice_get_within (known_from earlier contents 0 caps) b seen found, length-known_from earlier contents 0 caps)
     in
-    let same : seen ≡ seen_of earlier contents b (get_or caps b 0) = some_seen seen _ (sym found ∙ slice_get-known earlier contents caps b inside) in
+    let same : seen ≡ seen_of earlier contents b (get_or caps b 0) = same_some seen _ (sym found ∙ slice_get-known earlier contents caps b inside) in
     let items : seen.items ≡ items_of contents b = ap (λ (x : Seen). x.items) same in
     let read = values_taken values (items_of contents b) (ap (are_values values) (sym items) ∙ holds) in
     record {

@@ -1,6 +1,7 @@
 //! One order of the traces of several CPUs.
 
-ghost use Rattle.std.specs.Prelude.{◌≡◌, ◌<◌, ◌≤◌, ◌+◌, ◌^◌, ℕ, List, length, map, sum_by, vec_len, slice_get, slice_index, IfOk, IsErrOf, IsTrue, ◌↔◌, IfSome, IfNone, option_map};
+ghost use Rattle.std.specs.Prelude.{◌≡◌, ◌<◌, ◌≤◌, ◌+◌, ◌^◌, ℕ, List, length, map, sum_by, vec_len, slice_get};
+ghost use Rattle.std.specs.Prelude.{slice_index, IfOk, IsErrOf, IsTrue, ◌↔◌, IfSome, IfNone, option_map};
 ghost use Rattle.event_log.specs.declared.entries.Entry.{Entry as AnEntry};
 ghost use Rattle.event_log.specs.Runs.{count_of};
 ghost use Rattle.tracer.specs.declared.gathering.GatherError.TheVariants.{NoMemory};

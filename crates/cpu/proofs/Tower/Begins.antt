@@ -1,6 +1,7 @@
 -- Each poll of a call is a step of the table: of one that goes on, and of one that begins, where the call begins and its caller takes its
 -- place at the lock in one step.
-use Rattle.std.proofs.Common.{◌≡◌, ◌≢◌, ℕ, ◌+◌, ◌<◌, ◌==◌, Bool, true, false, ◌&&◌, List, length, slice_set, Option, Some, None, IsSome, option_map, refl, ap, sym, ◌∙◌, subst, arith}
+use Rattle.std.proofs.Common.{◌≡◌, ◌≢◌, ℕ, ◌+◌, ◌<◌, ◌==◌, Bool, true, false, ◌&&◌, List, length, slice_set}
+use Rattle.std.proofs.Common.{Option, Some, None, IsSome, option_map, refl, ap, sym, ◌∙◌, subst, arith}
 use Rattle.event_log.specs.declared.entries.Entry.{Entry}
 use Rattle.event_log.specs.declared.ids.BufId.{BufId}
 use Rattle.event_log.specs.declared.ids.CpuId.{CpuId}
@@ -30,7 +31,8 @@ use Rattle.cpu.specs.Table.Choice.{Choice, Goes, at_call, at_hand, at_instructio
 use Rattle.cpu.specs.Table.Steps.{acting, cpu_step, halted_at, halted_by}
 use Rattle.cpu.specs.Tower.Views.{TowerBlock, TowerName, TowerOut, tower}
 use Rattle.cpu.specs.Tower.Privates.{call_from, guest_at, private_after, private_of, thread_from, thread_of, threads_in, tid}
-use Rattle.cpu.specs.Tower.Composed.{AsksFor, HandIsKnown, IsBeginning, IsGoing, IsLine, OpensAs, Stands, asks, was_handed, enters, tries, waits, was_woken, asks_again, was_handed_again, signals, signals_own, releases, has_signalled, has_signalled_own, has_released, named}
+use Rattle.cpu.specs.Tower.Composed.{AsksFor, HandIsKnown, IsBeginning, IsGoing, IsLine, OpensAs, Stands, asks, was_handed, enters, tries, waits, was_woken}
+use Rattle.cpu.specs.Tower.Composed.{asks_again, was_handed_again, signals, signals_own, releases, has_signalled, has_signalled_own, has_released, named}
 use Rattle.cpu.proofs.Tower.Numbered.{numbered_at, own_at, parts, threads_at}
 use Rattle.cpu.proofs.Tower.Lines.{HasHad, Site, after, from, own, talk}
 use Rattle.cpu.proofs.Tower.Composition.{asks_line}

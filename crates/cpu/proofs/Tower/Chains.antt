@@ -21,7 +21,8 @@ use Rattle.layer_traits.specs.declared.talks.Stage.{Stage as TowerStage}
 use Rattle.layer_traits.specs.declared.talks.Stage.TheVariants as at
 use Rattle.layer_traits.specs.declared.talks.Talk.{Talk}
 use Rattle.layer_traits.specs.BufferProtocol.{buffer_rules}
-use Rattle.layer_traits.specs.BufferLaw.{BufferPlan, Buffering, at_stage, buffer_of, chained, fifo_plan, going, left_heard, plan_at, plan_of, plan_on, quiet, side_of as tower_side, talk_of}
+use Rattle.layer_traits.specs.BufferLaw.{BufferPlan, Buffering, at_stage, buffer_of, chained, fifo_plan, going}
+use Rattle.layer_traits.specs.BufferLaw.{left_heard, plan_at, plan_of, plan_on, quiet, side_of as tower_side, talk_of}
 use Rattle.layer_traits.specs.Conditions.{CvCall}
 use Rattle.layer_traits.specs.CvLaw.{Waiting, cv_plan, cv_plan_for, left_waiting}
 use Rattle.layer_traits.specs.LockLaw.{plan_for, slept_for}

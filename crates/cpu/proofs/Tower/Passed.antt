@@ -1,5 +1,6 @@
 -- How all threads stand to a part is kept by the passes from thread to thread, and holds at boot.
-use Rattle.std.proofs.Common.{◌≡◌, ◌≢◌, ◌⊎◌, inl, inr, ℕ, zero, suc, ◌<◌, Bool, true, false, List, [], ◌∷◌, length, get_or, replicate, Option, Some, None, refl, ap, sym, ◌∙◌, subst, arith}
+use Rattle.std.proofs.Common.{◌≡◌, ◌≢◌, ◌⊎◌, inl, inr, ℕ, zero, suc, ◌<◌, Bool, true, false, List, [], ◌∷◌}
+use Rattle.std.proofs.Common.{length, get_or, replicate, Option, Some, None, refl, ap, sym, ◌∙◌, subst, arith}
 use Rattle.std.proofs.lemmas.Bool.{cases_eq, ne_eqb}
 use Rattle.event_log.specs.declared.ids.BufId.{BufId}
 use Rattle.event_log.specs.declared.ids.CpuId.{CpuId}
@@ -19,7 +20,8 @@ use Rattle.layer_traits.specs.Plans.{Left, Follows}
 use Rattle.layer_traits.specs.BufferLaw.{Buffering, buffering_at_start, fifo_pass_plan, quiet, talk_of}
 use Rattle.cpu.specs.Tower.Views.{TowerBlock, TowerName, TowerOut, tower}
 use Rattle.cpu.specs.Tower.Privates.{threads_in, tid}
-use Rattle.cpu.specs.Tower.Composed.{Stands, asks, was_handed, enters, tries, waits, was_woken, asks_again, was_handed_again, signals, signals_own, releases, has_signalled, has_signalled_own, has_released}
+use Rattle.cpu.specs.Tower.Composed.{Stands, asks, was_handed, enters, tries, waits, was_woken, asks_again, was_handed_again}
+use Rattle.cpu.specs.Tower.Composed.{signals, signals_own, releases, has_signalled, has_signalled_own, has_released}
 use Rattle.cpu.specs.Tower.Standing.{IsPart, MayStand, inside, outside}
 
 -- the part with other threads

@@ -15,10 +15,12 @@ use Rattle.layer_traits.specs.BufferLaw.{Buffering, talk_of}
 use Rattle.cpu.specs.Table.Setups.{Setup}
 use Rattle.cpu.specs.Tower.Views.{TowerOut}
 use Rattle.cpu.specs.Tower.Privates.{threads_in}
-use Rattle.cpu.specs.Tower.Composed.{HandIsKnown, IsGoing, PlansAreLines, Stands, asks, was_handed, enters, tries, waits, was_woken, asks_again, was_handed_again, signals, signals_own, releases, has_signalled, has_signalled_own, has_released}
+use Rattle.cpu.specs.Tower.Composed.{HandIsKnown, IsGoing, PlansAreLines, Stands, asks, was_handed, enters, tries, waits, was_woken, asks_again}
+use Rattle.cpu.specs.Tower.Composed.{was_handed_again, signals, signals_own, releases, has_signalled, has_signalled_own, has_released}
 use Rattle.cpu.proofs.Tower.Numbered.{own_at}
 use Rattle.cpu.proofs.Tower.Lines.{Site}
-use Rattle.cpu.proofs.Tower.Chains.{LineOf, site_asks, site_enters, site_tries, site_waits, site_asks_again, site_signals, site_own_signals, site_releases, handed_line, handed_again_line, woken_line}
+use Rattle.cpu.proofs.Tower.Chains.{LineOf, site_asks, site_enters, site_tries, site_waits, site_asks_again, site_signals}
+use Rattle.cpu.proofs.Tower.Chains.{site_own_signals, site_releases, handed_line, handed_again_line, woken_line}
 use Rattle.cpu.proofs.Tower.Sends.{has_signalled_line, has_signalled_own_line, has_released_line}
 
 module _ (setup : Setup) (c : CpuId) (t : Tid) (ready ended : List Tid) (slept waiting : List (Option BufId)) (talks : List Talk) (guests : List State)

@@ -1,5 +1,6 @@
 -- From plans to steps: a poll that followed a line of the table is a step of it.
-use Rattle.std.proofs.Common.{◌≡◌, ℕ, Bool, true, false, List, [], ◌∷◌, ◌++◌, map, Option, Some, None, option_map, slice_get, if◌then◌else◌, refl, ap, sym, ◌∙◌, subst}
+use Rattle.std.proofs.Common.{◌≡◌, ℕ, Bool, true, false, List, [], ◌∷◌, ◌++◌, map, Option, Some, None}
+use Rattle.std.proofs.Common.{option_map, slice_get, if◌then◌else◌, refl, ap, sym, ◌∙◌, subst}
 use Rattle.event_log.specs.declared.entries.Entry.{Entry}
 use Rattle.event_log.specs.declared.ids.CpuId.{CpuId}
 use Rattle.event_log.specs.declared.ids.LockId.{LockId}
@@ -71,7 +72,7 @@ opens_kind setup (Buffer b) (Some (block.Queue threads homes)) is = go (slice_ge
     go (Some n) now = cc now
 
 -- what a lock's block is depends on its opening block alone
-opens_alike : (a b : LockId → Option Block) (lock : LockId) → a lock ≡ b lock → (past : List (Section Name))
+pub opens_alike : (a b : LockId → Option Block) (lock : LockId) → a lock ≡ b lock → (past : List (Section Name))
     → block_after edited a lock past ≡ block_after edited b lock past
 opens_alike a b lock same [] = same
 opens_alike a b lock same (s ∷ past) =

@@ -7,7 +7,8 @@ use Rattle.event_log.specs.declared.ids.Tid.{Tid}
 use Rattle.guest.specs.State.{State, next_of}
 use Rattle.cpu.specs.Table.Blocks.{Answer, Told}
 use Rattle.cpu.specs.Table.Setups.{Setup, Returns, Call, Thread, Private, new_thread, program_of, thread_at}
-use Rattle.cpu.specs.Table.Choice.{Ask, after_by, after_section, asked, asked_by, at_buffer, guest_after, heard, returned_at, returned_by, section_at, settled, slept_if, woken}
+use Rattle.cpu.specs.Table.Choice.{Ask, after_by, after_section, asked, asked_by, at_buffer, guest_after}
+use Rattle.cpu.specs.Table.Choice.{heard, returned_at, returned_by, section_at, settled, slept_if, woken}
 use Rattle.cpu.proofs.Tower.Numbered.{parts}
 
 module _ (setup : Setup) (c : CpuId) (ready : List Tid) (threads : List Thread) (trace : List Entry) (t : Tid) (g : State) (e : Bool)

@@ -19,7 +19,8 @@ use Rattle.layer_traits.specs.declared.queue_edits.QueueEdit.TheVariants as queu
 use Rattle.layer_traits.specs.BufferBlocks.{BufferState, entered as tower_entered, first_item, is_turn, may_go, may_join, put_in, taken_out}
 use Rattle.layer_traits.specs.Conditions.{CvCall, signal_to}
 use Rattle.layer_traits.specs.Locking.{LockState, asked, line_asked, signalled, told_asker, waiting_without}
-use Rattle.cpu.specs.Table.Blocks.{Buffer, Block, OfBuffer, OfPending, Name, AcqQ, Enter, TryPut, TryTake, WaitOn, SigRecv, SigSend, RelQ, Pend, TakeAll, Nothing, Done, NotYet, front_stands_in}
+use Rattle.cpu.specs.Table.Blocks.{Buffer, Block, OfBuffer, OfPending, Name, AcqQ, Enter, TryPut, TryTake, WaitOn}
+use Rattle.cpu.specs.Table.Blocks.{SigRecv, SigSend, RelQ, Pend, TakeAll, Nothing, Done, NotYet, front_stands_in}
 use Rattle.cpu.specs.Table.Edits.{acquired, answer, answer_of_acquire, edited, entered, put, taken, tells, wakes, without_any}
 use Rattle.cpu.specs.Tower.Views.{TablesAgree, TowerBlock, TowerName, answer_view, buffer_view, code, name_of, told_above, told_in, tower, view}
 

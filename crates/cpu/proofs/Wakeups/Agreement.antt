@@ -1,6 +1,7 @@
 -- One CPU's private state against where its threads are and what they do: whoever is current or ready is at home, the hand holds whom it
 -- woke, and each call stands at the stage that its turn says.
-use Rattle.std.proofs.Common.{◌≡◌, ◌+◌, ◌<◌, Bool, true, false, not, ◌&&◌, [], ◌∷◌, ◌++◌, length, Option, Some, None, is_some, nat_lt, if◌then◌else◌, refl, sym, ap, ◌∙◌, subst, arith}
+use Rattle.std.proofs.Common.{◌≡◌, ◌+◌, ◌<◌, Bool, true, false, not, ◌&&◌, [], ◌∷◌, ◌++◌, length, Option}
+use Rattle.std.proofs.Common.{Some, None, is_some, nat_lt, if◌then◌else◌, refl, sym, ap, ◌∙◌, subst, arith}
 use Rattle.std.proofs.lemmas.Bool.{and_parts, and_from, and_left, and_right, false_from_ne_true, ltb-true, eqb-false}
 use Rattle.std.proofs.lemmas.List.{length-set, get_or-set_same, get_or-set_other}
 use Rattle.event_log.specs.declared.ids.CpuId.{CpuId}
@@ -15,7 +16,8 @@ use Rattle.layer_traits.specs.declared.locked.Side.TheVariants.{Receivers, Sende
 use Rattle.layer_traits.specs.Places.{is_thread, one_if, count_in}
 use Rattle.layer_traits.proofs.CountLemmas.{same_tid_sym, count_append}
 use Rattle.cpu.specs.Table.Blocks.{side_of}
-use Rattle.cpu.specs.Table.Setups.{Setup, Stage, Acquires, Enters, Tries, Waits, AcquiresAgain, Signals, SignalsOwn, Releases, Returns, Call, Thread, Private, new_thread, thread_at, with_thread, home_of}
+use Rattle.cpu.specs.Table.Setups.{Setup, Stage, Acquires, Enters, Tries, Waits, AcquiresAgain, Signals, SignalsOwn}
+use Rattle.cpu.specs.Table.Setups.{Releases, Returns, Call, Thread, Private, new_thread, thread_at, with_thread, home_of}
 use Rattle.cpu.specs.Table.Choice.{slept_if, woken}
 use Rattle.cpu.proofs.Wakeups.Lists.{refuted}
 use Rattle.cpu.proofs.Wakeups.Spots.{Spot, Home, InHand, IsPending, AtLock, AtWait, Doing, GotIt, Trying, Failed, Waiting, Owing, Turn, Outside, In}
@@ -115,7 +117,8 @@ agrees_same setup c p q t T N P agrees same others mine = record {
   size = same.size ∙ agrees.size;
   calls = λ u local. by_test u local (same_tid t u) refl;
   seats = λ u.
-      (λ i. one_if (is_thread u (same.current i)) + count_in u (same.ready i)) ∙ agrees.seats u ∙ ap (λ e. one_if (seat setup c u (P u) e)) (sym (same.ended u));
+      (λ i. one_if (is_thread u (same.current i)) + count_in u (same.ready i)) ∙ agrees.seats u
+      ∙ ap (λ e. one_if (seat setup c u (P u) e)) (sym (same.ended u));
   hands = λ u. ap (is_thread u) same.hand ∙ agrees.hands u;
   ends = λ u local ended. agrees.ends u local (sym (same.ended u) ∙ ended);
 }
@@ -170,7 +173,8 @@ hand_is c (AtWait b side) on = absurd (cc on)
 pub known_of : (setup : Setup) (c : CpuId) (t : Tid) → is_local setup c t ≡ true → t.0 < length setup.homes
 known_of setup c t local = ltb-true t.0 (length setup.homes) (and_parts (same_cpu (home_of setup t) c) (nat_lt t.0 (length setup.homes)) local).1
 
-pub within : (setup : Setup) (c : CpuId) (p : Private) (T : Tid → Turn) (P : Tid → Spot) → Agrees setup c p T P → (t : Tid) → is_local setup c t ≡ true → t.0 < length p.threads
+pub within : (setup : Setup) (c : CpuId) (p : Private) (T : Tid → Turn) (P : Tid → Spot) → Agrees setup c p T P
+    → (t : Tid) → is_local setup c t ≡ true → t.0 < length p.threads
 within setup c p T P agrees t local = subst (λ n. t.0 < n) (sym agrees.size) (known_of setup c t local)
 
 -- The caller goes to sleep.
@@ -178,7 +182,8 @@ within setup c p T P agrees t local = subst (λ n. t.0 < n) (sym agrees.size) (k
 seat_off : (setup : Setup) (c : CpuId) (u : Tid) (x : Spot) (ended : Bool) → is_home x ≡ false → one_if (seat setup c u x ended) ≡ 0
 seat_off setup c u x ended off = ap one_if (and_right (is_local setup c u) (is_home x && not ended) (and_left (is_home x) (not ended) off))
 
-pub agrees_slept : (setup : Setup) (c : CpuId) (p : Private) (t : Tid) (T : Tid → Turn) (P N : Tid → Spot) (slept : Bool) → Agrees setup c p T P → p.current ≡ Some t
+pub agrees_slept : (setup : Setup) (c : CpuId) (p : Private) (t : Tid) (T : Tid → Turn) (P N : Tid → Spot) (slept : Bool)
+    → Agrees setup c p T P → p.current ≡ Some t
     → ((u : Tid) → same_tid t u ≡ false → N u ≡ P u) → (slept ≡ false → N t ≡ P t) → (slept ≡ true → (is_home (N t) ≡ false) × (is_hand c (N t) ≡ false))
     → Agrees setup c (slept_if slept p) T N
 agrees_slept setup c p t T P N false agrees runs_now others stays sleeps = record {
@@ -239,7 +244,8 @@ agrees_woken setup c p T P (Some s) agrees empty asleep = by_home (same_cpu (hom
     N u = if same_tid s u then spot_woken setup c u else P u
 
     by_home : (here : Bool) → same_cpu (home_of setup s) c ≡ here
-        → Agrees setup c (if here then record p { ready = p.ready ++ s ∷ [] } else record p { hand = Some s }) T (λ u. if same_tid s u then spot_woken setup c u else P u)
+        → Agrees setup c (if here then record p { ready = p.ready ++ s ∷ [] } else record p { hand = Some s }) T
+        (λ u. if same_tid s u then spot_woken setup c u else P u)
     by_home true here = record {
       size = agrees.size;
       calls = agrees.calls;
@@ -249,9 +255,11 @@ agrees_woken setup c p T P (Some s) agrees empty asleep = by_home (same_cpu (hom
     }
       where
         sits : (u : Tid) (mine : Bool) → same_tid s u ≡ mine
-            → one_if (is_thread u p.current) + count_in u (p.ready ++ s ∷ []) ≡ one_if (seat setup c u (if mine then spot_woken setup c u else P u) (thread_at p u).ended)
+            → one_if (is_thread u p.current) + count_in u (p.ready ++ s ∷ [])
+            ≡ one_if (seat setup c u (if mine then spot_woken setup c u else P u) (thread_at p u).ended)
         sits u true is =
-            let none : one_if (is_thread s p.current) + count_in s p.ready ≡ 0 = agrees.seats s ∙ seat_off setup c s (P s) (thread_at p s).ended (asleep s refl).0 in
+            let none : one_if (is_thread s p.current) + count_in s p.ready ≡ 0 =
+            agrees.seats s ∙ seat_off setup c s (P s) (thread_at p s).ended (asleep s refl).0 in
             let local : is_local setup c s ≡ true = and_from (same_cpu (home_of setup s) c) (nat_lt s.0 (length setup.homes)) here (asleep s refl).1 in
             let alive : (thread_at p s).ended ≡ false = false_from_ne_true (thread_at p s).ended (λ e. refuted (asleep s refl).0 (agrees.ends s local e)) in
             let one : one_if (same_tid s s) ≡ 1 = ap one_if (same_tid_self s) in
@@ -265,7 +273,8 @@ agrees_woken setup c p T P (Some s) agrees empty asleep = by_home (same_cpu (hom
         sits u false other =
             let none : one_if (same_tid u s) ≡ 0 = ap one_if (same_tid_sym u s ∙ other) in
             let more : count_in u (p.ready ++ s ∷ []) ≡ count_in u p.ready + (one_if (same_tid u s) + 0) = count_append u p.ready (s ∷ []) in
-            let now : one_if (is_thread u p.current) + count_in u (p.ready ++ s ∷ []) ≡ one_if (is_thread u p.current) + count_in u p.ready = omega (arith, none, more) in
+            let now : one_if (is_thread u p.current) + count_in u (p.ready ++ s ∷ []) ≡ one_if (is_thread u p.current) + count_in u p.ready =
+            omega (arith, none, more) in
             now ∙ agrees.seats u
 
         held : (u : Tid) (mine : Bool) → same_tid s u ≡ mine → is_thread u p.hand ≡ is_hand c (if mine then spot_woken setup c u else P u)
@@ -294,7 +303,8 @@ agrees_woken setup c p T P (Some s) agrees empty asleep = by_home (same_cpu (hom
         sits : (u : Tid) (mine : Bool) → same_tid s u ≡ mine
             → one_if (is_thread u p.current) + count_in u p.ready ≡ one_if (seat setup c u (if mine then spot_woken setup c u else P u) (thread_at p u).ended)
         sits u true is =
-            subst (λ v. one_if (is_thread v p.current) + count_in v p.ready ≡ one_if (seat setup c v (spot_woken setup c v) (thread_at p v).ended)) (same_tid_true s u is)
+            subst (λ v. one_if (is_thread v p.current) + count_in v p.ready ≡ one_if (seat setup c v (spot_woken setup c v) (thread_at p v).ended))
+            (same_tid_true s u is)
             (agrees.seats s ∙ seat_off setup c s (P s) (thread_at p s).ended (asleep s refl).0
             ∙ sym (seat_off setup c s (spot_woken setup c s) (thread_at p s).ended (ap is_home in_hand)))
         sits u false other = agrees.seats u

@@ -1,5 +1,6 @@
 -- A CPU alone: three steps of it are one section, and a call of it goes on section by section.
-use Rattle.std.proofs.Common.{◌≡◌, ℕ, zero, suc, ◌+◌, ◌<◌, ◌≤◌, ◌==◌, true, false, ◌&&◌, List, [], ◌∷◌, length, slice_get, slice_set, Some, None, option_map, if◌then◌else◌, refl, sym, ap, ◌∙◌, subst, arith}
+use Rattle.std.proofs.Common.{◌≡◌, ℕ, zero, suc, ◌+◌, ◌<◌, ◌≤◌, ◌==◌, true, false, ◌&&◌, List, [], ◌∷◌, length, slice_get}
+use Rattle.std.proofs.Common.{slice_set, Some, None, option_map, if◌then◌else◌, refl, sym, ap, ◌∙◌, subst, arith}
 use Rattle.std.proofs.lemmas.Bool.{ne_eqb}
 use Rattle.event_log.specs.declared.ids.CpuId.{CpuId}
 use Rattle.event_log.specs.declared.ids.Tid.{Tid}
@@ -18,9 +19,11 @@ use Rattle.layer_traits.specs.Along.{Outcome}
 use Rattle.cpu.specs.Table.Blocks.{Buffer, OfBuffer, Name, Answer}
 use Rattle.cpu.specs.Table.Edits.{edited, edited_buffer, answer}
 use Rattle.cpu.specs.Table.Setups.{Setup, Call, Private, thread_at, home_threads, have_ended}
-use Rattle.cpu.specs.Table.Choice.{Ask, at_buffer, section_at, asked_by, asked_at, asked_in, asked, Halts, Goes, at_call, at_current, at_hand, choice, with_call}
+use Rattle.cpu.specs.Table.Choice.{Ask, at_buffer, section_at, asked_by, asked_at, asked_in, asked}
+use Rattle.cpu.specs.Table.Choice.{Halts, Goes, at_call, at_current, at_hand, choice, with_call}
 use Rattle.cpu.specs.Table.Choice.{returned_at, returned_by, returned_in, settled, after_call, after_by, after_at, after_in, after_section}
-use Rattle.cpu.specs.Table.Steps.{after_reply, acting, chosen, step_in, cpu_step, Whole, whole_after, stepping, answered_by, roomy, step_at, system_step, steps_by}
+use Rattle.cpu.specs.Table.Steps.{after_reply, acting, chosen, step_in, cpu_step, Whole, whole_after}
+use Rattle.cpu.specs.Table.Steps.{stepping, answered_by, roomy, step_at, system_step, steps_by}
 use Rattle.cpu.specs.Wakeups.Order.{block_of}
 use Rattle.cpu.proofs.Wakeups.Agreement.{at_same, Same, same_with}
 
@@ -51,7 +54,8 @@ pub record Stands (setup : Setup) (c : CpuId) (s : Whole) (p : Private) (past : 
 
 module _ (setup : Setup) (c : CpuId) where
   -- a step for which there is room
-  one_step : (s : Whole) (p : Private) (o : Outcome Private Name) → slice_get s.cpus c.0 ≡ Some p → cpu_step setup c p s.log ≡ o → o.answer ≡ Stepped → s.taken < s.room
+  one_step : (s : Whole) (p : Private) (o : Outcome Private Name) → slice_get s.cpus c.0 ≡ Some p
+      → cpu_step setup c p s.log ≡ o → o.answer ≡ Stepped → s.taken < s.room
       → (system_step setup c s).next ≡ whole_after c s o
   one_step s p o here is stepped room =
       let left : (s.taken == s.room) ≡ false = ne_eqb s.taken s.room (λ same. absurd (omega (arith, same, room))) in
@@ -68,7 +72,8 @@ module _ (setup : Setup) (c : CpuId) where
     answer = Stepped;
   }
 
-  act : (q : Private) (log : List (Action Name)) (now : Phase) (a : Action Name) → phase c log ≡ now → next_action c (asked setup c q).lock (asked setup c q).name log ≡ a
+  act : (q : Private) (log : List (Action Name)) (now : Phase) (a : Action Name) → phase c log ≡ now
+      → next_action c (asked setup c q).lock (asked setup c q).name log ≡ a
       → acting setup c q log ≡ acted q log now a
   act q log now a at is = λ i. acted q log (at i) (is i)
 
@@ -88,7 +93,8 @@ module _ (setup : Setup) (c : CpuId) where
       whole_after c two (record { next = after_section setup c q a; acts = Give c lock name ∷ []; answer = Stepped })
 
   -- three steps are one section
-  pub three_steps : (s : Whole) (p q : Private) (past : List (Section Name)) (left : ℕ) (a : Answer) → Stands setup c s p past (left + 3) → choice setup c p ≡ Goes q
+  pub three_steps : (s : Whole) (p q : Private) (past : List (Section Name)) (left : ℕ) (a : Answer)
+      → Stands setup c s p past (left + 3) → choice setup c p ≡ Goes q
       → option_map (answer (asked setup c q).name) (block_of setup (asked setup c q).lock past) ≡ Some a → steps_by setup c 3 s ≡ after_three s q a
   three_steps s p q past left a at goes told =
       ap (λ x. (system_step setup c (system_step setup c x).next).next) first ∙ ap (λ x. (system_step setup c x).next) second ∙ third
@@ -98,7 +104,8 @@ module _ (setup : Setup) (c : CpuId) where
           let room = at.room in
           one_step s p _ at.here
           (begins_now p q s.log at.rests goes
-          ∙ act q s.log Rests (Take c (asked setup c q).lock) at.rests (first_action c (asked setup c q).lock (asked setup c q).name s.log at.rests)) refl (omega (arith, room))
+          ∙ act q s.log Rests (Take c (asked setup c q).lock) at.rests (first_action c (asked setup c q).lock (asked setup c q).name s.log at.rests)) refl
+          (omega (arith, room))
 
       second : (system_step setup c (whole_after c s (record { next = q; acts = Take c (asked setup c q).lock ∷ []; answer = Stepped }))).next
           ≡ whole_after c (whole_after c s (record { next = q; acts = Take c (asked setup c q).lock ∷ []; answer = Stepped }))
@@ -175,18 +182,23 @@ module _ (setup : Setup) (c : CpuId) where
       ∙ ap (at_current setup c p) at.current
       ∙ ap (at_call setup c p t) at.calls
 
-  pub asks_for : (p : Private) (t : Tid) (call : Call) (traced : List Entry) → InCall p t call traced → asked setup c p ≡ at_buffer call.buffer (section_at t call call.stage)
+  pub asks_for : (p : Private) (t : Tid) (call : Call) (traced : List Entry) → InCall p t call traced
+      → asked setup c p ≡ at_buffer call.buffer (section_at t call call.stage)
   asks_for p t call traced at = ap (asked_in setup c p) at.hand ∙ ap (asked_at c p) at.current ∙ ap (asked_by c t) at.calls
 
-  pub after_is : (p : Private) (t : Tid) (call : Call) (traced : List Entry) (a : Answer) → InCall p t call traced → after_section setup c p a ≡ after_call setup c p t call a
-  after_is p t call traced a at = ap (λ h. after_in setup c p h a) at.hand ∙ ap (λ h. after_at setup c p h a) at.current ∙ ap (λ h. after_by setup c p t h a) at.calls
+  pub after_is : (p : Private) (t : Tid) (call : Call) (traced : List Entry) (a : Answer) → InCall p t call traced
+      → after_section setup c p a ≡ after_call setup c p t call a
+  after_is p t call traced a at =
+      ap (λ h. after_in setup c p h a) at.hand ∙ ap (λ h. after_at setup c p h a) at.current ∙ ap (λ h. after_by setup c p t h a) at.calls
 
-  pub settled_is : (q : Private) (t : Tid) (call : Call) (traced : List Entry) → InCall q t call traced → settled setup q ≡ returned_at setup q t call call.stage
+  pub settled_is : (q : Private) (t : Tid) (call : Call) (traced : List Entry) → InCall q t call traced
+      → settled setup q ≡ returned_at setup q t call call.stage
   settled_is q t call traced at =
       ap (λ h. returned_in setup q h q.current) at.hand ∙ ap (λ h. returned_in setup q None h) at.current ∙ ap (λ x. returned_by setup q t x) at.calls
 
 -- the block of a buffer after a section on it
-pub block_next : (setup : Setup) (c : CpuId) (b : BufId) (name : Name) (past : List (Section Name)) (k : Buffer) → block_of setup (AtBuffer b) past ≡ Some (OfBuffer k)
+pub block_next : (setup : Setup) (c : CpuId) (b : BufId) (name : Name) (past : List (Section Name)) (k : Buffer)
+    → block_of setup (AtBuffer b) past ≡ Some (OfBuffer k)
     → block_of setup (AtBuffer b) (record { cpu = c; lock = AtBuffer b; edit = name } ∷ past) ≡ Some (OfBuffer (edited_buffer name k))
 block_next setup c b name past k is =
     ap (λ here. if here then option_map (edited name) (block_of setup (AtBuffer b) past) else block_of setup (AtBuffer b) past) (same_lock_self (AtBuffer b))

@@ -12,7 +12,8 @@ use Rattle.layer_traits.specs.BufferBlocks.{may_join, is_first}
 use Rattle.cpu.specs.Table.Blocks.{Buffer, Name, AcqQ, Enter, TryPut, TryTake, WaitOn, SigRecv, SigSend, RelQ, Pend, TakeAll, front_stands_in}
 use Rattle.cpu.specs.Table.Edits.{can_put, can_take, may_put, may_take, sender_is_due, receiver_is_due, without_any}
 use Rattle.cpu.specs.Table.Edits.{acquired, line_of, entered, put, taken, waiting, released, edited_buffer}
-use Rattle.cpu.specs.Wakeups.Order.{Progress, Begins, HasEntered, WasRefused, Owes, progress_after, receivers_signalled, senders_signalled, MayTry, IsOwing, MayEdit}
+use Rattle.cpu.specs.Wakeups.Order.{Progress, Begins, HasEntered, WasRefused, Owes, progress_after}
+use Rattle.cpu.specs.Wakeups.Order.{receivers_signalled, senders_signalled, MayTry, IsOwing, MayEdit}
 use Rattle.cpu.proofs.Wakeups.Lists.{refuted, some_is, none_is_not, not_in_without, in_joined}
 
 -- nobody is due
@@ -78,7 +79,8 @@ calm_put : (t : Tid) (k : Buffer) (g : Progress) → k.busy ≡ Some t → MayTr
 calm_put t k Begins owner may fits vain = fits
 calm_put t k (HasEntered Senders) owner may fits vain = (
   false_from_ne_true (sender_is_due k) (λ due.
-      refuted vain (and_from (is_first t k.send_line) (can_put k) (fits.0 due t owner) (and_parts (front_stands_in k.send_line k.waiting_senders) (can_put k) due).1)),
+      refuted vain (and_from (is_first t k.send_line) (can_put k) (fits.0 due t owner)
+      (and_parts (front_stands_in k.send_line k.waiting_senders) (can_put k) due).1)),
   fits.1,
 )
 calm_put t k (HasEntered Receivers) owner may fits vain = absurd (cc may)
@@ -90,7 +92,8 @@ calm_take t k Begins owner may fits vain = fits
 calm_take t k (HasEntered Receivers) owner may fits vain = (
   fits.1,
   false_from_ne_true (receiver_is_due k) (λ due.
-      refuted vain (and_from (is_first t k.receive_line) (can_take k) (fits.0 due t owner) (and_parts (front_stands_in k.receive_line k.waiting_receivers) (can_take k) due).1)),
+      refuted vain (and_from (is_first t k.receive_line) (can_take k) (fits.0 due t owner)
+      (and_parts (front_stands_in k.receive_line k.waiting_receivers) (can_take k) due).1)),
 )
 calm_take t k (HasEntered Senders) owner may fits vain = absurd (cc may)
 calm_take t k (WasRefused side) owner may fits vain = absurd may
@@ -124,7 +127,8 @@ after_release k calm = record { fits = calm; idle = λ e. (refl, nobody_left k.s
 calm_wait : (t : Tid) (line list : List Tid) (can : Bool) → (front_stands_in line list && can) ≡ false → (is_first t line && can) ≡ false
     → (front_stands_in line (joined t list) && can) ≡ false
 calm_wait t [] list can calm vain = refl
-calm_wait t (x ∷ line) list false calm vain = false_from_ne_true (is_in x (joined t list) && false) (λ e. absurd (cc (and_parts (is_in x (joined t list)) false e).1))
+calm_wait t (x ∷ line) list false calm vain =
+    false_from_ne_true (is_in x (joined t list) && false) (λ e. absurd (cc (and_parts (is_in x (joined t list)) false e).1))
 calm_wait t (x ∷ line) list true calm vain = ap (λ b. b && true) (in_joined x t list (both_ways (is_in x list) calm) (turned (both_ways (same_tid t x) vain)))
   where
     both_ways : (b : Bool) → (b && true) ≡ false → b ≡ false

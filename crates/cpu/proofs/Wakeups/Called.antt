@@ -1,5 +1,6 @@
 -- What holds after any section log in which each section may come: every buffer with every thread, and where each thread is.
-use Rattle.std.proofs.Common.{◌≡◌, ℕ, Bool, true, false, ◌&&◌, List, [], ◌∷◌, length, slice_get, Option, Some, None, option_map, nat_lt, if◌then◌else◌, refl, sym, ap, ◌∙◌, subst}
+use Rattle.std.proofs.Common.{◌≡◌, ℕ, Bool, true, false, ◌&&◌, List, [], ◌∷◌, length, slice_get, Option}
+use Rattle.std.proofs.Common.{Some, None, option_map, nat_lt, if◌then◌else◌, refl, sym, ap, ◌∙◌, subst}
 use Rattle.std.proofs.lemmas.Bool.{and_parts, and_left, and_right}
 use Rattle.event_log.specs.declared.ids.CpuId.{CpuId}
 use Rattle.event_log.specs.declared.ids.Tid.{Tid}
@@ -27,7 +28,8 @@ use Rattle.cpu.proofs.Wakeups.Spots.{Spot, Home, InHand, IsPending, AtLock, AtWa
 use Rattle.cpu.proofs.Wakeups.Spots.{is_buffer, is_home, is_pending, is_lock, is_wait, is_moved, is_side}
 use Rattle.cpu.proofs.Wakeups.Spots.{caller_in, is_caller, bed, spot_by, spot_woken, spot_moved, spot_drained, spot_pending, spot_buffer, spot}
 use Rattle.cpu.proofs.Wakeups.Spots.{next_turn, turn_moved, turn_buffer, turn, IsCallers, MayComeBy, MayComeTo, MayComeAt, MayCome, marked}
-use Rattle.cpu.proofs.Wakeups.Pairs.{Pair, marked_none, grown_list, buffer_true, sleeps_at, woken_sleeps, woken_no_lock, woken_no_wait, other_pair, thread_some, other_joined}
+use Rattle.cpu.proofs.Wakeups.Pairs.{Pair, marked_none, grown_list, buffer_true, sleeps_at, woken_sleeps}
+use Rattle.cpu.proofs.Wakeups.Pairs.{woken_no_lock, woken_no_wait, other_pair, thread_some, other_joined}
 use Rattle.cpu.proofs.Wakeups.Owns.{ByCaller, may_edit, own_pair, away, turn_apart, spot_apart}
 
 -- what holds after a section log
@@ -88,7 +90,8 @@ pub data Moves (setup : Setup) (c : CpuId) (d : BufId) (u : Tid) (name : Name) (
 abbrev pub CallersAre : Setup → List (Section Name) → CpuId → BufId → Name → Type 0
 CallersAre setup past c d name = (u : Tid) → caller_in name ≡ Some u → IsCallers setup c d name u (spot setup u past) (turn setup u past)
 
-pub callers_are : (setup : Setup) (past : List (Section Name)) (c : CpuId) (d : BufId) (name : Name) → MayComeBy setup past c d name (caller_in name) → CallersAre setup past c d name
+pub callers_are : (setup : Setup) (past : List (Section Name)) (c : CpuId) (d : BufId) (name : Name)
+    → MayComeBy setup past c d name (caller_in name) → CallersAre setup past c d name
 callers_are setup past c d name may u is = subst (MayComeBy setup past c d name) is may
 
 pub is_the_caller : (u : Tid) (name : Name) → is_caller u name ≡ true → caller_in name ≡ Some u
@@ -200,7 +203,8 @@ module _ (setup : Setup) (c : CpuId) (d : BufId) (u : Tid) (name : Name) (x now 
 
 -- A section at a buffer.
 
-module _ (setup : Setup) (past : List (Section Name)) (good : Good setup past) (c : CpuId) (d : BufId) (name : Name) (callers : CallersAre setup past c d name) (t : Tid) (caller : caller_in name ≡ Some t) where
+module _ (setup : Setup) (past : List (Section Name)) (good : Good setup past) (c : CpuId) (d : BufId) (name : Name)
+    (callers : CallersAre setup past c d name) (t : Tid) (caller : caller_in name ≡ Some t) where
   -- the section keeps the order
   edits : (k : Buffer) → block_of setup (AtBuffer d) past ≡ Some (OfBuffer k) → MayEdit name k (progress setup (AtBuffer d) past)
   edits k block =
@@ -227,7 +231,8 @@ module _ (setup : Setup) (past : List (Section Name)) (good : Good setup past) (
       other_pair setup c d u name k (progress setup (AtBuffer d) past) (turn setup u past) (spot setup u past) other (edits k block) (good.pairs d u k block)
 
   here_pair : (u : Tid) (k : Buffer) (o : Option Block) → block_of setup (AtBuffer d) past ≡ o → option_map (edited name) o ≡ Some (OfBuffer k)
-      → Pair d u k (progress_by name o (progress setup (AtBuffer d) past)) (turn_buffer d u name o (turn setup u past)) (spot_buffer setup c d u name o (spot setup u past))
+      → Pair d u k (progress_by name o (progress setup (AtBuffer d) past)) (turn_buffer d u name o (turn setup u past))
+      (spot_buffer setup c d u name o (spot setup u past))
   here_pair u k None block is = absurd (cc is)
   here_pair u k (Some (OfPending threads)) block is = absurd (cc is)
   here_pair u k (Some (OfBuffer was)) block is =
@@ -268,7 +273,8 @@ module _ (setup : Setup) (past : List (Section Name)) (good : Good setup past) (
         ∙ ap (λ p. one_if (same_cpu (home_of setup u) e && p))
         (sym (no_pending_moves setup c d u name (spot setup u past) _ (moves_at setup past good c d name callers u (block_of setup (AtBuffer d) past) refl)));
     small = λ u on.
-        small_moves setup c d u name (spot setup u past) _ (moves_at setup past good c d name callers u (block_of setup (AtBuffer d) past) refl) (good.small u) on;
+        small_moves setup c d u name (spot setup u past) _
+        (moves_at setup past good c d name callers u (block_of setup (AtBuffer d) past) refl) (good.small u) on;
     known = λ u off.
         known_moves setup c d u name (spot setup u past) _ (moves_at setup past good c d name callers u (block_of setup (AtBuffer d) past) refl)
         (λ own. (and_parts (same_cpu (home_of setup u) c) (nat_lt u.0 (length setup.homes)) (callers u (is_the_caller u name own)).local).1) (good.known u) off;
@@ -279,13 +285,15 @@ module _ (setup : Setup) (past : List (Section Name)) (good : Good setup past) (
 
       by_test : (b : BufId) (u : Tid) (k : Buffer) (here : Bool) → is_buffer b d ≡ here
           → (if here then option_map (edited name) (block_of setup (AtBuffer b) past) else block_of setup (AtBuffer b) past) ≡ Some (OfBuffer k)
-          → Pair b u k (if here then progress_by name (block_of setup (AtBuffer b) past) (progress setup (AtBuffer b) past) else progress setup (AtBuffer b) past)
+          → Pair b u k (if here then progress_by name (block_of setup (AtBuffer b) past)
+          (progress setup (AtBuffer b) past) else progress setup (AtBuffer b) past)
           (turn setup u (record { cpu = c; lock = AtBuffer d; edit = name } ∷ past)) (spot setup u (record { cpu = c; lock = AtBuffer d; edit = name } ∷ past))
       by_test b u k false off is = there_pair b off u k is
       by_test b u k true same is =
           let P : BufId → Type 0 = λ x. option_map (edited name) (block_of setup (AtBuffer x) past) ≡ Some (OfBuffer k)
           → Pair x u k (progress_by name (block_of setup (AtBuffer x) past) (progress setup (AtBuffer x) past))
-          (turn setup u (record { cpu = c; lock = AtBuffer d; edit = name } ∷ past)) (spot setup u (record { cpu = c; lock = AtBuffer d; edit = name } ∷ past)) in
+          (turn setup u (record { cpu = c; lock = AtBuffer d; edit = name } ∷ past))
+          (spot setup u (record { cpu = c; lock = AtBuffer d; edit = name } ∷ past)) in
           subst P (sym (buffer_true b d same)) (here_pair u k (block_of setup (AtBuffer d) past) refl) is
 
 -- A section on pending threads.
@@ -335,7 +343,8 @@ same_threads list now is = ap threads_or is
 
 -- the queue of the lock at which the section came, and the queue of another lock
 module _ (setup : Setup) (past : List (Section Name)) (good : Good setup past) (c d : CpuId) where
-  pended_list : (s : Tid) → spot setup s past ≡ InHand c → home_of setup s ≡ d → (u : Tid) (list : List Tid) → block_of setup (Pending d) past ≡ Some (OfPending list)
+  pended_list : (s : Tid) → spot setup s past ≡ InHand c → home_of setup s ≡ d → (u : Tid) (list : List Tid)
+      → block_of setup (Pending d) past ≡ Some (OfPending list)
       → count_in u (joined s list) ≡ one_if (same_cpu (home_of setup u) d && is_pending (if same_tid s u then IsPending else spot setup u past))
   pended_list s held home u list block = by_test (same_tid s u) refl
     where
@@ -352,14 +361,17 @@ module _ (setup : Setup) (past : List (Section Name)) (good : Good setup past) (
       by_test false other = other_joined u s list other ∙ good.pending d u list block
 
   pended_there : (s : Tid) → spot setup s past ≡ InHand c → home_of setup s ≡ d → (u : Tid) (e : CpuId) → same_cpu e d ≡ false
-      → (same_cpu (home_of setup u) e && is_pending (if same_tid s u then IsPending else spot setup u past)) ≡ (same_cpu (home_of setup u) e && is_pending (spot setup u past))
+      → (same_cpu (home_of setup u) e && is_pending (if same_tid s u then IsPending else spot setup u past))
+      ≡ (same_cpu (home_of setup u) e && is_pending (spot setup u past))
   pended_there s held home u e off = by_test (same_tid s u) refl
     where
       by_test : (mine : Bool) → same_tid s u ≡ mine
-          → (same_cpu (home_of setup u) e && is_pending (if mine then IsPending else spot setup u past)) ≡ (same_cpu (home_of setup u) e && is_pending (spot setup u past))
+          → (same_cpu (home_of setup u) e && is_pending (if mine then IsPending else spot setup u past))
+          ≡ (same_cpu (home_of setup u) e && is_pending (spot setup u past))
       by_test true same =
           let is : s ≡ u = same_tid_true s u same in
-          let other : same_cpu (home_of setup u) e ≡ false = subst (λ v. same_cpu (home_of setup v) e ≡ false) is (ap (λ h. same_cpu h e) home ∙ (same_cpu_sym d e ∙ off)) in
+          let other : same_cpu (home_of setup u) e ≡ false =
+          subst (λ v. same_cpu (home_of setup v) e ≡ false) is (ap (λ h. same_cpu h e) home ∙ (same_cpu_sym d e ∙ off)) in
           ap (λ b. b && true) other ∙ ap (λ b. b && is_pending (spot setup u past)) (sym other)
       by_test false other = refl
 
@@ -396,13 +408,15 @@ module _ (setup : Setup) (past : List (Section Name)) (good : Good setup past) (
   here_pending name may u now (Some (OfPending list)) block is = absurd may
 
   there_pending : (name : Name) → MayComeTo setup past c d name → (u : Tid) (e : CpuId) → same_cpu e d ≡ false
-      → (same_cpu (home_of setup u) e && is_pending (spot_pending setup d u name (spot setup u past))) ≡ (same_cpu (home_of setup u) e && is_pending (spot setup u past))
+      → (same_cpu (home_of setup u) e && is_pending (spot_pending setup d u name (spot setup u past)))
+      ≡ (same_cpu (home_of setup u) e && is_pending (spot setup u past))
   there_pending (Pend s) may u e off = pended_there s may.0 may.1 u e off
   there_pending TakeAll may u e off = drained_there u e off
   there_pending name may u e off = absurd may
 
   -- no section on pending threads touches a buffer
-  same_lock_pending : (name : Name) → MayComeTo setup past c d name → (u : Tid) (b : BufId) → is_lock b (spot_pending setup d u name (spot setup u past)) ≡ is_lock b (spot setup u past)
+  same_lock_pending : (name : Name) → MayComeTo setup past c d name → (u : Tid) (b : BufId)
+      → is_lock b (spot_pending setup d u name (spot setup u past)) ≡ is_lock b (spot setup u past)
   same_lock_pending (Pend s) may u b = by_test (same_tid s u) refl
     where
       by_test : (mine : Bool) → same_tid s u ≡ mine → is_lock b (if mine then IsPending else spot setup u past) ≡ is_lock b (spot setup u past)
@@ -429,7 +443,8 @@ module _ (setup : Setup) (past : List (Section Name)) (good : Good setup past) (
       by_test false = refl
   same_wait_pending name may u b side = absurd may
 
-  small_pending : (name : Name) → MayComeTo setup past c d name → (u : Tid) → is_moved (spot_pending setup d u name (spot setup u past)) ≡ true → nat_lt u.0 THREADS ≡ true
+  small_pending : (name : Name) → MayComeTo setup past c d name → (u : Tid)
+      → is_moved (spot_pending setup d u name (spot setup u past)) ≡ true → nat_lt u.0 THREADS ≡ true
   small_pending (Pend s) may u on = by_test (same_tid s u) refl on
     where
       by_test : (mine : Bool) → same_tid s u ≡ mine → is_moved (if mine then IsPending else spot setup u past) ≡ true → nat_lt u.0 THREADS ≡ true
@@ -482,7 +497,8 @@ module _ (setup : Setup) (past : List (Section Name)) (good : Good setup past) (
   good_at (Pending d) may = good_pending setup past good c d name may
   good_at (AtBuffer d) may = by_caller (caller_in name) refl may
     where
-      by_caller : (o : Option Tid) → caller_in name ≡ o → MayComeBy setup past c d name o → Good setup (record { cpu = c; lock = AtBuffer d; edit = name } ∷ past)
+      by_caller : (o : Option Tid) → caller_in name ≡ o → MayComeBy setup past c d name o
+          → Good setup (record { cpu = c; lock = AtBuffer d; edit = name } ∷ past)
       by_caller None is now = absurd now
       by_caller (Some t) is now =
           good_buffer setup past good c d name (callers_are setup past c d name (subst (MayComeBy setup past c d name) (sym is) now)) t is

@@ -1,5 +1,6 @@
 -- What a CPU chooses to do leaves it in agreement.
-use Rattle.std.proofs.Common.{◌≡◌, ◌+◌, ◌<◌, ◌==◌, Bool, true, false, ◌&&◌, List, [], ◌∷◌, length, Option, Some, None, is_some, if◌then◌else◌, refl, sym, ap, ◌∙◌, subst, arith}
+use Rattle.std.proofs.Common.{◌≡◌, ◌+◌, ◌<◌, ◌==◌, Bool, true, false, ◌&&◌, List, [], ◌∷◌, length, Option}
+use Rattle.std.proofs.Common.{Some, None, is_some, if◌then◌else◌, refl, sym, ap, ◌∙◌, subst, arith}
 use Rattle.std.proofs.lemmas.Bool.{and_right}
 use Rattle.std.proofs.lemmas.List.{length-set}
 use Rattle.event_log.specs.declared.ids.CpuId.{CpuId}
@@ -13,7 +14,8 @@ use Rattle.layer_traits.specs.declared.steps.Reason.TheVariants.{AllEnded, Trace
 use Rattle.layer_traits.specs.Places.{is_thread, one_if, count_in}
 use Rattle.layer_traits.proofs.CountLemmas.{same_tid_sym}
 use Rattle.cpu.specs.Table.Setups.{Setup, Acquires, Call, Thread, Private, thread_at, stands_at, home_threads, open_calls, have_ended}
-use Rattle.cpu.specs.Table.Choice.{Choice, Halts, Alone, Goes, new_call, with_call, with_guest, begins, ends, at_instruction, at_call, at_ready, at_current, at_hand, choice}
+use Rattle.cpu.specs.Table.Choice.{Choice, Halts, Alone, Goes, new_call, with_call, with_guest, begins}
+use Rattle.cpu.specs.Table.Choice.{ends, at_instruction, at_call, at_ready, at_current, at_hand, choice}
 use Rattle.cpu.proofs.Wakeups.Lists.{refuted}
 use Rattle.cpu.proofs.Wakeups.Spots.{Spot, Turn, is_home, is_local}
 use Rattle.cpu.proofs.Wakeups.Agreement.{turn_of_call, is_done, seat, Agrees, IsSettled, at_same, at_other, same_with, agrees_same, runs, within}
@@ -25,7 +27,8 @@ ChoiceOk setup c T P (Halts reason) = Unit {0}
 ChoiceOk setup c T P (Alone q) = Agrees setup c q T P × IsSettled setup c q
 ChoiceOk setup c T P (Goes q) = Agrees setup c q T P × IsSettled setup c q
 
-module _ (setup : Setup) (c : CpuId) (p : Private) (T : Tid → Turn) (P : Tid → Spot) (agrees : Agrees setup c p T P) (settled_before : IsSettled setup c p) where
+module _ (setup : Setup) (c : CpuId) (p : Private) (T : Tid → Turn) (P : Tid → Spot)
+    (agrees : Agrees setup c p T P) (settled_before : IsSettled setup c p) where
   switches : (list : List Tid) → p.ready ≡ list → p.current ≡ None → p.hand ≡ None → ChoiceOk setup c T P (at_ready p list)
   switches [] is idle empty = (agrees, settled_before)
   switches (t ∷ rest) is idle empty = (
@@ -61,7 +64,8 @@ module _ (setup : Setup) (c : CpuId) (p : Private) (T : Tid → Turn) (P : Tid �
 
     calls_now : (call : Call) → call.stage ≡ Acquires → Agrees setup c (with_call p t (Some call)) T P × IsSettled setup c (with_call p t (Some call))
     calls_now call first = (
-      agrees_same setup c p (with_call p t (Some call)) t T T P agrees (same_with p t (record (thread_at p t) { call = Some call }) known refl) (λ u other. refl)
+      agrees_same setup c p (with_call p t (Some call)) t T T P agrees
+          (same_with p t (record (thread_at p t) { call = Some call }) known refl) (λ u other. refl)
           (agrees.calls t (runs setup c p T P agrees t runs_now).0 ∙ ap turn_of_call outside ∙ sym (now_called ∙ at_start)),
       λ u local done. by_test u local done (same_tid t u) refl,
     )
@@ -81,7 +85,8 @@ module _ (setup : Setup) (c : CpuId) (p : Private) (T : Tid → Turn) (P : Tid �
             ap (λ y. is_done y.call) (at_same p t (record (thread_at p t) { call = Some call }) known)
             ∙ subst (λ s. is_done (Some (record call { stage = s })) ≡ false) (sym first) refl in
             refuted off called
-        by_test u local done false other = not_done u local (ap (λ y. is_done y.call) (sym (at_other p t u (record (thread_at p t) { call = Some call }) other)) ∙ done)
+        by_test u local done false other =
+            not_done u local (ap (λ y. is_done y.call) (sym (at_other p t u (record (thread_at p t) { call = Some call }) other)) ∙ done)
 
     begun : (call : Call) → call.stage ≡ Acquires → ChoiceOk setup c T P (begins setup c p t call)
     begun call first = by_test ((length p.trace + open_calls p (home_threads setup c)) == setup.trace_room)
@@ -114,13 +119,15 @@ module _ (setup : Setup) (c : CpuId) (p : Private) (T : Tid → Turn) (P : Tid �
             (ap (λ y. y.call) (at_same p t (record (thread_at p t) { ended = true }) known))
         same_call u false other = ap (λ y. y.call) (at_other p t u (record (thread_at p t) { ended = true }) other)
 
-        sits : (u : Tid) (mine : Bool) → same_tid t u ≡ mine → one_if (is_thread u None) + count_in u p.ready ≡ one_if (seat setup c u (P u) (thread_at (ends p t) u).ended)
+        sits : (u : Tid) (mine : Bool) → same_tid t u ≡ mine
+            → one_if (is_thread u None) + count_in u p.ready ≡ one_if (seat setup c u (P u) (thread_at (ends p t) u).ended)
         sits u true is =
             let none : one_if (is_thread t None) + count_in t p.ready ≡ 0 = omega (arith, at_work.3) in
             let off : one_if (seat setup c t (P t) (thread_at (ends p t) t).ended) ≡ 0 =
             ap (λ y. one_if (seat setup c t (P t) y.ended)) (at_same p t (record (thread_at p t) { ended = true }) known)
             ∙ ap one_if (and_right (is_local setup c t) (is_home (P t) && false) (and_right (is_home (P t)) false refl)) in
-            subst (λ v. one_if (is_thread v None) + count_in v p.ready ≡ one_if (seat setup c v (P v) (thread_at (ends p t) v).ended)) (same_tid_true t u is) (none ∙ sym off)
+            subst (λ v. one_if (is_thread v None) + count_in v p.ready ≡ one_if (seat setup c v (P v) (thread_at (ends p t) v).ended))
+            (same_tid_true t u is) (none ∙ sym off)
         sits u false other =
             let before : one_if (is_thread u p.current) ≡ 0 = ap one_if (ap (is_thread u) runs_now ∙ other) in
             let now : one_if (is_thread u None) + count_in u p.ready ≡ one_if (is_thread u p.current) + count_in u p.ready = omega (arith, before) in
@@ -144,7 +151,8 @@ module _ (setup : Setup) (c : CpuId) (p : Private) (T : Tid → Turn) (P : Tid �
   pub choice_ok : ChoiceOk setup c T P (choice setup c p)
   choice_ok = by_hand p.hand refl
     where
-      by_call : (t : Tid) → p.hand ≡ None → p.current ≡ Some t → (call : Option Call) → (thread_at p t).call ≡ call → ChoiceOk setup c T P (at_call setup c p t call)
+      by_call : (t : Tid) → p.hand ≡ None → p.current ≡ Some t → (call : Option Call)
+          → (thread_at p t).call ≡ call → ChoiceOk setup c T P (at_call setup c p t call)
       by_call t empty runs_now None outside = instructed t empty runs_now outside (stands_at setup p t)
       by_call t empty runs_now (Some call) inside = (agrees, settled_before)
 

@@ -1,5 +1,6 @@
 -- One step of a CPU: each section that it ends is one that may come, and every CPU stays in agreement with the log.
-use Rattle.std.proofs.Common.{◌≡◌, ℕ, Bool, true, false, List, [], ◌∷◌, ◌++◌, length, slice_get, Option, Some, None, option_map, is_some, nat_lt, if◌then◌else◌, refl, sym, ap, ◌∙◌, subst}
+use Rattle.std.proofs.Common.{◌≡◌, ℕ, Bool, true, false, List, [], ◌∷◌, ◌++◌, length, slice_get, Option, Some}
+use Rattle.std.proofs.Common.{None, option_map, is_some, nat_lt, if◌then◌else◌, refl, sym, ap, ◌∙◌, subst}
 use Rattle.std.proofs.lemmas.Bool.{and_parts, false_from_ne_true}
 use Rattle.event_log.specs.declared.ids.CpuId.{CpuId}
 use Rattle.event_log.specs.declared.ids.Tid.{Tid}
@@ -17,19 +18,23 @@ use Rattle.layer_traits.specs.declared.locked.Side.TheVariants.{Receivers, Sende
 use Rattle.layer_traits.specs.Places.{is_thread, count_in}
 use Rattle.cpu.specs.Table.Blocks.{Block, OfBuffer, OfPending, Name, Pend, TakeAll, Asks, Sends, Receives, side_of}
 use Rattle.cpu.specs.Table.Edits.{edited, answer, answer_of_buffer}
-use Rattle.cpu.specs.Table.Setups.{Setup, Stage, Acquires, Enters, Tries, Waits, AcquiresAgain, Signals, SignalsOwn, Releases, Returns, Call, Private, thread_at, home_of, stands_at, opening_buffer}
-use Rattle.cpu.specs.Table.Choice.{Ask, at_pending, at_buffer, section_at, first_section, try_of, first_signal, second_signal, asked_by, asked_at, asked_in, asked, with_guest, settled}
+use Rattle.cpu.specs.Table.Setups.{Setup, Stage, Acquires, Enters, Tries, Waits, AcquiresAgain, Signals, SignalsOwn}
+use Rattle.cpu.specs.Table.Setups.{Releases, Returns, Call, Private, thread_at, home_of, stands_at, opening_buffer}
+use Rattle.cpu.specs.Table.Choice.{Ask, at_pending, at_buffer, section_at, first_section, try_of, first_signal}
+use Rattle.cpu.specs.Table.Choice.{second_signal, asked_by, asked_at, asked_in, asked, with_guest, settled}
 use Rattle.cpu.specs.Table.Choice.{after_call, after_by, after_at, after_in}
 use Rattle.cpu.specs.Table.Steps.{after_reply}
 use Rattle.cpu.specs.Wakeups.Order.{block_of}
 use Rattle.cpu.proofs.Wakeups.Lists.{refuted}
 use Rattle.cpu.proofs.Wakeups.Spots.{Spot, Home, InHand, IsPending, AtLock, AtWait, GotIt, Trying, Owing, In}
-use Rattle.cpu.proofs.Wakeups.Spots.{is_home, is_hand, caller_in, is_caller, spot_by, spot_drained, spot_pending, spot_buffer, spot, next_turn, turn_moved, turn_buffer, turn}
+use Rattle.cpu.proofs.Wakeups.Spots.{is_home, is_hand, caller_in, is_caller, spot_by, spot_drained, spot_pending}
+use Rattle.cpu.proofs.Wakeups.Spots.{spot_buffer, spot, next_turn, turn_moved, turn_buffer, turn}
 use Rattle.cpu.proofs.Wakeups.Spots.{IsTurn, is_local, IsCallers, MayComeBy, MayComeTo, MayComeAt, MayCome}
 use Rattle.cpu.proofs.Wakeups.Pairs.{sleeps_at, woken_sleeps}
 use Rattle.cpu.proofs.Wakeups.Called.{Good, Moves, was_woken, has_slept, stays, moves_at, CallersAre, callers_are, is_the_caller, sleeps_not_home}
 use Rattle.cpu.proofs.Wakeups.Agreement.{owing_own, turn_of_stage, turn_of_call, is_last, is_done, Agrees, IsSettled, runs, home_is, hand_is, within}
-use Rattle.cpu.proofs.Wakeups.Sits.{section_caller, bed_not_hand, agrees_call, agrees_pended, agrees_drained, agrees_yielded, guest_calls, agrees_foreign, drained_hand}
+use Rattle.cpu.proofs.Wakeups.Sits.{section_caller, bed_not_hand, agrees_call, agrees_pended, agrees_drained}
+use Rattle.cpu.proofs.Wakeups.Sits.{agrees_yielded, guest_calls, agrees_foreign, drained_hand}
 
 -- The locks' blocks are of their kinds.
 
@@ -42,7 +47,8 @@ pending_there setup d (s ∷ past) = by_test (same_lock (Pending d) s.lock) (blo
     by_test true o before = (_, ap (option_map (edited s.edit)) before.1)
     by_test false o before = before
 
-pub no_pending_at_buffer : (setup : Setup) (b : BufId) (past : List (Section Name)) (list : List Tid) → block_of setup (AtBuffer b) past ≡ Some (OfPending list) → ⊥
+pub no_pending_at_buffer : (setup : Setup) (b : BufId) (past : List (Section Name)) (list : List Tid)
+    → block_of setup (AtBuffer b) past ≡ Some (OfPending list) → ⊥
 no_pending_at_buffer setup b [] list is = opens (slice_get setup.caps b.0) is
   where
     opens : (o : Option ℕ) → opening_buffer o ≡ Some (OfPending list) → ⊥
@@ -72,7 +78,8 @@ sleeps_no_hand c d Home on = refl
 sleeps_no_hand c d (InHand e) on = absurd (cc on)
 sleeps_no_hand c d IsPending on = refl
 
-module _ (setup : Setup) (past : List (Section Name)) (good : Good setup past) (c e : CpuId) (off : same_cpu e c ≡ false) (p : Private) (agrees : Agrees setup c p (λ u. turn setup u past) (λ u. spot setup u past)) where
+module _ (setup : Setup) (past : List (Section Name)) (good : Good setup past) (c e : CpuId) (off : same_cpu e c ≡ false)
+    (p : Private) (agrees : Agrees setup c p (λ u. turn setup u past) (λ u. spot setup u past)) where
   homes_moved : (d : BufId) (name : Name) (u : Tid) (x now : Spot) → (is_caller u name ≡ true → same_cpu (home_of setup u) e ≡ true) → is_local setup c u ≡ true
       → Moves setup e d u name x now → is_home now ≡ is_home x
   homes_moved d name u x now mine local (was_woken small sleeps is) =
@@ -91,7 +98,8 @@ module _ (setup : Setup) (past : List (Section Name)) (good : Good setup past) (
   hands_moved d name u x now (has_slept home own is) = ap (is_hand c) is ∙ bed_not_hand c d name ∙ ap (is_hand c) (sym home)
   hands_moved d name u x now (stays is) = ap (is_hand c) is
 
-  turns_moved : (d : BufId) (name : Name) (u : Tid) (o : Option Block) → (is_caller u name ≡ true → same_cpu (home_of setup u) e ≡ true) → is_local setup c u ≡ true
+  turns_moved : (d : BufId) (name : Name) (u : Tid) (o : Option Block)
+      → (is_caller u name ≡ true → same_cpu (home_of setup u) e ≡ true) → is_local setup c u ≡ true
       → turn_buffer d u name o (turn setup u past) ≡ turn setup u past
   turns_moved d name u None mine local = refl
   turns_moved d name u (Some (OfPending threads)) mine local = refl
@@ -100,12 +108,14 @@ module _ (setup : Setup) (past : List (Section Name)) (good : Good setup past) (
       (false_from_ne_true (is_caller u name) (λ own. two_homes setup c e u off local (mine own)))
 
   foreign_buffer : (d : BufId) (name : Name) → CallersAre setup past e d name
-      → Agrees setup c p (λ u. turn setup u (record { cpu = e; lock = AtBuffer d; edit = name } ∷ past)) (λ u. spot setup u (record { cpu = e; lock = AtBuffer d; edit = name } ∷ past))
+      → Agrees setup c p (λ u. turn setup u (record { cpu = e; lock = AtBuffer d; edit = name } ∷ past))
+      (λ u. spot setup u (record { cpu = e; lock = AtBuffer d; edit = name } ∷ past))
   foreign_buffer d name callers =
       agrees_foreign setup c p (λ u. turn setup u past) (λ u. turn setup u (record { cpu = e; lock = AtBuffer d; edit = name } ∷ past))
       (λ u. spot setup u past) (λ u. spot setup u (record { cpu = e; lock = AtBuffer d; edit = name } ∷ past)) agrees
       (λ u local. turns_moved d name u (block_of setup (AtBuffer d) past) (mine u) local)
-      (λ u local. homes_moved d name u (spot setup u past) _ (mine u) local (moves_at setup past good e d name callers u (block_of setup (AtBuffer d) past) refl))
+      (λ u local. homes_moved d name u (spot setup u past) _ (mine u) local
+      (moves_at setup past good e d name callers u (block_of setup (AtBuffer d) past) refl))
       (λ u. hands_moved d name u (spot setup u past) _ (moves_at setup past good e d name callers u (block_of setup (AtBuffer d) past) refl))
     where
       mine : (u : Tid) → is_caller u name ≡ true → same_cpu (home_of setup u) e ≡ true
@@ -120,10 +130,12 @@ module _ (setup : Setup) (past : List (Section Name)) (good : Good setup past) (
       by_test false other = refl
   pending_homes d TakeAll may u local =
       ap (λ b. is_home (if b then spot_drained (spot setup u past) else spot setup u past))
-      (false_from_ne_true (same_cpu (home_of setup u) d) (λ at. two_homes setup c e u off local (subst (λ x. same_cpu (home_of setup u) x ≡ true) (sym may) at)))
+      (false_from_ne_true (same_cpu (home_of setup u) d)
+      (λ at. two_homes setup c e u off local (subst (λ x. same_cpu (home_of setup u) x ≡ true) (sym may) at)))
   pending_homes d name may u local = absurd may
 
-  pending_hands : (d : CpuId) (name : Name) → MayComeTo setup past e d name → (u : Tid) → is_hand c (spot_pending setup d u name (spot setup u past)) ≡ is_hand c (spot setup u past)
+  pending_hands : (d : CpuId) (name : Name) → MayComeTo setup past e d name → (u : Tid)
+      → is_hand c (spot_pending setup d u name (spot setup u past)) ≡ is_hand c (spot setup u past)
   pending_hands d (Pend s) may u = by_test (same_tid s u) refl
     where
       by_test : (mine : Bool) → same_tid s u ≡ mine → is_hand c (if mine then IsPending else spot setup u past) ≡ is_hand c (spot setup u past)
@@ -137,10 +149,12 @@ module _ (setup : Setup) (past : List (Section Name)) (good : Good setup past) (
   pending_hands d name may u = absurd may
 
   foreign_at : (lock : LockId) (name : Name) → MayComeAt setup past e lock name
-      → Agrees setup c p (λ u. turn setup u (record { cpu = e; lock = lock; edit = name } ∷ past)) (λ u. spot setup u (record { cpu = e; lock = lock; edit = name } ∷ past))
+      → Agrees setup c p (λ u. turn setup u (record { cpu = e; lock = lock; edit = name } ∷ past))
+      (λ u. spot setup u (record { cpu = e; lock = lock; edit = name } ∷ past))
   foreign_at (AtBuffer d) name may = foreign_buffer d name (callers_are setup past e d name may)
   foreign_at (Pending d) name may =
-      agrees_foreign setup c p (λ u. turn setup u past) (λ u. turn setup u past) (λ u. spot setup u past) (λ u. spot_pending setup d u name (spot setup u past)) agrees
+      agrees_foreign setup c p (λ u. turn setup u past) (λ u. turn setup u past) (λ u. spot setup u past)
+      (λ u. spot_pending setup d u name (spot setup u past)) agrees
       (λ u local. refl) (λ u local. pending_homes d name may u local) (λ u. pending_hands d name may u)
 
 -- whatever section another CPU ends, this one stays in agreement
@@ -152,7 +166,8 @@ foreign_step setup past good c p s off may agrees = foreign_at setup past good c
 -- The CPU's own section.
 
 -- what is due to a call at each stage
-pub due_at : (t : Tid) (call : Call) (stage : Stage) → is_last stage ≡ false → IsTurn call.buffer (section_at t call stage) (turn_of_stage call.buffer (side_of call.asks) stage)
+pub due_at : (t : Tid) (call : Call) (stage : Stage) → is_last stage ≡ false
+    → IsTurn call.buffer (section_at t call stage) (turn_of_stage call.buffer (side_of call.asks) stage)
 due_at t call stage going = by_stage stage going
   where
     by_first : (asks : Asks) → IsTurn call.buffer (first_section t asks) (In call.buffer GotIt)
@@ -163,7 +178,8 @@ due_at t call stage going = by_stage stage going
     by_try Senders = refl
     by_try Receivers = refl
 
-    by_signal : (side : Side) → IsTurn call.buffer (first_signal t side) (In call.buffer (Owing true true)) × IsTurn call.buffer (second_signal t side) (In call.buffer (owing_own side))
+    by_signal : (side : Side) → IsTurn call.buffer (first_signal t side) (In call.buffer (Owing true true))
+        × IsTurn call.buffer (second_signal t side) (In call.buffer (owing_own side))
     by_signal Senders = (refl, refl)
     by_signal Receivers = (refl, refl)
 
@@ -185,18 +201,21 @@ pub record GiveOk (setup : Setup) (past : List (Section Name)) (c : CpuId) (p : 
       (λ u. turn setup u (record { cpu = c; lock = lock; edit = name } ∷ past)) (λ u. spot setup u (record { cpu = c; lock = lock; edit = name } ∷ past))
   pub settled : IsSettled setup c (after_reply setup c p (option_map (answer name) (block_of setup lock past)))
 
-module _ (setup : Setup) (past : List (Section Name)) (good : Good setup past) (c : CpuId) (p : Private) (agrees : Agrees setup c p (λ u. turn setup u past) (λ u. spot setup u past)) (settled_before : IsSettled setup c p) where
+module _ (setup : Setup) (past : List (Section Name)) (good : Good setup past) (c : CpuId) (p : Private)
+    (agrees : Agrees setup c p (λ u. turn setup u past) (λ u. spot setup u past)) (settled_before : IsSettled setup c p) where
   give_pend : (s : Tid) → p.hand ≡ Some s → GiveOk setup past c p (Pending (home_of setup s)) (Pend s)
   give_pend s holds =
       let there = pending_there setup (home_of setup s) past in
-      let is : after_reply setup c p (option_map (answer (Pend s)) (block_of setup (Pending (home_of setup s)) past)) ≡ settled setup (record p { hand = None }) =
+      let is : after_reply setup c p (option_map (answer (Pend s)) (block_of setup (Pending (home_of setup s)) past))
+      ≡ settled setup (record p { hand = None }) =
       ap (λ o. after_reply setup c p (option_map (answer (Pend s)) o)) there.1
       ∙ ap (λ h. after_in setup c p h (answer (Pend s) (OfPending there.0))) holds in
       let held = hand_is c (spot setup s past) (sym (agrees.hands s) ∙ ap (is_thread s) holds ∙ same_tid_self s) in
       let now = agrees_pended setup c p (λ u. turn setup u past) (λ u. spot setup u past) agrees settled_before (home_of setup s) s holds in
       record {
         may = (held, refl);
-        agrees = subst (λ q. Agrees setup c q (λ u. turn setup u past) (λ u. spot_pending setup (home_of setup s) u (Pend s) (spot setup u past))) (sym is) now.0;
+        agrees =
+            subst (λ q. Agrees setup c q (λ u. turn setup u past) (λ u. spot_pending setup (home_of setup s) u (Pend s) (spot setup u past))) (sym is) now.0;
         settled = subst (IsSettled setup c) (sym is) now.1;
       }
 
@@ -208,7 +227,8 @@ module _ (setup : Setup) (past : List (Section Name)) (good : Good setup past) (
       ap (λ o. after_reply setup c p (option_map (answer TakeAll) o)) there.1
       ∙ ap (λ h. after_in setup c p h (answer TakeAll (OfPending list))) empty
       ∙ ap (λ h. after_at setup c p h (answer TakeAll (OfPending list))) idle in
-      let now = agrees_drained setup c p (λ u. turn setup u past) (λ u. spot setup u past) agrees settled_before list (λ u. good.pending c u list there.1) good.known in
+      let now = agrees_drained setup c p (λ u. turn setup u past) (λ u. spot setup u past) agrees settled_before list
+      (λ u. good.pending c u list there.1) good.known in
       record {
         may = refl;
         agrees = subst (λ q. Agrees setup c q (λ u. turn setup u past) (λ u. spot_pending setup c u TakeAll (spot setup u past))) (sym is) now;
@@ -226,9 +246,12 @@ module _ (setup : Setup) (past : List (Section Name)) (good : Good setup past) (
       ∙ ap (λ h. after_in setup c p h (answer TakeAll (OfPending list))) empty
       ∙ ap (λ h. after_at setup c p h (answer TakeAll (OfPending list))) runs_now
       ∙ ap (λ h. after_by setup c p t h (answer TakeAll (OfPending list))) outside in
-      let drained_now = agrees_drained setup c p (λ u. turn setup u past) (λ u. spot setup u past) agrees settled_before list (λ u. good.pending c u list there.1) good.known in
-      let now = agrees_yielded setup c (record p { ready = p.ready ++ list }) (λ u. turn setup u past) (λ u. spot_pending setup c u TakeAll (spot setup u past)) drained_now t runs_now guest in
-      let known = within setup c p (λ u. turn setup u past) (λ u. spot setup u past) agrees t (runs setup c p (λ u. turn setup u past) (λ u. spot setup u past) agrees t runs_now).0 in
+      let drained_now = agrees_drained setup c p (λ u. turn setup u past) (λ u. spot setup u past) agrees settled_before list
+      (λ u. good.pending c u list there.1) good.known in
+      let now = agrees_yielded setup c (record p { ready = p.ready ++ list }) (λ u. turn setup u past)
+      (λ u. spot_pending setup c u TakeAll (spot setup u past)) drained_now t runs_now guest in
+      let known = within setup c p (λ u. turn setup u past) (λ u. spot setup u past) agrees t
+      (runs setup c p (λ u. turn setup u past) (λ u. spot setup u past) agrees t runs_now).0 in
       record {
         may = refl;
         agrees = subst (λ x. Agrees setup c x (λ u. turn setup u past) (λ u. spot_pending setup c u TakeAll (spot setup u past))) (sym is) now;
@@ -259,7 +282,8 @@ module _ (setup : Setup) (past : List (Section Name)) (good : Good setup past) (
       may_come : MayComeBy setup past c call.buffer (section_at t call call.stage) (caller_in (section_at t call call.stage))
       may_come = subst (MayComeBy setup past c call.buffer (section_at t call call.stage)) (sym (section_caller t call call.stage)) callers
 
-      by_block : (o : Option Block) → block_of setup (AtBuffer call.buffer) past ≡ o → GiveOk setup past c p (AtBuffer call.buffer) (section_at t call call.stage)
+      by_block : (o : Option Block) → block_of setup (AtBuffer call.buffer) past ≡ o
+          → GiveOk setup past c p (AtBuffer call.buffer) (section_at t call call.stage)
       by_block None block = record {
         may = may_come;
         agrees = subst (λ o. Agrees setup c (after_reply setup c p (option_map (answer (section_at t call call.stage)) o))
@@ -291,13 +315,15 @@ module _ (setup : Setup) (past : List (Section Name)) (good : Good setup past) (
                 (subst (IsSettled setup c) (sym gives) now.1);
           }
 
-  give_asked : (ask : Ask) → asked setup c p ≡ ask → GiveOk setup past c p ask.lock ask.name → GiveOk setup past c p (asked setup c p).lock (asked setup c p).name
+  give_asked : (ask : Ask) → asked setup c p ≡ ask → GiveOk setup past c p ask.lock ask.name
+      → GiveOk setup past c p (asked setup c p).lock (asked setup c p).name
   give_asked ask is ok = subst (λ x. GiveOk setup past c p x.lock x.name) (sym is) ok
 
   pub give_ok : GiveOk setup past c p (asked setup c p).lock (asked setup c p).name
   give_ok = by_hand p.hand refl
     where
-      by_call : p.hand ≡ None → (t : Tid) → p.current ≡ Some t → (call : Option Call) → (thread_at p t).call ≡ call → GiveOk setup past c p (asked setup c p).lock (asked setup c p).name
+      by_call : p.hand ≡ None → (t : Tid) → p.current ≡ Some t → (call : Option Call) → (thread_at p t).call ≡ call
+          → GiveOk setup past c p (asked setup c p).lock (asked setup c p).name
       by_call empty t runs_now None is =
           give_asked (at_pending c TakeAll) (ap (asked_in setup c p) empty ∙ ap (asked_at c p) runs_now ∙ ap (asked_by c t) is) (give_yield empty t runs_now is)
       by_call empty t runs_now (Some call) is =

@@ -1,5 +1,6 @@
 -- In every state that a system reaches each live thread has one place.
-use Rattle.std.proofs.Common.{◌≡◌, ℕ, zero, suc, ◌+◌, ◌<◌, ◌==◌, inl, inr, Bool, true, false, not, ◌&&◌, List, ◌++◌, length, slice_get, Some, nat_lt, refl, sym, ap, ◌∙◌, subst, arith}
+use Rattle.std.proofs.Common.{◌≡◌, ℕ, zero, suc, ◌+◌, ◌<◌, ◌==◌, inl, inr, Bool, true, false, not, ◌&&◌, List}
+use Rattle.std.proofs.Common.{◌++◌, length, slice_get, Some, nat_lt, refl, sym, ap, ◌∙◌, subst, arith}
 use Rattle.std.proofs.lemmas.Bool.{and_from, and_left, and_right, false_from_ne_true, lt-ltb, ltb-true, ne_eqb, eqb-true, eq-eqb, cases_lt}
 use Rattle.event_log.specs.declared.ids.CpuId.{CpuId}
 use Rattle.event_log.specs.declared.ids.Tid.{Tid}
@@ -14,6 +15,8 @@ use Rattle.layer_traits.specs.declared.locked.Side.TheVariants.{Receivers, Sende
 use Rattle.layer_traits.specs.Passes.{as_list}
 use Rattle.layer_traits.specs.Places.{is_thread, one_if, count_in}
 use Rattle.layer_traits.proofs.CountLemmas.{count_append, count_as_list}
+use Rattle.layer_traits.specs.OnePlace.{total}
+use Rattle.layer_traits.proofs.OnePlaceLemmas.{total_at, total_none}
 use Rattle.cpu.specs.Table.Blocks.{Buffer, OfBuffer, Name}
 use Rattle.cpu.specs.Table.Setups.{Setup, Private, thread_at, home_of}
 use Rattle.cpu.specs.Table.Steps.{Whole, cpu_numbered}
@@ -34,42 +37,9 @@ use Rattle.cpu.proofs.Wakeups.Kept.{Kept, reached_kept, cpu_there}
 
 -- Sums of the numbers below n.
 
-abbrev total : (ℕ → ℕ) → ℕ → ℕ
-total g zero = 0
-total g (suc n) = total g n + g n
-
 count_all : (t : Tid) (f : ℕ → List Tid) (n : ℕ) → count_in t (all_of f n) ≡ total (λ i. count_in t (f i)) n
 count_all t f zero = refl
 count_all t f (suc n) = count_append t (all_of f n) (f n) ∙ ap (λ m. m + count_in t (f n)) (count_all t f n)
-
-total_none : (g : ℕ → ℕ) (n : ℕ) → ((i : ℕ) → i < n → g i ≡ 0) → total g n ≡ 0
-total_none g zero none = refl
-total_none g (suc n) none =
-    let before = total_none g n (λ i below. none i (omega (arith, below))) in
-    let last = none n (omega arith) in
-    omega (arith, before, last)
-
-eq_self : (m : ℕ) → (m == m) ≡ true
-eq_self m = eq-eqb m m refl
-
-under : (n k : ℕ) → k < suc n → (n ≡ k → ⊥) → k < n
-under n k below other = elim (cases_lt k n) [ inl less ↦ less | inr more ↦ absurd (other (omega (arith, more, below))) ]
-
-total_one : (g : ℕ → ℕ) (n k : ℕ) → k < n → ((i : ℕ) → i < n → (i ≡ k → ⊥) → g i ≡ 0) → total g n ≡ g k
-total_one g zero k below none = absurd (omega (arith, below))
-total_one g (suc n) k below none = by_test (n == k) refl (λ less. total_one g n k less (λ i under_n. none i (omega (arith, under_n))))
-  where
-    by_test : (last : Bool) → (n == k) ≡ last → (k < n → total g n ≡ g k) → total g (suc n) ≡ g k
-    by_test true same earlier =
-        let is : n ≡ k = eqb-true n k same in
-        let before = total_none g n (λ i less. none i (omega (arith, less)) (λ e. absurd (omega (arith, e, is, less)))) in
-        let at : g n ≡ g k = ap g is in
-        omega (arith, before, at)
-    by_test false off earlier =
-        let other : n ≡ k → ⊥ = λ is. refuted off (subst (λ m. (n == m) ≡ true) is (eq_self n)) in
-        let before = earlier (under n k below other) in
-        let last = none n (omega arith) other in
-        omega (arith, before, last)
 
 module _ (setup : Setup) (s : Whole) (homes : HomesExist setup) (kept : Kept setup s) (u : Tid) where
   abbrev past : List (Section Name)
@@ -87,14 +57,16 @@ module _ (setup : Setup) (s : Whole) (homes : HomesExist setup) (kept : Kept set
       → count_in u (of_cpu s i) ≡ one_if (seat setup (cpu_numbered i) u x (ended_at i)) + one_if (is_hand (cpu_numbered i) x)
   at_cpu x is i below = by_cpu (cpu_there setup s kept (cpu_numbered i) below)
     where
-      by_cpu : ((p : Private) × (slice_get s.cpus i ≡ Some p)) → count_in u (of_cpu s i) ≡ one_if (seat setup (cpu_numbered i) u x (ended_at i)) + one_if (is_hand (cpu_numbered i) x)
+      by_cpu : ((p : Private) × (slice_get s.cpus i ≡ Some p))
+          → count_in u (of_cpu s i) ≡ one_if (seat setup (cpu_numbered i) u x (ended_at i)) + one_if (is_hand (cpu_numbered i) x)
       by_cpu cpu =
           let p = cpu.0 in
           let agrees = (kept.sound.cpus (cpu_numbered i) p cpu.1).agrees in
           let list : count_in u (of_cpu s i) ≡ count_in u ((as_list p.current ++ p.ready) ++ as_list p.hand) = ap (λ o. count_in u (own_queues o)) cpu.1 in
           let parts : count_in u ((as_list p.current ++ p.ready) ++ as_list p.hand) ≡ count_in u (as_list p.current ++ p.ready) + count_in u (as_list p.hand) =
           count_append u (as_list p.current ++ p.ready) (as_list p.hand) in
-          let front : count_in u (as_list p.current ++ p.ready) ≡ count_in u (as_list p.current) + count_in u p.ready = count_append u (as_list p.current) p.ready in
+          let front : count_in u (as_list p.current ++ p.ready) ≡ count_in u (as_list p.current) + count_in u p.ready =
+          count_append u (as_list p.current) p.ready in
           let current = count_as_list u p.current in
           let hand : count_in u (as_list p.hand) ≡ one_if (is_hand (cpu_numbered i) x) =
           count_as_list u p.hand ∙ ap one_if (agrees.hands u) ∙ ap (λ y. one_if (is_hand (cpu_numbered i) y)) is in
@@ -103,7 +75,8 @@ module _ (setup : Setup) (s : Whole) (homes : HomesExist setup) (kept : Kept set
           ∙ ap (λ o. one_if (seat setup (cpu_numbered i) u x (thread_in o u).ended)) (sym cpu.1) in
           omega (arith, list, parts, front, current, hand, seats)
 
-  at_pending : (x : Spot) → spot setup u (sections_in s.log) ≡ x → (i : ℕ) → count_in u (of_pending setup s i) ≡ one_if (same_cpu (home_of setup u) (cpu_numbered i) && is_pending x)
+  at_pending : (x : Spot) → spot setup u (sections_in s.log) ≡ x → (i : ℕ)
+      → count_in u (of_pending setup s i) ≡ one_if (same_cpu (home_of setup u) (cpu_numbered i) && is_pending x)
   at_pending x is i =
       let there = pending_there setup (cpu_numbered i) (sections_in s.log) in
       ap (λ o. count_in u (queues_in o)) there.1 ∙ good.pending (cpu_numbered i) u there.0 there.1
@@ -120,10 +93,12 @@ module _ (setup : Setup) (s : Whole) (homes : HomesExist setup) (kept : Kept set
       by_block there =
           let k = there.0 in
           let pair = good.pairs (buffer_numbered i) u k there.1 in
-          let list : count_in u (of_buffer setup s i) ≡ count_in u (k.sleepers ++ (k.waiting_receivers ++ k.waiting_senders)) = ap (λ o. count_in u (queues_in o)) there.1 in
+          let list : count_in u (of_buffer setup s i) ≡ count_in u (k.sleepers ++ (k.waiting_receivers ++ k.waiting_senders)) =
+          ap (λ o. count_in u (queues_in o)) there.1 in
           let parts = count_append u k.sleepers (k.waiting_receivers ++ k.waiting_senders) in
           let waits = count_append u k.waiting_receivers k.waiting_senders in
-          let sleepers : count_in u k.sleepers ≡ marked u (is_lock (buffer_numbered i) x) = pair.sleepers ∙ ap (λ y. marked u (is_lock (buffer_numbered i) y)) is in
+          let sleepers : count_in u k.sleepers ≡ marked u (is_lock (buffer_numbered i) x) =
+          pair.sleepers ∙ ap (λ y. marked u (is_lock (buffer_numbered i) y)) is in
           let receivers : count_in u k.waiting_receivers ≡ marked u (is_wait (buffer_numbered i) Receivers x) =
           pair.receivers ∙ ap (λ y. marked u (is_wait (buffer_numbered i) Receivers y)) is in
           let senders : count_in u k.waiting_senders ≡ marked u (is_wait (buffer_numbered i) Senders x) =
@@ -153,7 +128,8 @@ module _ (setup : Setup) (s : Whole) (homes : HomesExist setup) (kept : Kept set
   no_pending x is off =
       total_none _ setup.cpus (λ i below. at_pending x is i ∙ ap one_if (and_right (same_cpu (home_of setup u) (cpu_numbered i)) (is_pending x) off))
 
-  no_buffers : (x : Spot) → spot setup u (sections_in s.log) ≡ x → ((b : BufId) → is_lock b x ≡ false) → ((b : BufId) (side : Side) → is_wait b side x ≡ false) → buffers_sum ≡ 0
+  no_buffers : (x : Spot) → spot setup u (sections_in s.log) ≡ x → ((b : BufId) → is_lock b x ≡ false)
+      → ((b : BufId) (side : Side) → is_wait b side x ≡ false) → buffers_sum ≡ 0
   no_buffers x is no_lock no_wait =
       total_none _ (length setup.caps) (λ i below.
       let here = at_buffer x is i below in
@@ -188,7 +164,8 @@ module _ (setup : Setup) (s : Whole) (homes : HomesExist setup) (kept : Kept set
           total_none _ setup.cpus (λ i below.
           let here = at_cpu Home is i below in
           let seats : one_if (seat setup (cpu_numbered i) u Home (ended_at i)) ≡ 0 =
-          ap one_if (and_left (is_local setup (cpu_numbered i) u) (true && not (ended_at i)) (and_right (same_cpu (home_of setup u) (cpu_numbered i)) (nat_lt u.0 (length setup.homes)) off)) in
+          ap one_if (and_left (is_local setup (cpu_numbered i) u) (true && not (ended_at i))
+          (and_right (same_cpu (home_of setup u) (cpu_numbered i)) (nat_lt u.0 (length setup.homes)) off)) in
           omega (arith, here, seats)) in
           let pending = no_pending Home is refl in
           let buffers = no_buffers Home is (λ b. refl) (λ b side. refl) in
@@ -231,10 +208,11 @@ module _ (setup : Setup) (s : Whole) (homes : HomesExist setup) (kept : Kept set
     by_spot : (x : Spot) → spot setup u (sections_in s.log) ≡ x → count_in u (everyone setup s) ≡ one_if (is_live setup s u)
     by_spot Home is =
         let cpus : cpus_sum ≡ count_in u (of_cpu s (home_of setup u).0) =
-        total_one (λ i. count_in u (of_cpu s i)) setup.cpus (home_of setup u).0 home_within (λ i below off.
+        total_at (λ i. count_in u (of_cpu s i)) setup.cpus (home_of setup u).0 home_within (λ i below off.
         let here = at_cpu Home is i below in
         let seats : one_if (seat setup (cpu_numbered i) u Home (ended_at i)) ≡ 0 =
-        ap one_if (and_left (is_local setup (cpu_numbered i) u) (true && not (ended_at i)) (and_left (same_cpu (home_of setup u) (cpu_numbered i)) (nat_lt u.0 (length setup.homes)) (other_cpu i off))) in
+        ap one_if (and_left (is_local setup (cpu_numbered i) u) (true && not (ended_at i))
+        (and_left (same_cpu (home_of setup u) (cpu_numbered i)) (nat_lt u.0 (length setup.homes)) (other_cpu i off))) in
         omega (arith, here, seats)) in
         let here = at_cpu Home is (home_of setup u).0 home_within in
         let seats : one_if (seat setup (home_of setup u) u Home (ended_at (home_of setup u).0)) ≡ one_if (is_live setup s u) =
@@ -246,7 +224,7 @@ module _ (setup : Setup) (s : Whole) (homes : HomesExist setup) (kept : Kept set
     by_spot (InHand e) is =
         let within : e.0 < setup.cpus = subst (IsPlaced setup (turn setup u (sections_in s.log))) is (kept.placed.spots u) in
         let cpus : cpus_sum ≡ count_in u (of_cpu s e.0) =
-        total_one (λ i. count_in u (of_cpu s i)) setup.cpus e.0 within (λ i below off.
+        total_at (λ i. count_in u (of_cpu s i)) setup.cpus e.0 within (λ i below off.
         let here = at_cpu (InHand e) is i below in
         let seats = no_seat (InHand e) i refl in
         let hand : one_if (same_cpu e (cpu_numbered i)) ≡ 0 = ap one_if (ne_eqb e.0 i (λ same. off (sym same))) in
@@ -261,10 +239,11 @@ module _ (setup : Setup) (s : Whole) (homes : HomesExist setup) (kept : Kept set
     by_spot IsPending is =
         let cpus = no_cpus IsPending is refl (λ c. refl) in
         let pending : pending_sum ≡ count_in u (of_pending setup s (home_of setup u).0) =
-        total_one (λ i. count_in u (of_pending setup s i)) setup.cpus (home_of setup u).0 home_within (λ i below off.
+        total_at (λ i. count_in u (of_pending setup s i)) setup.cpus (home_of setup u).0 home_within (λ i below off.
         at_pending IsPending is i ∙ ap one_if (and_left (same_cpu (home_of setup u) (cpu_numbered i)) true (other_cpu i off))) in
         let here : count_in u (of_pending setup s (home_of setup u).0) ≡ 1 =
-        at_pending IsPending is (home_of setup u).0 ∙ ap one_if (and_from (same_cpu (home_of setup u) (home_of setup u)) true (same_cpu_self (home_of setup u)) refl) in
+        at_pending IsPending is (home_of setup u).0 ∙ ap one_if
+        (and_from (same_cpu (home_of setup u) (home_of setup u)) true (same_cpu_self (home_of setup u)) refl) in
         let buffers = no_buffers IsPending is (λ b. refl) (λ b side. refl) in
         let live = alive IsPending is refl in
         omega (arith, sums, cpus, pending, here, buffers, live)
@@ -274,7 +253,7 @@ module _ (setup : Setup) (s : Whole) (homes : HomesExist setup) (kept : Kept set
         let pending = no_pending (AtLock b) is refl in
         let no_receivers = marked_none u false refl in
         let buffers : buffers_sum ≡ count_in u (of_buffer setup s b.0) =
-        total_one (λ i. count_in u (of_buffer setup s i)) (length setup.caps) b.0 within (λ i below off.
+        total_at (λ i. count_in u (of_buffer setup s i)) (length setup.caps) b.0 within (λ i below off.
         let here = at_buffer (AtLock b) is i below in
         let lock = marked_none u (is_buffer (buffer_numbered i) b) (ne_eqb i b.0 off) in
         omega (arith, here, lock, no_receivers)) in
@@ -283,15 +262,18 @@ module _ (setup : Setup) (s : Whole) (homes : HomesExist setup) (kept : Kept set
         let live = alive (AtLock b) is refl in
         omega (arith, sums, cpus, pending, buffers, here, lock, no_receivers, live)
     by_spot (AtWait b side) is =
-        let within : (b.0 < length setup.caps) × (turn setup u (sections_in s.log) ≡ _) = subst (IsPlaced setup (turn setup u (sections_in s.log))) is (kept.placed.spots u) in
+        let within : (b.0 < length setup.caps) × (turn setup u (sections_in s.log) ≡ _) =
+        subst (IsPlaced setup (turn setup u (sections_in s.log))) is (kept.placed.spots u) in
         let cpus = no_cpus (AtWait b side) is refl (λ c. refl) in
         let pending = no_pending (AtWait b side) is refl in
         let no_lock = marked_none u false refl in
         let buffers : buffers_sum ≡ count_in u (of_buffer setup s b.0) =
-        total_one (λ i. count_in u (of_buffer setup s i)) (length setup.caps) b.0 within.0 (λ i below off.
+        total_at (λ i. count_in u (of_buffer setup s i)) (length setup.caps) b.0 within.0 (λ i below off.
         let here = at_buffer (AtWait b side) is i below in
-        let receivers = marked_none u (is_buffer (buffer_numbered i) b && is_side Receivers side) (and_left (is_buffer (buffer_numbered i) b) (is_side Receivers side) (ne_eqb i b.0 off)) in
-        let senders = marked_none u (is_buffer (buffer_numbered i) b && is_side Senders side) (and_left (is_buffer (buffer_numbered i) b) (is_side Senders side) (ne_eqb i b.0 off)) in
+        let receivers = marked_none u (is_buffer (buffer_numbered i) b && is_side Receivers side)
+        (and_left (is_buffer (buffer_numbered i) b) (is_side Receivers side) (ne_eqb i b.0 off)) in
+        let senders = marked_none u (is_buffer (buffer_numbered i) b && is_side Senders side)
+        (and_left (is_buffer (buffer_numbered i) b) (is_side Senders side) (ne_eqb i b.0 off)) in
         omega (arith, here, no_lock, receivers, senders)) in
         let here = at_buffer (AtWait b side) is b.0 within.0 in
         let both : marked u (is_buffer b b && is_side Receivers side) + marked u (is_buffer b b && is_side Senders side) ≡ 1 = one_side b side in

@@ -1,5 +1,6 @@
 -- A CPU whose hand holds a thread either runs nobody or runs a thread inside its call.
-use Rattle.std.proofs.Common.{◌≡◌, ℕ, ◌+◌, ◌<◌, ◌==◌, Bool, true, false, List, [], ◌∷◌, ◌++◌, length, slice_get, slice_set, Option, Some, None, is_some, if◌then◌else◌, refl, sym, ap, ◌∙◌, subst, arith}
+use Rattle.std.proofs.Common.{◌≡◌, ℕ, ◌+◌, ◌<◌, ◌==◌, Bool, true, false, List, [], ◌∷◌, ◌++◌, length, slice_get}
+use Rattle.std.proofs.Common.{slice_set, Option, Some, None, is_some, if◌then◌else◌, refl, sym, ap, ◌∙◌, subst, arith}
 use Rattle.std.proofs.lemmas.Bool.{eqb-true, eqb-false}
 use Rattle.event_log.specs.declared.ids.CpuId.{CpuId}
 use Rattle.event_log.specs.declared.ids.Tid.{Tid}
@@ -12,9 +13,11 @@ use Rattle.layer_traits.specs.declared.steps.Reason.TheVariants.{AllEnded, Trace
 use Rattle.layer_traits.specs.Plans.{is_in_section, reply}
 use Rattle.cpu.specs.Table.Blocks.{Name, Asks, Sends, Receives, Told, Nothing, Position, Done, NotYet, Drained, Answer}
 use Rattle.cpu.specs.Table.Edits.{kernel}
-use Rattle.cpu.specs.Table.Setups.{Setup, Stage, Acquires, Enters, Tries, Waits, AcquiresAgain, Signals, SignalsOwn, Releases, Returns, Call, Private, thread_at, home_of, at_boot, opening, stands_at, home_threads, open_calls, have_ended}
+use Rattle.cpu.specs.Table.Setups.{Setup, Stage, Acquires, Enters, Tries, Waits, AcquiresAgain, Signals, SignalsOwn, Releases, Returns}
+use Rattle.cpu.specs.Table.Setups.{Call, Private, thread_at, home_of, at_boot, opening, stands_at, home_threads, open_calls, have_ended}
 use Rattle.cpu.specs.Table.Choice.{asked, Choice, Halts, Alone, Goes, with_call, at_instruction, at_call, at_ready, at_current, at_hand, choice}
-use Rattle.cpu.specs.Table.Choice.{heard, heard_entry, heard_position, slept_if, woken, returned_at, returned_by, returned_in, settled, after_by, after_at, after_in, after_section}
+use Rattle.cpu.specs.Table.Choice.{heard, heard_entry, heard_position, slept_if, woken, returned_at, returned_by}
+use Rattle.cpu.specs.Table.Choice.{returned_in, settled, after_by, after_at, after_in, after_section}
 use Rattle.cpu.specs.Table.Steps.{after_reply, acting, chosen, step_in, cpu_step, Whole, cpu_numbered, system_step, IsReached, boots, steps}
 use Rattle.cpu.proofs.Wakeups.Lists.{refuted}
 use Rattle.cpu.proofs.Wakeups.Agreement.{at_same, within, runs}
@@ -57,7 +60,8 @@ module _ (setup : Setup) (c : CpuId) where
     some = ap (λ y. is_some y.call) (at_same p t (record (thread_at p t) { call = Some call }) known);
   }
 
-  heard_some : (p : Private) (t : Tid) (call : Call) → t.0 < length p.threads → (thread_at p t).call ≡ Some call → (stage : Stage) (told : Told) → HeardSome p (heard c p t call stage told) t
+  heard_some : (p : Private) (t : Tid) (call : Call) → t.0 < length p.threads → (thread_at p t).call ≡ Some call
+      → (stage : Stage) (told : Told) → HeardSome p (heard c p t call stage told) t
   heard_some p t call known is Acquires told = called p t _ known
   heard_some p t call known is Enters told = by_asks call.asks told
     where
@@ -88,7 +92,8 @@ module _ (setup : Setup) (c : CpuId) where
   heard_some p t call known is Releases told = called p t _ known
   heard_some p t call known is Returns told = record { hand = refl; current = refl; some = ap is_some is }
 
-  some_inside : (p q : Private) (t : Tid) → p.current ≡ Some t → HeardSome p q t → (slept : Bool) → (u : Tid) → (slept_if slept q).current ≡ Some u → is_some (thread_at (slept_if slept q) u).call ≡ true
+  some_inside : (p q : Private) (t : Tid) → p.current ≡ Some t → HeardSome p q t → (slept : Bool) → (u : Tid)
+      → (slept_if slept q).current ≡ Some u → is_some (thread_at (slept_if slept q) u).call ≡ true
   some_inside p q t runs_now now true u at = none_some at
     where
       none_some : {A : Type 0} → None ≡ Some u → A
@@ -101,7 +106,8 @@ module _ (setup : Setup) (c : CpuId) where
       called_by x None = None
       called_by x (Some v) = (thread_at x v).call
 
-  filled_woken : (woke : Option Tid) (q : Private) → q.hand ≡ None → ((u : Tid) → q.current ≡ Some u → is_some (thread_at q u).call ≡ true) → IsFilled (settled setup (woken setup c woke q))
+  filled_woken : (woke : Option Tid) (q : Private) → q.hand ≡ None → ((u : Tid) → q.current ≡ Some u → is_some (thread_at q u).call ≡ true)
+      → IsFilled (settled setup (woken setup c woke q))
   filled_woken None q empty inside = empty_filled (settled setup q) (settled_empty q empty q.hand q.current)
   filled_woken (Some s) q empty inside = by_home (same_cpu (home_of setup s) c)
     where
@@ -121,7 +127,8 @@ module _ (setup : Setup) (c : CpuId) where
       by_call empty t runs_now None is = empty_filled (after_by setup c p t None a) empty
       by_call empty t runs_now (Some call) is =
           let now = heard_some p t call (known t runs_now) is call.stage a.told in
-          filled_woken a.woke (slept_if a.slept (heard c p t call call.stage a.told)) (slept_hand a.slept (heard c p t call call.stage a.told) (now.hand ∙ empty))
+          filled_woken a.woke (slept_if a.slept (heard c p t call call.stage a.told))
+          (slept_hand a.slept (heard c p t call call.stage a.told) (now.hand ∙ empty))
           (some_inside p (heard c p t call call.stage a.told) t runs_now now a.slept)
 
       by_current : p.hand ≡ None → (current : Option Tid) → p.current ≡ current → IsFilled (after_at setup c p current a)
@@ -132,7 +139,8 @@ module _ (setup : Setup) (c : CpuId) where
       by_hand (Some s) holds = empty_filled (settled setup (record p { hand = None })) (settled_empty (record p { hand = None }) refl None p.current)
       by_hand None empty = by_current empty p.current refl
 
-  filled_acting : (p : Private) → IsFilled p → ((t : Tid) → p.current ≡ Some t → t.0 < length p.threads) → (log : List (Action Name)) → IsFilled (acting setup c p log).next
+  filled_acting : (p : Private) → IsFilled p → ((t : Tid) → p.current ≡ Some t → t.0 < length p.threads)
+      → (log : List (Action Name)) → IsFilled (acting setup c p log).next
   filled_acting p filled known log = by_reply (reply kernel (opening setup) c (asked setup c p).lock (asked setup c p).name log)
     where
       by_reply : (r : Option Answer) → IsFilled (after_reply setup c p r)
@@ -188,11 +196,13 @@ module _ (setup : Setup) (c : CpuId) where
           → IsFilled (chosen setup c p what log).next
       by_choice (Halts reason) agrees now = filled
       by_choice (Alone q) agrees now = now
-      by_choice (Goes q) agrees now = filled_acting q now (λ t runs_now. within setup c q (λ u. turn setup u (sections_in log)) (λ u. spot setup u (sections_in log)) agrees.0 t
+      by_choice (Goes q) agrees now =
+          filled_acting q now (λ t runs_now. within setup c q (λ u. turn setup u (sections_in log)) (λ u. spot setup u (sections_in log)) agrees.0 t
           (runs setup c q (λ u. turn setup u (sections_in log)) (λ u. spot setup u (sections_in log)) agrees.0 t runs_now).0) log
 
       by_section : (inside : Bool) → IsFilled (step_in setup c p log inside).next
-      by_section true = filled_acting p filled (λ t runs_now. within setup c p (λ u. turn setup u (sections_in log)) (λ u. spot setup u (sections_in log)) ok.agrees t
+      by_section true =
+          filled_acting p filled (λ t runs_now. within setup c p (λ u. turn setup u (sections_in log)) (λ u. spot setup u (sections_in log)) ok.agrees t
           (runs setup c p (λ u. turn setup u (sections_in log)) (λ u. spot setup u (sections_in log)) ok.agrees t runs_now).0) log
       by_section false =
           by_choice (choice setup c p) (choice_ok setup c p (λ u. turn setup u (sections_in log)) (λ u. spot setup u (sections_in log)) ok.agrees ok.settled)
@@ -205,9 +215,11 @@ filled_next : (setup : Setup) (c : CpuId) (s next : Whole) → Sound setup s →
 filled_next setup c s next sound filled same = filled
 filled_next setup c s next sound filled (went p here) = λ e q is. by_test e q is (same_cpu c e) refl
   where
-    by_test : (e : CpuId) (q : Private) → slice_get (slice_set s.cpus c.0 (cpu_step setup c p s.log).next) e.0 ≡ Some q → (mine : Bool) → same_cpu c e ≡ mine → IsFilled q
+    by_test : (e : CpuId) (q : Private) → slice_get (slice_set s.cpus c.0 (cpu_step setup c p s.log).next) e.0 ≡ Some q
+        → (mine : Bool) → same_cpu c e ≡ mine → IsFilled q
     by_test e q is true own =
-        subst IsFilled (get_set s.cpus c.0 e.0 (cpu_step setup c p s.log).next q is (eqb-true c.0 e.0 own)) (filled_step setup c p s.log (sound.cpus c p here) (filled c p here))
+        subst IsFilled (get_set s.cpus c.0 e.0 (cpu_step setup c p s.log).next q is (eqb-true c.0 e.0 own))
+        (filled_step setup c p s.log (sound.cpus c p here) (filled c p here))
     by_test e q is false off = filled e q (sym (get_set_other s.cpus c.0 e.0 (cpu_step setup c p s.log).next (eqb-false c.0 e.0 off)) ∙ is)
 
 pub reached_filled : (setup : Setup) (room : ℕ) (s : Whole) → IsReached setup room s → AllFilled s
@@ -216,4 +228,5 @@ reached_filled setup room s boots = λ e p is.
     let at : at_boot setup e ≡ p = ap (λ m. at_boot setup (cpu_numbered m)) (sym zero_plus) ∙ boots_at setup 0 setup.cpus e.0 p is in
     subst IsFilled at (empty_filled (at_boot setup e) refl)
 reached_filled setup room s (steps {s = before} c reached known) =
-    filled_next setup c before (system_step setup c before).next (reached_sound setup room before reached) (reached_filled setup room before reached) (next_is setup c before)
+    filled_next setup c before (system_step setup c before).next (reached_sound setup room before reached)
+    (reached_filled setup room before reached) (next_is setup c before)

@@ -1,5 +1,6 @@
 -- All that is known of every state that a system reaches.
-use Rattle.std.proofs.Common.{◌≡◌, ℕ, zero, suc, ◌+◌, ◌<◌, ◌==◌, Bool, true, false, List, [], ◌∷◌, ◌++◌, length, slice_get, slice_set, Option, Some, None, refl, sym, ap, ◌∙◌, subst, arith}
+use Rattle.std.proofs.Common.{◌≡◌, ℕ, zero, suc, ◌+◌, ◌<◌, ◌==◌, Bool, true, false, List, [], ◌∷◌, ◌++◌, length}
+use Rattle.std.proofs.Common.{slice_get, slice_set, Option, Some, None, refl, sym, ap, ◌∙◌, subst, arith}
 use Rattle.std.proofs.lemmas.Bool.{eqb-true, eqb-false}
 use Rattle.std.proofs.lemmas.List.{length-set}
 use Rattle.event_log.specs.declared.ids.CpuId.{CpuId}
@@ -13,7 +14,8 @@ use Rattle.layer_traits.specs.Plans.{is_in_section}
 use Rattle.cpu.specs.Table.Blocks.{Name}
 use Rattle.cpu.specs.Table.Setups.{Setup, Private, thread_at, at_boot}
 use Rattle.cpu.specs.Table.Choice.{Choice, Halts, Alone, Goes, choice}
-use Rattle.cpu.specs.Table.Steps.{chosen, step_in, cpu_step, Whole, cpu_numbered, boots_from, whole_at_boot, whole_after, roomy, answered_by, step_at, system_step, IsReached, boots, steps}
+use Rattle.cpu.specs.Table.Steps.{chosen, step_in, cpu_step, Whole, cpu_numbered, boots_from, whole_at_boot}
+use Rattle.cpu.specs.Table.Steps.{whole_after, roomy, answered_by, step_at, system_step, IsReached, boots, steps}
 use Rattle.cpu.proofs.Wakeups.Spots.{spot, turn}
 use Rattle.cpu.proofs.Wakeups.Placed.{Placed, placed_none, placed_at}
 use Rattle.cpu.proofs.Wakeups.Agreement.{Agrees, runs, within}
@@ -52,10 +54,12 @@ placed_acts setup c known log (Give cpu lock name ∷ acts) does fair placed =
     (subst (λ d. d.0 < setup.cpus) (sym does.0) known) name lock fair.0
 
 -- a CPU's step keeps what its threads say
-fine_step : (setup : Setup) (c : CpuId) (p : Private) (log : List (Action Name)) → Ok setup c p log → AllFine setup p → AllFine setup (cpu_step setup c p log).next
+fine_step : (setup : Setup) (c : CpuId) (p : Private) (log : List (Action Name)) → Ok setup c p log
+    → AllFine setup p → AllFine setup (cpu_step setup c p log).next
 fine_step setup c p log ok fine = by_section (is_in_section (phase c log))
   where
-    known : (q : Private) → Agrees setup c q (λ u. turn setup u (sections_in log)) (λ u. spot setup u (sections_in log)) → (t : Tid) → q.current ≡ Some t → t.0 < length q.threads
+    known : (q : Private) → Agrees setup c q (λ u. turn setup u (sections_in log)) (λ u. spot setup u (sections_in log))
+        → (t : Tid) → q.current ≡ Some t → t.0 < length q.threads
     known q agrees t runs_now =
         within setup c q (λ u. turn setup u (sections_in log)) (λ u. spot setup u (sections_in log)) agrees t
         (runs setup c q (λ u. turn setup u (sections_in log)) (λ u. spot setup u (sections_in log)) agrees t runs_now).0
@@ -108,7 +112,8 @@ kept_next setup c s next known kept sound (went p here) = record {
     step : StepOk setup c s.log (cpu_step setup c p s.log)
     step = step_ok setup c s.log kept.sound.fair p (kept.sound.cpus c p here)
 
-    by_test : (e : CpuId) (q : Private) → slice_get (slice_set s.cpus c.0 (cpu_step setup c p s.log).next) e.0 ≡ Some q → (mine : Bool) → same_cpu c e ≡ mine → AllFine setup q
+    by_test : (e : CpuId) (q : Private) → slice_get (slice_set s.cpus c.0 (cpu_step setup c p s.log).next) e.0 ≡ Some q
+        → (mine : Bool) → same_cpu c e ≡ mine → AllFine setup q
     by_test e q is true own =
         subst (AllFine setup) (get_set s.cpus c.0 e.0 (cpu_step setup c p s.log).next q is (eqb-true c.0 e.0 own))
         (fine_step setup c p s.log (kept.sound.cpus c p here) (kept.fine c p here))

@@ -2,14 +2,11 @@
 use Rattle.std.proofs.Common.{◌≡◌, Bool, true, false, ◌||◌, List, [], ◌∷◌, ◌++◌, Option, Some, None, if◌then◌else◌, refl, sym, ap, ◌∙◌, subst}
 use Rattle.std.proofs.lemmas.Bool.{or_parts, or_from}
 use Rattle.event_log.specs.declared.ids.Tid.{Tid}
+pub use Rattle.event_log.proofs.BoolLemmas.{refuted}
 use Rattle.thread_blocks.specs.Queues.{same_tid, is_in, first, without}
 use Rattle.thread_blocks.proofs.Members.{same_tid_self, same_tid_true}
 use Rattle.layer_traits.specs.Sleeping.{joined}
 use Rattle.layer_traits.specs.BufferBlocks.{is_first}
-
--- a test is not both
-pub refuted : {A : Type 0} {b : Bool} → b ≡ false → b ≡ true → A
-refuted off on = absurd (cc (off, on))
 
 -- what is in an option
 abbrev pub tid_or : Tid → Option Tid → Tid

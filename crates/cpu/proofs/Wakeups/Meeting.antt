@@ -16,7 +16,8 @@ use Rattle.cpu.proofs.Wakeups.Reaching.{same_private}
 use Rattle.cpu.specs.Wakeups.Met.{waiting_sender, at_send, PremisesAreMet}
 
 -- steps from a reached state
-steps_reached : (setup : Setup) (room : ℕ) (c : CpuId) → c.0 < setup.cpus → (n : ℕ) (s : Whole) → IsReached setup room s → IsReached setup room (steps_by setup c n s)
+steps_reached : (setup : Setup) (room : ℕ) (c : CpuId) → c.0 < setup.cpus → (n : ℕ) (s : Whole)
+    → IsReached setup room s → IsReached setup room (steps_by setup c n s)
 steps_reached setup room c known zero s reached = reached
 steps_reached setup room c known (suc n) s reached = steps_reached setup room c known n (system_step setup c s).next (steps c reached known)
 

@@ -1,5 +1,6 @@
 -- Sections in the order of their calls lose no wake-up.
-use Rattle.std.proofs.Common.{◌≡◌, ℕ, Bool, true, false, List, [], ◌∷◌, length, slice_get, Option, Some, None, option_map, nat_lt, if◌then◌else◌, refl, sym, ap, subst, arith}
+use Rattle.std.proofs.Common.{◌≡◌, ℕ, Bool, true, false, List, [], ◌∷◌, length, slice_get, Option, Some}
+use Rattle.std.proofs.Common.{None, option_map, nat_lt, if◌then◌else◌, refl, sym, ap, subst, arith}
 use Rattle.std.proofs.lemmas.Bool.{and_from, lt-ltb}
 use Rattle.event_log.specs.declared.ids.Tid.{Tid}
 use Rattle.event_log.specs.declared.ids.BufId.{BufId}
@@ -51,9 +52,11 @@ buffer_awake setup (s ∷ past) order b k is = by_test (same_lock (AtBuffer b) s
     by_test : (here : Bool) → same_lock (AtBuffer b) s.lock ≡ here
         → (if here then option_map (edited s.edit) (block_of setup (AtBuffer b) past) else block_of setup (AtBuffer b) past) ≡ Some (OfBuffer k)
         → ((now : Buffer) → block_of setup (AtBuffer b) past ≡ Some (OfBuffer now) → IsAwake now (progress setup (AtBuffer b) past))
-        → IsAwake k (if here then progress_by s.edit (block_of setup (AtBuffer b) past) (progress setup (AtBuffer b) past) else progress setup (AtBuffer b) past)
+        → IsAwake k (if here then progress_by s.edit (block_of setup (AtBuffer b) past)
+        (progress setup (AtBuffer b) past) else progress setup (AtBuffer b) past)
     by_test true here now before =
-        let may : KeepsOrderAt setup (AtBuffer b) s.edit past = subst (λ lock. KeepsOrderAt setup lock s.edit past) (sym (same_lock_true (AtBuffer b) s.lock here)) order.0 in
+        let may : KeepsOrderAt setup (AtBuffer b) s.edit past =
+        subst (λ lock. KeepsOrderAt setup lock s.edit past) (sym (same_lock_true (AtBuffer b) s.lock here)) order.0 in
         edits_awake s.edit (block_of setup (AtBuffer b) past) (progress setup (AtBuffer b) past) k may before now
     by_test false here now before = before k now
 

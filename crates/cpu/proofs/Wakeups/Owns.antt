@@ -1,5 +1,6 @@
 -- One thread and one buffer: what its own sections leave, and what its sections at another buffer do.
-use Rattle.std.proofs.Common.{◌≡◌, ◌≢◌, ℕ, ◌+◌, ◌≤◌, Bool, true, false, not, ◌&&◌, List, [], ◌∷◌, ◌++◌, Option, Some, None, nat_lt, if◌then◌else◌, refl, sym, ap, ◌∙◌, subst, arith}
+use Rattle.std.proofs.Common.{◌≡◌, ◌≢◌, ℕ, ◌+◌, ◌≤◌, Bool, true, false, not, ◌&&◌, List, [], ◌∷◌, ◌++◌}
+use Rattle.std.proofs.Common.{Option, Some, None, nat_lt, if◌then◌else◌, refl, sym, ap, ◌∙◌, subst, arith}
 use Rattle.std.proofs.lemmas.Bool.{and_parts, and_from, and_right, false_from_ne_true}
 use Rattle.event_log.specs.declared.ids.CpuId.{CpuId}
 use Rattle.event_log.specs.declared.ids.Tid.{Tid}
@@ -18,7 +19,8 @@ use Rattle.cpu.specs.Table.Blocks.{Buffer, Name, AcqQ, Enter, TryPut, TryTake, W
 use Rattle.cpu.specs.Table.Edits.{can_put, can_take, may_put, may_take, due_sender, due_receiver, without_any}
 use Rattle.cpu.specs.Table.Edits.{acquired, line_of, entered, put, taken, waiting, released, edited_buffer, answer_of_acquire, answer_of_buffer}
 use Rattle.cpu.specs.Table.Setups.{Setup}
-use Rattle.cpu.specs.Wakeups.Order.{Progress, Begins, HasEntered, WasRefused, Owes, progress_after, receivers_signalled, senders_signalled, MayTry, IsOwing, MayEdit}
+use Rattle.cpu.specs.Wakeups.Order.{Progress, Begins, HasEntered, WasRefused, Owes, progress_after}
+use Rattle.cpu.specs.Wakeups.Order.{receivers_signalled, senders_signalled, MayTry, IsOwing, MayEdit}
 use Rattle.cpu.proofs.Wakeups.Lists.{refuted, some_is, first_is}
 use Rattle.cpu.proofs.Wakeups.Spots.{Spot, Home, AtLock, AtWait, Doing, GotIt, Trying, Failed, Waiting, Owing, Turn, Outside, In}
 use Rattle.cpu.proofs.Wakeups.Spots.{is_buffer, is_lock, is_wait, names, goes_on, is_inside, starts_here, stands, is_lined, InStep}
@@ -26,7 +28,8 @@ use Rattle.cpu.proofs.Wakeups.Spots.{caller_in, is_caller, bed, spot_woken, spot
 use Rattle.cpu.proofs.Wakeups.Pairs.{Pair, marked_none, marked_most, buffer_self, grown_list, first_left, signal_left, front_counted, woken_sleeps}
 
 -- where the section that is due to a thread may come, it is in order
-inside_owns : (b : BufId) (t : Tid) (k : Buffer) (g : Progress) (d : BufId) (doing : Doing) → goes_on (In b doing) ≡ true → d ≡ b → Pair b t k g (In d doing) Home
+inside_owns : (b : BufId) (t : Tid) (k : Buffer) (g : Progress) (d : BufId) (doing : Doing)
+    → goes_on (In b doing) ≡ true → d ≡ b → Pair b t k g (In d doing) Home
     → (k.busy ≡ Some t) × InStep (In b doing) g
 inside_owns b t k g d doing goes same pair =
     let now : Pair b t k g (In b doing) Home = subst (λ x. Pair b t k g (In x doing) Home) same pair in
@@ -44,7 +47,8 @@ ByCaller (Some t) P = P t
 owing_is : (r s : Bool) (g : Progress) → g ≡ Owes r s → IsOwing g
 owing_is r s g is = subst IsOwing (sym is) tt
 
-pub may_edit : (b : BufId) (name : Name) (k : Buffer) (g : Progress) (turn : Turn) → ByCaller (caller_in name) (λ t. Pair b t k g turn Home) → IsTurn b name turn → MayEdit name k g
+pub may_edit : (b : BufId) (name : Name) (k : Buffer) (g : Progress) (turn : Turn)
+    → ByCaller (caller_in name) (λ t. Pair b t k g turn Home) → IsTurn b name turn → MayEdit name k g
 may_edit b (AcqQ t) k g Outside pair due = not_outside b t k g Outside refl pair
 may_edit b (AcqQ t) k g (In d (Waiting side)) pair due = not_outside b t k g (In d (Waiting side)) refl pair
 may_edit b (Enter t side) k g (In d GotIt) pair due = inside_owns b t k g d GotIt refl due pair
@@ -76,7 +80,8 @@ module _ (b : BufId) (u : Tid) where
   not_first : (list : List Tid) → count_in u list ≡ 0 → is_thread u (first list) ≡ false
   not_first list none = false_from_ne_true (is_thread u (first list)) (λ is. let some = front_counted u list is in absurd (omega (arith, some, none)))
 
-  own_acquire : (k : Buffer) (g : Progress) (o : Option Tid) (turn : Turn) → k.busy ≡ o → (k.busy ≡ None → g ≡ Begins) → IsTurn b (AcqQ u) turn → Pair b u k g turn Home
+  own_acquire : (k : Buffer) (g : Progress) (o : Option Tid) (turn : Turn) → k.busy ≡ o
+      → (k.busy ≡ None → g ≡ Begins) → IsTurn b (AcqQ u) turn → Pair b u k g turn Home
       → Pair b u (acquired u o k) g (acquired_turn b turn) (if (answer_of_acquire o).slept then AtLock b else Home)
   own_acquire k g None Outside is idle due pair = record {
     owner = λ e. (and_from (is_buffer b b) true (buffer_self b) refl, idle is, refl);
@@ -125,7 +130,8 @@ module _ (b : BufId) (u : Tid) where
   own_acquire k g o turn is idle due pair = absurd due
 
   -- the pair of a thread that has the lock and goes on, from its places in the two lines
-  at_work : (k : Buffer) (g h : Progress) (before doing : Doing) (sends receives : List Tid) → k.busy ≡ Some u → goes_on (In b doing) ≡ true → InStep (In b doing) h
+  at_work : (k : Buffer) (g h : Progress) (before doing : Doing) (sends receives : List Tid)
+      → k.busy ≡ Some u → goes_on (In b doing) ≡ true → InStep (In b doing) h
       → Pair b u k g (In b before) Home
       → count_in u sends ≡ marked u (is_lined b Senders (In b doing)) → count_in u receives ≡ marked u (is_lined b Receivers (In b doing))
       → Pair b u (record k { send_line = sends; receive_line = receives }) h (In b doing) Home
@@ -160,7 +166,8 @@ module _ (b : BufId) (u : Tid) where
   lined doing side on = ap (marked u) (and_from (is_buffer b b) (stands side (In b doing)) (buffer_self b) on)
 
   -- a line that the thread enters, or may not enter since it is no thread's number
-  entered_list : (line : List Tid) (joins : Bool) → may_join u line ≡ joins → count_in u line ≡ 0 → count_in u (if joins then line ++ u ∷ [] else line) ≡ marked u true
+  entered_list : (line : List Tid) (joins : Bool) → may_join u line ≡ joins → count_in u line ≡ 0
+      → count_in u (if joins then line ++ u ∷ [] else line) ≡ marked u true
   entered_list line joins is none = by_test (nat_lt u.0 THREADS) (is_in u line) (not_counted u line none) joins is
     where
       by_test : (small in_line : Bool) → in_line ≡ false → (joins : Bool) → (small && not in_line) ≡ joins
@@ -202,7 +209,8 @@ module _ (b : BufId) (u : Tid) where
       ∙ ap (λ b. if b then 0 else count_in u line) (ap (is_thread u) (first_is u line front) ∙ same_tid_self u)
 
   own_put : (k : Buffer) (g : Progress) (m : Message) (may : Bool) → may_put u k ≡ may → k.busy ≡ Some u → Pair b u k g (In b (Trying Senders)) Home
-      → Pair b u (if may then put m k else k) (if may then Owes true true else WasRefused Senders) (if may then In b (Owing true true) else In b (Failed Senders)) Home
+      → Pair b u (if may then put m k else k) (if may then Owes true true else WasRefused Senders)
+      (if may then In b (Owing true true) else In b (Failed Senders)) Home
   own_put k g m true is owner pair =
       let front = (and_parts (is_first u k.send_line) (can_put k) is).0 in
       let sends = left_line k.send_line _ pair.send_line front ∙ sym (unlined (Owing true true) Senders refl) in
@@ -213,7 +221,8 @@ module _ (b : BufId) (u : Tid) where
       at_work k g (WasRefused Senders) (Trying Senders) (Failed Senders) k.send_line k.receive_line owner refl refl pair pair.send_line pair.receive_line
 
   own_take : (k : Buffer) (g : Progress) (may : Bool) → may_take u k ≡ may → k.busy ≡ Some u → Pair b u k g (In b (Trying Receivers)) Home
-      → Pair b u (if may then taken k else k) (if may then Owes true true else WasRefused Receivers) (if may then In b (Owing true true) else In b (Failed Receivers)) Home
+      → Pair b u (if may then taken k else k) (if may then Owes true true else WasRefused Receivers)
+      (if may then In b (Owing true true) else In b (Failed Receivers)) Home
   own_take k g true is owner pair =
       let front = (and_parts (is_first u k.receive_line) (can_take k) is).0 in
       let receives = left_line k.receive_line _ pair.receive_line front ∙ sym (unlined (Owing true true) Receivers refl) in
@@ -252,7 +261,8 @@ module _ (b : BufId) (u : Tid) where
       own_release k g (In b (Failed Receivers)) (In b (Waiting Receivers)) (AtWait b Receivers) pair (and_right (is_buffer b b) false refl) refl
       pair.send_line pair.receive_line k.waiting_senders (joined u k.waiting_receivers)
       (no_senders k g (In b (Failed Receivers)) pair ∙ sym (marked_none u (is_buffer b b && false) (and_right (is_buffer b b) false refl)))
-      (grown_list u k.waiting_receivers (no_receivers k g (In b (Failed Receivers)) pair) ∙ ap (marked u) (sym (and_from (is_buffer b b) true (buffer_self b) refl)))
+      (grown_list u k.waiting_receivers (no_receivers k g (In b (Failed Receivers)) pair)
+      ∙ ap (marked u) (sym (and_from (is_buffer b b) true (buffer_self b) refl)))
 
   own_free : (k : Buffer) (g : Progress) (r s : Bool) → Pair b u k g (In b (Owing r s)) Home → Pair b u (released k) Begins Outside Home
   own_free k g r s pair =
@@ -262,7 +272,8 @@ module _ (b : BufId) (u : Tid) where
       k.waiting_senders k.waiting_receivers pair.senders pair.receivers
 
   -- a signal of one side, while its caller waits nowhere
-  own_signal : (k : Buffer) (g h : Progress) (r s x y : Bool) (sends receives : List Tid) → k.busy ≡ Some u → h ≡ Owes x y → Pair b u k g (In b (Owing r s)) Home
+  own_signal : (k : Buffer) (g h : Progress) (r s x y : Bool) (sends receives : List Tid)
+      → k.busy ≡ Some u → h ≡ Owes x y → Pair b u k g (In b (Owing r s)) Home
       → count_in u sends ≡ 0 → count_in u receives ≡ 0
       → Pair b u (record k { waiting_senders = sends; waiting_receivers = receives }) h (In b (Owing x y)) Home
   own_signal k g h r s x y sends receives owner step pair no_ws no_wr = record {
@@ -284,11 +295,13 @@ module _ (b : BufId) (u : Tid) where
       by_test false = none
 
   -- what the thread's own section makes of the pair, where it is due
-  own_at : (name : Name) (k : Buffer) (g : Progress) (turn : Turn) → caller_in name ≡ Some u → (k.busy ≡ None → g ≡ Begins) → MayEdit name k g → IsTurn b name turn
+  own_at : (name : Name) (k : Buffer) (g : Progress) (turn : Turn) → caller_in name ≡ Some u
+      → (k.busy ≡ None → g ≡ Begins) → MayEdit name k g → IsTurn b name turn
       → Pair b u k g turn Home
       → Pair b u (edited_buffer name k) (progress_after name k g) (next_turn b name k turn) (if (answer_of_buffer name k).slept then bed b name else Home)
   own_at (AcqQ t) k g turn is idle may due pair =
-      subst (λ v. IsTurn b (AcqQ v) turn → Pair b u (acquired v k.busy k) g (acquired_turn b turn) (if (answer_of_acquire k.busy).slept then AtLock b else Home))
+      subst (λ v. IsTurn b (AcqQ v) turn → Pair b u (acquired v k.busy k) g (acquired_turn b turn)
+      (if (answer_of_acquire k.busy).slept then AtLock b else Home))
       (some_is u t (sym is)) (λ own. own_acquire k g k.busy turn refl idle own pair) due
   own_at (Enter t side) k g (In d GotIt) is idle may due pair =
       let at_b : Pair b u k g (In b GotIt) Home = subst (λ x. Pair b u k g (In x GotIt) Home) due pair in
@@ -315,14 +328,16 @@ module _ (b : BufId) (u : Tid) where
       let owner : k.busy ≡ Some u = may.0 ∙ is in
       let step : g ≡ Owes r s = (at_b.owner owner).1 in
       subst (λ x. Pair b u (edited_buffer (SigRecv t) k) (receivers_signalled g) (In x (Owing false s)) Home) (sym due)
-      (own_signal k g (receivers_signalled g) r s false s k.waiting_senders (without_any (due_receiver k) k.waiting_receivers) owner (ap receivers_signalled step) at_b
+      (own_signal k g (receivers_signalled g) r s false s k.waiting_senders
+      (without_any (due_receiver k) k.waiting_receivers) owner (ap receivers_signalled step) at_b
       (no_senders k g (In b (Owing r s)) at_b) (still_none (due_receiver k) k.waiting_receivers (no_receivers k g (In b (Owing r s)) at_b)))
   own_at (SigSend t) k g (In d (Owing r s)) is idle may due pair =
       let at_b : Pair b u k g (In b (Owing r s)) Home = subst (λ x. Pair b u k g (In x (Owing r s)) Home) due pair in
       let owner : k.busy ≡ Some u = may.0 ∙ is in
       let step : g ≡ Owes r s = (at_b.owner owner).1 in
       subst (λ x. Pair b u (edited_buffer (SigSend t) k) (senders_signalled g) (In x (Owing r false)) Home) (sym due)
-      (own_signal k g (senders_signalled g) r s r false (without_any (due_sender k) k.waiting_senders) k.waiting_receivers owner (ap senders_signalled step) at_b
+      (own_signal k g (senders_signalled g) r s r false (without_any (due_sender k) k.waiting_senders) k.waiting_receivers owner
+      (ap senders_signalled step) at_b
       (still_none (due_sender k) k.waiting_senders (no_senders k g (In b (Owing r s)) at_b)) (no_receivers k g (In b (Owing r s)) at_b))
   own_at (RelQ t) k g (In d (Owing r s)) is idle may due pair =
       let at_b : Pair b u k g (In b (Owing r s)) Home = subst (λ x. Pair b u k g (In x (Owing r s)) Home) due.0 pair in
@@ -331,7 +346,8 @@ module _ (b : BufId) (u : Tid) where
 
   -- a caller is not woken by its own section
   not_woken : (name : Name) (k : Buffer) (g : Progress) (turn : Turn) → Pair b u k g turn Home → is_thread u (answer_of_buffer name k).woke ≡ false
-  not_woken name k g turn pair = false_from_ne_true (is_thread u (answer_of_buffer name k).woke) (λ on. absurd (cc (woken_sleeps b u k g turn Home pair name on).1))
+  not_woken name k g turn pair =
+      false_from_ne_true (is_thread u (answer_of_buffer name k).woke) (λ on. absurd (cc (woken_sleeps b u k g turn Home pair name on).1))
 
   -- the caller's own section keeps the pair
   pub own_pair : (setup : Setup) (c : CpuId) (name : Name) (k : Buffer) (g : Progress) (turn : Turn) (spot : Spot) → caller_in name ≡ Some u → spot ≡ Home
@@ -348,8 +364,10 @@ module _ (b : BufId) (u : Tid) where
       ∙ ap (λ d. if slept && d then bed b name else spot) calls
       ∙ ap (λ d. if d then bed b name else spot) (and_true slept)
       ∙ ap (λ x. if slept then bed b name else x) here in
-      subst (λ z. Pair b u (edited_buffer name k) (progress_after name k g) z (spot_moved setup c b u name slept (answer_of_buffer name k).woke spot)) (sym at_turn)
-      (subst (λ x. Pair b u (edited_buffer name k) (progress_after name k g) (next_turn b name k turn) x) (sym at_spot) (own_at name k g turn is idle may due pair))
+      subst (λ z. Pair b u (edited_buffer name k) (progress_after name k g) z (spot_moved setup c b u name slept (answer_of_buffer name k).woke spot))
+      (sym at_turn)
+      (subst (λ x. Pair b u (edited_buffer name k) (progress_after name k g) (next_turn b name k turn) x)
+      (sym at_spot) (own_at name k g turn is idle may due pair))
     where
       and_true : (d : Bool) → (d && true) ≡ d
       and_true true = refl
@@ -385,7 +403,8 @@ away b d (RelQ t) k (In e (Owing r s)) off due = record { before = subst (λ x. 
 away b d name k turn off due = absurd due
 
 -- the pair of a thread whose turn is elsewhere
-pub turn_apart : (b : BufId) (u : Tid) (k : Buffer) (g : Progress) (turn next : Turn) (spot : Spot) → Apart b turn next → Pair b u k g turn spot → Pair b u k g next spot
+pub turn_apart : (b : BufId) (u : Tid) (k : Buffer) (g : Progress) (turn next : Turn) (spot : Spot)
+    → Apart b turn next → Pair b u k g turn spot → Pair b u k g next spot
 turn_apart b u k g turn next spot apart pair = record {
   owner = λ e. refuted (ap (λ n. n && goes_on turn) apart.before) (pair.owner e).0;
   inside = λ ins awake. refuted (ap (λ n. n && goes_on next) apart.after) ins;
@@ -394,7 +413,8 @@ turn_apart b u k g turn next spot apart pair = record {
   senders = pair.senders;
   receivers = pair.receivers;
   send_line = pair.send_line ∙ ap (λ n. marked u (n && stands Senders turn)) apart.before ∙ ap (λ n. marked u (n && stands Senders next)) (sym apart.after);
-  receive_line = pair.receive_line ∙ ap (λ n. marked u (n && stands Receivers turn)) apart.before ∙ ap (λ n. marked u (n && stands Receivers next)) (sym apart.after);
+  receive_line =
+      pair.receive_line ∙ ap (λ n. marked u (n && stands Receivers turn)) apart.before ∙ ap (λ n. marked u (n && stands Receivers next)) (sym apart.after);
 }
 
 -- the pair of a thread whose spot bears the same marks of the buffer

@@ -1,6 +1,7 @@
 -- One thread and one buffer: that its places at the buffer are those that its spot and its turn say, by count, and that it owns the
 -- lock exactly where its turn says. Everything here speaks of plain values; the log comes later.
-use Rattle.std.proofs.Common.{◌≡◌, ℕ, ◌+◌, ◌<◌, ◌≤◌, Bool, true, false, not, ◌&&◌, List, [], ◌∷◌, ◌++◌, Option, Some, None, nat_lt, if◌then◌else◌, refl, sym, ap, ◌∙◌, subst, arith}
+use Rattle.std.proofs.Common.{◌≡◌, ℕ, ◌+◌, ◌<◌, ◌≤◌, Bool, true, false, not, ◌&&◌, List, [], ◌∷◌, ◌++◌}
+use Rattle.std.proofs.Common.{Option, Some, None, nat_lt, if◌then◌else◌, refl, sym, ap, ◌∙◌, subst, arith}
 use Rattle.std.proofs.lemmas.Bool.{eq-eqb, eqb-true, and_parts, and_right, false_from_ne_true}
 use Rattle.event_log.specs.declared.ids.CpuId.{CpuId}
 use Rattle.event_log.specs.declared.ids.Tid.{Tid}
@@ -123,7 +124,8 @@ signal_left u None list = refl
 signal_left u (Some t) list = count_without u t list
 
 -- whom a signal wakes was waiting
-woken_waits : (u : Tid) (line list : List Tid) (can : Bool) → is_thread u (if front_stands_in line list && can then first line else None) ≡ true → 0 < count_in u list
+woken_waits : (u : Tid) (line list : List Tid) (can : Bool)
+    → is_thread u (if front_stands_in line list && can then first line else None) ≡ true → 0 < count_in u list
 woken_waits u [] list can woke = by_test can woke
   where
     by_test : (b : Bool) → is_thread u (if false && b then None else None) ≡ true → 0 < count_in u list
@@ -247,7 +249,8 @@ module _ (b : BufId) (u : Tid) (k : Buffer) (g : Progress) (turn : Turn) (spot :
   due_sends is = marked_some u (is_wait b Senders spot) (subst (λ n. 0 < n) pair.senders (woken_waits u k.send_line k.waiting_senders (can_put k) is))
 
   pub due_receives : is_thread u (due_receiver k) ≡ true → (nat_lt u.0 THREADS ≡ true) × (is_wait b Receivers spot ≡ true)
-  due_receives is = marked_some u (is_wait b Receivers spot) (subst (λ n. 0 < n) pair.receivers (woken_waits u k.receive_line k.waiting_receivers (can_take k) is))
+  due_receives is =
+      marked_some u (is_wait b Receivers spot) (subst (λ n. 0 < n) pair.receivers (woken_waits u k.receive_line k.waiting_receivers (can_take k) is))
 
   -- whoever is woken sleeps at the buffer, and its number is a thread's
   pub woken_sleeps : (name : Name) → is_thread u (answer_of_buffer name k).woke ≡ true → (nat_lt u.0 THREADS ≡ true) × (sleeps_at b spot ≡ true)
@@ -428,7 +431,8 @@ module _ (setup : Setup) (c : CpuId) (b : BufId) (u t : Tid) (other : same_tid t
             inside = λ ins awake. pair.inside ins off;
             starts = λ now. refuted no_lock now;
             sleepers = pair.sleepers ∙ ap (marked u) (off ∙ sym no_lock);
-            senders = pair.senders ∙ ap (marked u) (wait_one_side b Receivers Senders spot refl on ∙ sym (woken_no_wait b Senders (same_cpu (home_of setup u) c) c));
+            senders =
+                pair.senders ∙ ap (marked u) (wait_one_side b Receivers Senders spot refl on ∙ sym (woken_no_wait b Senders (same_cpu (home_of setup u) c) c));
             receivers = signal_left u (due_receiver k) k.waiting_receivers ∙ ap (λ x. if x then 0 else count_in u k.waiting_receivers) is
                 ∙ sym (marked_none u _ (woken_no_wait b Receivers (same_cpu (home_of setup u) c) c));
             send_line = pair.send_line;
@@ -461,7 +465,8 @@ module _ (setup : Setup) (c : CpuId) (b : BufId) (u t : Tid) (other : same_tid t
             sleepers = pair.sleepers ∙ ap (marked u) (off ∙ sym no_lock);
             senders = signal_left u (due_sender k) k.waiting_senders ∙ ap (λ x. if x then 0 else count_in u k.waiting_senders) is
                 ∙ sym (marked_none u _ (woken_no_wait b Senders (same_cpu (home_of setup u) c) c));
-            receivers = pair.receivers ∙ ap (marked u) (wait_one_side b Senders Receivers spot refl on ∙ sym (woken_no_wait b Receivers (same_cpu (home_of setup u) c) c));
+            receivers = pair.receivers ∙ ap (marked u) (wait_one_side b Senders Receivers spot refl on
+                ∙ sym (woken_no_wait b Receivers (same_cpu (home_of setup u) c) c));
             send_line = pair.send_line;
             receive_line = pair.receive_line;
           }
@@ -476,7 +481,8 @@ module _ (setup : Setup) (c : CpuId) (b : BufId) (u t : Tid) (other : same_tid t
         receive_line = pair.receive_line;
       }
 
-by_acquire : (setup : Setup) (c : CpuId) (u : Tid) (o : Option Tid) (x : Spot) → (if is_thread u (answer_of_acquire o).woke then spot_woken setup c u else x) ≡ x
+by_acquire : (setup : Setup) (c : CpuId) (u : Tid) (o : Option Tid) (x : Spot)
+    → (if is_thread u (answer_of_acquire o).woke then spot_woken setup c u else x) ≡ x
 by_acquire setup c u None x = refl
 by_acquire setup c u (Some owner) x = refl
 
@@ -484,8 +490,10 @@ other_section : (setup : Setup) (c : CpuId) (b : BufId) (u : Tid) (name : Name) 
     → is_caller u name ≡ false → MayEdit name k g → Pair b u k g turn spot
     → Pair b u (edited_buffer name k) (progress_after name k g) turn (if is_thread u (answer_of_buffer name k).woke then spot_woken setup c u else spot)
 other_section setup c b u (AcqQ t) k g turn spot other may pair =
-    subst (λ x. Pair b u (acquired t k.busy k) g turn x) (sym (by_acquire setup c u k.busy spot)) (other_acquire setup c b u t other turn spot k g k.busy refl pair)
-other_section setup c b u (Enter t side) k g turn spot other may pair = other_enter setup c b u t other turn spot k g side (may_join t (line_of side k)) may.0 pair
+    subst (λ x. Pair b u (acquired t k.busy k) g turn x) (sym (by_acquire setup c u k.busy spot))
+    (other_acquire setup c b u t other turn spot k g k.busy refl pair)
+other_section setup c b u (Enter t side) k g turn spot other may pair =
+    other_enter setup c b u t other turn spot k g side (may_join t (line_of side k)) may.0 pair
 other_section setup c b u (TryPut t m) k g turn spot other may pair = other_put setup c b u t other turn spot k g m (may_put t k) refl may.0 pair
 other_section setup c b u (TryTake t) k g turn spot other may pair = other_take setup c b u t other turn spot k g (may_take t k) refl may.0 pair
 other_section setup c b u (WaitOn t side) k g turn spot other may pair = other_wait setup c b u t other turn spot k g side may.0 pair

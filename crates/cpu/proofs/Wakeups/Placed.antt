@@ -1,6 +1,7 @@
 -- More of each thread after any section log: a CPU holds threads only if the machine has it, a thread sleeps at buffers of the machine,
 -- and whoever waits stands at its wait.
-use Rattle.std.proofs.Common.{◌≡◌, ℕ, zero, suc, ◌<◌, Bool, true, false, ◌&&◌, List, [], ◌∷◌, length, slice_get, Option, Some, None, option_map, nat_lt, if◌then◌else◌, refl, sym, ap, subst, arith}
+use Rattle.std.proofs.Common.{◌≡◌, ℕ, zero, suc, ◌<◌, Bool, true, false, ◌&&◌, List, [], ◌∷◌, length, slice_get}
+use Rattle.std.proofs.Common.{Option, Some, None, option_map, nat_lt, if◌then◌else◌, refl, sym, ap, subst, arith}
 use Rattle.std.proofs.lemmas.Bool.{and_parts}
 use Rattle.std.proofs.lemmas.Option.{slice_get_within}
 use Rattle.event_log.specs.declared.ids.CpuId.{CpuId}
@@ -39,7 +40,8 @@ pub record Placed (setup : Setup) (past : List (Section Name)) : Type 0 where
   pub callers : (u : Tid) → HasHome setup u (turn setup u past)
 
 -- a buffer's block is there only for a buffer of the machine
-pub buffer_within : (setup : Setup) (b : BufId) (past : List (Section Name)) (k : Buffer) → block_of setup (AtBuffer b) past ≡ Some (OfBuffer k) → b.0 < length setup.caps
+pub buffer_within : (setup : Setup) (b : BufId) (past : List (Section Name)) (k : Buffer)
+    → block_of setup (AtBuffer b) past ≡ Some (OfBuffer k) → b.0 < length setup.caps
 buffer_within setup b [] k is = opens (slice_get setup.caps b.0) refl is
   where
     opens : (o : Option ℕ) → slice_get setup.caps b.0 ≡ o → opening_buffer o ≡ Some (OfBuffer k) → b.0 < length setup.caps
@@ -55,7 +57,8 @@ buffer_within setup b (s ∷ past) k is = by_test (same_lock (AtBuffer b) s.lock
     by_test true (Some (OfBuffer was)) before now = before was refl
 
 -- and there is one for each
-pub buffer_there : (setup : Setup) (b : BufId) (past : List (Section Name)) → b.0 < length setup.caps → (k : Buffer) × (block_of setup (AtBuffer b) past ≡ Some (OfBuffer k))
+pub buffer_there : (setup : Setup) (b : BufId) (past : List (Section Name)) → b.0 < length setup.caps
+    → (k : Buffer) × (block_of setup (AtBuffer b) past ≡ Some (OfBuffer k))
 buffer_there setup b [] within = opens setup.caps b.0 within
   where
     opens : (caps : List ℕ) (i : ℕ) → i < length caps → (k : Buffer) × (opening_buffer (slice_get caps i) ≡ Some (OfBuffer k))
@@ -74,7 +77,8 @@ placed_by setup turn true c within = tt
 placed_by setup turn false c within = within
 
 -- only those that ask for the lock or wait are put to sleep
-placed_bed : (setup : Setup) (d : BufId) (name : Name) (k : Buffer) (turn : Turn) → d.0 < length setup.caps → IsPlaced setup (next_turn d name k turn) (bed d name)
+placed_bed : (setup : Setup) (d : BufId) (name : Name) (k : Buffer) (turn : Turn) → d.0 < length setup.caps
+    → IsPlaced setup (next_turn d name k turn) (bed d name)
 placed_bed setup d (AcqQ t) k turn within = within
 placed_bed setup d (Enter t side) k turn within = within
 placed_bed setup d (TryPut t m) k turn within = within
@@ -90,7 +94,8 @@ has_home : (setup : Setup) (u : Tid) (turn : Turn) → nat_lt u.0 (length setup.
 has_home setup u Outside known = tt
 has_home setup u (In b doing) known = known
 
-module _ (setup : Setup) (past : List (Section Name)) (placed : Placed setup past) (c : CpuId) (within : c.0 < setup.cpus) (d : BufId) (name : Name) (callers : CallersAre setup past c d name) where
+module _ (setup : Setup) (past : List (Section Name)) (placed : Placed setup past) (c : CpuId) (within : c.0 < setup.cpus)
+    (d : BufId) (name : Name) (callers : CallersAre setup past c d name) where
   known_caller : (u : Tid) → is_caller u name ≡ true → nat_lt u.0 (length setup.homes) ≡ true
   known_caller u own = (and_parts (same_cpu (home_of setup u) c) (nat_lt u.0 (length setup.homes)) (callers u (is_the_caller u name own)).local).1
 
@@ -127,7 +132,8 @@ module _ (setup : Setup) (past : List (Section Name)) (placed : Placed setup pas
   placed_drained turn (AtLock b) at = at
   placed_drained turn (AtWait b side) at = at
 
-  spots_pending : (name : Name) → MayComeTo setup past c d name → (u : Tid) → IsPlaced setup (turn setup u past) (spot_pending setup d u name (spot setup u past))
+  spots_pending : (name : Name) → MayComeTo setup past c d name → (u : Tid)
+      → IsPlaced setup (turn setup u past) (spot_pending setup d u name (spot setup u past))
   spots_pending (Pend s) may u = by_test (same_tid s u)
     where
       by_test : (mine : Bool) → IsPlaced setup (turn setup u past) (if mine then IsPending else spot setup u past)

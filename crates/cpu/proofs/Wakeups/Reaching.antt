@@ -1,5 +1,6 @@
 -- Every state that a system reaches is sound: each section of its log may come where it stands, and each CPU agrees with the log.
-use Rattle.std.proofs.Common.{◌≡◌, ℕ, zero, suc, ◌+◌, ◌<◌, ◌==◌, Bool, true, false, ◌&&◌, List, [], ◌∷◌, ◌++◌, length, map, slice_get, slice_set, get_or, Option, Some, None, option_map, nat_lt, if◌then◌else◌, refl, sym, ap, ◌∙◌, subst, arith}
+use Rattle.std.proofs.Common.{◌≡◌, ℕ, zero, suc, ◌+◌, ◌<◌, ◌==◌, Bool, true, false, ◌&&◌, List, [], ◌∷◌, ◌++◌, length, map, slice_get}
+use Rattle.std.proofs.Common.{slice_set, get_or, Option, Some, None, option_map, nat_lt, if◌then◌else◌, refl, sym, ap, ◌∙◌, subst, arith}
 use Rattle.std.proofs.lemmas.Bool.{and_right, eq-eqb, ne_eqb, eqb-true, eqb-false, lt-ltb, le-ltb, ltb-true, ltb-false}
 use Rattle.std.proofs.lemmas.List.{length-map}
 use Rattle.event_log.specs.declared.ids.CpuId.{CpuId}
@@ -19,7 +20,8 @@ use Rattle.cpu.specs.Table.Blocks.{Name}
 use Rattle.cpu.specs.Table.Edits.{answer}
 use Rattle.cpu.specs.Table.Setups.{Setup, Private, new_thread, cpu_or, home_threads_from, home_threads, at_boot}
 use Rattle.cpu.specs.Table.Choice.{asked, Choice, Halts, Alone, Goes, choice}
-use Rattle.cpu.specs.Table.Steps.{after_reply, chosen, step_in, cpu_step, Whole, cpu_numbered, boots_from, whole_at_boot, whole_after, roomy, answered_by, step_at, system_step, IsReached, boots, steps}
+use Rattle.cpu.specs.Table.Steps.{after_reply, chosen, step_in, cpu_step, Whole, cpu_numbered, boots_from, whole_at_boot}
+use Rattle.cpu.specs.Table.Steps.{whole_after, roomy, answered_by, step_at, system_step, IsReached, boots, steps}
 use Rattle.cpu.specs.Wakeups.Order.{block_of}
 use Rattle.cpu.specs.Wakeups.Lost.{SystemsKeepOrder, SystemsLoseNoWakeUp, FreeLocksHaveNoSleepers}
 use Rattle.cpu.proofs.Wakeups.Lists.{refuted}
@@ -141,7 +143,8 @@ module _ (setup : Setup) (c : CpuId) (log : List (Action Name)) (fair : IsFairLo
   pub step_ok : (p : Private) → Ok setup c p log → StepOk setup c log (cpu_step setup c p log)
   step_ok p ok = by_section (is_in_section (phase c log)) refl
     where
-      by_choice : is_in_section (phase c log) ≡ false → (what : Choice) → ChoiceOk setup c (λ u. turn setup u (sections_in log)) (λ u. spot setup u (sections_in log)) what
+      by_choice : is_in_section (phase c log) ≡ false → (what : Choice)
+          → ChoiceOk setup c (λ u. turn setup u (sections_in log)) (λ u. spot setup u (sections_in log)) what
           → StepOk setup c log (chosen setup c p what log)
       by_choice rests (Halts reason) chosen_ok = record { fair = fair; ok = ok; does = tt }
       by_choice rests (Alone q) chosen_ok = record {
@@ -158,7 +161,8 @@ module _ (setup : Setup) (c : CpuId) (log : List (Action Name)) (fair : IsFairLo
           by_choice is (choice setup c p) (choice_ok setup c p (λ u. turn setup u (sections_in log)) (λ u. spot setup u (sections_in log)) ok.agrees ok.settled)
 
 -- an action of another CPU
-pub ok_beside : (setup : Setup) (e : CpuId) (p : Private) (log : List (Action Name)) (a : Action Name) → same_cpu (doer a) e ≡ false → IsFairLog setup log → IsFair setup log a
+pub ok_beside : (setup : Setup) (e : CpuId) (p : Private) (log : List (Action Name)) (a : Action Name)
+    → same_cpu (doer a) e ≡ false → IsFairLog setup log → IsFair setup log a
     → Ok setup e p log → Ok setup e p (a ∷ log)
 ok_beside setup e p log (Take cpu lock) off fair may ok = record {
   agrees = ok.agrees;
@@ -176,7 +180,8 @@ ok_beside setup e p log (Give cpu lock name) off fair may ok = record {
   under = λ at is. ok.under at (sym (ap lock_in (phase_other (Give cpu lock name) log e off)) ∙ is);
 }
 
-pub all_beside : (setup : Setup) (c e : CpuId) (p : Private) (log acts : List (Action Name)) → same_cpu c e ≡ false → AllDo c acts → IsFairLog setup (acts ++ log)
+pub all_beside : (setup : Setup) (c e : CpuId) (p : Private) (log acts : List (Action Name))
+    → same_cpu c e ≡ false → AllDo c acts → IsFairLog setup (acts ++ log)
     → Ok setup e p log → Ok setup e p (acts ++ log)
 all_beside setup c e p log [] off does fair ok = ok
 all_beside setup c e p log (a ∷ acts) off does fair ok =
@@ -215,7 +220,8 @@ homed_at c [] i k u at =
 homed_at c (home ∷ homes) i zero u at = by_test (same_cpu home c) (homed_before c homes (i + 1) u (omega (arith, at)))
   where
     by_test : (here : Bool) → count_in u (home_threads_from c homes (i + 1)) ≡ 0
-        → count_in u (if here then record { 0 = i } ∷ home_threads_from c homes (i + 1) else home_threads_from c homes (i + 1)) ≡ one_if (here && nat_lt 0 (length (home ∷ homes)))
+        → count_in u (if here then record { 0 = i } ∷ home_threads_from c homes (i + 1) else home_threads_from c homes (i + 1))
+        ≡ one_if (here && nat_lt 0 (length (home ∷ homes)))
     by_test true none =
         let mine : one_if (u.0 == i) ≡ 1 = ap one_if (eq-eqb u.0 i (omega (arith, at))) in
         let more : one_if (nat_lt 0 (length (home ∷ homes))) ≡ 1 = ap one_if (lt-ltb 0 (length (home ∷ homes)) (omega arith)) in
@@ -320,7 +326,8 @@ module _ (setup : Setup) (s : Whole) (sound : Sound setup s) (c : CpuId) where
       by_test e q is true same =
           let P : CpuId → Type 0 = λ x. Ok setup x q ((cpu_step setup c p s.log).acts ++ s.log) in
           subst P (same_cpu_true c e same)
-          (subst (λ x. Ok setup c x ((cpu_step setup c p s.log).acts ++ s.log)) (get_set s.cpus c.0 e.0 (cpu_step setup c p s.log).next q is (eqb-true c.0 e.0 same)) step.ok)
+          (subst (λ x. Ok setup c x ((cpu_step setup c p s.log).acts ++ s.log))
+          (get_set s.cpus c.0 e.0 (cpu_step setup c p s.log).next q is (eqb-true c.0 e.0 same)) step.ok)
       by_test e q is false off =
           all_beside setup c e q s.log (cpu_step setup c p s.log).acts off step.does step.fair
           (sound.cpus e q (sym (get_set_other s.cpus c.0 e.0 (cpu_step setup c p s.log).next (eqb-false c.0 e.0 off)) ∙ is))

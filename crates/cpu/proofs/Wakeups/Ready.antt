@@ -1,5 +1,6 @@
 -- A call that is ready, on a CPU alone, returns after 18 steps, or after 21.
-use Rattle.std.proofs.Common.{◌≡◌, ℕ, ◌+◌, ◌<◌, ◌≤◌, ◌==◌, ◌⊎◌, inl, inr, Bool, true, false, ◌&&◌, List, [], ◌∷◌, ◌++◌, length, Option, Some, None, is_some, if◌then◌else◌, refl, sym, ap, ◌∙◌, subst, arith}
+use Rattle.std.proofs.Common.{◌≡◌, ℕ, ◌+◌, ◌<◌, ◌≤◌, ◌==◌, ◌⊎◌, inl, inr, Bool, true, false, ◌&&◌, List, [], ◌∷◌, ◌++◌}
+use Rattle.std.proofs.Common.{length, Option, Some, None, is_some, if◌then◌else◌, refl, sym, ap, ◌∙◌, subst, arith}
 use Rattle.std.proofs.lemmas.Bool.{and_from}
 use Rattle.event_log.specs.declared.ids.CpuId.{CpuId}
 use Rattle.event_log.specs.declared.ids.Tid.{Tid}
@@ -36,7 +37,8 @@ use Rattle.cpu.proofs.Wakeups.Filled.{reached_filled}
 use Rattle.cpu.proofs.Wakeups.Alone.{with_new}
 use Rattle.cpu.proofs.Wakeups.Returning.{Gets, Returned, acquires, enters_send, enters_receive, puts, takes_one, ending_sends, ending_receives}
 
-module _ (setup : Setup) (room : ℕ) (s : Whole) (c : CpuId) (p : Private) (t : Tid) (few : AreFew setup) (reached : IsReached setup room s) (ready : IsReady setup c s p t) where
+module _ (setup : Setup) (room : ℕ) (s : Whole) (c : CpuId) (p : Private) (t : Tid) (few : AreFew setup)
+    (reached : IsReached setup room s) (ready : IsReady setup c s p t) where
   agrees : Agrees setup c p (λ u. turn setup u (sections_in s.log)) (λ u. spot setup u (sections_in s.log))
   agrees = ((reached_sound setup room s reached).cpus c p ready.here).agrees
 
@@ -75,7 +77,8 @@ module _ (setup : Setup) (room : ℕ) (s : Whole) (c : CpuId) (p : Private) (t :
   begun : (call : Call) → choice setup c p ≡ begins setup c p t call → choice setup c p ≡ Goes (with_call p t (Some call))
   begun call is = by_room ((length p.trace + open_calls p (home_threads setup c)) == setup.trace_room) refl
     where
-      by_room : (full : Bool) → ((length p.trace + open_calls p (home_threads setup c)) == setup.trace_room) ≡ full → choice setup c p ≡ Goes (with_call p t (Some call))
+      by_room : (full : Bool) → ((length p.trace + open_calls p (home_threads setup c)) == setup.trace_room) ≡ full
+          → choice setup c p ≡ Goes (with_call p t (Some call))
       by_room false at = is ∙ ap (λ b. if b then Halts TraceFull else Goes (with_call p t (Some call))) at
       by_room true at = not_halted TraceFull (is ∙ ap (λ b. if b then Halts TraceFull else Goes (with_call p t (Some call))) at)
 
@@ -141,7 +144,8 @@ module _ (setup : Setup) (room : ℕ) (s : Whole) (c : CpuId) (p : Private) (t :
       let may = first_after k.send_line (can_put k) line (putting k e m kind allowed) in
       let done = puts setup c t s 6 12 _ (record call { position = k.send_positions }) p.trace may entered_now in
       let left = ap (λ l. rest (l ++ t ∷ [])) line in
-      told e b _ (refl, is_send e kind, refl) (ending_sends setup c t small s 9 _ (record call { position = k.send_positions; effect = Some k.effects }) _ left none done)
+      told e b _ (refl, is_send e kind, refl) (ending_sends setup c t small s 9 _
+      (record call { position = k.send_positions; effect = Some k.effects }) _ left none done)
   returns Receives b k e m at_call space block free kind allowed line =
       let begin = begins_as Receives b (stands_at setup p t) refl at_call in
       let call = new_call Receives b begin.0 in
@@ -156,5 +160,6 @@ module _ (setup : Setup) (room : ℕ) (s : Whole) (c : CpuId) (p : Private) (t :
 
 pub calls_return_alone : CallsReturnAlone
 calls_return_alone setup room s c p t few reached ready space =
-    returns setup room s c p t few reached ready ready.asks ready.buffer ready.block ready.effect ready.message ready.at_call space ready.is ready.unowned ready.of_call
+    returns setup room s c p t few reached ready ready.asks ready.buffer ready.block ready.effect
+    ready.message ready.at_call space ready.is ready.unowned ready.of_call
     ready.allowed ready.empty_line

@@ -1,5 +1,6 @@
 -- A call alone goes through its six sections, with one more where its first signal wakes a thread of another CPU.
-use Rattle.std.proofs.Common.{◌≡◌, ℕ, ◌+◌, ◌<◌, ◌⊎◌, inl, inr, Bool, true, false, ◌&&◌, List, [], ◌∷◌, ◌++◌, slice_get, Option, Some, None, option_map, if◌then◌else◌, refl, sym, ap, ◌∙◌, subst, arith}
+use Rattle.std.proofs.Common.{◌≡◌, ℕ, ◌+◌, ◌<◌, ◌⊎◌, inl, inr, Bool, true, false, ◌&&◌, List, [], ◌∷◌, ◌++◌, slice_get}
+use Rattle.std.proofs.Common.{Option, Some, None, option_map, if◌then◌else◌, refl, sym, ap, ◌∙◌, subst, arith}
 use Rattle.std.proofs.lemmas.Bool.{lt-ltb}
 use Rattle.event_log.specs.declared.ids.CpuId.{CpuId}
 use Rattle.event_log.specs.declared.ids.Tid.{Tid}
@@ -12,15 +13,20 @@ use Rattle.event_log.specs.Sections.{Section}
 use Rattle.thread_blocks.specs.Queues.{first}
 use Rattle.layer_traits.specs.declared.locked.Side.TheVariants.{Receivers, Senders}
 use Rattle.layer_traits.specs.BufferBlocks.{may_join, first_item}
-use Rattle.cpu.specs.Table.Blocks.{Buffer, OfBuffer, Name, SigRecv, SigSend, RelQ, Pend, Sends, Receives, Told, Nothing, Position, Done, NotYet, Answer, front_stands_in}
-use Rattle.cpu.specs.Table.Edits.{edited_buffer, acquired, entered, put, taken, may_put, may_take, can_put, can_take, due_sender, due_receiver, tells, wakes, answer, answer_of_acquire, answer_of_buffer}
-use Rattle.cpu.specs.Table.Setups.{Setup, Acquires, Enters, Tries, Signals, SignalsOwn, Releases, Returns, Call, Private, thread_at, home_of, home_threads, have_ended, stands_at}
-use Rattle.cpu.specs.Table.Choice.{section_at, asked, Goes, choice, with_call, entry_of, effected, heard, woken, guest_after, returned, returned_at, settled, after_section}
+use Rattle.cpu.specs.Table.Blocks.{Buffer, OfBuffer, Name, SigRecv, SigSend, RelQ, Pend, Sends, Receives}
+use Rattle.cpu.specs.Table.Blocks.{Told, Nothing, Position, Done, NotYet, Answer, front_stands_in}
+use Rattle.cpu.specs.Table.Edits.{edited_buffer, acquired, entered, put, taken, may_put, may_take, can_put, can_take}
+use Rattle.cpu.specs.Table.Edits.{due_sender, due_receiver, tells, wakes, answer, answer_of_acquire, answer_of_buffer}
+use Rattle.cpu.specs.Table.Setups.{Setup, Acquires, Enters, Tries, Signals, SignalsOwn, Releases, Returns}
+use Rattle.cpu.specs.Table.Setups.{Call, Private, thread_at, home_of, home_threads, have_ended, stands_at}
+use Rattle.cpu.specs.Table.Choice.{section_at, asked, Goes, choice, with_call, entry_of, effected, heard}
+use Rattle.cpu.specs.Table.Choice.{woken, guest_after, returned, returned_at, settled, after_section}
 use Rattle.cpu.specs.Table.Steps.{Whole, steps_by}
 use Rattle.cpu.specs.Wakeups.Order.{block_of}
 use Rattle.cpu.proofs.Wakeups.Agreement.{at_same}
 use Rattle.cpu.proofs.Wakeups.CpuStep.{pending_there}
-use Rattle.cpu.proofs.Wakeups.Alone.{steps_more, section_of, Stands, after_three, three_steps, stands_after, InCall, with_new, goes_on, asks_for, after_is, settled_is, block_next}
+use Rattle.cpu.proofs.Wakeups.Alone.{steps_more, section_of, Stands, after_three, three_steps, stands_after}
+use Rattle.cpu.proofs.Wakeups.Alone.{InCall, with_new, goes_on, asks_for, after_is, settled_is, block_next}
 
 module _ (setup : Setup) (c : CpuId) (t : Tid) where
   -- after n steps of CPU c its thread t stands in this call, which goes on; the call's buffer holds this
@@ -49,7 +55,8 @@ module _ (setup : Setup) (c : CpuId) (t : Tid) where
       let after = goes_so q gets.inside in
       record {
         now = after_three setup c gets.now q a;
-        by = steps_more setup c n 3 s ∙ ap (steps_by setup c 3) gets.by ∙ three_steps setup c gets.now gets.before q gets.past left a gets.stands gets.goes answers;
+        by = steps_more setup c n 3 s ∙ ap (steps_by setup c 3) gets.by
+            ∙ three_steps setup c gets.now gets.before q gets.past left a gets.stands gets.goes answers;
         before = after_section setup c q a;
         state = after_section setup c q a;
         past = section_of c (asked setup c q) ∷ gets.past;
@@ -75,20 +82,23 @@ module _ (setup : Setup) (c : CpuId) (t : Tid) where
 
   -- The sections, one after the other.
 
-  pub acquires : (s : Whole) (n left : ℕ) (k : Buffer) (call : Call) (traced : List Entry) → k.busy ≡ None → Gets s n k (record call { stage = Acquires }) traced (left + 3)
+  pub acquires : (s : Whole) (n left : ℕ) (k : Buffer) (call : Call) (traced : List Entry) → k.busy ≡ None
+      → Gets s n k (record call { stage = Acquires }) traced (left + 3)
       → Gets s (n + 3) (record k { busy = Some t }) (record call { stage = Enters }) traced left
   acquires s n left k call traced free gets =
       advance s n k (record k { busy = Some t }) (record call { stage = Acquires }) (record call { stage = Enters }) traced traced left (tells Nothing) gets
       (ap answer_of_acquire free) (ap (λ o. acquired t o k) free) refl
       (λ p inside.
-      hears p (with_call p t (Some (record call { stage = Enters }))) (record call { stage = Acquires }) (record call { stage = Enters }) traced traced Nothing inside refl
+      hears p (with_call p t (Some (record call { stage = Enters }))) (record call { stage = Acquires })
+      (record call { stage = Enters }) traced traced Nothing inside refl
       (new_in p (record call { stage = Acquires }) (record call { stage = Enters }) traced inside) refl)
 
   module _ (small : t.0 < THREADS) where
     may_enter : (line : List Tid) → line ≡ [] → may_join t line ≡ true
     may_enter line empty = ap (may_join t) empty ∙ ap (λ b. b && true) (lt-ltb t.0 THREADS small)
 
-    pub enters_send : (s : Whole) (n left : ℕ) (k : Buffer) (call : Call) (traced : List Entry) → k.send_line ≡ [] → Gets s n k (record call { asks = Sends; stage = Enters }) traced (left + 3)
+    pub enters_send : (s : Whole) (n left : ℕ) (k : Buffer) (call : Call) (traced : List Entry) → k.send_line ≡ []
+        → Gets s n k (record call { asks = Sends; stage = Enters }) traced (left + 3)
         → Gets s (n + 3) (entered t Senders k) (record call { asks = Sends; position = k.send_positions; stage = Tries }) traced left
     enters_send s n left k call traced empty gets =
         let more : Call = record call { asks = Sends; position = k.send_positions; stage = Tries } in
@@ -103,7 +113,8 @@ module _ (setup : Setup) (c : CpuId) (t : Tid) where
         → Gets s (n + 3) (entered t Receivers k) (record call { asks = Receives; position = k.receive_positions; stage = Tries }) traced left
     enters_receive s n left k call traced empty gets =
         let more : Call = record call { asks = Receives; position = k.receive_positions; stage = Tries } in
-        advance s n k (entered t Receivers k) (record call { asks = Receives; stage = Enters }) more traced traced left (tells (Position k.receive_positions)) gets refl
+        advance s n k (entered t Receivers k) (record call { asks = Receives; stage = Enters }) more traced traced left
+        (tells (Position k.receive_positions)) gets refl
         (ap (λ b. if b then entered t Receivers k else k) (may_enter k.receive_line empty)) refl
         (λ p inside.
         hears p (with_call p t (Some more)) (record call { asks = Receives; stage = Enters }) more traced traced (Position k.receive_positions) inside refl
@@ -124,16 +135,20 @@ module _ (setup : Setup) (c : CpuId) (t : Tid) where
         trace = ap (λ x. x ++ entry_of c t (record call { message = m }) op m ∷ []) inside.trace;
       }
     where
-      have_traced : (p : Private) (ts : List Tid) → have_ended (with_call p t (Some (record call { message = m; effect = Some op; stage = Signals }))) ts ≡ false
+      have_traced : (p : Private) (ts : List Tid) → have_ended (with_call p t (Some (record call { message = m; effect = Some op; stage = Signals }))) ts
+          ≡ false
           → have_ended (effected c p t (record call { message = m }) op) ts ≡ false
       have_traced p ts live = have_same ts ∙ live
         where
           have_same : (ts : List Tid)
-              → have_ended (effected c p t (record call { message = m }) op) ts ≡ have_ended (with_call p t (Some (record call { message = m; effect = Some op; stage = Signals }))) ts
+              → have_ended (effected c p t (record call { message = m }) op) ts
+              ≡ have_ended (with_call p t (Some (record call { message = m; effect = Some op; stage = Signals }))) ts
           have_same [] = refl
-          have_same (u ∷ ts) = ap (λ b. (thread_at (with_call p t (Some (record call { message = m; effect = Some op; stage = Signals }))) u).ended && b) (have_same ts)
+          have_same (u ∷ ts) =
+              ap (λ b. (thread_at (with_call p t (Some (record call { message = m; effect = Some op; stage = Signals }))) u).ended && b) (have_same ts)
 
-  pub puts : (s : Whole) (n left : ℕ) (k : Buffer) (call : Call) (traced : List Entry) → may_put t k ≡ true → Gets s n k (record call { asks = Sends; stage = Tries }) traced (left + 3)
+  pub puts : (s : Whole) (n left : ℕ) (k : Buffer) (call : Call) (traced : List Entry) → may_put t k ≡ true
+      → Gets s n k (record call { asks = Sends; stage = Tries }) traced (left + 3)
       → Gets s (n + 3) (put call.message k) (record call { asks = Sends; effect = Some k.effects; stage = Signals })
       (traced ++ entry_of c t (record call { asks = Sends }) k.effects call.message ∷ []) left
   puts s n left k call traced may gets =
@@ -142,11 +157,13 @@ module _ (setup : Setup) (c : CpuId) (t : Tid) where
       (traced ++ entry_of c t (record call { asks = Sends }) k.effects call.message ∷ []) left (tells (Done k.effects call.message)) gets
       (ap (λ b. tells (if b then Done k.effects call.message else NotYet)) may) (ap (λ b. if b then put call.message k else k) may) refl
       (λ p inside.
-      hears p (effected c p t (record first_call { message = call.message }) k.effects) first_call (record call { asks = Sends; effect = Some k.effects; stage = Signals }) traced
+      hears p (effected c p t (record first_call { message = call.message }) k.effects) first_call
+      (record call { asks = Sends; effect = Some k.effects; stage = Signals }) traced
       (traced ++ entry_of c t (record call { asks = Sends }) k.effects call.message ∷ []) (Done k.effects call.message) inside refl
       (effect_in p first_call k.effects call.message traced inside) refl)
 
-  pub takes_one : (s : Whole) (n left : ℕ) (k : Buffer) (call : Call) (traced : List Entry) → may_take t k ≡ true → Gets s n k (record call { asks = Receives; stage = Tries }) traced (left + 3)
+  pub takes_one : (s : Whole) (n left : ℕ) (k : Buffer) (call : Call) (traced : List Entry) → may_take t k ≡ true
+      → Gets s n k (record call { asks = Receives; stage = Tries }) traced (left + 3)
       → Gets s (n + 3) (taken k) (record call { asks = Receives; message = first_item k.items; effect = Some k.effects; stage = Signals })
       (traced ++ entry_of c t (record call { asks = Receives }) k.effects (first_item k.items) ∷ []) left
   takes_one s n left k call traced may gets =
@@ -161,22 +178,27 @@ module _ (setup : Setup) (c : CpuId) (t : Tid) where
       (effect_in p first_call k.effects (first_item k.items) traced inside) refl)
 
   -- more room than is asked
-  with_left : (s : Whole) (n : ℕ) (k : Buffer) (call : Call) (traced : List Entry) (left less : ℕ) → left ≡ less → Gets s n k call traced left → Gets s n k call traced less
+  with_left : (s : Whole) (n : ℕ) (k : Buffer) (call : Call) (traced : List Entry) (left less : ℕ)
+      → left ≡ less → Gets s n k call traced left → Gets s n k call traced less
   with_left s n k call traced left less same gets = subst (Gets s n k call traced) same gets
 
   -- a signal that wakes nobody
   signals_none : (s : Whole) (n left : ℕ) (k next : Buffer) (call more : Call) (traced : List Entry) → call.buffer ≡ more.buffer
       → answer_of_buffer (section_at t call call.stage) k ≡ wakes None → edited_buffer (section_at t call call.stage) k ≡ next
-      → ((p : Private) (told : Told) → heard c p t call call.stage told ≡ with_call p t (Some more)) → ((p : Private) → returned_at setup p t more more.stage ≡ p)
+      → ((p : Private) (told : Told) → heard c p t call call.stage told ≡ with_call p t (Some more))
+      → ((p : Private) → returned_at setup p t more more.stage ≡ p)
       → Gets s n k call traced (left + 3) → Gets s (n + 3) next more traced left
   signals_none s n left k next call more traced same_buffer told edits heard_so stays gets =
       advance s n k next call more traced traced left (tells Nothing) gets told edits same_buffer
-      (λ p inside. hears p (with_call p t (Some more)) call more traced traced Nothing inside (heard_so p Nothing) (new_in p call more traced inside) (stays (with_call p t (Some more))))
+      (λ p inside. hears p (with_call p t (Some more)) call more traced traced Nothing inside (heard_so p Nothing)
+      (new_in p call more traced inside) (stays (with_call p t (Some more))))
 
   -- a signal that wakes a thread at home here
-  signals_home : (s : Whole) (n left : ℕ) (k next : Buffer) (call more : Call) (traced : List Entry) (u : Tid) → same_cpu (home_of setup u) c ≡ true → call.buffer ≡ more.buffer
+  signals_home : (s : Whole) (n left : ℕ) (k next : Buffer) (call more : Call) (traced : List Entry) (u : Tid)
+      → same_cpu (home_of setup u) c ≡ true → call.buffer ≡ more.buffer
       → answer_of_buffer (section_at t call call.stage) k ≡ wakes (Some u) → edited_buffer (section_at t call call.stage) k ≡ next
-      → ((p : Private) (told : Told) → heard c p t call call.stage told ≡ with_call p t (Some more)) → ((p : Private) → returned_at setup p t more more.stage ≡ p)
+      → ((p : Private) (told : Told) → heard c p t call call.stage told ≡ with_call p t (Some more))
+      → ((p : Private) → returned_at setup p t more more.stage ≡ p)
       → Gets s n k call traced (left + 3) → Gets s (n + 3) next more traced left
   signals_home s n left k next call more traced u here same_buffer told edits heard_so stays gets =
       advance s n k next call more traced traced left (wakes (Some u)) gets told edits same_buffer (λ p inside.
@@ -184,7 +206,14 @@ module _ (setup : Setup) (c : CpuId) (t : Tid) where
       let now = new_in p call more traced inside in
       let ready : Private = record h { ready = h.ready ++ u ∷ [] } in
       let at : InCall setup c ready t more traced =
-      record { hand = now.hand; current = now.current; calls = now.calls; known = now.known; live = ready_live p (home_threads setup c) more u now.live; trace = now.trace } in
+      record {
+        hand = now.hand;
+        current = now.current;
+        calls = now.calls;
+        known = now.known;
+        live = ready_live p (home_threads setup c) more u now.live;
+        trace = now.trace;
+      } in
       let same : after_section setup c p (wakes (Some u)) ≡ ready =
       after_is setup c p t call traced (wakes (Some u)) inside
       ∙ ap (λ x. settled setup (woken setup c (Some u) x)) (heard_so p Nothing)
@@ -197,14 +226,17 @@ module _ (setup : Setup) (c : CpuId) (t : Tid) where
       ready_live p ts more u live = have_same ts ∙ live
         where
           have_same : (ts : List Tid)
-              → have_ended (record (with_call p t (Some more)) { ready = (with_call p t (Some more)).ready ++ u ∷ [] }) ts ≡ have_ended (with_call p t (Some more)) ts
+              → have_ended (record (with_call p t (Some more)) { ready = (with_call p t (Some more)).ready ++ u ∷ [] }) ts
+              ≡ have_ended (with_call p t (Some more)) ts
           have_same [] = refl
           have_same (v ∷ ts) = ap (λ b. (thread_at (with_call p t (Some more)) v).ended && b) (have_same ts)
 
   -- a signal that wakes a thread of another CPU: the next section puts it among the pending there
-  signals_away : (s : Whole) (n left : ℕ) (k next : Buffer) (call more : Call) (traced : List Entry) (u : Tid) → same_cpu (home_of setup u) c ≡ false → call.buffer ≡ more.buffer
+  signals_away : (s : Whole) (n left : ℕ) (k next : Buffer) (call more : Call) (traced : List Entry) (u : Tid)
+      → same_cpu (home_of setup u) c ≡ false → call.buffer ≡ more.buffer
       → answer_of_buffer (section_at t call call.stage) k ≡ wakes (Some u) → edited_buffer (section_at t call call.stage) k ≡ next
-      → ((p : Private) (told : Told) → heard c p t call call.stage told ≡ with_call p t (Some more)) → ((p : Private) → returned_at setup p t more more.stage ≡ p)
+      → ((p : Private) (told : Told) → heard c p t call call.stage told ≡ with_call p t (Some more))
+      → ((p : Private) → returned_at setup p t more more.stage ≡ p)
       → Gets s n k call traced ((left + 3) + 3) → Gets s ((n + 3) + 3) next more traced left
   signals_away s n left k next call more traced u away same_buffer told edits heard_so stays gets =
       let q = gets.state in
@@ -226,15 +258,26 @@ module _ (setup : Setup) (c : CpuId) (t : Tid) where
       let stands_one : Stands setup c one held past (left + 3) =
       subst (λ x. Stands setup c one x past (left + 3)) same (stands_after setup c gets.now gets.before q gets.past (left + 3) (wakes (Some u)) gets.stands) in
       let there = pending_there setup (home_of setup u) past in
-      let pends : option_map (answer (Pend u)) (block_of setup (Pending (home_of setup u)) past) ≡ Some (tells Nothing) = ap (option_map (answer (Pend u))) there.1 in
+      let pends : option_map (answer (Pend u)) (block_of setup (Pending (home_of setup u)) past) ≡ Some (tells Nothing) =
+      ap (option_map (answer (Pend u))) there.1 in
       let now = new_in q call more traced gets.inside in
       let at : InCall setup c (record h { hand = None }) t more traced =
-      record { hand = refl; current = now.current; calls = now.calls; known = now.known; live = empty_live q (home_threads setup c) more now.live; trace = now.trace } in
-      let after : after_section setup c held (tells Nothing) ≡ record h { hand = None } = settled_is setup c (record h { hand = None }) t more traced at ∙ stays (record h { hand = None }) in
-      let inside_after : InCall setup c (after_section setup c held (tells Nothing)) t more traced = subst (λ x. InCall setup c x t more traced) (sym after) at in
+      record {
+        hand = refl;
+        current = now.current;
+        calls = now.calls;
+        known = now.known;
+        live = empty_live q (home_threads setup c) more now.live;
+        trace = now.trace;
+      } in
+      let after : after_section setup c held (tells Nothing) ≡ record h { hand = None } =
+      settled_is setup c (record h { hand = None }) t more traced at ∙ stays (record h { hand = None }) in
+      let inside_after : InCall setup c (after_section setup c held (tells Nothing)) t more traced =
+      subst (λ x. InCall setup c x t more traced) (sym after) at in
       record {
         now = after_three setup c one held (tells Nothing);
-        by = steps_more setup c (n + 3) 3 s ∙ ap (steps_by setup c 3) by_one ∙ three_steps setup c one held held past left (tells Nothing) stands_one refl pends;
+        by = steps_more setup c (n + 3) 3 s ∙ ap (steps_by setup c 3) by_one
+            ∙ three_steps setup c one held held past left (tells Nothing) stands_one refl pends;
         before = after_section setup c held (tells Nothing);
         state = after_section setup c held (tells Nothing);
         past = section_of c (asked setup c held) ∷ past;
@@ -258,7 +301,8 @@ module _ (setup : Setup) (c : CpuId) (t : Tid) where
   -- a signal, whomever it wakes: 3 steps, or 6
   signals : (s : Whole) (n left : ℕ) (k next : Buffer) (call more : Call) (traced : List Entry) (woke : Option Tid) → call.buffer ≡ more.buffer
       → answer_of_buffer (section_at t call call.stage) k ≡ wakes woke → edited_buffer (section_at t call call.stage) k ≡ next
-      → ((p : Private) (told : Told) → heard c p t call call.stage told ≡ with_call p t (Some more)) → ((p : Private) → returned_at setup p t more more.stage ≡ p)
+      → ((p : Private) (told : Told) → heard c p t call call.stage told ≡ with_call p t (Some more))
+      → ((p : Private) → returned_at setup p t more more.stage ≡ p)
       → Gets s n k call traced ((left + 3) + 3) → Gets s (n + 3) next more traced (left + 3) ⊎ Gets s ((n + 3) + 3) next more traced left
   signals s n left k next call more traced None same_buffer told edits heard_so stays gets =
       inl (signals_none s n (left + 3) k next call more traced same_buffer told edits heard_so stays gets)
@@ -276,7 +320,8 @@ module _ (setup : Setup) (c : CpuId) (t : Tid) where
     pub trace : now.trace ≡ traced
 
   -- the lock is given back, and nobody sleeps at it
-  releases : (s : Whole) (n left : ℕ) (k : Buffer) (call : Call) (traced : List Entry) → k.sleepers ≡ [] → Gets s n k (record call { stage = Releases }) traced (left + 3)
+  releases : (s : Whole) (n left : ℕ) (k : Buffer) (call : Call) (traced : List Entry) → k.sleepers ≡ []
+      → Gets s n k (record call { stage = Releases }) traced (left + 3)
       → Returned s (n + 3) traced
   releases s n left k call traced none gets =
       let last : Call = record call { stage = Releases } in
@@ -298,7 +343,10 @@ module _ (setup : Setup) (c : CpuId) (t : Tid) where
         now = returned setup h t gone;
         here = ap (λ x. slice_get x.cpus c.0) by ∙ stands.here ∙ ap Some same;
         outside = ap (λ y. y.call)
-            (at_same h t (record (thread_at h t) { guest = guest_after gone.asks (stands_at setup h t) gone.message (thread_at h t).guest; call = None }) now.known);
+            (at_same h t (record (thread_at h t) {
+              guest = guest_after gone.asks (stands_at setup h t) gone.message (thread_at h t).guest;
+              call = None;
+            }) now.known);
         trace = now.trace;
       }
 
@@ -308,7 +356,8 @@ module _ (setup : Setup) (c : CpuId) (t : Tid) where
     -- the two signals and the release, of a caller whose own line is empty now
     pub ending_sends : (s : Whole) (n : ℕ) (k : Buffer) (call : Call) (traced : List Entry) → k.send_line ≡ [] → k.sleepers ≡ []
         → Gets s n k (record call { asks = Sends; stage = Signals }) traced 12 → Returned s (n + 9) traced ⊎ Returned s (n + 12) traced
-    ending_sends s n k call traced line none gets = by_late (signals s n 6 k next (record call { asks = Sends; stage = Signals }) (record call { asks = Sends; stage = SignalsOwn })
+    ending_sends s n k call traced line none gets =
+        by_late (signals s n 6 k next (record call { asks = Sends; stage = Signals }) (record call { asks = Sends; stage = SignalsOwn })
         traced (due_receiver k) refl refl refl (λ p told. refl) (λ p. refl) gets)
       where
         next : Buffer
@@ -317,7 +366,8 @@ module _ (setup : Setup) (c : CpuId) (t : Tid) where
         due_none : (line waiting : List Tid) (can : Bool) → line ≡ [] → (if front_stands_in line waiting && can then first line else None) ≡ None
         due_none line waiting can empty = ap (λ l. if front_stands_in l waiting && can then first l else None) empty
 
-        rest_of : (m left : ℕ) → Gets s m (edited_buffer (SigRecv t) k) (record call { asks = Sends; stage = SignalsOwn }) traced ((left + 3) + 3) → Returned s ((m + 3) + 3) traced
+        rest_of : (m left : ℕ) → Gets s m (edited_buffer (SigRecv t) k) (record call { asks = Sends; stage = SignalsOwn }) traced ((left + 3) + 3)
+            → Returned s ((m + 3) + 3) traced
         rest_of m left got =
             releases s (m + 3) left (edited_buffer (SigSend t) (edited_buffer (SigRecv t) k)) (record call { asks = Sends }) traced none
             (signals_none s m (left + 3) (edited_buffer (SigRecv t) k) (edited_buffer (SigSend t) (edited_buffer (SigRecv t) k))
@@ -328,7 +378,8 @@ module _ (setup : Setup) (c : CpuId) (t : Tid) where
             ⊎ Gets s ((n + 3) + 3) (edited_buffer (SigRecv t) k) (record call { asks = Sends; stage = SignalsOwn }) traced 6
             → Returned s (n + 9) traced ⊎ Returned s (n + 12) traced
         by_late (inl early) = let same : ((n + 3) + 3) + 3 ≡ n + 9 = omega arith in inl (subst (λ m. Returned s m traced) same (rest_of (n + 3) 3 early))
-        by_late (inr late) = let same : (((n + 3) + 3) + 3) + 3 ≡ n + 12 = omega arith in inr (subst (λ m. Returned s m traced) same (rest_of ((n + 3) + 3) 0 late))
+        by_late (inr late) =
+            let same : (((n + 3) + 3) + 3) + 3 ≡ n + 12 = omega arith in inr (subst (λ m. Returned s m traced) same (rest_of ((n + 3) + 3) 0 late))
 
     pub ending_receives : (s : Whole) (n : ℕ) (k : Buffer) (call : Call) (traced : List Entry) → k.receive_line ≡ [] → k.sleepers ≡ []
         → Gets s n k (record call { asks = Receives; stage = Signals }) traced 12 → Returned s (n + 9) traced ⊎ Returned s (n + 12) traced
@@ -342,7 +393,8 @@ module _ (setup : Setup) (c : CpuId) (t : Tid) where
         due_none : (line waiting : List Tid) (can : Bool) → line ≡ [] → (if front_stands_in line waiting && can then first line else None) ≡ None
         due_none line waiting can empty = ap (λ l. if front_stands_in l waiting && can then first l else None) empty
 
-        rest_of : (m left : ℕ) → Gets s m (edited_buffer (SigSend t) k) (record call { asks = Receives; stage = SignalsOwn }) traced ((left + 3) + 3) → Returned s ((m + 3) + 3) traced
+        rest_of : (m left : ℕ) → Gets s m (edited_buffer (SigSend t) k) (record call { asks = Receives; stage = SignalsOwn }) traced ((left + 3) + 3)
+            → Returned s ((m + 3) + 3) traced
         rest_of m left got =
             releases s (m + 3) left (edited_buffer (SigRecv t) (edited_buffer (SigSend t) k)) (record call { asks = Receives }) traced none
             (signals_none s m (left + 3) (edited_buffer (SigSend t) k) (edited_buffer (SigRecv t) (edited_buffer (SigSend t) k))
@@ -353,4 +405,5 @@ module _ (setup : Setup) (c : CpuId) (t : Tid) where
             ⊎ Gets s ((n + 3) + 3) (edited_buffer (SigSend t) k) (record call { asks = Receives; stage = SignalsOwn }) traced 6
             → Returned s (n + 9) traced ⊎ Returned s (n + 12) traced
         by_late (inl early) = let same : ((n + 3) + 3) + 3 ≡ n + 9 = omega arith in inl (subst (λ m. Returned s m traced) same (rest_of (n + 3) 3 early))
-        by_late (inr late) = let same : (((n + 3) + 3) + 3) + 3 ≡ n + 12 = omega arith in inr (subst (λ m. Returned s m traced) same (rest_of ((n + 3) + 3) 0 late))
+        by_late (inr late) =
+            let same : (((n + 3) + 3) + 3) + 3 ≡ n + 12 = omega arith in inr (subst (λ m. Returned s m traced) same (rest_of ((n + 3) + 3) 0 late))

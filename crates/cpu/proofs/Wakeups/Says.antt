@@ -1,5 +1,6 @@
 -- The private states alone: a thread that has ended is inside no call, and a call that has not taken effect is what its thread asks next.
-use Rattle.std.proofs.Common.{◌≡◌, ℕ, ◌+◌, ◌<◌, ◌≤◌, ◌==◌, Bool, true, false, List, [], ◌∷◌, ◌++◌, length, map, get_or, ◌⊎◌, inl, inr, zero, suc, Option, Some, None, if◌then◌else◌, refl, sym, ap, subst}
+use Rattle.std.proofs.Common.{◌≡◌, ℕ, ◌+◌, ◌<◌, ◌≤◌, ◌==◌, Bool, true, false, List, [], ◌∷◌, ◌++◌, length, map, get_or}
+use Rattle.std.proofs.Common.{◌⊎◌, inl, inr, zero, suc, Option, Some, None, if◌then◌else◌, refl, sym, ap, subst}
 use Rattle.std.proofs.lemmas.Bool.{cases_lt}
 use Rattle.std.proofs.lemmas.List.{set_past}
 use Rattle.event_log.specs.declared.ids.CpuId.{CpuId}
@@ -16,8 +17,11 @@ use Rattle.layer_traits.specs.declared.steps.Reason.TheVariants.{AllEnded, Trace
 use Rattle.layer_traits.specs.Plans.{reply}
 use Rattle.cpu.specs.Table.Blocks.{Name, Asks, Sends, Receives, Told, Nothing, Position, Done, NotYet, Drained, Answer}
 use Rattle.cpu.specs.Table.Edits.{kernel}
-use Rattle.cpu.specs.Table.Setups.{Setup, Stage, Acquires, Enters, Tries, Waits, AcquiresAgain, Signals, SignalsOwn, Releases, Returns, Call, Thread, Private, new_thread, thread_at, with_thread, program_of, stands_at, at_boot, home_of, home_threads, open_calls, have_ended, opening}
-use Rattle.cpu.specs.Table.Choice.{asked, Choice, Halts, Alone, Goes, new_call, with_call, with_guest, begins, at_instruction, at_call, at_ready, at_current, at_hand, choice}
+use Rattle.cpu.specs.Table.Setups.{Setup, Stage, Acquires, Enters, Tries, Waits, AcquiresAgain, Signals, SignalsOwn}
+use Rattle.cpu.specs.Table.Setups.{Releases, Returns, Call, Thread, Private, new_thread, thread_at, with_thread, program_of}
+use Rattle.cpu.specs.Table.Setups.{stands_at, at_boot, home_of, home_threads, open_calls, have_ended, opening}
+use Rattle.cpu.specs.Table.Choice.{asked, Choice, Halts, Alone, Goes, new_call, with_call, with_guest}
+use Rattle.cpu.specs.Table.Choice.{begins, at_instruction, at_call, at_ready, at_current, at_hand, choice}
 use Rattle.cpu.specs.Table.Choice.{heard, heard_entry, heard_position, slept_if, woken, guest_after, returned_at, returned_by, returned_in, settled}
 use Rattle.cpu.specs.Table.Choice.{after_by, after_at, after_in, after_section}
 use Rattle.cpu.specs.Table.Steps.{after_reply, acting}
@@ -70,14 +74,16 @@ fine_with setup p t x known fine now u = by_test (same_tid t u) refl
 module _ (setup : Setup) (c : CpuId) where
   -- a thread inside a call, and what its call becomes
   fine_call : (p : Private) (t : Tid) (call now : Call) → t.0 < length p.threads → AllFine setup p → (thread_at p t).call ≡ Some call
-      → (SaysCall (program_of setup t) (thread_at p t).guest call → SaysCall (program_of setup t) (thread_at p t).guest now) → AllFine setup (with_call p t (Some now))
+      → (SaysCall (program_of setup t) (thread_at p t).guest call → SaysCall (program_of setup t) (thread_at p t).guest now)
+      → AllFine setup (with_call p t (Some now))
   fine_call p t call now known fine is says =
       fine_with setup p t (record (thread_at p t) { call = Some now }) known fine (record {
         quits = λ e. absurd (cc (is, (fine t).quits e));
         says = says (subst (Says (program_of setup t) (thread_at p t).guest) is (fine t).says);
       })
 
-  fine_heard : (p : Private) (t : Tid) (call : Call) → t.0 < length p.threads → AllFine setup p → (thread_at p t).call ≡ Some call → (stage : Stage) → call.stage ≡ stage → (told : Told)
+  fine_heard : (p : Private) (t : Tid) (call : Call) → t.0 < length p.threads → AllFine setup p
+      → (thread_at p t).call ≡ Some call → (stage : Stage) → call.stage ≡ stage → (told : Told)
       → AllFine setup (heard c p t call stage told)
   fine_heard p t call known fine is Acquires at told = fine_call p t call (record call { stage = Enters }) known fine is (λ says e. says (ap is_before at))
   fine_heard p t call known fine is Enters at told = by_asks call.asks told
@@ -144,7 +150,8 @@ module _ (setup : Setup) (c : CpuId) where
       by_hand None (Some t) = by_call t (thread_at p t).call
 
   -- after a section; whoever runs is a thread here
-  fine_section : (p : Private) → AllFine setup p → ((t : Tid) → p.current ≡ Some t → t.0 < length p.threads) → (a : Answer) → AllFine setup (after_section setup c p a)
+  fine_section : (p : Private) → AllFine setup p → ((t : Tid) → p.current ≡ Some t → t.0 < length p.threads)
+      → (a : Answer) → AllFine setup (after_section setup c p a)
   fine_section p fine known a = by_hand p.hand
     where
       by_call : (t : Tid) → p.current ≡ Some t → (call : Option Call) → (thread_at p t).call ≡ call → AllFine setup (after_by setup c p t call a)
@@ -188,7 +195,8 @@ module _ (setup : Setup) (c : CpuId) where
           says = subst (Says (program_of setup t) guest) (sym outside) tt;
         })
 
-    fine_instruction : (t : Tid) → p.current ≡ Some t → (thread_at p t).call ≡ None → (line : Instruction) → stands_at setup p t ≡ line → FineChoice (at_instruction setup c p t line)
+    fine_instruction : (t : Tid) → p.current ≡ Some t → (thread_at p t).call ≡ None → (line : Instruction)
+        → stands_at setup p t ≡ line → FineChoice (at_instruction setup c p t line)
     fine_instruction t runs_now outside (Send b r) at =
         fine_begins t runs_now (new_call Sends b (sent_from (thread_at p t).guest r)) refl
         (subst (λ line. IsNextEffect line (thread_at p t).guest Sends b (sent_from (thread_at p t).guest r)) (sym at) (refl, refl, refl))
@@ -229,7 +237,8 @@ module _ (setup : Setup) (c : CpuId) where
         by_hand (Some s) = fine
         by_hand None = by_ended (have_ended p (home_threads setup c))
 
-  pub fine_acting : (p : Private) → AllFine setup p → ((t : Tid) → p.current ≡ Some t → t.0 < length p.threads) → (log : List (Action Name)) → AllFine setup (acting setup c p log).next
+  pub fine_acting : (p : Private) → AllFine setup p → ((t : Tid) → p.current ≡ Some t → t.0 < length p.threads)
+      → (log : List (Action Name)) → AllFine setup (acting setup c p log).next
   fine_acting p fine known log = by_reply (reply kernel (opening setup) c (asked setup c p).lock (asked setup c p).name log)
     where
       by_reply : (r : Option Answer) → AllFine setup (after_reply setup c p r)

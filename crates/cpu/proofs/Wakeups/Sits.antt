@@ -1,5 +1,6 @@
 -- What a section leaves of the agreement: the caller's CPU moves on, and all others stay in agreement.
-use Rattle.std.proofs.Common.{◌≡◌, ℕ, ◌+◌, ◌<◌, Bool, true, false, not, ◌&&◌, List, [], ◌∷◌, ◌++◌, length, Option, Some, None, is_some, nat_lt, if◌then◌else◌, refl, sym, ap, ◌∙◌, subst, arith}
+use Rattle.std.proofs.Common.{◌≡◌, ℕ, ◌+◌, ◌<◌, Bool, true, false, not, ◌&&◌, List, [], ◌∷◌, ◌++◌, length, Option}
+use Rattle.std.proofs.Common.{Some, None, is_some, nat_lt, if◌then◌else◌, refl, sym, ap, ◌∙◌, subst, arith}
 use Rattle.std.proofs.lemmas.Bool.{and_from, and_left, and_right, false_from_ne_true}
 use Rattle.event_log.specs.declared.ids.CpuId.{CpuId}
 use Rattle.event_log.specs.declared.ids.Tid.{Tid}
@@ -16,13 +17,17 @@ use Rattle.layer_traits.specs.Places.{is_thread, one_if, count_in}
 use Rattle.layer_traits.proofs.CountLemmas.{same_tid_sym, count_append}
 use Rattle.cpu.specs.Table.Blocks.{Buffer, Name, TryTake, WaitOn, Pend, TakeAll, Asks, Sends, Receives, side_of, Done, NotYet, Answer}
 use Rattle.cpu.specs.Table.Edits.{may_put, may_take, answer_of_buffer, drawn_position}
-use Rattle.cpu.specs.Table.Setups.{Setup, Stage, Acquires, Enters, Tries, Waits, AcquiresAgain, Signals, SignalsOwn, Releases, Returns, Call, Thread, Private, thread_at, with_thread, home_of, stands_at}
-use Rattle.cpu.specs.Table.Choice.{section_at, first_section, try_of, first_signal, second_signal, with_call, with_guest, goes_to, heard, heard_entry, heard_try, entry_of}
+use Rattle.cpu.specs.Table.Setups.{Setup, Stage, Acquires, Enters, Tries, Waits, AcquiresAgain, Signals, SignalsOwn}
+use Rattle.cpu.specs.Table.Setups.{Releases, Returns, Call, Thread, Private, thread_at, with_thread, home_of, stands_at}
+use Rattle.cpu.specs.Table.Choice.{section_at, first_section, try_of, first_signal, second_signal, with_call}
+use Rattle.cpu.specs.Table.Choice.{with_guest, goes_to, heard, heard_entry, heard_try, entry_of}
 use Rattle.cpu.specs.Table.Choice.{slept_if, woken, returned_at, returned_by, returned_in, settled, guest_after, after_call}
 use Rattle.cpu.proofs.Wakeups.Lists.{refuted}
 use Rattle.cpu.proofs.Wakeups.Spots.{Spot, Home, InHand, IsPending, AtLock, AtWait, GotIt, Trying, Failed, Owing, Turn, Outside, In}
-use Rattle.cpu.proofs.Wakeups.Spots.{is_home, is_hand, is_pending, caller_in, is_caller, bed, spot_slept, spot_moved, spot_drained, spot_pending, next_turn, turn_moved, is_local}
-use Rattle.cpu.proofs.Wakeups.Agreement.{owing_own, turn_of_stage, turn_of_call, is_last, is_done, seat, Agrees, IsSettled, at_same, at_other, Same, same_with, agrees_same, runs, within, agrees_slept, agrees_woken}
+use Rattle.cpu.proofs.Wakeups.Spots.{is_home, is_hand, is_pending, caller_in, is_caller, bed, spot_slept}
+use Rattle.cpu.proofs.Wakeups.Spots.{spot_moved, spot_drained, spot_pending, next_turn, turn_moved, is_local}
+use Rattle.cpu.proofs.Wakeups.Agreement.{owing_own, turn_of_stage, turn_of_call, is_last, is_done, seat, Agrees, IsSettled, at_same}
+use Rattle.cpu.proofs.Wakeups.Agreement.{at_other, Same, same_with, agrees_same, runs, within, agrees_slept, agrees_woken}
 
 -- A call returns once the hand is empty.
 
@@ -31,7 +36,8 @@ abbrev pub DoneRuns : Setup → CpuId → Private → Type 0
 DoneRuns setup c p = (u : Tid) → is_local setup c u ≡ true → is_done (thread_at p u).call ≡ true → is_thread u p.current ≡ true
 
 module _ (setup : Setup) (c : CpuId) where
-  settled_in : (p : Private) (T : Tid → Turn) (P : Tid → Spot) → Agrees setup c p T P → DoneRuns setup c p → (hand current : Option Tid) → p.hand ≡ hand → p.current ≡ current
+  settled_in : (p : Private) (T : Tid → Turn) (P : Tid → Spot) → Agrees setup c p T P → DoneRuns setup c p
+      → (hand current : Option Tid) → p.hand ≡ hand → p.current ≡ current
       → Agrees setup c (returned_in setup p hand current) T P × IsSettled setup c (returned_in setup p hand current)
   settled_in p T P agrees done (Some s) current holds runs_now = (agrees, λ u local is. (ap is_some holds, done u local is))
   settled_in p T P agrees done None None holds runs_now = (agrees, λ u local is. refuted (ap (is_thread u) runs_now) (done u local is))
@@ -57,20 +63,27 @@ module _ (setup : Setup) (c : CpuId) where
           )
         where
           returned_done : (u : Tid) → is_local setup c u ≡ true
-              → is_done (thread_at (with_thread p t (record (thread_at p t) { guest = guest_after call.asks (stands_at setup p t) call.message (thread_at p t).guest; call = None })) u).call ≡ true
+              → is_done (thread_at (with_thread p t (record (thread_at p t)
+              { guest = guest_after call.asks (stands_at setup p t) call.message (thread_at p t).guest; call = None })) u).call ≡ true
               → (mine : Bool) → same_tid t u ≡ mine → (x : Thread) → Same p (with_thread p t x) t
-              → (thread_at (with_thread p t (record (thread_at p t) { guest = guest_after call.asks (stands_at setup p t) call.message (thread_at p t).guest; call = None })) t).call ≡ None
+              → (thread_at (with_thread p t (record (thread_at p t)
+              { guest = guest_after call.asks (stands_at setup p t) call.message (thread_at p t).guest; call = None })) t).call ≡ None
               → (is_some p.hand ≡ true) × (is_thread u p.current ≡ true)
           returned_done u mine on true is x same none =
               refuted (ap is_done none)
-              (subst (λ v. is_done (thread_at (with_thread p t (record (thread_at p t) { guest = guest_after call.asks (stands_at setup p t) call.message (thread_at p t).guest; call = None })) v).call ≡ true)
+              (subst (λ v. is_done (thread_at (with_thread p t (record (thread_at p t)
+              { guest = guest_after call.asks (stands_at setup p t) call.message (thread_at p t).guest; call = None })) v).call ≡ true)
               (sym (same_tid_true t u is)) on)
           returned_done u mine on false other x same none =
               refuted other (others_done u mine (subst (λ y. is_done y.call ≡ true)
-              (at_other p t u (record (thread_at p t) { guest = guest_after call.asks (stands_at setup p t) call.message (thread_at p t).guest; call = None }) other) on))
+              (at_other p t u (record (thread_at p t) {
+                guest = guest_after call.asks (stands_at setup p t) call.message (thread_at p t).guest;
+                call = None;
+              }) other) on))
       by_stage call is stage at = (agrees, not_yet (ap is_done is ∙ ap is_last at))
 
-      by_call : (call : Option Call) → (thread_at p t).call ≡ call → Agrees setup c (returned_by setup p t call) T P × IsSettled setup c (returned_by setup p t call)
+      by_call : (call : Option Call) → (thread_at p t).call ≡ call
+          → Agrees setup c (returned_by setup p t call) T P × IsSettled setup c (returned_by setup p t call)
       by_call None is = (agrees, not_yet (ap is_done is))
       by_call (Some call) is = by_stage call is call.stage refl
 
@@ -83,7 +96,8 @@ module _ (setup : Setup) (c : CpuId) where
 pub section_caller : (t : Tid) (call : Call) (stage : Stage) → caller_in (section_at t call stage) ≡ Some t
 section_caller t call stage = by_asks call.asks stage
   where
-    by_side : (side : Side) → (caller_in (try_of t call side) ≡ Some t) × (caller_in (first_signal t side) ≡ Some t) × (caller_in (second_signal t side) ≡ Some t)
+    by_side : (side : Side) → (caller_in (try_of t call side) ≡ Some t) × (caller_in (first_signal t side) ≡ Some t)
+        × (caller_in (second_signal t side) ≡ Some t)
     by_side Senders = (refl, refl, refl)
     by_side Receivers = (refl, refl, refl)
 
@@ -153,7 +167,8 @@ module _ (p : Private) (t : Tid) (known : t.0 < length p.threads) where
         subst (λ a. Heard p (with_call p t (Some now)) t (In call.buffer (Trying (side_of a))) false) is (heard_call now)
 
     at_try : (may : Bool) (op : ℕ) (m : Message)
-        → Heard p (heard_try c p t call (if may then Done op m else NotYet)) t (if may then In call.buffer (Owing true true) else In call.buffer (Failed (side_of call.asks))) false
+        → Heard p (heard_try c p t call (if may then Done op m else NotYet)) t
+        (if may then In call.buffer (Owing true true) else In call.buffer (Failed (side_of call.asks))) false
     at_try true op m =
         heard_traced _ (In call.buffer (Owing true true)) false (p.trace ++ entry_of c t (record call { message = m }) op m ∷ [])
         (heard_call (record call { message = m; effect = Some op; stage = Signals }))
@@ -187,7 +202,8 @@ module _ (p : Private) (t : Tid) (known : t.0 < length p.threads) where
         (next_turn call.buffer (section_at t call stage) k (turn_of_stage call.buffer (side_of call.asks) stage)) (is_release stage)
     heard_at Acquires going = heard_call (record call { stage = Enters })
     heard_at Enters going =
-        subst (λ z. Heard p (heard_entry c p t call call.asks (answer_of_buffer (first_section t call.asks) k).told) t z false) (entry_turn call.asks) (at_entry call.asks refl)
+        subst (λ z. Heard p (heard_entry c p t call call.asks (answer_of_buffer (first_section t call.asks) k).told) t z false)
+        (entry_turn call.asks) (at_entry call.asks refl)
     heard_at Tries going = at_tries call.asks refl
     heard_at Waits going = heard_call (record call { stage = AcquiresAgain })
     heard_at AcquiresAgain going = heard_call (record call { stage = Tries })
@@ -199,7 +215,8 @@ module _ (p : Private) (t : Tid) (known : t.0 < length p.threads) where
     heard_at Returns going = absurd (cc going)
 
 -- the section after which a call is done puts nobody to sleep
-pub release_awake : (t : Tid) (call : Call) (k : Buffer) (stage : Stage) → is_release stage ≡ true → (answer_of_buffer (section_at t call stage) k).slept ≡ false
+pub release_awake : (t : Tid) (call : Call) (k : Buffer) (stage : Stage) → is_release stage ≡ true
+    → (answer_of_buffer (section_at t call stage) k).slept ≡ false
 release_awake t call k Releases on = refl
 release_awake t call k Acquires on = absurd (cc on)
 release_awake t call k Enters on = absurd (cc on)
@@ -244,14 +261,16 @@ woken_current setup c (Some s) p = by_test (same_cpu (home_of setup s) c)
     by_test true = refl
     by_test false = refl
 
-module _ (setup : Setup) (c : CpuId) (p : Private) (T : Tid → Turn) (P : Tid → Spot) (agrees : Agrees setup c p T P) (settled_before : IsSettled setup c p) (empty : p.hand ≡ None) (t : Tid) (runs_now : p.current ≡ Some t) (call : Call) (is : (thread_at p t).call ≡ Some call) where
+module _ (setup : Setup) (c : CpuId) (p : Private) (T : Tid → Turn) (P : Tid → Spot) (agrees : Agrees setup c p T P) (settled_before : IsSettled setup c p)
+    (empty : p.hand ≡ None) (t : Tid) (runs_now : p.current ≡ Some t) (call : Call) (is : (thread_at p t).call ≡ Some call) where
   local_now : is_local setup c t ≡ true
   local_now = (runs setup c p T P agrees t runs_now).0
 
   going : is_last call.stage ≡ false
   going = false_from_ne_true (is_last call.stage) (λ on. refuted (ap is_some empty) (settled_before t local_now (ap is_done is ∙ on)).0)
 
-  module _ (k : Buffer) (asleep : (s : Tid) → (answer_of_buffer (section_at t call call.stage) k).woke ≡ Some s → (is_home (P s) ≡ false) × (nat_lt s.0 (length setup.homes) ≡ true)) where
+  module _ (k : Buffer) (asleep : (s : Tid) → (answer_of_buffer (section_at t call call.stage) k).woke ≡ Some s
+      → (is_home (P s) ≡ false) × (nat_lt s.0 (length setup.homes) ≡ true)) where
     abbrev name : Name
     name = section_at t call call.stage
 
@@ -287,7 +306,8 @@ module _ (setup : Setup) (c : CpuId) (p : Private) (T : Tid → Turn) (P : Tid �
 
     agrees_heard : Agrees setup c heard_now N P
     agrees_heard =
-        agrees_same setup c p heard_now t T N P agrees heard_is.same (λ u other. ap (λ d. if d then next_turn call.buffer name k (T u) else T u) (others u other)) turn_now
+        agrees_same setup c p heard_now t T N P agrees heard_is.same
+        (λ u other. ap (λ d. if d then next_turn call.buffer name k (T u) else T u) (others u other)) turn_now
 
     runs_heard : heard_now.current ≡ Some t
     runs_heard = heard_is.same.current ∙ runs_now
@@ -355,10 +375,12 @@ drained_stays_home IsPending on = refl
 drained_stays_home (AtLock b) on = absurd (cc on)
 drained_stays_home (AtWait b side) on = absurd (cc on)
 
-module _ (setup : Setup) (c : CpuId) (p : Private) (T : Tid → Turn) (P : Tid → Spot) (agrees : Agrees setup c p T P) (settled_before : IsSettled setup c p) where
+module _ (setup : Setup) (c : CpuId) (p : Private) (T : Tid → Turn) (P : Tid → Spot)
+    (agrees : Agrees setup c p T P) (settled_before : IsSettled setup c p) where
   -- the thread in the hand is put among the pending
   pub agrees_pended : (d : CpuId) (s : Tid) → p.hand ≡ Some s
-      → Agrees setup c (settled setup (record p { hand = None })) T (λ u. spot_pending setup d u (Pend s) (P u)) × IsSettled setup c (settled setup (record p { hand = None }))
+      → Agrees setup c (settled setup (record p { hand = None })) T (λ u. spot_pending setup d u (Pend s) (P u))
+      × IsSettled setup c (settled setup (record p { hand = None }))
   agrees_pended d s holds =
       agrees_settled setup c (record p { hand = None }) T (λ u. spot_pending setup d u (Pend s) (P u)) emptied (λ u local done. (settled_before u local done).1)
     where
@@ -376,7 +398,8 @@ module _ (setup : Setup) (c : CpuId) (p : Private) (T : Tid → Turn) (P : Tid �
       empties u true is = refl
       empties u false other = sym (ap (is_thread u) holds ∙ other) ∙ agrees.hands u
 
-      at_home : (u : Tid) → is_local setup c u ≡ true → (thread_at p u).ended ≡ true → (mine : Bool) → same_tid s u ≡ mine → is_home (if mine then IsPending else P u) ≡ true
+      at_home : (u : Tid) → is_local setup c u ≡ true → (thread_at p u).ended ≡ true → (mine : Bool)
+          → same_tid s u ≡ mine → is_home (if mine then IsPending else P u) ≡ true
       at_home u local ended true is =
           refuted (subst (λ v. is_home (P v) ≡ false) (same_tid_true s u is) (hand_not_home c (P s) held)) (agrees.ends u local ended)
       at_home u local ended false other = agrees.ends u local ended
@@ -407,16 +430,19 @@ module _ (setup : Setup) (c : CpuId) (p : Private) (T : Tid → Turn) (P : Tid �
       unmoved u here x at off still =
           let none : count_in u list ≡ 0 = counts u ∙ (λ i. one_if (here i && is_pending (at i))) ∙ ap one_if off in
           let more : count_in u (p.ready ++ list) ≡ count_in u p.ready + count_in u list = count_append u p.ready list in
-          let now : one_if (is_thread u p.current) + count_in u (p.ready ++ list) ≡ one_if (is_thread u p.current) + count_in u p.ready = omega (arith, none, more) in
+          let now : one_if (is_thread u p.current) + count_in u (p.ready ++ list) ≡ one_if (is_thread u p.current) + count_in u p.ready =
+          omega (arith, none, more) in
           let same : P u ≡ spot_drained (P u) = at ∙ sym still ∙ ap spot_drained (sym at) in
           now ∙ agrees.seats u ∙ ap (λ y. one_if (seat setup c u y (thread_at p u).ended)) same
 
       sits : (u : Tid) (here : Bool) → same_cpu (home_of setup u) c ≡ here → (x : Spot) → P u ≡ x
-          → one_if (is_thread u p.current) + count_in u (p.ready ++ list) ≡ one_if (seat setup c u (if here then spot_drained (P u) else P u) (thread_at p u).ended)
+          → one_if (is_thread u p.current) + count_in u (p.ready ++ list)
+          ≡ one_if (seat setup c u (if here then spot_drained (P u) else P u) (thread_at p u).ended)
       sits u false away x at =
           let none : count_in u list ≡ 0 = counts u ∙ ap (λ b. one_if (b && is_pending (P u))) away in
           let more : count_in u (p.ready ++ list) ≡ count_in u p.ready + count_in u list = count_append u p.ready list in
-          let now : one_if (is_thread u p.current) + count_in u (p.ready ++ list) ≡ one_if (is_thread u p.current) + count_in u p.ready = omega (arith, none, more) in
+          let now : one_if (is_thread u p.current) + count_in u (p.ready ++ list) ≡ one_if (is_thread u p.current) + count_in u p.ready =
+          omega (arith, none, more) in
           now ∙ agrees.seats u
       sits u true here IsPending at =
           let one : count_in u list ≡ 1 = counts u ∙ (λ i. one_if (here i && is_pending (at i))) in
@@ -442,7 +468,8 @@ module _ (setup : Setup) (c : CpuId) (p : Private) (T : Tid → Turn) (P : Tid �
       at_home u false on = on
 
 -- the current thread yields: it stands behind those that are ready, and nobody runs
-pub agrees_yielded : (setup : Setup) (c : CpuId) (p : Private) (T : Tid → Turn) (P : Tid → Spot) → Agrees setup c p T P → (t : Tid) → p.current ≡ Some t → (guest : State)
+pub agrees_yielded : (setup : Setup) (c : CpuId) (p : Private) (T : Tid → Turn) (P : Tid → Spot)
+    → Agrees setup c p T P → (t : Tid) → p.current ≡ Some t → (guest : State)
     → Agrees setup c (record (with_guest p t guest) { current = None; ready = p.ready ++ t ∷ [] }) T P
 agrees_yielded setup c p T P agrees t runs_now guest = record {
   size = moved.size;
@@ -469,7 +496,8 @@ agrees_yielded setup c p T P agrees t runs_now guest = record {
         ∙ ap (λ y. turn_of_call y.call) (sym (at_same p t (record (thread_at p t) { guest = guest }) known)))
 
 -- what a thread stands at does not matter
-pub guest_calls : (p : Private) (t : Tid) (guest : State) → t.0 < length p.threads → (u : Tid) → (thread_at (with_guest p t guest) u).call ≡ (thread_at p u).call
+pub guest_calls : (p : Private) (t : Tid) (guest : State) → t.0 < length p.threads → (u : Tid)
+    → (thread_at (with_guest p t guest) u).call ≡ (thread_at p u).call
 guest_calls p t guest known u = by_test (same_tid t u) refl
   where
     by_test : (mine : Bool) → same_tid t u ≡ mine → (thread_at (with_guest p t guest) u).call ≡ (thread_at p u).call

@@ -1,5 +1,6 @@
 -- A quiet state that a system reaches is stuck.
-use Rattle.std.proofs.Common.{◌≡◌, ◌+◌, ◌<◌, Bool, true, false, not, ◌&&◌, List, [], ◌∷◌, length, slice_get, Option, Some, None, nat_lt, refl, sym, ap, ◌∙◌, subst, arith}
+use Rattle.std.proofs.Common.{◌≡◌, ◌+◌, ◌<◌, Bool, true, false, not, ◌&&◌, List, [], ◌∷◌, length}
+use Rattle.std.proofs.Common.{slice_get, Option, Some, None, nat_lt, refl, sym, ap, ◌∙◌, subst, arith}
 use Rattle.std.proofs.lemmas.Bool.{and_parts, and_from, false_from_ne_true, lt-ltb, ltb-true}
 use Rattle.event_log.specs.declared.ids.CpuId.{CpuId}
 use Rattle.event_log.specs.declared.ids.Tid.{Tid}
@@ -23,7 +24,8 @@ use Rattle.layer_traits.specs.Places.{is_thread, one_if, count_in}
 use Rattle.layer_traits.proofs.ListsLemmas.{counted_in}
 use Rattle.cpu.specs.Table.Blocks.{Buffer, OfBuffer, Asks, Sends, Receives, side_of}
 use Rattle.cpu.specs.Table.Edits.{line_of}
-use Rattle.cpu.specs.Table.Setups.{Setup, Stage, Acquires, Enters, Tries, Waits, AcquiresAgain, Signals, SignalsOwn, Releases, Returns, Call, Private, thread_at, home_of, stands_at}
+use Rattle.cpu.specs.Table.Setups.{Setup, Stage, Acquires, Enters, Tries, Waits, AcquiresAgain, Signals}
+use Rattle.cpu.specs.Table.Setups.{SignalsOwn, Releases, Returns, Call, Private, thread_at, home_of, stands_at}
 use Rattle.cpu.specs.Table.Choice.{at_hand}
 use Rattle.cpu.specs.Table.Steps.{Whole, block_at, halted_by, halted_at}
 use Rattle.cpu.specs.Wakeups.Order.{Progress, progress}
@@ -32,7 +34,8 @@ use Rattle.cpu.specs.Wakeups.Quiet.{HomesExist, IsQuietBy, IsQuiet, IsNextEffect
 use Rattle.cpu.proofs.Wakeups.Lists.{refuted}
 use Rattle.cpu.proofs.Wakeups.Ordered.{buffer_awake, calm_loses_nothing}
 use Rattle.cpu.proofs.Wakeups.Spots.{Spot, Home, InHand, IsPending, AtLock, AtWait, Waiting, Turn, Outside, In}
-use Rattle.cpu.proofs.Wakeups.Spots.{is_buffer, is_side, is_home, is_hand, is_pending, is_lock, is_wait, names, goes_on, starts_here, stands, is_lined, is_local, spot, turn, marked}
+use Rattle.cpu.proofs.Wakeups.Spots.{is_buffer, is_side, is_home, is_hand, is_pending, is_lock, is_wait, names}
+use Rattle.cpu.proofs.Wakeups.Spots.{goes_on, starts_here, stands, is_lined, is_local, spot, turn, marked}
 use Rattle.cpu.proofs.Wakeups.Pairs.{Pair, buffer_self, buffer_true, marked_some, front_counted}
 use Rattle.cpu.proofs.Wakeups.Called.{Good}
 use Rattle.cpu.proofs.Wakeups.Placed.{IsPlaced, HasHome, buffer_there}
@@ -52,11 +55,13 @@ abbrev waiting_of : Side → Buffer → List Tid
 waiting_of Senders k = k.waiting_senders
 waiting_of Receivers k = k.waiting_receivers
 
-line_count : (b : BufId) (u : Tid) (k : Buffer) (g : Progress) (turn : Turn) (x : Spot) → Pair b u k g turn x → (side : Side) → count_in u (line_of side k) ≡ marked u (is_lined b side turn)
+line_count : (b : BufId) (u : Tid) (k : Buffer) (g : Progress) (turn : Turn) (x : Spot) → Pair b u k g turn x
+    → (side : Side) → count_in u (line_of side k) ≡ marked u (is_lined b side turn)
 line_count b u k g turn x pair Senders = pair.send_line
 line_count b u k g turn x pair Receivers = pair.receive_line
 
-wait_count : (b : BufId) (u : Tid) (k : Buffer) (g : Progress) (turn : Turn) (x : Spot) → Pair b u k g turn x → (side : Side) → count_in u (waiting_of side k) ≡ marked u (is_wait b side x)
+wait_count : (b : BufId) (u : Tid) (k : Buffer) (g : Progress) (turn : Turn) (x : Spot) → Pair b u k g turn x
+    → (side : Side) → count_in u (waiting_of side k) ≡ marked u (is_wait b side x)
 wait_count b u k g turn x pair Senders = pair.senders
 wait_count b u k g turn x pair Receivers = pair.receivers
 
@@ -97,7 +102,8 @@ owing_waits_not b Senders = refl
 owing_waits_not b Receivers = refl
 
 -- the call whose turn is a wait has to ask for the lock again
-waits_again : (call : Call) (b : BufId) (side : Side) → turn_of_call (Some call) ≡ In b (Waiting side) → (is_before call.stage ≡ true) × (call.buffer ≡ b) × (side_of call.asks ≡ side)
+waits_again : (call : Call) (b : BufId) (side : Side) → turn_of_call (Some call) ≡ In b (Waiting side)
+    → (is_before call.stage ≡ true) × (call.buffer ≡ b) × (side_of call.asks ≡ side)
 waits_again call b side is = by_stage call.stage refl is
   where
     by_stage : (stage : Stage) → call.stage ≡ stage → turn_of_stage call.buffer (side_of call.asks) stage ≡ In b (Waiting side)
@@ -113,7 +119,8 @@ waits_again call b side is = by_stage call.stage refl is
     by_stage Returns at now = absurd (cc now)
 
 -- an instruction asks for one effect
-same_effect : (line : Instruction) (s : State) (a x : Asks) (b d : BufId) (m n : Message) → IsNextEffect line s a b m → IsNextEffect line s x d n → (a ≡ x) × (b ≡ d)
+same_effect : (line : Instruction) (s : State) (a x : Asks) (b d : BufId) (m n : Message)
+    → IsNextEffect line s a b m → IsNextEffect line s x d n → (a ≡ x) × (b ≡ d)
 same_effect (Send e r) s a x b d m n one other = (one.0 ∙ sym other.0, one.1 ∙ sym other.1)
 same_effect (Recv e r) s a x b d m n one other = (one.0 ∙ sym other.0, one.1 ∙ sym other.1)
 same_effect (Set r i) s a x b d m n one other = absurd one
@@ -136,12 +143,14 @@ module _ (setup : Setup) (s : Whole) (homes : HomesExist setup) (kept : Kept set
   good = fair_good setup s.log kept.sound.fair
 
   local : (u : Tid) → u.0 < length setup.homes → is_local setup (home_of setup u) u ≡ true
-  local u known = and_from (same_cpu (home_of setup u) (home_of setup u)) (nat_lt u.0 (length setup.homes)) (same_cpu_self (home_of setup u)) (lt-ltb u.0 (length setup.homes) known)
+  local u known = and_from (same_cpu (home_of setup u) (home_of setup u)) (nat_lt u.0 (length setup.homes))
+      (same_cpu_self (home_of setup u)) (lt-ltb u.0 (length setup.homes) known)
 
   small : (u : Tid) → u.0 < length setup.homes → nat_lt u.0 THREADS ≡ true
   small u known = let few = homes.0 in lt-ltb u.0 THREADS (omega (arith, known, few))
 
-  agrees : (c : CpuId) (p : Private) → slice_get s.cpus c.0 ≡ Some p → Agrees setup c p (λ u. turn setup u (sections_in s.log)) (λ u. spot setup u (sections_in s.log))
+  agrees : (c : CpuId) (p : Private) → slice_get s.cpus c.0 ≡ Some p
+      → Agrees setup c p (λ u. turn setup u (sections_in s.log)) (λ u. spot setup u (sections_in s.log))
   agrees c p here = (kept.sound.cpus c p here).agrees
 
   -- a quiet CPU's hand is empty
@@ -166,7 +175,8 @@ module _ (setup : Setup) (s : Whole) (homes : HomesExist setup) (kept : Kept set
       c : CpuId
       c = home_of setup u
 
-      by_reason : spot setup u (sections_in s.log) ≡ Home → (r : Option Reason) → IsQuietBy setup (home_of setup u) p r → Asleep (spot setup u (sections_in s.log))
+      by_reason : spot setup u (sections_in s.log) ≡ Home → (r : Option Reason)
+          → IsQuietBy setup (home_of setup u) p r → Asleep (spot setup u (sections_in s.log))
       by_reason at (Some reason) ended = refuted live.alive (ended u refl live.known)
       by_reason at None idle =
           let one : one_if (seat setup (home_of setup u) u (spot setup u (sections_in s.log)) (thread_at p u).ended) ≡ 1 =
@@ -287,14 +297,16 @@ module _ (setup : Setup) (s : Whole) (homes : HomesExist setup) (kept : Kept set
               let front = front_of u (line_of (side_of call.asks) k) (omega (arith, one, counts)) in
               first_waits call k m e asks block allowed front.0 front.1
             where
-              first_waits : (call : Call) (k : Buffer) (m : Message) (e : Kind) → asks_of e ≡ call.asks → block_at setup (AtBuffer call.buffer) s.log ≡ Some (OfBuffer k)
+              first_waits : (call : Call) (k : Buffer) (m : Message) (e : Kind) → asks_of e ≡ call.asks
+                  → block_at setup (AtBuffer call.buffer) s.log ≡ Some (OfBuffer k)
                   → Allows k e m → (t : Tid) → first (line_of (side_of call.asks) k) ≡ Some t → ⊥
               first_waits call k m e asks block allowed t front =
                   let pair = good.pairs call.buffer t k block in
                   let some = front_counted t (line_of (side_of call.asks) k) (ap (is_thread t) front ∙ same_tid_self t) in
                   let lined = (marked_some t (is_lined call.buffer (side_of call.asks) (turn setup t (sections_in s.log)))
                   (subst (λ n. 0 < n) (line_count call.buffer t k _ _ _ pair (side_of call.asks)) some)).1 in
-                  let parts = and_parts (names call.buffer (turn setup t (sections_in s.log))) (stands (side_of call.asks) (turn setup t (sections_in s.log))) lined in
+                  let parts =
+                  and_parts (names call.buffer (turn setup t (sections_in s.log))) (stands (side_of call.asks) (turn setup t (sections_in s.log))) lined in
                   let other = live_at t call.buffer parts.0 in
                   let at = waits other.0 t other.1 in
                   let there : is_wait call.buffer (side_of call.asks) (spot setup t (sections_in s.log)) ≡ true =
@@ -305,7 +317,8 @@ module _ (setup : Setup) (s : Whole) (homes : HomesExist setup) (kept : Kept set
                   (λ i. one_if (small t other.1.known i && there i)) in
                   let counts = wait_count call.buffer t k _ _ _ pair (side_of call.asks) in
                   let stands_there = counted_in t (waiting_of (side_of call.asks) k) (omega (arith, one, counts)) in
-                  lost_on k (calm_loses_nothing k _ (buffer_awake setup (sections_in s.log) good.ordered call.buffer k block)) (unowned call.buffer k block) call.asks t m front
+                  lost_on k (calm_loses_nothing k _ (buffer_awake setup (sections_in s.log) good.ordered call.buffer k block))
+                  (unowned call.buffer k block) call.asks t m front
                   stands_there e asks allowed
 
   pub stuck : IsStuck setup s

@@ -19,7 +19,8 @@ use Rattle.cpu.proofs.Wakeups.Ordered.{order_loses_no_wake_up}
 use Rattle.cpu.proofs.Wakeups.Reaching.{IsFair, IsFairLog, fair_good, Ok, step_ok, ok_beside, ok_at_boot}
 
 -- along a log whose sections may come a CPU agrees with the log
-pub along_ok : (setup : Setup) (c : CpuId) (n : ℕ) (p : Private) (log : List (Action Name)) → AlongTable setup c n p log → IsFairLog setup log → Ok setup c p log
+pub along_ok : (setup : Setup) (c : CpuId) (n : ℕ) (p : Private) (log : List (Action Name))
+    → AlongTable setup c n p log → IsFairLog setup log → Ok setup c p log
 along_ok setup c n p log starts = λ fair. ok_at_boot setup c
 along_ok setup c n p log (others {n = m} {p = q} {log = past} a along off) =
     λ fair. ok_beside setup c q past a off fair.1 fair.0 (along_ok setup c m q past along fair.1)
@@ -69,7 +70,8 @@ pub record Cut (setup : Setup) (c : CpuId) (a : Action Name) (past : List (Actio
   pub along : AlongTable setup c count last past
   pub next : (same_cpu (doer a) c ≡ false) ⊎ ((cpu_step setup c last past).acts ≡ a ∷ [])
 
-cut : (setup : Setup) (c : CpuId) (n : ℕ) (p : Private) (log : List (Action Name)) → AlongTable setup c n p log → (a : Action Name) (past : List (Action Name)) → log ≡ a ∷ past → Cut setup c a past
+cut : (setup : Setup) (c : CpuId) (n : ℕ) (p : Private) (log : List (Action Name)) → AlongTable setup c n p log
+    → (a : Action Name) (past : List (Action Name)) → log ≡ a ∷ past → Cut setup c a past
 cut setup c n p log starts = λ a past is. absurd (cc is)
 cut setup c n p log (others {n = m} {p = q} {log = before} b along off) = λ a past is. record {
   count = m;
@@ -111,7 +113,8 @@ pub worked_fair : (setup : Setup) (log : List (Action Name)) → IsWorked setup 
 worked_fair setup [] worked = tt
 worked_fair setup (a ∷ past) worked = by_cpu (cases_lt (doer a).0 setup.cpus) (worked_fair setup past (worked_before setup a past worked))
   where
-    by_next : IsFairLog setup past → (before : Cut setup (doer a) a past) → (same_cpu (doer a) (doer a) ≡ false) ⊎ ((cpu_step setup (doer a) before.last past).acts ≡ a ∷ [])
+    by_next : IsFairLog setup past → (before : Cut setup (doer a) a past)
+        → (same_cpu (doer a) (doer a) ≡ false) ⊎ ((cpu_step setup (doer a) before.last past).acts ≡ a ∷ [])
         → IsFairLog setup (a ∷ past)
     by_next fair before (inl off) = refuted off (same_cpu_self (doer a))
     by_next fair before (inr is) =

@@ -157,7 +157,8 @@ goes_to p t call stage = with_call p t (Some (record call { stage = stage }))
 
 -- the call has its effect, and its entry is written
 abbrev pub effected : CpuId → Private → Tid → Call → ℕ → Private
-effected c p t call op = record (with_call p t (Some (record call { effect = Some op; stage = Signals }))) { trace = p.trace ++ entry_of c t call op call.message ∷ [] }
+effected c p t call op =
+    record (with_call p t (Some (record call { effect = Some op; stage = Signals }))) { trace = p.trace ++ entry_of c t call op call.message ∷ [] }
 
 -- the position that the call drew
 abbrev pub heard_position : Private → Tid → Call → Told → Private

@@ -8,7 +8,8 @@ use Rattle.layer_traits.specs.declared.locked.Side.TheVariants.{Receivers, Sende
 use Rattle.layer_traits.specs.Plans.{Table}
 use Rattle.layer_traits.specs.Sleeping.{joined}
 use Rattle.layer_traits.specs.BufferBlocks.{may_join, is_first, counted, first_item, other_items}
-use Rattle.cpu.specs.Table.Blocks.{Buffer, Block, OfBuffer, OfPending, Name, AcqQ, Enter, TryPut, TryTake, WaitOn, SigRecv, SigSend, RelQ, Pend, TakeAll, Told, Nothing, Position, Done, NotYet, Drained, Answer, front, behind, front_stands_in}
+use Rattle.cpu.specs.Table.Blocks.{Buffer, Block, OfBuffer, OfPending, Name, AcqQ, Enter, TryPut, TryTake, WaitOn, SigRecv, SigSend, RelQ}
+use Rattle.cpu.specs.Table.Blocks.{Pend, TakeAll, Told, Nothing, Position, Done, NotYet, Drained, Answer, front, behind, front_stands_in}
 
 -- there is room for one item more
 abbrev pub has_room : Buffer → Bool

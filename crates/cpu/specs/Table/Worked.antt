@@ -188,7 +188,8 @@ pub record AloneRuns : Type 0 where
   -- the effect comes in the 9th step of the call, and the call returns in its 18th
   pub before_effect : (traces (run one_sender (of 0 10 ∷ [])) ≡ [] ∷ []) × (currents (run one_sender (of 0 10 ∷ [])) ≡ Some (thread 0) ∷ [])
   pub effect : (traces (run one_sender (of 0 11 ∷ [])) ≡ (entry 0 0 SendKind 0 7 0 0 ∷ []) ∷ [])
-      × (parts_in (buffer_of one_sender 0 (run one_sender (of 0 11 ∷ []))) ≡ Some (record { busy = Some (thread 0); sleepers = []; waiting_receivers = []; waiting_senders = []; items = 7 ∷ [] }))
+      × (parts_in (buffer_of one_sender 0 (run one_sender (of 0 11 ∷ [])))
+      ≡ Some (record { busy = Some (thread 0); sleepers = []; waiting_receivers = []; waiting_senders = []; items = 7 ∷ [] }))
   pub sent : (traces (run one_sender (of 0 21 ∷ [])) ≡ (entry 0 0 SendKind 0 7 0 0 ∷ []) ∷ [])
       × (at_buffer_0 one_sender (run one_sender (of 0 21 ∷ [])) ≡ leaves (7 ∷ []))
       × (ended (run one_sender (of 0 21 ∷ [])) ≡ (true ∷ []) ∷ []) × (reason one_sender 0 (run one_sender (of 0 21 ∷ [])) ≡ Some AllEnded)
@@ -214,17 +215,20 @@ pub record RunsOfTwo : Type 0 where
       × (readies (run two_cpus (of 0 19 ∷ [])) ≡ [] ∷ (thread 1 ∷ []) ∷ [])
   -- a missed look changes nothing
   pub misses : (phase (cpu_numbered 1) (run two_cpus (of 0 2 ∷ of 1 40 ∷ [])).log ≡ Waits (AtBuffer (buffer_numbered 0)))
-      × (currents (run two_cpus (of 0 2 ∷ of 1 40 ∷ [])) ≡ Some (thread 0) ∷ Some (thread 1) ∷ []) × (traces (run two_cpus (of 0 2 ∷ of 1 40 ∷ [])) ≡ [] ∷ [] ∷ [])
+      × (currents (run two_cpus (of 0 2 ∷ of 1 40 ∷ [])) ≡ Some (thread 0) ∷ Some (thread 1) ∷ [])
+      × (traces (run two_cpus (of 0 2 ∷ of 1 40 ∷ [])) ≡ [] ∷ [] ∷ [])
   -- the signal has woken the receiver of another CPU: it is in the hand, and nowhere else
   pub in_hand : (hands (run two_cpus (of 0 13 ∷ of 1 14 ∷ [])) ≡ None ∷ Some (thread 0) ∷ [])
       × (currents (run two_cpus (of 0 13 ∷ of 1 14 ∷ [])) ≡ None ∷ Some (thread 1) ∷ [])
-      × (parts_in (buffer_of two_cpus 0 (run two_cpus (of 0 13 ∷ of 1 14 ∷ []))) ≡ Some (record { busy = Some (thread 1); sleepers = []; waiting_receivers = []; waiting_senders = []; items = 7 ∷ [] }))
+      × (parts_in (buffer_of two_cpus 0 (run two_cpus (of 0 13 ∷ of 1 14 ∷ [])))
+      ≡ Some (record { busy = Some (thread 1); sleepers = []; waiting_receivers = []; waiting_senders = []; items = 7 ∷ [] }))
       × (traces (run two_cpus (of 0 13 ∷ of 1 14 ∷ [])) ≡ [] ∷ (entry 1 1 SendKind 0 7 0 0 ∷ []) ∷ [])
   -- the send that woke it takes 21 steps: one switch, one number set, 18 and the 3 that put the thread among the pending
   pub under_way : (ended (run two_cpus (of 0 13 ∷ of 1 22 ∷ [])) ≡ (false ∷ false ∷ []) ∷ (false ∷ false ∷ []) ∷ [])
       × (currents (run two_cpus (of 0 13 ∷ of 1 22 ∷ [])) ≡ None ∷ Some (thread 1) ∷ []) × (call_of 1 1 (run two_cpus (of 0 13 ∷ of 1 23 ∷ [])) ≡ None)
   pub pending : (pending_of two_cpus 0 (run two_cpus (of 0 13 ∷ of 1 24 ∷ [])) ≡ Some (OfPending (thread 0 ∷ [])))
-      × (reason two_cpus 1 (run two_cpus (of 0 13 ∷ of 1 24 ∷ [])) ≡ Some AllEnded) × (at_buffer_0 two_cpus (run two_cpus (of 0 13 ∷ of 1 24 ∷ [])) ≡ leaves (7 ∷ []))
+      × (reason two_cpus 1 (run two_cpus (of 0 13 ∷ of 1 24 ∷ [])) ≡ Some AllEnded)
+      × (at_buffer_0 two_cpus (run two_cpus (of 0 13 ∷ of 1 24 ∷ [])) ≡ leaves (7 ∷ []))
   -- the receiver is drained, runs again, and takes the item
   pub received : (traces (run two_cpus (of 0 13 ∷ of 1 24 ∷ of 0 20 ∷ [])) ≡ (entry 0 0 RecvKind 0 7 1 0 ∷ []) ∷ (entry 1 1 SendKind 0 7 0 0 ∷ []) ∷ [])
       × (at_buffer_0 two_cpus (run two_cpus (of 0 13 ∷ of 1 24 ∷ of 0 20 ∷ [])) ≡ leaves [])
@@ -259,7 +263,8 @@ pub record RunsOfThree : Type 0 where
   -- a lock that is released passes to its first sleeper, which is in the hand of the CPU that released it
   pub lock_passes : (parts_in (buffer_of three_senders 0 (run three_senders handing_over))
       ≡ Some (record { busy = Some (thread 1); sleepers = thread 2 ∷ []; waiting_receivers = []; waiting_senders = []; items = 1 ∷ [] }))
-      × (hands (run three_senders handing_over) ≡ Some (thread 1) ∷ None ∷ None ∷ []) × (currents (run three_senders handing_over) ≡ Some (thread 0) ∷ None ∷ None ∷ [])
+      × (hands (run three_senders handing_over) ≡ Some (thread 1) ∷ None ∷ None ∷ [])
+      × (currents (run three_senders handing_over) ≡ Some (thread 0) ∷ None ∷ None ∷ [])
   pub all_sent : (at_buffer_0 three_senders (run three_senders handed_over) ≡ leaves (1 ∷ 2 ∷ 3 ∷ []))
       × (ended (run three_senders handed_over) ≡ (true ∷ false ∷ false ∷ []) ∷ (false ∷ true ∷ false ∷ []) ∷ (false ∷ false ∷ true ∷ []) ∷ [])
   -- whoever finds an item but is not the first in its line waits

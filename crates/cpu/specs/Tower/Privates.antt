@@ -23,7 +23,8 @@ use Rattle.layer_traits.specs.Plans.{Left}
 use Rattle.layer_traits.specs.BufferLaw.{Buffering, begun_at, buffer_of, entry_of, going, talk_of}
 use Rattle.cpu.specs.Guests.{after_answer}
 use Rattle.cpu.specs.Table.Blocks.{Asks, Sends, Receives}
-use Rattle.cpu.specs.Table.Setups.{Setup, Stage, Acquires, Enters, Tries, Waits, AcquiresAgain, Signals, SignalsOwn, Releases, Returns, Call, Thread, Private, program_of}
+use Rattle.cpu.specs.Table.Setups.{Setup, Stage, Acquires, Enters, Tries, Waits, AcquiresAgain, Signals}
+use Rattle.cpu.specs.Table.Setups.{SignalsOwn, Releases, Returns, Call, Thread, Private, program_of}
 
 -- the stage of a call: one whose caller slept for the lock, or waited, has done that section
 abbrev pub stage_of : TowerStage → (slept waits : Option BufId) → Stage

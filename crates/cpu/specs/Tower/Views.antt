@@ -27,7 +27,8 @@ use Rattle.layer_traits.specs.Conditions.{CvCall}
 use Rattle.layer_traits.specs.Locking.{LockState, lock_moves, lock_rules}
 use Rattle.layer_traits.specs.Plans.{Table, table_of}
 use Rattle.layer_traits.specs.QueueRules.{queue_rules}
-use Rattle.cpu.specs.Table.Blocks.{Buffer, Block, OfBuffer, OfPending, Name, AcqQ, Enter, TryPut, TryTake, WaitOn, SigRecv, SigSend, RelQ, Pend, TakeAll, Told, Nothing, Position, Done, NotYet, Drained, Answer}
+use Rattle.cpu.specs.Table.Blocks.{Buffer, Block, OfBuffer, OfPending, Name, AcqQ, Enter, TryPut, TryTake, WaitOn, SigRecv}
+use Rattle.cpu.specs.Table.Blocks.{SigSend, RelQ, Pend, TakeAll, Told, Nothing, Position, Done, NotYet, Drained, Answer}
 use Rattle.cpu.specs.Table.Edits.{edited, answer, tells}
 
 -- the names, answers and blocks of the layers' sections

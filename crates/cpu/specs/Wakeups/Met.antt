@@ -21,7 +21,8 @@ pub record PremisesAreMet : Type 0 where
   pub ready : AreFew one_sender × IsReached one_sender 1000 at_send
       × ((p : Private) × IsReady one_sender (cpu_numbered 0) at_send p (thread 0)) × (at_send.taken + 21 ≤ at_send.room)
   -- that call is under way after 17 steps and has returned after 18
-  pub after_18 : (option_map (λ call. call.stage) (call_of 0 0 (run one_sender (of 0 19 ∷ []))) ≡ Some Releases) × (call_of 0 0 (run one_sender (of 0 20 ∷ [])) ≡ None)
+  pub after_18 : (option_map (λ call. call.stage) (call_of 0 0 (run one_sender (of 0 19 ∷ []))) ≡ Some Releases)
+      × (call_of 0 0 (run one_sender (of 0 20 ∷ [])) ≡ None)
   -- one that wakes a thread of another CPU is under way after 20 steps and has returned after 21
   pub after_21 : (option_map (λ call. call.stage) (call_of 1 1 (run two_cpus (of 0 13 ∷ of 1 22 ∷ []))) ≡ Some Releases)
       × (call_of 1 1 (run two_cpus (of 0 13 ∷ of 1 23 ∷ [])) ≡ None)

@@ -91,8 +91,10 @@ where
     I::Machine: Drop,
 {
     ghost use Rattle.cpu.specs.Boots.{AreTables};
-    ghost use Rattle.cpu.specs.Claims.{FollowPrograms, HasOneOrder, StandsOnce, StayHome};
+    ghost use Rattle.cpu.specs.Claims.{FollowPrograms, HasOneOrder, StandsOnce, StayHome, cpu_shown, shown_of};
     ghost use Rattle.cpu.specs.Cpus.{IsCpu};
+    ghost use Rattle.cpu.specs.Sound.{BootsByTable, SoundByTable};
+    ghost use Rattle.cpu.specs.Told.{ToldByTable};
     ghost use Rattle.cpu.specs.Systems.{IsSystem};
     ghost use Rattle.cpu.specs.Tables.{IsTabled};
     ghost use Rattle.layer_traits.specs.Openings.{AreOpenable};
@@ -119,6 +121,10 @@ where
         ensures taken { IfOk result (λ s. s.taken ≡ 0) }
         ensures guests { IfOk result (λ s. map (λ p. p.guests) s.cpus ≡ map (λ table. table.items) tables.items) }
         ensures limits { IfOk result (λ s. map (λ p. p.limit) s.cpus ≡ map (λ table. limit) tables.items) }
+        // It is as the step table has it at boot.
+        ensures boots { IfOk result (λ s. I.IsStepwise → BootsByTable s) }
+        ensures sound { IfOk result (λ s. I.IsStepwise → SoundByTable s) }
+        ensures told { IfOk result (λ s. I.IsStepwise → ToldByTable s) }
 
         // What holds after every list of steps.
         ensures one_order { IfOk result HasOneOrder }
@@ -128,21 +134,28 @@ where
     {
         let machine = I::open(alloc, tables.len() as u8, caps, homes, room)?;
         let cpus = cpus_at_boot(alloc, homes, caps.len() as u8, tables, limit)?;
-        Ok(System::assembled(machine, cpus, room as u64))
+        Ok(System::assembled(machine, cpus, homes.len() as u8, room as u64))
     }
 
     /// The system of a machine and its CPUs, before its first step.
-    fn assembled(machine: I::Machine, cpus: Vec<Cpu<I>>, room: u64) -> System<I>
+    fn assembled(machine: I::Machine, cpus: Vec<Cpu<I>>, threads: u8, room: u64) -> System<I>
         requires { IsSystem (λ c. I.Fits c.part machine × (I.cpu_of c.part ≡ c.number)
-            × IsCpu (I.homes_of machine) (length (I.caps machine)) (I.seen machine) (I.threads c.part) (I.talks c.part) (I.doing c.part) c.number c.guests.items c.trace.items c.limit (vec_capacity c.trace)
+            × IsCpu (I.homes_of machine) (length (I.caps machine)) (I.seen machine) (I.threads c.part) (I.talks c.part)
+            (I.doing c.part) c.number c.guests.items c.trace.items c.limit (vec_capacity c.trace)
             × (I.IsStepwise → IsTabled (I.homes_of machine) (I.caps machine) c.number (I.own c.part) (I.doing c.part) c.guests.items (I.opening machine)))
-            (λ c. c.number) (λ c. I.ActsFor machine c) I.IsStepwise (I.acts machine) cpus.items (I.homes_of machine) (I.seen machine) room 0 (I.room machine) }
+            (λ c. c.number) (λ c. I.ActsFor machine c) I.IsStepwise (I.acts machine) cpus.items (I.homes_of machine) (I.seen machine) room 0 (I.room machine)
+            ((threads ≡ length (I.homes_of machine)) × (I.IsStepwise → BootsByTable
+            (shown_of (I.caps machine) (I.homes_of machine) (I.seen machine) (I.lines machine) (I.owner machine) (I.moves machine) (I.acts machine)
+            (map (λ c. cpu_shown (I.threads c.part) c.guests.items c.trace.items c.limit (I.is_inside c.part) (I.own c.part)) cpus.items) room 0))) }
         ensures caps { result.caps ≡ I.caps machine }
         ensures homes { result.homes ≡ I.homes_of machine }
         ensures room { result.room ≡ room }
         ensures taken { result.taken ≡ 0 }
         ensures guests { map (λ p. p.guests) result.cpus ≡ map (λ c. c.guests.items) cpus.items }
         ensures limits { map (λ p. p.limit) result.cpus ≡ map (λ c. c.limit) cpus.items }
+        ensures boots { I.IsStepwise → BootsByTable result }
+        ensures sound { I.IsStepwise → SoundByTable result }
+        ensures told { I.IsStepwise → ToldByTable result }
 
         // What holds after every list of steps.
         ensures one_order { HasOneOrder result }
@@ -153,6 +166,7 @@ where
         let system = System {
             machine,
             cpus,
+            threads,
             room,
             taken: 0,
         };

@@ -75,6 +75,8 @@ where
     I::Machine: Drop,
 {
     ghost use Rattle.cpu.specs.Claims.{FollowPrograms, HasOneOrder, StandsOnce, StayHome};
+    ghost use Rattle.cpu.specs.Sound.{BootsByTable, IsSetupFor, SoundByTable, setup_for};
+    ghost use Rattle.cpu.specs.Told.{ToldByTable};
 
     /// The system of a plan before its first step, with room for `room` steps: each CPU's threads
     /// are ready by rising number, and every buffer is empty. All memory is taken here.
@@ -88,6 +90,12 @@ where
         ensures room { IfOk result (λ s. s.room ≡ room) }
         ensures taken { IfOk result (λ s. s.taken ≡ 0) }
         ensures plan { IsPlan boot.now }
+        // The plan says the system's setup of the step table, and the system is as the table has
+        // it at boot.
+        ensures planned { IfOk result (IsSetupFor (setup_for boot.now)) }
+        ensures boots { IfOk result (λ s. I.IsStepwise → BootsByTable s) }
+        ensures sound { IfOk result (λ s. I.IsStepwise → SoundByTable s) }
+        ensures told { IfOk result (λ s. I.IsStepwise → ToldByTable s) }
 
         // What holds after every list of steps.
         ensures one_order { IfOk result HasOneOrder }

@@ -10,6 +10,7 @@ returns-clause-locks c =
     let r = c.queue_blocks.result in
     let made = c.queue_blocks.ensures in
     IfOk-weaker r _ _
-    (λ locks it. tower_locks (opened locks.items) c.args.caps.now c.in_ok-buffers.buffers.items c.in_ok-lock_blocks.field-0.items c.in_ok-blocks.blocks.items it.0
+    (λ locks it. tower_locks (opened locks.items) c.args.caps.now c.in_ok-buffers.buffers.items
+    c.in_ok-lock_blocks.field-0.items c.in_ok-blocks.blocks.items it.0
     c.in_ok-buffers.ensures c.in_ok-lock_blocks.ensures c.in_ok-blocks.ensures it.1)
     (both_ok r _ _ made.starts made.blocks)

@@ -1,7 +1,8 @@
 use Rattle.std.proofs.Common.{◌+◌, ◌*◌, ◌∙◌, [], ap, arith, length, sym, zero-add}
 use Rattle.event_log.specs.WordsLog.{standing}
-use Rattle.event_log.specs.Sections.{sections_of}
+use Rattle.event_log.specs.Sections.{sections_in}
 use Rattle.event_log.specs.Actions.{acts_of}
+use Rattle.layer_traits.proofs.PlanLemmas.{sections_acts}
 use Rattle.layer_traits.specs.WordsProtocol.{edit_of}
 use Rattle.plain_machine.specs.Machine.{history}
 use Rattle.mctower.specs.Count.{after_rounds, sections_at}
@@ -21,9 +22,10 @@ returns-clause-opening c = ap (λ blocks. blocks NUMBER) c.rounds.ensures.openin
 
 pub returns-clause-counted : goal.returns-clause-counted
 returns-clause-counted c =
-    let none = ap (λ log. sections_at NUMBER (sections_of (edit_of {E = AddOne}) log)) c.in_ok-machine.ensures.seen in
+    let none = ap (λ log. sections_at NUMBER (sections_in (acts_of (edit_of {E = AddOne}) log))) c.in_ok-machine.ensures.seen in
     let long = ap length c.as_mut_slice.ensures.value ∙ c.in-Ok.ensures.long in
-    sym (frees_are_sections (edit_of {E = AddOne}) NUMBER (history c.rounds.new.machine.log)) ∙ c.rounds.ensures.counted
+    sym (frees_are_sections (edit_of {E = AddOne}) NUMBER (history c.rounds.new.machine.log))
+    ∙ ap (sections_at NUMBER) (sections_acts (history c.rounds.new.machine.log)) ∙ c.rounds.ensures.counted
     ∙ ap (λ n. n + c.args.times * length c.as_mut_slice.result.now) none
     ∙ zero-add _ ∙ ap (λ n. c.args.times * n) long
 

@@ -10,7 +10,8 @@ pub returns : goal.returns
 returns g c = record {
   halted = c.halted_of-halted.ensures ∙ ap (λ n. listed (λ k. halted_in (record { 0 = k }) c.args.system.now) 0 n) (sym c.requires.cpus);
   count = sym c.requires.threads;
-  many = length-take-le c.args.threads c.places_of-places.result (omega (arith, c.places_of-places.ensures.count, c.requires.few_threads)) ∙ sym c.requires.threads;
+  many = length-take-le c.args.threads c.places_of-places.result (omega (arith, c.places_of-places.ensures.count, c.requires.few_threads))
+      ∙ sym c.requires.threads;
   places = λ t place at.
       let read = read_front c.places_of-places.result c.args.threads t place at in
       subst (λ x. IsPlaceOf c.args.system.now (record { 0 = t }) x) read.1 (c.places_of-places.ensures.read t place read.0);

@@ -1,13 +1,13 @@
 use Rattle.std.proofs.Common.{◌≡◌, refl, sym, ◌∙◌}
 use Rattle.mctower.specs.declared.run.Fault.TheVariants.{BadCpu}
-use Rattle.mctower.proofs.RunningLemmas.{bad_cpu, err_first, not_written, opened, run_of, stays_of, written}
+use Rattle.mctower.proofs.RunningLemmas.{bad_cpu, err_first, newly, not_written, opened, run_of, stays_of, written}
 use Rattle.mctower.proofs.run.run_plan.Goals as goal
 
 pub returns-in_err-run-clause-runs : goal.returns-in_err-run-clause-runs
 returns-in_err-run-clause-runs g c =
     let of = opened c.in_ok-boot.boot c.in_ok-system.system c.in_ok-system.ensures.caps c.in_ok-system.ensures.homes c.in_ok-system.ensures.guests
     c.in_ok-system.ensures.limits in
-    bad_cpu c.in_ok-boot.boot c.args.steps.now c.in_ok-system.system _ _ _ _ c.in_ok-boot.ensures.plan of
+    bad_cpu g.I.IpcLayer.IsStepwise c.in_ok-boot.boot c.args.steps.now c.in_ok-system.system _ _ _ _ c.in_ok-boot.ensures.plan of
     c.in_err-run.ensures.known.1 c.requires.live (err_first c.from_residual-in_err-run.result (λ f. f ≡ BadCpu) c.from_residual-in_err-run.ensures.1)
 
 pub write_system-requires-clause-plan : goal.write_system-requires-clause-plan
@@ -26,9 +26,12 @@ pub returns-in_err-write_system-clause-runs : goal.returns-in_err-write_system-c
 returns-in_err-write_system-clause-runs g c =
     let of = opened c.in_ok-boot.boot c.in_ok-system.system c.in_ok-system.ensures.caps c.in_ok-system.ensures.homes c.in_ok-system.ensures.guests
     c.in_ok-system.ensures.limits in
-    not_written (Unit {0}) c.in_ok-boot.boot c.args.steps.now c.as_slice.result.now c.in_ok-system.system c.run.new.self _ _ c.in_err-write_system.field-0.0 _ _ _
+    not_written g.I.IpcLayer.IsStepwise (Unit {0}) c.in_ok-boot.boot c.args.steps.now c.as_slice.result.now
+    c.in_ok-system.system c.run.new.self _ _ c.in_err-write_system.field-0.0 _ _ _
     c.in_ok-boot.ensures.plan (c.as_slice.ensures.value ∙ c.caps-caps.ensures.caps) of (c.in_ok-run.ensures.known.0 refl)
-    (run_of c.in_ok-boot.boot c.args.steps.now c.in_ok-system.system c.run.new.self of c.in_ok-system.ensures.room
+    (run_of g.I.IpcLayer.IsStepwise c.in_ok-boot.boot c.args.steps.now c.in_ok-system.system c.run.new.self
+    (newly c.in_ok-boot.boot _ c.in_ok-system.system of c.in_ok-system.ensures.guests c.in_ok-system.ensures.room c.in_ok-system.ensures.taken)
+    c.in_ok-run.ensures.ran c.in_ok-system.ensures.boots c.in_ok-system.ensures.planned c.in_ok-run.ensures.table c.in_ok-run.ensures.sound
     c.in_ok-run.ensures.plan c.in_ok-run.ensures.one_order c.in_ok-run.ensures.follow c.in_ok-run.ensures.stay c.in_ok-run.ensures.once)
     c.in_err-write_system.ensures (err_first c.from_residual-in_err-write_system.result (λ f. f ≡ c.in_err-write_system.field-0.0)
     c.from_residual-in_err-write_system.ensures.1)
@@ -37,9 +40,11 @@ pub returns-clause-runs : goal.returns-clause-runs
 returns-clause-runs g c =
     let of = opened c.in_ok-boot.boot c.in_ok-system.system c.in_ok-system.ensures.caps c.in_ok-system.ensures.homes c.in_ok-system.ensures.guests
     c.in_ok-system.ensures.limits in
-    written c.in_ok-boot.boot c.args.steps.now c.as_slice.result.now c.in_ok-system.system c.run.new.self _ _ _ _
+    written g.I.IpcLayer.IsStepwise c.in_ok-boot.boot c.args.steps.now c.as_slice.result.now c.in_ok-system.system c.run.new.self _ _ _ _
     c.in_ok-boot.ensures.plan (c.as_slice.ensures.value ∙ c.caps-caps.ensures.caps) of (c.in_ok-run.ensures.known.0 refl)
-    (run_of c.in_ok-boot.boot c.args.steps.now c.in_ok-system.system c.run.new.self of c.in_ok-system.ensures.room
+    (run_of g.I.IpcLayer.IsStepwise c.in_ok-boot.boot c.args.steps.now c.in_ok-system.system c.run.new.self
+    (newly c.in_ok-boot.boot _ c.in_ok-system.system of c.in_ok-system.ensures.guests c.in_ok-system.ensures.room c.in_ok-system.ensures.taken)
+    c.in_ok-run.ensures.ran c.in_ok-system.ensures.boots c.in_ok-system.ensures.planned c.in_ok-run.ensures.table c.in_ok-run.ensures.sound
     c.in_ok-run.ensures.plan c.in_ok-run.ensures.one_order c.in_ok-run.ensures.follow c.in_ok-run.ensures.stay c.in_ok-run.ensures.once)
     c.in_ok-write_system.ensures
 

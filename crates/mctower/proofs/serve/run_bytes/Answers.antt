@@ -4,7 +4,7 @@ use Rattle.std.specs.Io.KnownBytes.{Appends}
 use Rattle.std.proofs.lemmas.List.{append-nil}
 use Rattle.event_log.specs.declared.ids.CpuId.{CpuId}
 use Rattle.boot.specs.declared.refusals.BootError.{BootError}
-use Rattle.boot.specs.Plan.{Plan, plan_of}
+use Rattle.boot.specs.Plan.{BootPlan, plan_of}
 use Rattle.tracer.specs.Sinks.{Outs, has_failed, writer_of}
 use Rattle.tracer.proofs.SinkLemmas.{all_out, outs_then}
 use Rattle.mctower.specs.declared.refusals.Refusal.{Refusal}
@@ -28,10 +28,10 @@ put_run s state trace answer false old new is given out = (state, is, given, out
 put_run s state trace answer true old new is given out = (given, out)
 
 -- the text of a run is out, and then nothing more was put out
-ran_out : (steps : List CpuId) (s : Shown) (state : State) (read : Result Plan BootError) (before : Bool)
-    (answer : Result Done Refusal) (failed : Bool) (old mid new : Option (List ℕ)) → RunsText read steps (Ok s) before old mid
-    → IsStateOf s state → Puts (Ran state) [] answer failed mid new → RunsPlan read steps answer failed old new
-ran_out steps s state (Ok plan) before answer failed old mid new runs is put =
+ran_out : (IsStepwise : Type 0) (steps : List CpuId) (s : Shown) (state : State) (read : Result BootPlan BootError) (before : Bool)
+    (answer : Result Done Refusal) (failed : Bool) (old mid new : Option (List ℕ)) → RunsText IsStepwise read steps (Ok s) before old mid
+    → IsStateOf s state → Puts (Ran state) [] answer failed mid new → RunsPlan IsStepwise read steps answer failed old new
+ran_out IsStepwise steps s state (Ok plan) before answer failed old mid new runs is put =
     let trace = runs.1.out.text in
     let out : Appends old mid trace = all_out before old mid trace runs.0 runs.1.out.out in
     let outs = outs_then failed old mid new trace [] out put.1 in
@@ -43,7 +43,7 @@ ran_out steps s state (Ok plan) before answer failed old mid new runs is put =
       traced = runs.1.out.is;
       put = put_run s state trace answer failed old new is put.0 (subst (λ t. Outs failed old new t) (append-nil trace) outs);
     })
-ran_out steps s state (Err error) before answer failed old mid new runs is put = absurd runs
+ran_out IsStepwise steps s state (Err error) before answer failed old mid new runs is put = absurd runs
 
 -- the output failed
 put_failed : (s : Shown) (trace : List ℕ) (failed : Bool) (old new : Option (List ℕ)) → failed ≡ true → Outs failed old new trace
@@ -52,14 +52,14 @@ put_failed s trace false old new is out = absurd (cc)
 put_failed s trace true old new is out = (refl, out)
 
 -- a run that had a fault
-fault_ran : (steps : List CpuId) (read : Result Plan BootError) (fault : Fault) (failed : Bool) (old new : Option (List ℕ))
-    → RunsText read steps (Err fault) failed old new
-    → RefusedBy NoMemory (Err (from_fault fault)) failed old new ⊎ RunsPlan read steps (Err (from_fault fault)) failed old new
-fault_ran steps (Ok plan) run.NoMemory failed old new runs = inl (refl, runs)
-fault_ran steps (Ok plan) (run.Boot e) failed old new runs = absurd runs
-fault_ran steps (Ok plan) run.BadCpu failed old new runs = inr (inl (runs.0, (refl, runs.1)))
-fault_ran steps (Ok plan) run.NoOrder failed old new runs = absurd runs
-fault_ran steps (Ok plan) run.WriteFault failed old new runs = inr (inr (record {
+fault_ran : (IsStepwise : Type 0) (steps : List CpuId) (read : Result BootPlan BootError) (fault : Fault) (failed : Bool) (old new : Option (List ℕ))
+    → RunsText IsStepwise read steps (Err fault) failed old new
+    → RefusedBy NoMemory (Err (from_fault fault)) failed old new ⊎ RunsPlan IsStepwise read steps (Err (from_fault fault)) failed old new
+fault_ran IsStepwise steps (Ok plan) run.NoMemory failed old new runs = inl (refl, runs)
+fault_ran IsStepwise steps (Ok plan) (run.Boot e) failed old new runs = absurd runs
+fault_ran IsStepwise steps (Ok plan) run.BadCpu failed old new runs = inr (inl (runs.0, (refl, runs.1)))
+fault_ran IsStepwise steps (Ok plan) run.NoOrder failed old new runs = absurd runs
+fault_ran IsStepwise steps (Ok plan) run.WriteFault failed old new runs = inr (inr (record {
   cpus = runs.1.1.cpus;
   system = runs.1.0;
   ran = runs.1.1.ran;
@@ -67,21 +67,21 @@ fault_ran steps (Ok plan) run.WriteFault failed old new runs = inr (inr (record 
   traced = runs.1.1.out.is;
   put = put_failed runs.1.0 runs.1.1.out.text failed old new runs.0 runs.1.1.out.out;
 }))
-fault_ran steps (Err e) run.NoMemory failed old new runs = inl (refl, runs)
-fault_ran steps (Err e) (run.Boot f) failed old new runs = inr (ap (λ x. Err (BadPlan x)) runs.0, runs.1)
-fault_ran steps (Err e) run.BadCpu failed old new runs = absurd runs
-fault_ran steps (Err e) run.NoOrder failed old new runs = absurd runs
-fault_ran steps (Err e) run.WriteFault failed old new runs = absurd runs
+fault_ran IsStepwise steps (Err e) run.NoMemory failed old new runs = inl (refl, runs)
+fault_ran IsStepwise steps (Err e) (run.Boot f) failed old new runs = inr (ap (λ x. Err (BadPlan x)) runs.0, runs.1)
+fault_ran IsStepwise steps (Err e) run.BadCpu failed old new runs = absurd runs
+fault_ran IsStepwise steps (Err e) run.NoOrder failed old new runs = absurd runs
+fault_ran IsStepwise steps (Err e) run.WriteFault failed old new runs = absurd runs
 
 pub returns-in-Err-clause-runs : goal.returns-in-Err-clause-runs
 returns-in-Err-clause-runs g c =
     let same = c.in-Ok.ensures.cases.0 in
-    let ran = fault_ran c.args.steps.now (plan_of c.in-Ok.plan.now) c.in-Err.fault _ _ _ c.in-Err.ensures.runs in
+    let ran = fault_ran g.I.IpcLayer.IsStepwise c.args.steps.now (plan_of c.in-Ok.plan.now) c.in-Err.fault _ _ _ c.in-Err.ensures.runs in
     rw c.run_refused.ensures (elim ran [
       | inl refused ↦ inl refused
       | inr runs ↦ inr (inr (
         c.in-Ok.ensures.cases.1,
-        subst (λ t. RunsPlan (plan_of t) c.args.steps.now (Err (from_fault c.in-Err.fault))
+        subst (λ t. RunsPlan g.I.IpcLayer.IsStepwise (plan_of t) c.args.steps.now (Err (from_fault c.in-Err.fault))
             (has_failed c.run_plan.new.sink) (g.O.Write.contents (writer_of c.args.out.now)) (g.O.Write.contents (writer_of c.run_plan.new.sink))) same runs,
       ))
     ])
@@ -91,8 +91,8 @@ returns-clause-runs g c =
     let same = c.in-Ok.ensures.cases.0 in
     inr (inr (
       c.in-Ok.ensures.cases.1,
-      subst (λ t. RunsPlan (plan_of t) c.args.steps.now c.put_out.result (has_failed c.put_out.new.out)
+      subst (λ t. RunsPlan g.I.IpcLayer.IsStepwise (plan_of t) c.args.steps.now c.put_out.result (has_failed c.put_out.new.out)
           (g.O.Write.contents (writer_of c.args.out.now)) (g.O.Write.contents (writer_of c.put_out.new.out))) same
-          (ran_out c.args.steps.now c.in-Ok-run_plan.ran.0 c.in-Ok-run_plan.ran.1 (plan_of c.in-Ok.plan.now) _ _ _ _ _ _
+          (ran_out g.I.IpcLayer.IsStepwise c.args.steps.now c.in-Ok-run_plan.ran.0 c.in-Ok-run_plan.ran.1 (plan_of c.in-Ok.plan.now) _ _ _ _ _ _
           c.in-Ok-run_plan.ensures.runs c.in-Ok-run_plan.ensures.state c.put_out.ensures.put),
     ))

@@ -10,5 +10,6 @@ use Rattle.mctower.proofs.states.put_cpus.Given as goal
 abbrev pub invariant-loop-c : goal.invariant-loop-c
 invariant-loop-c g l = record {
   live : has_failed l.sink ≡ false;
-  out : Appends (g.W.Write.contents (writer_of l.fn.sink)) (g.W.Write.contents (writer_of l.sink)) (flat_map line_of (numbered cpu_pieces 0 (take l.c l.halted)));
+  out : Appends (g.W.Write.contents (writer_of l.fn.sink)) (g.W.Write.contents (writer_of l.sink))
+      (flat_map line_of (numbered cpu_pieces 0 (take l.c l.halted)));
 }

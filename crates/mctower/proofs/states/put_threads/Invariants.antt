@@ -10,5 +10,6 @@ use Rattle.mctower.proofs.states.put_threads.Given as goal
 abbrev pub invariant-loop-t : goal.invariant-loop-t
 invariant-loop-t g l = record {
   live : has_failed l.sink ≡ false;
-  out : Appends (g.W.Write.contents (writer_of l.fn.sink)) (g.W.Write.contents (writer_of l.sink)) (flat_map line_of (numbered thread_pieces 0 (take l.t l.places)));
+  out : Appends (g.W.Write.contents (writer_of l.fn.sink)) (g.W.Write.contents (writer_of l.sink))
+      (flat_map line_of (numbered thread_pieces 0 (take l.t l.places)));
 }

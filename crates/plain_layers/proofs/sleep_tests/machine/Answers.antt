@@ -1,24 +1,29 @@
-use Rattle.std.proofs.Common.{◌≡◌, false, List, [], ◌∷◌, ◌++◌, if◌then◌else◌, is_err, is_ok, map, slice_get, ap, IsSome, Option, Some, None, Result, Ok, Err}
-use Rattle.std.proofs.Common.{refl, subst, sym, ◌∙◌}
+use Rattle.std.proofs.Common.{◌≡◌, ◌<◌, ◌∷◌, [], IsSome, ap, sym, subst, ◌∙◌, refl, slice_get, map}
+use Rattle.event_log.specs.declared.ids.BufId.{BufId}
+use Rattle.event_log.specs.declared.ids.CpuId.{CpuId}
 use Rattle.event_log.specs.declared.ids.LockId.TheVariants.{Buffer}
-use Rattle.layer_traits.proofs.KernelRenaming.{viewed_there}
-use Rattle.sleep_wakeup.specs.Nested.{resting, state_of}
-use Rattle.sleep_wakeup.proofs.BootLemmas.{if_ok, there_inside}
-use Rattle.plain_layers.specs.Kernels.{opening_of}
+use Rattle.event_log.specs.declared.ids.TheConstants.{CPUS}
+use Rattle.layer_traits.specs.QueueBlocks.{inner}
+use Rattle.sleep_wakeup.specs.Nested.{resting}
+use Rattle.sleep_wakeup.proofs.BootLemmas.{if_ok, nobody_at_boot, there_inside}
+use Rattle.plain_layers.proofs.OpeningLemmas.{both_ok, of_first}
 use Rattle.plain_layers.proofs.sleep_tests.machine.Goals as goal
 
-one_pushed : {A F X : Type 0} (r : Result A F) (items : List X) (x : X) → is_err r ≡ false → items ≡ (if is_ok r then [] ++ x ∷ [] else []) → items ≡ x ∷ []
-one_pushed (Ok a) items x went is = is
-one_pushed (Err e) items x went is = absurd cc
+pub returns-clause-nobody : goal.returns-clause-nobody
+returns-clause-nobody g c =
+    let S = g.S.SchedLayer in
+    both_ok c.open.result (λ m. (d : CpuId) → d.0 < CPUS → S.ActsFor m d)
+    (λ m. (b : BufId) → inner (S.opening m) (Buffer b) ≡ slice_get c.in_ok-blocks.blocks.items b.0) _
+    c.open.ensures.acts c.open.ensures.blocks
+    (λ m acts at. nobody_at_boot (S.opening m) c.in_ok-above.above.items
+    (g.met.S.SchedLayer.opens m (record { 0 = 0 }) (of_first (S.ActsFor m) acts))
+    (λ b. at b ∙ ap (λ l. slice_get l b.0) c.in_ok-blocks.ensures))
 
 -- buffer 0 is there
 pub returns-clause-buffer : goal.returns-clause-buffer
-returns-clause-buffer c =
-    let old : c.new-above.result.items ≡ [] = c.new-above.ensures.items in
-    let above = one_pushed c.push.result c.push.new.self.items 7 (sym c.is_err.ensures.value ∙ c.if-is_err.false)
-    (subst (λ l. c.push.new.self.items ≡ (if is_ok c.push.result then l ++ 7 ∷ [] else l)) old c.push.ensures.items) in
-    let blocks : c.in_ok-blocks.blocks.items ≡ resting 7 ∷ [] = c.in_ok-blocks.ensures ∙ ap (map resting) above in
-    if_ok c.open.result _ _ c.open.ensures.blocks (λ m is.
+returns-clause-buffer g c =
+    let S = g.S.SchedLayer in
+    let blocks : c.in_ok-blocks.blocks.items ≡ resting 7 ∷ [] = c.in_ok-blocks.ensures ∙ ap (map resting) c.in_ok-above.ensures in
     let there : IsSome (slice_get c.in_ok-blocks.blocks.items 0) = subst (λ l. IsSome (slice_get l 0)) (sym blocks) refl in
-    viewed_there state_of (opening_of m.opening) (Buffer (record { 0 = 0 }))
-    (there_inside (opening_of m.opening (Buffer (record { 0 = 0 }))) (subst (λ o. IsSome o) (sym (is (record { 0 = 0 }))) there)))
+    if_ok c.open.result (λ m. (b : BufId) → inner (S.opening m) (Buffer b) ≡ slice_get c.in_ok-blocks.blocks.items b.0) _ c.open.ensures.blocks
+    (λ m at. there_inside (S.opening m (Buffer (record { 0 = 0 }))) (subst (λ o. IsSome o) (sym (at (record { 0 = 0 }))) there))

@@ -9,6 +9,7 @@ use Rattle.plain_machine.proofs.cells.fill.Goals as goal
 pub loop-lock-preserved : goal.loop-lock-preserved
 loop-lock-preserved g c =
     let so_far = c.loop-lock.invariant in
+    let IsNew = g.K.TurnWords.Fit 0 0 in
     let o : LockId × g.row.B.Denot = (c.in-Some.lock, c.in-Some.block) in
     let rest = c.next.new.self.rest.items in
     let cells = c.loop-lock.cells.items in
@@ -21,7 +22,7 @@ loop-lock-preserved g c =
       can_next = tt;
       ends = tt;
       all = append_assoc c.loop-lock.yielded (o ∷ []) rest ∙ ap (λ l. c.loop-lock.yielded ++ l) (sym c.in-Some.ensures.steps.0) ∙ so_far.all;
-      length_is = ap length c.put.ensures ∙ length-set cells (lock_number o.0) _ ∙ so_far.length_is;
-      fresh = subst (λ l. AreFresh (c.loop-lock.yielded ++ o ∷ []) l) (sym c.put.ensures)
-          (fresh_pass blocks c.loop-lock.yielded o rest cells all c.requires.distinct within so_far.fresh);
+      length_is = ap length c.put.ensures.2 ∙ length-set cells (lock_number o.0) _ ∙ so_far.length_is;
+      fresh = subst (λ l. AreFresh IsNew (c.loop-lock.yielded ++ o ∷ []) l) (sym c.put.ensures.2)
+          (fresh_pass IsNew blocks c.loop-lock.yielded o rest cells all c.requires.distinct within c.put.ensures.0 c.put.ensures.1 so_far.fresh);
     }

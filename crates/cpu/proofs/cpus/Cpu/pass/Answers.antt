@@ -1,4 +1,5 @@
-use Rattle.std.proofs.Common.{rules, ◌≡◌, true, false, ◌++◌, length, Option, Some, is_some, ap, sym, ◌∙◌, subst, vec_capacity, List, slice_get, IsSome, refl, if◌then◌else◌}
+use Rattle.std.proofs.Common.{rules, ◌≡◌, true, false, ◌++◌, length, Option, Some, is_some, ap, sym}
+use Rattle.std.proofs.Common.{◌∙◌, subst, vec_capacity, List, slice_get, IsSome, refl, if◌then◌else◌}
 use Rattle.event_log.specs.declared.ids.CpuId.{CpuId}
 use Rattle.event_log.specs.declared.ids.Tid.{Tid}
 use Rattle.layer_traits.specs.Places.{home_of, pending_by}

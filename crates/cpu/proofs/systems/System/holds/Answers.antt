@@ -1,14 +1,112 @@
-use Rattle.std.proofs.Common.{◌<◌, ◌^◌, length, map, reverse, refl, sym, subst, arith}
+use Rattle.std.proofs.Common.{◌≡◌, ◌<◌, ◌^◌, length, map, reverse, refl, ap, sym, ◌∙◌, subst, arith, vec_capacity}
 use Rattle.std.specs.List.{AllByRecursion}
 use Rattle.std.proofs.lemmas.List.{length-map}
 use Rattle.event_log.specs.declared.entries.Entry.{Entry}
 use Rattle.event_log.specs.declared.ids.TheConstants.{CPUS}
 use Rattle.layer_traits.proofs.EffectRunLemmas.{effects_are_run}
-use Rattle.cpu.specs.Claims.{FollowPrograms, HasOneOrder, Shown, StandsOnce, StayHome, cpu_shown, shown_of}
+use Rattle.cpu.specs.Claims.{FollowPrograms, HasOneOrder, MovesAgree, Shown, StandsOnce, StayHome, cpu_shown, shown_of}
 use Rattle.cpu.proofs.ListReads.{there_is}
 use Rattle.cpu.proofs.Onces.{once_of}
 use Rattle.cpu.proofs.Orders.{each_has, follow_programs, stay_home, traces_interleaved}
+use Rattle.cpu.specs.Sound.{SoundByTable}
+use Rattle.cpu.proofs.Sounding.{sound_of}
+use Rattle.std.specs.Prelude.{Some, slice_get}
+use Rattle.event_log.specs.declared.ids.CpuId.{CpuId}
+use Rattle.event_log.specs.declared.ids.LockId.TheVariants.{Pending}
+use Rattle.event_log.specs.declared.ids.Tid.{Tid}
+use Rattle.event_log.specs.Actions.{phase}
+use Rattle.event_log.proofs.Renaming.{phase_renamed}
+use Rattle.layer_traits.specs.OnePlace.{cpu_at}
+use Rattle.layer_traits.specs.Places.{Threads, home_of, pending_by}
+use Rattle.layer_traits.specs.Plans.{is_in_section}
+use Rattle.layer_traits.proofs.PlaceLemmas.{current_at}
+use Rattle.cpu.specs.declared.cpus.Cpu.{Cpu}
+use Rattle.cpu.specs.Cpus.{halted_at as own_halted_at}
+use Rattle.cpu.specs.Sound.{IsSetupFor}
+use Rattle.cpu.specs.Table.Blocks.{OfPending}
+use Rattle.cpu.specs.Table.Setups.{Setup}
+use Rattle.cpu.specs.Table.Steps.{block_at, halted_at}
+use Rattle.cpu.specs.Told.{CpuIsTold, ToldByTable}
+use Rattle.cpu.specs.Tower.Composed.{named}
+use Rattle.cpu.specs.Tower.Views.{name_of}
+use Rattle.cpu.proofs.ListReads.{shown_at, shows_at}
+use Rattle.cpu.proofs.TableCalls.{halted_told}
+use Rattle.cpu.proofs.Telling.{owner_is_told, pending_told, sleepers_are_told}
 use Rattle.cpu.proofs.systems.System.holds.Goals as goal
+
+pub returns-clause-sound : goal.returns-clause-sound
+returns-clause-sound g c = λ step. subst (λ (s : Shown). SoundByTable s) c.self.view_is (sound_of _ (c.self.invariant.sound.1 step))
+
+pub returns-clause-agree : goal.returns-clause-agree
+returns-clause-agree g c =
+    let I = g.I.IpcLayer in
+    let law = g.met.I.IpcLayer in
+    let m = c.self.inside.machine in
+    let is = c.self.invariant in
+    let some : 0 < CPUS = let least = is.some in let most = is.most in omega (arith, least, most) in
+    let acts = is.acts_for (record { 0 = 0 }) some in
+    let each = each_has _ _ _ _ _ _ _ _ _ _ _ (λ x. I.is_inside x.part) (λ x. I.own x.part) _ _ _ (I.moves m) c.self.inside.cpus.items is.each
+    (λ x fits. law.stands x.part m fits) in
+    let count = length-map c.self.inside.cpus.items (λ x. cpu_shown (I.threads x.part) x.guests.items x.trace.items x.limit (I.is_inside x.part)
+    (I.own x.part)) in
+    subst (λ (s : Shown). MovesAgree s) c.self.view_is (record {
+      lawful = law.moved m (record { 0 = 0 }) acts;
+      stands = λ k p at. (each k p at).stands;
+      within = λ t home at. let inside = is.within t home at in omega (arith, inside, count);
+    })
+
+pub returns-clause-told : goal.returns-clause-told
+returns-clause-told g c = λ step.
+    let I = g.I.IpcLayer in
+    let law = g.met.I.IpcLayer in
+    let m = c.self.inside.machine in
+    let is = c.self.invariant in
+    let items = c.self.inside.cpus.items in
+    let zero : CpuId = cpu_at 0 in
+    let some : 0 < CPUS = let least = is.some in let most = is.most in omega (arith, least, most) in
+    let acts = is.acts_for zero some in
+    let shown = λ (x : Cpu g.row.I.Denot g.row.I-Machine.Denot).
+    cpu_shown (I.threads x.part) x.guests.items x.trace.items x.limit (I.is_inside x.part) (I.own x.part) in
+    let count = length-map items shown in
+    let are = law.moves_are step m zero acts in
+    let first = there_is items 0 is.some in
+    let one = (is.each 0 first.0 first.1).holds in
+    let tabled = one.3 step in
+    let s = shown_of (I.caps m) (I.homes_of m) (I.seen m) (I.lines m) (g.I.Owned.owner m) (I.moves m) (I.acts m) (map shown items) c.self.inside.room
+    c.self.inside.taken in
+    let caps : (setup : Setup) → IsSetupFor setup s → setup.caps ≡ I.caps m =
+    λ setup goes. (goes.goes.each 0 (shown first.0) (shows_at shown items 0 first.0 first.1)).caps_are in
+    subst (λ (x : Shown). ToldByTable x) c.self.view_is (record {
+      some = let least = is.some in omega (arith, least, count);
+      few = let size = tabled.size in let few = one.2.few in omega (arith, size, few);
+      cpus = λ setup goes. shown_at shown (λ j q. CpuIsTold setup s j q) items (λ j x there.
+          let at = (is.each j x there).holds in
+          let number = (is.each j x there).number_is in
+          let tells = law.tells step x.part in
+          let home : (t : Tid) → (I.threads x.part).current ≡ Some t → home_of (I.homes_of m) t ≡ Some x.number =
+          λ t runs. (current_at (I.homes_of m) (I.cpu_of x.part) (I.moves m) (I.threads x.part) (law.moved m zero acts)
+          (law.stands x.part m at.0) t runs).0 ∙ ap (λ (d : CpuId). Some d) at.1 in
+          let halted = halted_told (I.homes_of m) (I.caps m) (length (I.caps m)) (I.seen m) (I.own x.part) (I.threads x.part) (I.talks x.part)
+          (I.doing x.part) (I.cpu_of x.part) x.number x.guests.items x.trace.items x.limit (vec_capacity x.trace) (I.opening m) at.1 tells at.2 (at.3 step) home
+          setup (goes.goes.each j (shown x) (shows_at shown items j x there)) in
+          let pending = pending_told setup (I.homes_of m) (I.caps m) x.number (I.opening m) (I.acts m) (I.moves m) (I.lines m) (at.3 step).opens
+          (caps setup goes) are in
+          record {
+            inside = ap is_in_section (phase_renamed name_of (cpu_at j) (I.acts m))
+                ∙ ap (λ (d : CpuId). is_in_section (phase d (I.acts m))) (sym (at.1 ∙ number)) ∙ sym (law.busy x.part m at.0 step);
+            halted = subst (λ (d : CpuId). halted_at setup d (shown x).private ≡ own_halted_at (I.threads x.part) x.guests.items x.trace.items
+                x.limit) number halted;
+            current = ap (λ (t : Threads). t.current) tells.0;
+            ready = ap (λ (t : Threads). t.ready) tells.0;
+            hand = ap (λ (t : Threads). t.hand) tells.0;
+            pending = subst (λ (d : CpuId). block_at setup (Pending d) (named (I.acts m)) ≡ Some (OfPending (pending_by (I.moves m) d))) number pending;
+          });
+      owners = λ setup goes b within. owner_is_told setup (I.homes_of m) (I.caps m) first.0.number (I.opening m) (I.acts m) (I.moves m) (I.lines m) tabled.opens
+          (caps setup goes) are (g.I.Owned.owner m) (length (I.caps m)) b (λ d. g.met.I.Owned.owner_is step m zero d acts) within;
+      sleepers = λ setup goes b within. sleepers_are_told setup (I.homes_of m) (I.caps m) first.0.number (I.opening m) (I.acts m) (I.moves m) (I.lines
+          m) tabled.opens
+          (caps setup goes) are (length (I.caps m)) b within;
+    })
 
 pub returns-clause-one_order : goal.returns-clause-one_order
 returns-clause-one_order g c =
@@ -18,8 +116,10 @@ returns-clause-one_order g c =
     let is = c.self.invariant in
     let some : 0 < CPUS = let least = is.some in let most = is.most in omega (arith, least, most) in
     let acts = is.acts_for (record { 0 = 0 }) some in
-    let each = each_has _ _ _ _ _ _ _ _ _ _ _ (λ x. I.is_inside x.part) (λ x. I.own x.part) _ _ _ (I.moves m) c.self.inside.cpus.items is.each (λ x fits. law.stands x.part m fits) in
-    let count = length-map c.self.inside.cpus.items (λ x. cpu_shown (I.threads x.part) x.guests.items x.trace.items x.limit (I.is_inside x.part) (I.own x.part)) in
+    let each = each_has _ _ _ _ _ _ _ _ _ _ _ (λ x. I.is_inside x.part) (λ x. I.own x.part) _ _ _
+    (I.moves m) c.self.inside.cpus.items is.each (λ x fits. law.stands x.part m fits) in
+    let count =
+    length-map c.self.inside.cpus.items (λ x. cpu_shown (I.threads x.part) x.guests.items x.trace.items x.limit (I.is_inside x.part) (I.own x.part)) in
     let few : length (I.seen m) < 2 ^ 64 = let short = is.short in let used = is.used in let small = is.small in omega (arith, short, used, small) in
     subst (λ (s : Shown). HasOneOrder s) c.self.view_is (record {
       order = reverse (I.seen m);
@@ -33,7 +133,8 @@ returns-clause-follow g c =
     let law = g.met.I.IpcLayer in
     let m = c.self.inside.machine in
     let is = c.self.invariant in
-    let each = each_has _ _ _ _ _ _ _ _ _ _ _ (λ x. I.is_inside x.part) (λ x. I.own x.part) _ _ _ (I.moves m) c.self.inside.cpus.items is.each (λ x fits. law.stands x.part m fits) in
+    let each = each_has _ _ _ _ _ _ _ _ _ _ _ (λ x. I.is_inside x.part) (λ x. I.own x.part) _ _ _
+    (I.moves m) c.self.inside.cpus.items is.each (λ x fits. law.stands x.part m fits) in
     subst (λ (s : Shown). FollowPrograms s) c.self.view_is (λ k p t guest at there. follow_programs _ _ _ _ k p (each k p at) t guest there)
 
 pub returns-clause-stay : goal.returns-clause-stay
@@ -42,7 +143,8 @@ returns-clause-stay g c =
     let law = g.met.I.IpcLayer in
     let m = c.self.inside.machine in
     let is = c.self.invariant in
-    let each = each_has _ _ _ _ _ _ _ _ _ _ _ (λ x. I.is_inside x.part) (λ x. I.own x.part) _ _ _ (I.moves m) c.self.inside.cpus.items is.each (λ x fits. law.stands x.part m fits) in
+    let each = each_has _ _ _ _ _ _ _ _ _ _ _ (λ x. I.is_inside x.part) (λ x. I.own x.part) _ _ _
+    (I.moves m) c.self.inside.cpus.items is.each (λ x fits. law.stands x.part m fits) in
     subst (λ (s : Shown). StayHome s) c.self.view_is (λ k p at. stay_home _ _ _ _ k p (each k p at))
 
 pub returns-clause-once : goal.returns-clause-once
@@ -53,8 +155,10 @@ returns-clause-once g c =
     let is = c.self.invariant in
     let some : 0 < CPUS = let least = is.some in let most = is.most in omega (arith, least, most) in
     let acts = is.acts_for (record { 0 = 0 }) some in
-    let each = each_has _ _ _ _ _ _ _ _ _ _ _ (λ x. I.is_inside x.part) (λ x. I.own x.part) _ _ _ (I.moves m) c.self.inside.cpus.items is.each (λ x fits. law.stands x.part m fits) in
-    let count = length-map c.self.inside.cpus.items (λ x. cpu_shown (I.threads x.part) x.guests.items x.trace.items x.limit (I.is_inside x.part) (I.own x.part)) in
+    let each = each_has _ _ _ _ _ _ _ _ _ _ _ (λ x. I.is_inside x.part) (λ x. I.own x.part) _ _ _
+    (I.moves m) c.self.inside.cpus.items is.each (λ x fits. law.stands x.part m fits) in
+    let count =
+    length-map c.self.inside.cpus.items (λ x. cpu_shown (I.threads x.part) x.guests.items x.trace.items x.limit (I.is_inside x.part) (I.own x.part)) in
     let first = there_is c.self.inside.cpus.items 0 is.some in
     let fits = (is.each 0 first.0 first.1).holds.0 in
     subst (λ (s : Shown). StandsOnce s) c.self.view_is

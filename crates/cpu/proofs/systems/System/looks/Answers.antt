@@ -1,5 +1,6 @@
-use Rattle.std.proofs.Common.{rules, ◌≡◌, ◌<◌, ℕ, map, Some, None, refl, ap, ◌∙◌, subst, arith, vec_capacity}
-use Rattle.std.specs.Prelude.{slice_get}
+use Rattle.std.proofs.Common.{rules, ◌≡◌, ◌+◌, ◌<◌, ℕ, List, length, map, Some, None, refl, ap, sym, ◌∙◌, subst, arith, vec_capacity}
+use Rattle.std.specs.Prelude.{slice_get, slice_set}
+use Rattle.std.proofs.lemmas.Option.{slice_get_within}
 use Rattle.event_log.specs.declared.ids.CpuId.{CpuId}
 use Rattle.layer_traits.specs.declared.steps.Step.TheVariants.{Stepped}
 use Rattle.layer_traits.specs.Along.{IsStep}
@@ -7,10 +8,12 @@ use Rattle.layer_traits.specs.OnePlace.{cpu_at}
 use Rattle.cpu.specs.declared.cpus.Cpu.{Cpu}
 use Rattle.cpu.specs.Table.Steps.{cpu_step}
 use Rattle.cpu.specs.Tower.Composed.{named}
+use Rattle.cpu.specs.Sound.{IsReachedByTable}
+use Rattle.cpu.proofs.Sounding.{Told, reached_on, same_plan, shown_in, went_so}
 use Rattle.cpu.proofs.TableSystems.{shown_step}
 use Rattle.cpu.specs.Cpus.{programs_of}
 use Rattle.cpu.specs.Tables.{IsTabled}
-use Rattle.cpu.specs.Claims.{CpuShown, Shown, cpu_shown}
+use Rattle.cpu.specs.Claims.{CpuShown, Shown, cpu_shown, shown_of}
 use Rattle.cpu.specs.Systems.{reason_of}
 use Rattle.cpu.proofs.Advances.{again, live_of, stepped}
 use Rattle.cpu.proofs.ListReads.{read_at, shown_length, shown_same, shows_at}
@@ -20,7 +23,8 @@ pub look-requires-clause-number : goal.look-requires-clause-number
 look-requires-clause-number g c =
     let I = g.I.IpcLayer in
     let items = c.self.inside.cpus.items in
-    let shown = λ (x : Cpu g.row.I.Denot g.row.I-Machine.Denot). cpu_shown (I.threads x.part) x.guests.items x.trace.items x.limit (I.is_inside x.part) (I.own x.part) in
+    let shown = λ (x : Cpu g.row.I.Denot g.row.I-Machine.Denot).
+    cpu_shown (I.threads x.part) x.guests.items x.trace.items x.limit (I.is_inside x.part) (I.own x.part) in
     let at = read_at shown items c.args.self.now.cpus c.from.result c.args.cpu.0 c.index_mut-at.result.now (ap (λ (s : Shown). s.cpus) c.self.view_is)
     c.from.ensures c.requires c.index_mut-at.ensures.value in
     (c.self.invariant.each c.from.result c.index_mut-at.result.now at).holds.1
@@ -29,7 +33,8 @@ pub look-requires-clause-is : goal.look-requires-clause-is
 look-requires-clause-is g c =
     let I = g.I.IpcLayer in
     let items = c.self.inside.cpus.items in
-    let shown = λ (x : Cpu g.row.I.Denot g.row.I-Machine.Denot). cpu_shown (I.threads x.part) x.guests.items x.trace.items x.limit (I.is_inside x.part) (I.own x.part) in
+    let shown = λ (x : Cpu g.row.I.Denot g.row.I-Machine.Denot).
+    cpu_shown (I.threads x.part) x.guests.items x.trace.items x.limit (I.is_inside x.part) (I.own x.part) in
     let at = read_at shown items c.args.self.now.cpus c.from.result c.args.cpu.0 c.index_mut-at.result.now (ap (λ (s : Shown). s.cpus) c.self.view_is)
     c.from.ensures c.requires c.index_mut-at.ensures.value in
     (c.self.invariant.each c.from.result c.index_mut-at.result.now at).holds.2
@@ -38,7 +43,8 @@ pub look-requires-clause-table : goal.look-requires-clause-table
 look-requires-clause-table g c =
     let I = g.I.IpcLayer in
     let items = c.self.inside.cpus.items in
-    let shown = λ (x : Cpu g.row.I.Denot g.row.I-Machine.Denot). cpu_shown (I.threads x.part) x.guests.items x.trace.items x.limit (I.is_inside x.part) (I.own x.part) in
+    let shown = λ (x : Cpu g.row.I.Denot g.row.I-Machine.Denot).
+    cpu_shown (I.threads x.part) x.guests.items x.trace.items x.limit (I.is_inside x.part) (I.own x.part) in
     let at = read_at shown items c.args.self.now.cpus c.from.result c.args.cpu.0 c.index_mut-at.result.now (ap (λ (s : Shown). s.cpus) c.self.view_is)
     c.from.ensures c.requires c.index_mut-at.ensures.value in
     (c.self.invariant.each c.from.result c.index_mut-at.result.now at).holds.3
@@ -48,14 +54,18 @@ invariant_of-self g c =
     let I = g.I.IpcLayer in
     let m = c.self.inside.machine in
     let items = c.self.inside.cpus.items in
-    let shown = λ (x : Cpu g.row.I.Denot g.row.I-Machine.Denot). cpu_shown (I.threads x.part) x.guests.items x.trace.items x.limit (I.is_inside x.part) (I.own x.part) in
+    let shown = λ (x : Cpu g.row.I.Denot g.row.I-Machine.Denot).
+    cpu_shown (I.threads x.part) x.guests.items x.trace.items x.limit (I.is_inside x.part) (I.own x.part) in
     let at = read_at shown items c.args.self.now.cpus c.from.result c.args.cpu.0 c.index_mut-at.result.now (ap (λ (s : Shown). s.cpus) c.self.view_is)
     c.from.ensures c.requires c.index_mut-at.ensures.value in
     let still = c.look.ensures.still c.if-not-look.true in
     again (λ x n. I.Fits x.part n) (λ x. x.number) (λ x. I.cpu_of x.part) (λ x. I.threads x.part) (λ x. I.talks x.part) (λ x. I.doing x.part)
     (λ x. x.guests.items) (λ x. x.trace.items) (λ x. x.limit) (λ x. vec_capacity x.trace) (λ n d. I.ActsFor n d) I.IsStepwise
     (λ n. I.acts n) (λ n. I.homes_of n) (λ n. I.caps n) (λ n. I.seen n) (λ n. I.room n)
-    (λ n x. I.IsStepwise → IsTabled (I.homes_of n) (I.caps n) x.number (I.own x.part) (I.doing x.part) x.guests.items (I.opening n)) m c.look.new.m items c.self.inside.room c.self.inside.taken
+    (λ n x. I.IsStepwise → IsTabled (I.homes_of n) (I.caps n) x.number (I.own x.part) (I.doing x.part) x.guests.items (I.opening n))
+    (λ n l space done. (c.self.inside.threads ≡ length (I.homes_of n)) × (I.IsStepwise → IsReachedByTable (shown_of (I.caps n) (I.homes_of n) (I.seen n)
+    (I.lines n) (g.I.Owned.owner n) (I.moves n) (I.acts n) (map shown l) space done)))
+    m c.look.new.m items c.self.inside.room c.self.inside.taken
     c.from.result c.index_mut-at.result.now c.look.new.self c.self.invariant at still.1 still.0
 
 pub invariant_of-self-2 : goal.invariant_of-self-2
@@ -64,17 +74,50 @@ invariant_of-self-2 g c =
     let m = c.self.inside.machine in
     let is = c.self.invariant in
     let items = c.self.inside.cpus.items in
-    let shown = λ (x : Cpu g.row.I.Denot g.row.I-Machine.Denot). cpu_shown (I.threads x.part) x.guests.items x.trace.items x.limit (I.is_inside x.part) (I.own x.part) in
+    let shown = λ (x : Cpu g.row.I.Denot g.row.I-Machine.Denot).
+    cpu_shown (I.threads x.part) x.guests.items x.trace.items x.limit (I.is_inside x.part) (I.own x.part) in
     let at = read_at shown items c.args.self.now.cpus c.from.result c.args.cpu.0 c.index_mut-at.result.now (ap (λ (s : Shown). s.cpus) c.self.view_is)
     c.from.ensures c.requires c.index_mut-at.ensures.value in
     let e = c.look.ensures in
     let known = g.met.I.Owned.known c.look.new.m (I.cpu_of c.look.new.self.part) (g.met.I.IpcLayer.own_cpu c.look.new.self.part c.look.new.m e.fits) in
     let live : c.self.inside.taken < c.self.inside.room = let used = is.used in let other = c.if-self.false in grind (arith, used, other) in
+    let k = c.from.result in
+    let x = c.index_mut-at.result.now in
+    let y = c.look.new.self in
+    let number : x.number ≡ c.args.cpu = (is.each k x at).number_is ∙ ap (λ (j : ℕ). cpu_at j) c.from.ensures in
+    let there : slice_get (map shown items) c.args.cpu.0 ≡ Some (shown x) =
+    subst (λ (j : ℕ). slice_get (map shown items) j ≡ Some (shown x)) c.from.ensures (shows_at shown items k x at) in
+    let within : c.args.cpu.0 < length (map shown items) = slice_get_within (map shown items) c.args.cpu.0 (shown x) there in
+    let told : g.row.I-Machine.Denot → Told = λ n. record {
+      caps = I.caps n;
+      homes = I.homes_of n;
+      seen = I.seen n;
+      lines = I.lines n;
+      owner = g.I.Owned.owner n;
+      moves = I.moves n;
+      acts = I.acts n;
+    } in
+    let reached : I.IsStepwise → IsReachedByTable (shown_in (told c.look.new.m) (map shown (slice_set items k y)) c.self.inside.room
+    (c.self.inside.taken + 1)) = λ step.
+    let legal = g.met.I.IpcLayer.legal c.look.new.m (I.cpu_of y.part) (g.met.I.IpcLayer.own_cpu y.part c.look.new.m e.fits) in
+    reached_on c.args.cpu (shown_in (told m) (map shown items) c.self.inside.room c.self.inside.taken)
+    (shown_in (told c.look.new.m) (map shown (slice_set items k y)) c.self.inside.room (c.self.inside.taken + 1)) Stepped within
+    (same_plan shown (told m) (told c.look.new.m) c.args.cpu items k x y c.self.inside.room c.self.inside.taken at c.from.ensures e.caps e.homes
+    e.programs e.limit)
+    (went_so shown (told m) (told c.look.new.m) c.args.cpu items k x y c.self.inside.room c.self.inside.taken at c.from.ensures (λ d. I.ActsFor m d)
+    (λ setup of.
+    subst (λ (d : CpuId). IsStep (λ a. I.ActsFor m a) (cpu_step setup d) (shown x).private (shown y).private (named (I.acts m)) (named (I.acts
+    c.look.new.m)) Stepped) number
+    (e.steps step (search rules) setup of)) is.acts_for legal c.if-self.false) (is.sound.1 step) in
+    let count = is.sound.0 ∙ ap (λ (l : List CpuId). length l) (sym e.homes) in
     stepped (λ x n. I.Fits x.part n) (λ x. x.number) (λ x. I.cpu_of x.part) (λ x. I.threads x.part) (λ x. I.talks x.part) (λ x. I.doing x.part)
     (λ x. x.guests.items) (λ x. x.trace.items) (λ x. x.limit) (λ x. vec_capacity x.trace) (λ n d. I.ActsFor n d) I.IsStepwise
     (λ n. I.acts n) (λ n. I.homes_of n) (λ n. I.caps n) (λ n. I.seen n) (λ n. I.room n)
-    (λ n x. I.IsStepwise → IsTabled (I.homes_of n) (I.caps n) x.number (I.own x.part) (I.doing x.part) x.guests.items (I.opening n)) m c.look.new.m items c.self.inside.room c.self.inside.taken
-    c.from.result c.index_mut-at.result.now c.look.new.self is at e.number e.cpu e.fits e.is e.table
+    (λ n x. I.IsStepwise → IsTabled (I.homes_of n) (I.caps n) x.number (I.own x.part) (I.doing x.part) x.guests.items (I.opening n))
+    (λ n l space done. (c.self.inside.threads ≡ length (I.homes_of n)) × (I.IsStepwise → IsReachedByTable (shown_of (I.caps n) (I.homes_of n) (I.seen n)
+    (I.lines n) (g.I.Owned.owner n) (I.moves n) (I.acts n) (map shown l) space done)))
+    m c.look.new.m items c.self.inside.room c.self.inside.taken
+    c.from.result c.index_mut-at.result.now c.look.new.self is (count, reached) at e.number e.cpu e.fits e.is e.table
     (λ z before step. rw (e.homes, e.caps, e.opening) (before step)) (λ z other fits. e.others z.part other fits) e.acts e.seen e.grows
     known e.homes e.caps e.room live
 
@@ -82,7 +125,8 @@ pub returns-clause-live : goal.returns-clause-live
 returns-clause-live g c = λ looked.
     let I = g.I.IpcLayer in
     let items = c.self.inside.cpus.items in
-    let shown = λ (x : Cpu g.row.I.Denot g.row.I-Machine.Denot). cpu_shown (I.threads x.part) x.guests.items x.trace.items x.limit (I.is_inside x.part) (I.own x.part) in
+    let shown = λ (x : Cpu g.row.I.Denot g.row.I-Machine.Denot).
+    cpu_shown (I.threads x.part) x.guests.items x.trace.items x.limit (I.is_inside x.part) (I.own x.part) in
     let at = read_at shown items c.args.self.now.cpus c.from.result c.args.cpu.0 c.index_mut-at.result.now (ap (λ (s : Shown). s.cpus) c.self.view_is)
     c.from.ensures c.requires c.index_mut-at.ensures.value in
     let there = subst (λ (k : ℕ). slice_get (map shown items) k ≡ Some (shown c.index_mut-at.result.now)) c.from.ensures
@@ -94,7 +138,8 @@ pub returns-clause-plan : goal.returns-clause-plan
 returns-clause-plan g c =
     let I = g.I.IpcLayer in
     let items = c.self.inside.cpus.items in
-    let shown = λ (x : Cpu g.row.I.Denot g.row.I-Machine.Denot). cpu_shown (I.threads x.part) x.guests.items x.trace.items x.limit (I.is_inside x.part) (I.own x.part) in
+    let shown = λ (x : Cpu g.row.I.Denot g.row.I-Machine.Denot).
+    cpu_shown (I.threads x.part) x.guests.items x.trace.items x.limit (I.is_inside x.part) (I.own x.part) in
     let at = read_at shown items c.args.self.now.cpus c.from.result c.args.cpu.0 c.index_mut-at.result.now (ap (λ (s : Shown). s.cpus) c.self.view_is)
     c.from.ensures c.requires c.index_mut-at.ensures.value in
     let k = c.from.result in
@@ -118,14 +163,19 @@ returns-clause-steps g c = λ step looked setup goes.
     let k = c.from.result in
     let x = c.index_mut-at.result.now in
     let y = c.look.new.self in
-    let shown = λ (z : Cpu g.row.I.Denot g.row.I-Machine.Denot). cpu_shown (I.threads z.part) z.guests.items z.trace.items z.limit (I.is_inside z.part) (I.own z.part) in
-    let at = read_at shown items c.args.self.now.cpus k c.args.cpu.0 x (ap (λ (s : Shown). s.cpus) c.self.view_is) c.from.ensures c.requires c.index_mut-at.ensures.value in
+    let shown = λ (z : Cpu g.row.I.Denot g.row.I-Machine.Denot).
+    cpu_shown (I.threads z.part) z.guests.items z.trace.items z.limit (I.is_inside z.part) (I.own z.part) in
+    let at = read_at shown items c.args.self.now.cpus k c.args.cpu.0 x
+    (ap (λ (s : Shown). s.cpus) c.self.view_is) c.from.ensures c.requires c.index_mut-at.ensures.value in
     let e = c.look.ensures in
     let legal = g.met.I.IpcLayer.legal c.look.new.m (I.cpu_of y.part) (g.met.I.IpcLayer.own_cpu y.part c.look.new.m e.fits) in
     let number : x.number ≡ c.args.cpu = (is.each k x at).number_is ∙ ap (λ (j : ℕ). cpu_at j) c.from.ensures in
     let of = (rw (← c.self.view_is) at goes).each k (shown x) (shows_at shown items k x at) in
-    let went : IsStep (λ d. I.ActsFor m d) (cpu_step setup c.args.cpu) (shown x).private (shown y).private (named (I.acts m)) (named (I.acts c.look.new.m)) Stepped =
-    subst (λ (d : CpuId). IsStep (λ a. I.ActsFor m a) (cpu_step setup d) (shown x).private (shown y).private (named (I.acts m)) (named (I.acts c.look.new.m)) Stepped) number
+    let went : IsStep (λ d. I.ActsFor m d) (cpu_step setup c.args.cpu) (shown x).private (shown y).private
+    (named (I.acts m)) (named (I.acts c.look.new.m)) Stepped =
+    subst (λ (d : CpuId). IsStep (λ a. I.ActsFor m a) (cpu_step setup d) (shown x).private (shown y).private
+    (named (I.acts m)) (named (I.acts c.look.new.m)) Stepped) number
     (e.steps step (search rules) setup of) in
-    rw (← c.self.view_is) (shown_step shown (λ d. I.ActsFor m d) setup c.args.cpu items k x y (I.acts m) (I.acts c.look.new.m) c.self.inside.room c.self.inside.taken at
+    rw (← c.self.view_is) (shown_step shown (λ d. I.ActsFor m d) setup c.args.cpu items k x y (I.acts m)
+    (I.acts c.look.new.m) c.self.inside.room c.self.inside.taken at
     c.from.ensures went is.acts_for legal c.if-self.false)

@@ -7,6 +7,7 @@ use Rattle.cpu.specs.declared.guests.Guest.{Guest}
 use Rattle.cpu.specs.Boots.{AreTables, guests_for, homes_for}
 use Rattle.cpu.proofs.ListReads.{listed_length}
 use Rattle.cpu.proofs.PlanGuests.{are_openable, are_tables, one_each}
+use Rattle.cpu.proofs.Started.{planned_if}
 use Rattle.cpu.proofs.systems.System.open.Goals as goal
 
 pub with_tables-requires-clause-openable : goal.with_tables-requires-clause-openable
@@ -14,7 +15,8 @@ with_tables-requires-clause-openable g c =
     let plan = c.args.boot.now in
     let tables = c.in_ok-tables.tables.items in
     let so_many : length tables ≡ plan.cpus =
-    sym (length-map tables (λ t. t.items)) ∙ ap (λ (l : List (List (Option Guest))). length l) c.in_ok-tables.ensures ∙ listed_length (guests_for plan) plan.cpus 0 in
+    sym (length-map tables (λ t. t.items)) ∙ ap (λ (l : List (List (Option Guest))). length l) c.in_ok-tables.ensures
+    ∙ listed_length (guests_for plan) plan.cpus 0 in
     let caps = c.as_slice.ensures.value ∙ c.caps-caps.ensures.caps in
     let homes = c.as_slice-2.ensures.value ∙ c.homes_of-homes.ensures in
     subst (λ (n : ℕ). AreOpenable n c.as_slice.result.now c.as_slice-2.result.now) (sym so_many)
@@ -36,7 +38,21 @@ returns-clause-limits g c =
     let plan = c.args.boot.now in
     let tables = c.in_ok-tables.tables.items in
     let so_many : length tables ≡ plan.cpus =
-    sym (length-map tables (λ t. t.items)) ∙ ap (λ (l : List (List (Option Guest))). length l) c.in_ok-tables.ensures ∙ listed_length (guests_for plan) plan.cpus 0 in
+    sym (length-map tables (λ t. t.items)) ∙ ap (λ (l : List (List (Option Guest))). length l) c.in_ok-tables.ensures
+    ∙ listed_length (guests_for plan) plan.cpus 0 in
     let limits : map (λ t. c.trace.result) tables ≡ replicate plan.cpus plan.trace =
     one_each c.trace.result tables plan.cpus so_many ∙ ap (λ (n : ℕ). replicate plan.cpus n) c.trace.ensures.trace in
     subst (λ (l : List ℕ). IfOk c.with_tables.result (λ s. map (λ p. p.limit) s.cpus ≡ l)) limits c.with_tables.ensures.limits
+
+pub returns-clause-planned : goal.returns-clause-planned
+returns-clause-planned g c =
+    let plan = c.args.boot.now in
+    let tables = c.in_ok-tables.tables.items in
+    let so_many : length tables ≡ plan.cpus =
+    sym (length-map tables (λ t. t.items)) ∙ ap (λ (l : List (List (Option Guest))). length l) c.in_ok-tables.ensures
+    ∙ listed_length (guests_for plan) plan.cpus 0 in
+    let limits : map (λ t. c.trace.result) tables ≡ replicate plan.cpus plan.trace =
+    one_each c.trace.result tables plan.cpus so_many ∙ ap (λ (n : ℕ). replicate plan.cpus n) c.trace.ensures.trace in
+    let e = c.with_tables.ensures in
+    planned_if plan c.with_tables.result _ _ _ _ c.caps-caps.ensures.within (c.as_slice.ensures.value ∙ c.caps-caps.ensures.caps)
+    (c.as_slice-2.ensures.value ∙ c.homes_of-homes.ensures) c.in_ok-tables.ensures limits e.caps e.homes e.guests e.limits

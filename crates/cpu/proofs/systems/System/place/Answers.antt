@@ -10,7 +10,8 @@ pub returns-in-Some : goal.returns-in-Some
 returns-in-Some g c =
     let I = g.I.IpcLayer in
     let items = c.self.inside.cpus.items in
-    let shown = λ (x : Cpu g.row.I.Denot g.row.I-Machine.Denot). cpu_shown (I.threads x.part) x.guests.items x.trace.items x.limit (I.is_inside x.part) (I.own x.part) in
+    let shown = λ (x : Cpu g.row.I.Denot g.row.I-Machine.Denot).
+    cpu_shown (I.threads x.part) x.guests.items x.trace.items x.limit (I.is_inside x.part) (I.own x.part) in
     let x = c.at-item.result in
     let at = item_at items c.deref-at-items.result.now c.loop-at.at-index x c.deref-at-items.ensures.value c.loop-at-test.true c.at-item.is in
     let is = c.self.invariant.each c.loop-at.at-index x at in
@@ -19,7 +20,8 @@ returns-in-Some g c =
 
 pub loop-at-preserved : goal.loop-at-preserved
 loop-at-preserved g c =
-    up_to (λ x. g.I.Owned.IsSilent x.part c.self.inside.machine c.args.thread) c.deref-at-items.result.now c.loop-at.at-index c.at-item.result c.loop-at-test.true
+    up_to (λ x. g.I.Owned.IsSilent x.part c.self.inside.machine c.args.thread)
+    c.deref-at-items.result.now c.loop-at.at-index c.at-item.result c.loop-at-test.true
     c.at-item.is (c.place_at.ensures.silent c.in_default.is) c.loop-at.invariant
 
 pub returns : goal.returns

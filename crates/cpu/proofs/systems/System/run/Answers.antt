@@ -1,5 +1,6 @@
 use Rattle.std.proofs.Common.{refl}
 use Rattle.cpu.specs.Systems.{starts}
+use Rattle.cpu.proofs.Sounding.{ran_on, went_by}
 use Rattle.cpu.proofs.TableSystems.{ran_more, same_plans, went_on}
 use Rattle.cpu.proofs.systems.System.run.Goals as goal
 
@@ -7,6 +8,7 @@ pub loop-cpu-init : goal.loop-cpu-init
 loop-cpu-init g c = record {
   plan = record { caps = refl; homes = refl; programs = refl; count = refl; limits = refl; room = refl };
   ran = starts;
+  table = λ step setup goes. refl;
 }
 
 pub loop-cpu-preserved : goal.loop-cpu-preserved
@@ -18,4 +20,8 @@ loop-cpu-preserved g c =
       ran = ran_more g.I.IpcLayer.IsStepwise c.args.self.now c.loop-cpu.self c.step.new.self c.args.steps.now c.loop-cpu.cpu-index _ c.loop-cpu-test.true
           c.loop-cpu.invariant.ran
           (went_on g.I.IpcLayer.IsStepwise _ c.loop-cpu.self c.step.new.self c.step.result c.step.ensures.answer c.step.ensures.still c.step.ensures.steps);
+      table = λ step.
+          ran_on c.args.self.now c.loop-cpu.self c.step.new.self c.args.steps.now c.loop-cpu.cpu-index _ c.step.result c.loop-cpu-test.true before
+          (c.loop-cpu.invariant.table step)
+          (went_by g.I.IpcLayer.IsStepwise _ c.loop-cpu.self c.step.new.self c.step.result step c.step.ensures.steps c.step.ensures.halts);
     }

@@ -1,4 +1,5 @@
 use Rattle.std.proofs.Common.{take}
+use Rattle.cpu.specs.Sound.{RanByTable}
 use Rattle.cpu.specs.Systems.{Ran, SamePlan}
 use Rattle.cpu.proofs.systems.System.run.Given as goal
 
@@ -6,4 +7,5 @@ abbrev pub invariant-loop-cpu : goal.invariant-loop-cpu
 invariant-loop-cpu g l = record {
   plan : SamePlan l.fn.self l.self;
   ran : Ran g.I.IpcLayer.IsStepwise l.fn.self (take l.cpu-index l.steps) l.self;
+  table : g.I.IpcLayer.IsStepwise → RanByTable l.fn.self (take l.cpu-index l.steps) l.self;
 }

@@ -12,4 +12,5 @@ returns-in-Some-clause-halts g c = λ step r is_r.
     let still : s ≡ c.args.self.now = c.looks.ensures.still looked in
     let within : c.args.cpu.0 < length s.cpus = subst (λ (x : Shown). c.args.cpu.0 < length x.cpus) (sym still) c.requires in
     subst (λ (x : Shown). SteppedByTable c.args.cpu x s (Halted r)) still
-    (reasons_step c.args.cpu s within (c.reason.ensures.table step) r (sym c.reason.ensures.is ∙ (c.in-Some.is ∙ ap Some (halted_same (c.in-Some.reason) r is_r))))
+    (reasons_step c.args.cpu s within (c.reason.ensures.table step) r
+    (sym c.reason.ensures.is ∙ (c.in-Some.is ∙ ap Some (halted_same (c.in-Some.reason) r is_r))))

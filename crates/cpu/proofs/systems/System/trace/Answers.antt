@@ -10,7 +10,8 @@ returns g c =
     let I = g.I.IpcLayer in
     let items = c.self.inside.cpus.items in
     let p = c.index-at.result.now in
-    let shown = λ (x : Cpu g.row.I.Denot g.row.I-Machine.Denot). cpu_shown (I.threads x.part) x.guests.items x.trace.items x.limit (I.is_inside x.part) (I.own x.part) in
+    let shown = λ (x : Cpu g.row.I.Denot g.row.I-Machine.Denot).
+    cpu_shown (I.threads x.part) x.guests.items x.trace.items x.limit (I.is_inside x.part) (I.own x.part) in
     let at = read_at shown items c.args.self.now.cpus c.from.result c.args.cpu.0 p (ap (λ (s : Shown). s.cpus) c.self.view_is) c.from.ensures c.requires
     c.index-at.ensures in
     subst (λ (s : Shown). c.trace.result.now ≡ slice_index_or (traces_of s) c.args.cpu.0 []) c.self.view_is

@@ -1,4 +1,4 @@
-use Rattle.std.proofs.Common.{◌≡◌, ◌<◌, ◌^◌, ℕ, [], List, Option, length, map, ap, sym, ◌∙◌, subst, arith}
+use Rattle.std.proofs.Common.{◌≡◌, ◌<◌, ◌^◌, ℕ, [], List, Option, length, map, refl, ap, sym, ◌∙◌, subst, arith}
 use Rattle.std.specs.Prelude.{slice_index_or}
 use Rattle.std.proofs.lemmas.List.{length-map}
 use Rattle.std.proofs.lemmas.Option.{slice_get-get_or, slice_get_within}
@@ -6,7 +6,14 @@ use Rattle.layer_traits.specs.OnePlace.{cpu_at}
 use Rattle.cpu.specs.declared.cpus.Cpu.{Cpu}
 use Rattle.cpu.specs.declared.guests.Guest.{Guest}
 use Rattle.event_log.specs.declared.ids.CpuId.{CpuId}
-use Rattle.cpu.specs.Tables.{IsTabled}
+use Rattle.event_log.specs.Actions.{Action}
+use Rattle.cpu.specs.Boots.{AreGuests}
+use Rattle.cpu.specs.Claims.{cpu_shown, shown_of}
+use Rattle.cpu.specs.Sound.{BootsByTable}
+use Rattle.cpu.specs.Tables.{IsTabled, private}
+use Rattle.cpu.specs.Tower.Composed.{named}
+use Rattle.cpu.proofs.ListReads.{shown_at}
+use Rattle.cpu.proofs.Started.{IsNew, starts_by_table}
 use Rattle.cpu.proofs.TableCalls.{boots_tabled}
 use Rattle.cpu.proofs.Booting.{all_one, boots_as, opens, shows_all}
 use Rattle.cpu.proofs.systems.System.with_tables.Goals as goal
@@ -22,8 +29,23 @@ assembled-requires g c =
     let tables : List (List (Option Guest)) = map (λ t. t.items) c.args.tables.items in
     let so_many : length tables ≡ length c.args.tables.items = length-map c.args.tables.items (λ t. t.items) in
     let small : c.args.room < 2 ^ 64 = c.ranges.room.fits in
+    let shown = λ (x : Cpu g.row.I.Denot g.row.I-Machine.Denot). cpu_shown (I.threads x.part) x.guests.items x.trace.items x.limit (I.is_inside x.part)
+    (I.own x.part) in
+    let threads = ap (λ (l : List CpuId). length l) (sym c.in_ok-machine.ensures.opened.homes_are) in
+    let below : (k : ℕ) → k < length cpus → k < length tables =
+    λ k within. let count = c.in_ok-cpus.ensures.count in omega (arith, so_many, within, count) in
+    let start = shown_of (I.caps m) (I.homes_of m) (I.seen m) (I.lines m) (g.I.Owned.owner m) (I.moves m) (I.acts m) (map shown cpus) c.args.room 0 in
+    let boots : I.IsStepwise → BootsByTable start = λ step. starts_by_table start (ap (λ (l : List (Action _)). named l) e.none) refl
+    (shown_at shown (λ k p. IsNew (I.homes_of m) k p) cpus (λ k x at.
+    let b = c.in_ok-cpus.ensures.booted k x at in
+    let are = c.requires.tables k (slice_index_or tables k []) (slice_get-get_or tables k [] (below k (slice_get_within cpus k x at))) in
+    subst (λ (h : List CpuId). IsNew h k (shown x)) (sym e.opened.homes_are) (record {
+      buffers = length c.args.caps.now;
+      guests = subst (λ (l : List (Option Guest)). AreGuests homes (length c.args.caps.now) (cpu_at k) l) (sym b.booted.guests_are) are;
+      private_is = (λ i. private (b.own_is step i) x.guests.items (b.booted.nothing i));
+    }))) in
     opens _ (λ x. x.number) (λ d. I.ActsFor m d) I.IsStepwise (I.acts m) cpus homes (I.homes_of m) (I.seen m) c.args.caps.now c.args.room (I.room m)
-    (length c.args.tables.items)
+    (length c.args.tables.items) _ (threads, boots)
     openable c.in_ok-cpus.ensures.count (λ k x at.
     let b = c.in_ok-cpus.ensures.booted k x at in
     let within : k < length c.args.tables.items =
@@ -34,7 +56,8 @@ assembled-requires g c =
       holds =
           let one = boots_as _ _ _ _ _ _ _ _ _ _ _ _ _ _ _ _ _ _ _ _ b m (I.homes_of m) (I.seen m) (e.fresh (cpu_at k) below)
           (ap (λ (l : List ℕ). length l) e.opened.caps_are)
-          e.opened.homes_are e.opened.none_seen (c.requires.tables k (slice_index_or tables k []) (slice_get-get_or tables k [] (omega (arith, so_many, within))))
+          e.opened.homes_are e.opened.none_seen (c.requires.tables k (slice_index_or tables k [])
+          (slice_get-get_or tables k [] (omega (arith, so_many, within))))
           openable.threads in
           let are = c.requires.tables k (slice_index_or tables k []) (slice_get-get_or tables k [] (omega (arith, so_many, within))) in
           let number : CpuId = cpu_at k in (
@@ -44,7 +67,8 @@ assembled-requires g c =
             λ step.
                 let opened = g.met.I.IpcLayer.opens step m homes number (e.fresh number below) in
                 subst (λ z. z) (λ i. IsTabled (sym e.opened.homes_are i) (I.caps m) (sym b.booted.number_is i) (sym (b.own_is step) i) (sym b.nothing_done i)
-                (sym b.booted.guests_are i) (I.opening m)) (boots_tabled homes (I.caps m) number (slice_index_or tables k []) (length c.args.caps.now) (I.opening m) are opened),
+                (sym b.booted.guests_are i) (I.opening m)) (boots_tabled homes (I.caps m) number
+                (slice_index_or tables k []) (length c.args.caps.now) (I.opening m) are opened),
           );
     })
     e.acts e.none e.opened.homes_are e.opened.none_seen small e.opened.room_is

@@ -15,7 +15,8 @@ loop-number-preserved g c =
     let n = c.loop-number.number in
     let x = c.in_ok-cpu.cpu in
     let e = c.in_ok-cpu.ensures in
-    let within : n < length tables = let test = c.loop-number-test.true in let count = c.len-count.ensures in let ok = c.args.tables.ok.0 in omega (arith, test, count, ok) in
+    let within : n < length tables =
+    let test = c.loop-number-test.true in let count = c.len-count.ensures in let ok = c.args.tables.ok.0 in omega (arith, test, count, ok) in
     let grown = c.put_cpu.ensures.items in
     let guests = first_left (λ t. t.items) c.loop-number.tables.items tables n c.remove-guests.result [] inv.tables_left within c.remove-guests.ensures.value in
     record {
@@ -26,11 +27,13 @@ loop-number-preserved g c =
           omega (arith, long, before);
       has_room = let room = inv.has_room in let more = c.put_cpu.ensures.capacity in omega (arith, room, more);
       booted = λ k z at. at_end (λ j (y : Cpu g.row.I.Denot g.row.I-Machine.Denot). IsBootedAs (λ p m. I.Fits p m) (λ m d. I.IsFresh m c.args.homes.now d)
-          (λ m. length (I.caps m)) I.IsStepwise c.args.buffers c.args.homes.now j (slice_index_or (map (λ t. t.items) tables) j []) c.args.limit y.part (I.cpu_of y.part)
+          (λ m. length (I.caps m)) I.IsStepwise c.args.buffers c.args.homes.now j
+          (slice_index_or (map (λ t. t.items) tables) j []) c.args.limit y.part (I.cpu_of y.part)
           (I.own y.part) (I.threads y.part) (I.talks y.part) (I.doing y.part) y.number y.guests.items y.trace.items y.limit (vec_capacity y.trace))
           c.loop-number.cpus.items x inv.booted
           (rw inv.so_many (record {
-            booted = subst (λ (l : List (Option Guest)). IsBooted (record { 0 = n }) l c.args.limit x.number x.guests.items x.trace.items x.limit (vec_capacity x.trace))
+            booted = subst (λ (l : List (Option Guest)). IsBooted
+                (record { 0 = n }) l c.args.limit x.number x.guests.items x.trace.items x.limit (vec_capacity x.trace))
                 guests e.booted;
             cpu_is = e.cpu;
             threads_are = e.threads;

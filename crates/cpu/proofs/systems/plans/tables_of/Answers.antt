@@ -11,7 +11,8 @@ loop-number-preserved c =
     let long = ap (λ l. length l) grown ∙ length-append c.loop-number.tables.items (c.in_ok-guests.guests ∷ []) in
     record {
       are = ap (λ l. map (λ table. table.items) l) grown
-          ∙ tables_more (guests_for c.args.boot.now) (λ table. table.items) c.loop-number.tables.items c.in_ok-guests.guests c.loop-number.number inv.are c.in_ok-guests.ensures;
+          ∙ tables_more (guests_for c.args.boot.now) (λ table. table.items)
+          c.loop-number.tables.items c.in_ok-guests.guests c.loop-number.number inv.are c.in_ok-guests.ensures;
       so_many = let before = inv.so_many in omega (arith, long, before);
       has_room = let room = inv.has_room in let more = c.push.ensures.capacity in omega (arith, room, more);
     }

@@ -19,5 +19,10 @@ returns-clause-fits g c = λ m acts outside seen still homes pending boots.
           (there_viewed shown (S.opening m) (Pending c.args.cpu) pending) (nobody_waits _ acts.2.fresh),
       acts.1,
       acts.2,
-      record { none = c.part.ensures.call; kept = ap (λ (s : Sleeping Tried). s.kept) c.part.ensures.own; waits = quiet_waits; places = length-replicate THREADS quiet },
+      record {
+        none = c.part.ensures.call;
+        kept = ap (λ (s : Sleeping Tried). s.kept) c.part.ensures.own;
+        waits = quiet_waits;
+        places = length-replicate THREADS quiet;
+      },
     )

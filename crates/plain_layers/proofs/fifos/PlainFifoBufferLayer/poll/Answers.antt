@@ -12,7 +12,8 @@ use Rattle.layer_traits.specs.Queues.{buffer_sections, moves_in}
 use Rattle.layer_traits.specs.SleepLaw.{sleep_kernel}
 use Rattle.plain_layers.specs.Attempts.{attempts}
 use Rattle.plain_layers.specs.Fifos.{IsOwned, caps_in, entries_in, talk_after}
-use Rattle.plain_layers.proofs.FifoLemmas.{buffer_there, done_called, done_kept, done_moves, done_refused, done_sleeps, owned_after, reply_none, runs_small, set_waits}
+use Rattle.plain_layers.proofs.FifoLemmas.{buffer_there, done_called, done_kept, done_moves, done_refused}
+use Rattle.plain_layers.proofs.FifoLemmas.{done_sleeps, owned_after, reply_none, runs_small, set_waits}
 use Rattle.plain_layers.proofs.fifos.PlainFifoBufferLayer.poll.Goals as goal
 
 pub whole-outcome-requires-clause-buffer : goal.whole-outcome-requires-clause-buffer
@@ -20,7 +21,8 @@ whole-outcome-requires-clause-buffer g c =
     let S = g.S.SleepLayer in
     let m = c.args.m.now in
     let fits = c.requires.fits in
-    buffer_there (S.opening m) c.buffer_in.result fits.2.fresh (subst (λ b. b.0 < length (caps_in (inner (S.opening m)))) (sym c.buffer_in.ensures) c.requires.buffer)
+    buffer_there (S.opening m) c.buffer_in.result fits.2.fresh
+    (subst (λ b. b.0 < length (caps_in (inner (S.opening m)))) (sym c.buffer_in.ensures) c.requires.buffer)
 
 pub bounds-self-from : goal.bounds-self-from
 bounds-self-from g c =
@@ -134,7 +136,8 @@ returns-clause-prompt g c = λ whole none.
     let nothing = reply_none c.args.call.now c.whole-outcome.result.out.effect (sym c.reply.ensures ∙ none) in (
       subst (λ o. IsRefused c.args.call.now (caps_in (inner (S.opening m))) (entries_in (inner o) (buffer_sections (S.seen n)))) (sym said.opening)
           (done_refused (S.opening m) (S.cpu_of lower) c.buffer_in.result c.attempt_in.result (S.seen m) (S.seen n) (S.own lower).threads
-          (S.own c.whole-outcome.new.part) c.whole-outcome.result said.done c.args.t c.args.call.now c.attempt_in.ensures c.buffer_in.ensures fits.2.fresh nothing),
+          (S.own c.whole-outcome.new.part) c.whole-outcome.result said.done c.args.t c.args.call.now
+          c.attempt_in.ensures c.buffer_in.ensures fits.2.fresh nothing),
       done_sleeps (S.opening m) (S.cpu_of lower) c.buffer_in.result c.attempt_in.result (S.seen m) (S.seen n) (S.own lower).threads
           (S.own c.whole-outcome.new.part) c.whole-outcome.result said.done nothing,
     )

@@ -13,10 +13,11 @@ returns-clause-opening g c = ap (λ blocks. opened blocks.items) c.of-opening.en
 
 pub returns-clause-acts : goal.returns-clause-acts
 returns-clause-acts g c = λ cpu known.
+    let Fit = g.K.TurnWords.Fit in
     let rules = g.E.Edit.rules in
     let cells = c.fill.new.cells.items in (
       known,
-      subst (λ blocks. IsSound rules (opened blocks.items) (history c.in_ok-log.log) cells) (sym c.of-opening.ensures)
-          (subst (λ log. IsSound rules (opened c.args.blocks.items) log cells) (sym c.in_ok-log.ensures.history)
-          (fresh_sound rules c.args.blocks.items cells c.fill.ensures)),
+      subst (λ blocks. IsSound Fit rules (opened blocks.items) (history c.in_ok-log.log) cells) (sym c.of-opening.ensures)
+          (subst (λ log. IsSound Fit rules (opened c.args.blocks.items) log cells) (sym c.in_ok-log.ensures.history)
+          (fresh_sound Fit rules c.args.blocks.items cells c.fill.ensures)),
     )

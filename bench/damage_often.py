@@ -1,0 +1,409 @@
+#!/usr/bin/env python3
+"""Damaged trace texts, plans and schedules: what the built program answers beside judges of their own, written from the formats alone.
+
+    bench/damage_often.py PROGRAM [HOW_MANY] [SEED]
+
+A text is a run of first-in first-out buffers, near which it is damaged (entries swapped, dropped, turned, counted anew) or near its
+grammar (a byte, a piece, a number, a line); a plan and a schedule near theirs. Prints each case whose answer differs; the last line
+counts them. TOML is read by Python's own tomllib.
+"""
+import random
+import subprocess
+import sys
+import tomllib
+
+CPUS, THREADS, BUFFERS, CAPACITY, TRACE, ENTRIES = 8, 64, 16, 32, 65536, 524288
+LINES, STEPS, WORD = 256, 1048576, 2**64
+ODD_NUMBERS = [b'00', b'01', b'', b'-1', b'+1', b'1.0', b'x', b'8', b'16', b'17', b'33', b'64', b'524287', b'524288',
+               b'18446744073709551615', b'18446744073709551616', b'99999999999999999999999']
+
+
+def is_number(piece):
+    """Whether the text, or the bytes, spell a number."""
+    return piece.isascii() and piece.isdigit() and (len(piece) == 1 or piece[:1] not in ('0', b'0'))
+
+
+# The judge of trace texts.
+
+class No(Exception):
+    pass
+
+
+def numbers(pieces, tops):
+    """The numbers that the pieces spell, each below its top."""
+    if not all(is_number(piece) for piece in pieces):
+        raise No('Spelling(30)')
+    found = [int(piece) for piece in pieces]
+    if any(n >= top for n, top in zip(found, tops)):
+        raise No('Range(31)')
+    return found
+
+
+class Judge:
+    def __init__(self):
+        self.want, self.caps, self.items, self.counts, self.entries, self.buffer = 'head', [], [], {}, 0, 0
+
+    def line(self, line):
+        pieces = line.split(b' ')
+        if self.want == 'head':
+            if line != b'mctower-trace 1':
+                raise No('Spelling(30)')
+            self.want = 'count'
+        elif self.want == 'count':
+            if len(pieces) != 2 or pieces[0] != b'buffers':
+                raise No('Spelling(30)')
+            self.count, = numbers(pieces[1:], [BUFFERS + 1])
+            if self.count == 0:
+                raise No('Range(31)')
+            self.want = 'cap'
+        elif self.want == 'cap':
+            if len(pieces) != 3 or pieces[0] != b'cap' or pieces[1] != str(len(self.caps)).encode():
+                raise No('Spelling(30)')
+            capacity, = numbers(pieces[2:], [CAPACITY + 1])
+            if capacity == 0:
+                raise No('Range(31)')
+            self.caps.append(capacity)
+            self.items.append([])
+            if len(self.caps) == self.count:
+                self.want = 'entry'
+        elif self.want == 'entry' and pieces[0] == b'e':
+            self.entry(pieces)
+        elif self.want in ('entry', 'left'):
+            self.left(pieces)
+        elif self.want == 'end':
+            if line != b'end':
+                raise No('Spelling(30)')
+            self.want = 'nothing'
+        else:
+            raise No('Spelling(30)')
+
+    def entry(self, pieces):
+        if len(pieces) != 8 or pieces[3] not in (b'send', b'recv'):
+            raise No('Spelling(30)')
+        kind = pieces.pop(3)
+        found = numbers(pieces[1:], [CPUS, THREADS, self.count, WORD, ENTRIES, ENTRIES])
+        self.entries += 1
+        if self.entries > ENTRIES:
+            raise No('Range(31)')
+        buffer, value, op, pos = found[2:]
+        if op != self.counts.get(buffer, 0):
+            raise No('Op(32)')
+        if pos != self.counts.get((buffer, kind), 0):
+            raise No('Pos(33)')
+        items = self.items[buffer]
+        if kind == b'send':
+            if len(items) >= self.caps[buffer]:
+                raise No('Full(34)')
+            items.append(value)
+        else:
+            if not items:
+                raise No('EmptyTake(35)')
+            if items[0] != value:
+                raise No('WrongValue(36)')
+            items.pop(0)
+        self.counts[buffer] = op + 1
+        self.counts[buffer, kind] = pos + 1
+
+    def left(self, pieces):
+        self.want = 'left'
+        if len(pieces) < 2 or pieces[0] != b'left' or pieces[1] != str(self.buffer).encode():
+            raise No('Spelling(30)')
+        if numbers(pieces[2:], [WORD] * len(pieces)) != self.items[self.buffer]:
+            raise No('Left(37)')
+        self.buffer += 1
+        if self.buffer == self.count:
+            self.want = 'end'
+
+
+def verdict(text):
+    judge, at, rest = Judge(), 1, text
+    try:
+        while judge.want != 'nothing':
+            line, feed, rest = rest.partition(b'\n')
+            if not feed:
+                raise No('Spelling(30)')
+            judge.line(line)
+            at += 1
+        if rest:
+            raise No('Spelling(30)')
+        return 'yes'
+    except No as no:
+        return f'no {at} {no}'
+
+
+# The judge of plans.
+
+class Bad(Exception):
+    pass
+
+
+SHAPES = {'set': 'rn', 'add': 'rr', 'sub': 'rr', 'jnz': 'rk', 'send': 'br', 'recv': 'br', 'yield': '', 'exit': ''}
+
+
+def guest_fault(line, count):
+    word, *pieces = line.split(' ')
+    if word not in SHAPES or len(pieces) != len(SHAPES[word]):
+        return 'UnknownWord(10)'
+    for piece, kind in zip(pieces, SHAPES[word]):
+        if kind == 'r':
+            if piece not in ('r0', 'r1', 'r2', 'r3'):
+                return 'BadRegister(11)'
+        elif not is_number(piece) or kind == 'n' and int(piece) >= WORD or kind == 'b' and int(piece) >= BUFFERS:
+            return 'BadNumber(12)'
+        elif kind == 'k' and int(piece) >= count:
+            return 'BadTarget(13)'
+    return None
+
+
+def program(lines, thread, buffers):
+    where = f'Guest(23) thread {thread} line'
+    if not lines:
+        raise Bad(f'{where} 0 Empty(15)')
+    if len(lines) > LINES:
+        raise Bad(f'{where} 256 TooLong(14)')
+    for number, line in enumerate(lines):
+        fault = guest_fault(line, len(lines))
+        if fault:
+            raise Bad(f'{where} {number} {fault}')
+    for line in lines:
+        if line[:5] in ('send ', 'recv ') and int(line.split(' ')[1]) >= buffers:
+            raise Bad(f'OutOfRange(22) thread {thread} program')
+
+
+def is_integer(value):
+    return type(value) is int
+
+
+def read(table, key, where, is_kind, in_range):
+    if key not in table or not is_kind(table[key]):
+        raise Bad(f'MissingKey(21) {where}')
+    if not in_range(table[key]):
+        raise Bad(f'OutOfRange(22) {where}')
+    return table[key]
+
+
+def is_list_of(is_item):
+    return lambda value: type(value) is list and all(is_item(item) for item in value)
+
+
+def too_wide(value):
+    if type(value) is list:
+        return any(too_wide(item) for item in value)
+    if type(value) is dict:
+        return any(too_wide(item) for item in value.values())
+    return type(value) is int and not -2**63 <= value < 2**63
+
+
+def plan_fault(text):
+    """The error line of a plan without `error: `, and the number of its CPUs."""
+    try:
+        table = tomllib.loads(text.decode())
+        if too_wide(table):
+            raise ValueError
+    except (ValueError, RecursionError):
+        return 'BadToml(20)', None
+    try:
+        cpus = read(table, 'cpus', 'cpus', is_integer, lambda n: 1 <= n <= CPUS)
+        read(table, 'trace', 'trace', is_integer, lambda n: 1 <= n <= TRACE)
+        buffers = read(table, 'buffers', 'buffers', is_list_of(is_integer),
+                       lambda caps: 1 <= len(caps) <= BUFFERS and all(1 <= n <= CAPACITY for n in caps))
+        threads = read(table, 'thread', 'thread', is_list_of(lambda item: type(item) is dict), lambda all: 1 <= len(all) <= THREADS)
+        for number, thread in enumerate(threads):
+            read(thread, 'cpu', f'thread {number} cpu', is_integer, lambda n: 0 <= n < cpus)
+            program(read(thread, 'program', f'thread {number} program', is_list_of(lambda item: type(item) is str), lambda lines: True),
+                    number, len(buffers))
+        return None, cpus
+    except Bad as bad:
+        return str(bad), None
+
+
+# The judge of schedules.
+
+def steps(text):
+    """The CPUs of a schedule, or None where it is none."""
+    found, total = [], 0
+    for item in text.split(','):
+        pieces = item.split('*')
+        if len(pieces) > 2 or not all(is_number(piece) for piece in pieces):
+            return None
+        many = int(pieces[1]) if len(pieces) == 2 else 1
+        if int(pieces[0]) > 255 or not 1 <= many <= STEPS:
+            return None
+        found.append(int(pieces[0]))
+        total += many
+    return found if total <= STEPS else None
+
+
+# Cases.
+
+def some_text(pick):
+    count = pick.randint(1, 3)
+    caps = [pick.randint(1, 3) for _ in range(count)]
+    items, counts, entries = [[] for _ in caps], {}, []
+    for _ in range(pick.randint(0, 8)):
+        b = pick.randrange(count)
+        kind = pick.choice(['send', 'recv'])
+        if kind == 'send' and len(items[b]) == caps[b] or kind == 'recv' and not items[b]:
+            continue
+        value = pick.choice([0, 7, 7, 8, WORD - 1]) if kind == 'send' else items[b].pop(0)
+        if kind == 'send':
+            items[b].append(value)
+        entries.append([pick.randrange(CPUS), pick.randrange(THREADS), kind, b, value, counts.get(b, 0), counts.get((b, kind), 0)])
+        counts[b] = counts.get(b, 0) + 1
+        counts[b, kind] = counts.get((b, kind), 0) + 1
+    for _ in range(pick.choice([0, 0, 1, 2])):
+        near_a_run(pick, entries)
+    lines = ['mctower-trace 1', f'buffers {count}'] + [f'cap {b} {k}' for b, k in enumerate(caps)]
+    lines += ['e ' + ' '.join(map(str, e)) for e in entries]
+    lines += [' '.join(map(str, ['left', b] + items[b])) for b in range(count)] + ['end']
+    return b''.join(line.encode() + b'\n' for line in lines)
+
+
+def near_a_run(pick, entries):
+    if not entries:
+        return
+    i, j = pick.randrange(len(entries)), pick.randrange(len(entries))
+    how = pick.randrange(5)
+    if how == 0:
+        entries[i], entries[j] = entries[j], entries[i]
+    elif how == 1:
+        del entries[i]
+    elif how == 2:
+        entries[i][2] = 'recv' if entries[i][2] == 'send' else 'send'
+    elif how == 3:
+        entries[i][4] = pick.choice([0, 7, 8])
+    else:
+        counts = {}
+        for e in entries:
+            e[5], e[6] = counts.get(e[3], 0), counts.get((e[3], e[2]), 0)
+            counts[e[3]] = e[5] + 1
+            counts[e[3], e[2]] = e[6] + 1
+
+
+def near_its_grammar(pick, text):
+    lines = text.split(b'\n')
+    i = pick.randrange(len(lines))
+    pieces = lines[i].split(b' ')
+    k = pick.randrange(len(pieces))
+    how = pick.randrange(9)
+    if how == 0:
+        at = pick.randrange(len(text) + 1)
+        return text[:at] + bytes([pick.choice([0, 10, 13, 32, 48, 57, 101, 255, pick.randrange(256)])]) + text[at + pick.randrange(2):]
+    if how == 1:
+        return text[:pick.randrange(len(text) + 1)]
+    if how == 2:
+        return text + pick.choice([b' ', b'\n', b'end\n', b'\0'])
+    if how == 3:
+        del lines[i]
+    elif how == 4:
+        lines.insert(i, pick.choice(lines))
+    elif how == 5:
+        j = pick.randrange(len(lines))
+        lines[i], lines[j] = lines[j], lines[i]
+    elif how == 6:
+        pieces[k] = pick.choice(ODD_NUMBERS)
+    elif how == 7:
+        del pieces[k]
+    else:
+        pieces.insert(k, pick.choice(pieces + [b'', b'0']))
+    if how > 5:
+        lines[i] = b' '.join(pieces)
+    return b'\n'.join(lines)
+
+
+PROGRAM_LINES = ['set r0 7', 'set r3 18446744073709551615', 'add r0 r1', 'sub r1 r0', 'jnz r0 0', 'send 0 r0', 'recv 0 r1', 'send 1 r2', 'yield', 'exit']
+
+
+def some_plan(pick):
+    buffers = [pick.randint(1, CAPACITY) for _ in range(pick.randint(1, 3))]
+    cpus = pick.randint(1, CPUS)
+    lines = [f'cpus = {cpus}', f'trace = {pick.randint(1, TRACE)}', f'buffers = {buffers}']
+    for _ in range(pick.randint(1, 3)):
+        chosen = [pick.choice(PROGRAM_LINES) for _ in range(pick.randint(1, 4))]
+        lines += ['', '[[thread]]', f'cpu = {pick.randrange(cpus)}', 'program = [' + ', '.join(f'"{line}"' for line in chosen) + ']']
+    return '\n'.join(lines).encode() + b'\n'
+
+
+def near_a_plan(pick, text):
+    how = pick.randrange(7)
+    if how == 0:
+        return near_its_grammar(pick, text)
+    if how == 1:
+        old = pick.choice([b'cpus = ', b'trace = ', b'cpu = ', b'buffers = [', b'r0', b'send ', b'recv ', b'jnz r0 ', b'set r0 '])
+        return text.replace(old, old + pick.choice([b'1', b'9', b'0', b'-', b' ', b'99', b'1.', b'0x']), pick.choice([1, 9]))
+    if how == 2:
+        old = pick.choice([b'cpus', b'trace', b'buffers', b'thread', b'cpu ', b'program', b'send', b'yield', b'exit'])
+        return text.replace(old, pick.choice([b'other', old.upper(), old + b'2', b'']), 1)
+    if how == 3:
+        return text.replace(b' = ', b' = ' + pick.choice([b'true #', b'"1" #', b'1.5 #', b'[] #', b'{} #', b'[1, "a"] #', b'99999999999999999999 #', b'-1 #']), 1) \
+            if pick.random() < 0.5 else text.replace(b'program = [', b'program = [' + pick.choice([b'1, ', b'"", ', b'"exit ", ', b'"set r0", ', b'"jnz r0 9", ']), 1)
+    if how == 4:
+        return text.replace(b'"', pick.choice([b"'", b'', b'"""']), pick.choice([1, 2, 99]))
+    if how == 5:
+        return text.replace(b'program = [', b'program = [' + b'"exit", ' * pick.choice([1, 252, 256, 300]), 1)
+    return text.replace(b'[[thread]]', pick.choice([b'[thread]', b'[[threads]]', b'[[thread]]\nname = 1', b'[[thread.x]]']), pick.choice([1, 9]))
+
+
+def some_schedule(pick):
+    items = [f'{pick.randrange(CPUS)}' + pick.choice(['', f'*{pick.randint(1, 40)}']) for _ in range(pick.randint(1, 4))]
+    text = ','.join(items)
+    for _ in range(pick.choice([0, 0, 0, 1])):
+        at = pick.randrange(len(text) + 1)
+        text = text[:at] + pick.choice(['*', ',', '0', '00', '9', ' ', 'x', '255', '256', '*1048576', '*1048577', '*0', '-']) + text[at + pick.randrange(2):]
+    return text
+
+
+def run(program_path, words, given):
+    done = subprocess.run([program_path] + words, input=given, capture_output=True, timeout=60)
+    return done.returncode, done.stdout, done.stderr
+
+
+def text_case(pick, program_path):
+    text = some_text(pick)
+    for _ in range(pick.choice([0, 1, 1, 2])):
+        text = near_its_grammar(pick, text)
+    wanted = verdict(text)
+    got = run(program_path, ['check'], text)
+    return text, wanted, got, got == (0 if wanted == 'yes' else 3, wanted.encode() + b'\n', b'')
+
+
+def plan_case(pick, program_path):
+    plan, schedule = some_plan(pick), some_schedule(pick)
+    for _ in range(pick.choice([0, 1, 1, 2])):
+        plan = near_a_plan(pick, plan)
+    fault, cpus = plan_fault(plan)
+    chosen = steps(schedule)
+    got = run(program_path, ['run', '--schedule=' + schedule], plan)
+    if schedule == '':
+        return (schedule, plan), None, got, got[0] == 2
+    if chosen is None:
+        wanted = 'BadSchedule(9)'
+    elif fault is None and any(c >= cpus for c in chosen):
+        wanted = 'BadCpu(4)'
+    else:
+        wanted = fault
+    if wanted is None:
+        right = got[0] == 0 and verdict(got[1]) == 'yes'
+    else:
+        right = got == (2 if chosen is None else 1, b'', f'error: {wanted}\n'.encode())
+    return (schedule, plan), wanted, got, right
+
+
+def main():
+    program_path = sys.argv[1]
+    many = int(sys.argv[2]) if len(sys.argv) > 2 else 1000
+    pick = random.Random(int(sys.argv[3]) if len(sys.argv) > 3 else 1)
+    answers, wrong = {}, 0
+    for number in range(many):
+        case, wanted, got, right = (text_case if number % 2 == 0 else plan_case)(pick, program_path)
+        name = 'run' if wanted is None else wanted.split()[-1]
+        answers[name] = answers.get(name, 0) + 1
+        if not right:
+            wrong += 1
+            print('damage:', case, '\n  wanted', wanted, '\n  got', got)
+    print('answers:', ', '.join(f'{name} {n}' for name, n in sorted(answers.items())))
+    print(f'damage: {many} cases, {wrong} differ')
+    sys.exit(wrong != 0)
+
+
+main()

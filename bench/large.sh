@@ -1,0 +1,51 @@
+#!/usr/bin/env bash
+# Large inputs: prints for each its size, the answer's first line, seconds, and the peak of memory beside the size. Each stands twice,
+# ten times as large the second time, so that a cost that is not in proportion shows.
+#
+#   bench/large.sh [PROGRAM]
+set -eu
+export LC_ALL=C
+cd "$(dirname "$0")/.."
+program=$(realpath "${1:-crates/mctower/out/mctower}")
+room=$(mktemp -d)
+trap 'rm -rf "$room"' EXIT
+
+# Measures the program on the file `in`: $1 names the input, the rest are the program's words.
+measure() {
+  local name=$1 size seconds kilobytes
+  shift
+  size=$(wc -c < "$room/in")
+  /usr/bin/time -q -f '%e %M' -o "$room/cost" timeout 300 "$program" "$@" < "$room/in" > "$room/out" 2>&1 || true
+  read -r seconds kilobytes < "$room/cost"
+  printf '%-32s %10d bytes  %6s s  memory %5.1f times the size  %s\n' "$name" "$size" "$seconds" \
+    "$(awk -v k="$kilobytes" -v s="$size" 'BEGIN { print k * 1024 / s }')" "$(head -n 1 "$room/out")"
+}
+head_of_plan=$'cpus = 1\ntrace = 4\nbuffers = [1]\n'
+thread=$'[[thread]]\ncpu = 0\nprogram = ["exit"]\n'
+
+for n in 200000 2000000; do
+  awk -v n=$n 'BEGIN { printf "mctower-trace 1\nbuffers 1\ncap 0 1\n"
+    for (i = 0; i < n; i++) printf "e 0 0 send 0 7 %d %d\ne 0 0 recv 0 7 %d %d\n", 2 * i, i, 2 * i + 1, i
+    printf "left 0\nend\n" }' > "$room/in"
+  measure 'a trace text' check
+done
+for n in 10000000 100000000; do
+  head -c $n /dev/zero | tr '\0' e > "$room/in"
+  measure 'one line' check
+done
+for n in 1000000 10000000; do
+  { head -c $n /dev/zero | tr '\0' '#'; echo; printf '%s%s' "$head_of_plan" "$thread"; } > "$room/in"
+  measure 'a plan with a long comment' run
+done
+for n in 60000 600000; do
+  { printf '%s' "$head_of_plan"; awk -v n=$n 'BEGIN { for (i = 0; i < n; i++) printf "key%d = %d\n", i, i }'; printf '%s' "$thread"; } > "$room/in"
+  measure 'a plan with many other keys' run
+done
+for n in 100000 1000000; do
+  { printf 'cpus = 1\ntrace = 4\nbuffers = [1'; awk -v n=$n 'BEGIN { for (i = 0; i < n; i++) printf ",1" }'; echo ']'; } > "$room/in"
+  measure 'a plan with many buffers' run
+done
+for n in 1000 10000; do
+  { printf 'x = '; head -c $n /dev/zero | tr '\0' '['; head -c $n /dev/zero | tr '\0' ']'; echo; } > "$room/in"
+  measure 'brackets within brackets' run
+done

@@ -1,0 +1,191 @@
+-- A system that is reached by the step table: at boot, after a step, and after a schedule.
+use Rattle.std.proofs.Common.{◌≡◌, ◌≢◌, ◌⊎◌, inl, inr, ℕ, zero, suc, ◌+◌, ◌<◌, ◌≤◌, Bool, true, false, List, [], ◌∷◌, ◌++◌, length, map, replicate, take}
+use Rattle.std.proofs.Common.{Option, Some, None, option_map, refl, ap, sym, ◌∙◌, subst, arith, slice_set}
+use Rattle.std.specs.Prelude.{slice_get, slice_index_or, if◌then◌else◌}
+use Rattle.std.proofs.lemmas.List.{length-map, take_more}
+use Rattle.std.proofs.lemmas.Option.{slice_get_within}
+use Rattle.event_log.specs.declared.entries.Entry.{Entry}
+use Rattle.event_log.specs.declared.ids.BufId.{BufId}
+use Rattle.event_log.specs.declared.ids.CpuId.{CpuId}
+use Rattle.event_log.specs.declared.ids.TheConstants.{CPUS, THREADS}
+use Rattle.event_log.specs.declared.ids.Tid.{Tid}
+use Rattle.event_log.specs.Actions.{Action, AreLegal}
+use Rattle.guest.specs.State.{State, at_start}
+use Rattle.layer_traits.specs.declared.moves.Line.{Line}
+use Rattle.layer_traits.specs.declared.steps.Reason.{Reason}
+use Rattle.layer_traits.specs.declared.steps.Step.{Step}
+use Rattle.layer_traits.specs.declared.steps.Step.TheVariants.{Stepped, Halted}
+use Rattle.layer_traits.specs.declared.talks.Talk.{Talk}
+use Rattle.layer_traits.specs.Along.{IsStep}
+use Rattle.layer_traits.specs.BufferLaw.{Buffering, buffering_at_start, quiet, talk_of}
+use Rattle.layer_traits.specs.LockLaw.{slept_for}
+use Rattle.layer_traits.specs.OnePlace.{cpu_at}
+use Rattle.layer_traits.specs.Places.{Step as Moving, home_of, homed}
+use Rattle.cpu.specs.declared.guests.Guest.{Guest}
+use Rattle.cpu.specs.Boots.{AreGuests}
+use Rattle.cpu.specs.Claims.{CpuShown, Shown, programs_in, shown_of}
+use Rattle.cpu.specs.Cpus.{guest_at, programs_of}
+use Rattle.cpu.specs.Sound.{BootsByTable, IsReachedByTable, IsSetupFor, RanByTable, ReturnsAlone, SoundByTable, after_steps}
+use Rattle.cpu.specs.Systems.{GoesBy, SamePlan, SteppedByTable, whole_of}
+use Rattle.cpu.specs.Table.Setups.{Private, Setup, Thread, home_threads_from, new_thread, program_of, at_boot as boots_at}
+use Rattle.cpu.specs.Table.Steps.{IsReached, Whole, boots, boots_from, cpu_numbered, cpu_step, steps, steps_by, system_step, whole_at_boot}
+use Rattle.cpu.specs.Tables.{IsSetupOf, private, state_of, states}
+use Rattle.cpu.specs.Tower.Composed.{named}
+use Rattle.cpu.specs.Tower.Privates.{numbered, thread_of, tid}
+use Rattle.cpu.specs.Tower.Views.{TowerName}
+use Rattle.cpu.specs.Wakeups.Alone.{HasReturned}
+use Rattle.cpu.proofs.GuestLists.{at_programs, guest_within}
+use Rattle.cpu.proofs.ListReads.{shown_length, shown_same, shows_at, there_is}
+use Rattle.cpu.proofs.TableSystems.{shown_step}
+use Rattle.cpu.proofs.Wakeups.Reaching.{systems_lose_no_wake_up}
+use Rattle.cpu.proofs.Wakeups.Ready.{calls_return_alone}
+
+-- One setup for all states of a system.
+
+pub plan_back : {s r : Shown} → SamePlan s r → SamePlan r s
+plan_back same = record {
+  caps = sym same.caps;
+  homes = sym same.homes;
+  programs = sym same.programs;
+  count = sym same.count;
+  limits = sym same.limits;
+  room = sym same.room;
+}
+
+some_is : {X : Type 0} (x y : X) → Some x ≡ Some y → x ≡ y
+some_is x y is = cc is
+
+-- what the elements at one index show, where the lists show the same
+same_shown : {X Y : Type 0} (f : X → Y) (xs ys : List X) (k : ℕ) (x y : X) → map f xs ≡ map f ys → slice_get xs k ≡ Some x → slice_get ys k ≡ Some y → f x ≡ f y
+same_shown f xs ys k x y same at there =
+    some_is (f x) (f y) (sym (shows_at f xs k x at) ∙ ap (λ l. slice_get l k) same ∙ shows_at f ys k y there)
+
+-- a guest of a table that has the programs of another one
+guest_as : (guests others : List (Option Guest)) (t : ℕ) (g : Guest) → programs_of guests ≡ programs_of others → guest_at guests t ≡ Some g
+    → (x : Guest) × (guest_at others t ≡ Some x) × (x.program ≡ g.program)
+guest_as guests others t g same at = go (guest_at others t) refl
+  where
+    shown : option_map (λ x. x.program) (guest_at others t) ≡ Some g.program
+    shown =
+        sym (at_programs others t) ∙ ap (λ (l : List (Option (List _))). slice_index_or l t None) (sym same) ∙ at_programs guests t
+        ∙ ap (λ (o : Option Guest). option_map (λ x. x.program) o) at
+
+    go : (o : Option Guest) → guest_at others t ≡ o → (x : Guest) × (guest_at others t ≡ Some x) × (x.program ≡ g.program)
+    go None is = absurd (cc (shown, is))
+    go (Some x) is = (x, is, some_is x.program g.program (sym (ap (λ (o : Option Guest). option_map (λ y. y.program) o) is) ∙ shown))
+
+-- a setup of a system is that of each other state of it
+pub goes_on : (setup : Setup) {s r : Shown} → SamePlan s r → GoesBy setup s → GoesBy setup r
+goes_on setup {s = s} {r = r} same goes = record {
+  each = λ k q at.
+      let within = slice_get_within r.cpus k q at in
+      let count = same.count in
+      let old = there_is s.cpus k (omega (arith, within, count)) in
+      let of = goes.each k old.0 old.1 in
+      record {
+        homes_are = of.homes_are ∙ sym same.homes;
+        caps_are = of.caps_are ∙ sym same.caps;
+        room_is = of.room_is ∙ same_shown (λ (p : CpuShown). p.limit) s.cpus r.cpus k old.0 q (sym same.limits) old.1 at;
+        programs_are = λ t g there.
+            let before = guest_as q.guests old.0.guests t.0 g (same_shown (λ (p : CpuShown). programs_of p.guests) r.cpus s.cpus k q old.0 same.programs
+            at old.1) there in
+            of.programs_are t before.0 before.1 ∙ before.2;
+      };
+}
+
+pub setup_on : (setup : Setup) {s r : Shown} → SamePlan s r → IsSetupFor setup s → IsSetupFor setup r
+setup_on setup same is = record { goes = goes_on setup same is.goes; count = is.count ∙ sym same.count }
+
+-- A step.
+
+-- after a step of the table a system is reached as before it
+pub reached_on : (c : CpuId) (s r : Shown) (answer : Step) → c.0 < length s.cpus → SamePlan s r → SteppedByTable c s r answer → IsReachedByTable s
+    → IsReachedByTable r
+reached_on c s r answer within same went reached setup is =
+    let before = setup_on setup (plan_back same) is in
+    let count = before.count in
+    let next : (system_step setup c (whole_of s)).next ≡ whole_of r = ap (λ x. x.next) (sym (went setup before.goes)) in
+    subst (λ (n : ℕ). IsReached setup n (whole_of r)) (sym same.room)
+    (subst (λ (w : Whole). IsReached setup s.room w) next (steps c (reached setup before) (omega (arith, count, within))))
+
+-- what a machine tells
+pub record Told : Type 0 where
+  pub caps : List ℕ
+  pub homes : List CpuId
+  pub seen : List Entry
+  pub lines : BufId → Line → List Tid
+  pub owner : BufId → Option Tid
+  pub moves : List Moving
+  pub acts : List (Action TowerName)
+
+abbrev pub shown_in : Told → List CpuShown → ℕ → ℕ → Shown
+shown_in m cpus room taken = shown_of m.caps m.homes m.seen m.lines m.owner m.moves m.acts cpus room taken
+
+-- A step of one CPU among those that are shown, by what it leaves of the machine.
+module _ {X : Type 0} (shown : X → CpuShown) (m m2 : Told) (c : CpuId) (xs : List X) (k : ℕ) (x y : X) (room taken : ℕ) (at : slice_get xs k ≡ Some x)
+    (same : k ≡ c.0) where
+  abbrev old : Shown
+  old = shown_in m (map shown xs) room taken
+
+  abbrev new : Shown
+  new = shown_in m2 (map shown (slice_set xs k y)) room (taken + 1)
+
+  pub same_plan : m2.caps ≡ m.caps → m2.homes ≡ m.homes → programs_of (shown y).guests ≡ programs_of (shown x).guests → (shown y).limit ≡ (shown x).limit
+      → SamePlan old new
+  same_plan caps homes programs limit = record {
+    caps = caps;
+    homes = homes;
+    programs = shown_same shown (λ (p : CpuShown). programs_of p.guests) xs k x y at programs;
+    count = shown_length shown xs k y;
+    limits = shown_same shown (λ (p : CpuShown). p.limit) xs k x y at limit;
+    room = refl;
+  }
+
+  pub went_so : (ActsFor : CpuId → Type 0) → ((setup : Setup) → IsSetupOf setup m.homes m.caps (shown x).guests (shown x).limit
+      → IsStep ActsFor (cpu_step setup c) (shown x).private (shown y).private (named m.acts) (named m2.acts) Stepped)
+      → ((d : CpuId) → d.0 < CPUS → ActsFor d) → AreLegal m2.acts → taken ≢ room → SteppedByTable c old new Stepped
+  went_so ActsFor went all legal live setup goes =
+      shown_step shown ActsFor setup c xs k x y m.acts m2.acts room taken at same (went setup (goes.each k (shown x) (shows_at shown xs k x at))) all legal live
+
+-- A schedule.
+
+pub after_more : (setup : Setup) (cs : List CpuId) (c : CpuId) (s : Whole)
+    → after_steps setup (cs ++ c ∷ []) s ≡ (system_step setup c (after_steps setup cs s)).next
+after_more setup [] c s = refl
+after_more setup (d ∷ cs) c s = after_more setup cs c (system_step setup d s).next
+
+-- a step more of a schedule, taken or not
+pub ran_on : (start s r : Shown) (all : List CpuId) (i : ℕ) (d : CpuId) (answer : Step) → i < length all → SamePlan start s → RanByTable start (take i all) s
+    → SteppedByTable (slice_index_or all i d) s r answer → RanByTable start (take (i + 1) all) r
+ran_on start s r all i d answer within same ran went setup goes =
+    sym (ap (λ x. x.next) (sym (went setup (goes_on setup same goes))))
+    ∙ ap (λ (w : Whole). (system_step setup (slice_index_or all i d) w).next) (ran setup goes)
+    ∙ sym (after_more setup (take i all) (slice_index_or all i d) (whole_of start))
+    ∙ ap (λ (l : List CpuId). after_steps setup l (whole_of start)) (sym (take_more all i d within))
+
+-- what a step went by, whatever it answered
+pub went_by : (IsStepwise : Type 0) (c : CpuId) (s r : Shown) (answer : Step) → IsStepwise → (IsStepwise → answer ≡ Stepped → SteppedByTable c s r Stepped)
+    → (IsStepwise → (reason : Reason) → answer ≡ Halted reason → SteppedByTable c s r (Halted reason)) → SteppedByTable c s r answer
+went_by IsStepwise c s r Stepped step goes halts = goes step refl
+went_by IsStepwise c s r (Halted reason) step goes halts = halts step reason refl
+
+-- so many steps of one CPU
+pub steps_alone : (setup : Setup) (c : CpuId) (n : ℕ) (s : Whole) → after_steps setup (replicate n c) s ≡ steps_by setup c n s
+steps_alone setup c zero s = refl
+steps_alone setup c (suc n) s = steps_alone setup c n (system_step setup c s).next
+
+-- What follows.
+
+pub sound_of : (s : Shown) → IsReachedByTable s → SoundByTable s
+sound_of s reached = record { reached = reached; awake = λ setup is b k at. systems_lose_no_wake_up setup s.room (whole_of s) (reached setup is) b k at }
+
+pub alone_of : (s : Shown) → length s.homes ≤ THREADS → 0 < length s.cpus → IsReachedByTable s → ReturnsAlone s
+alone_of s few some reached setup is c p t ready room =
+    let first = there_is s.cpus 0 some in
+    let homes = ap (λ (l : List CpuId). length l) (is.goes.each 0 first.0 first.1).homes_are in
+    let alone = calls_return_alone setup s.room (whole_of s) c p t (omega (arith, homes, few)) (reached setup is) ready (omega (arith, room)) in (
+      alone.0,
+      alone.1,
+      λ new ran. subst (λ (w : Whole). HasReturned w c p t ready.effect ready.buffer)
+          (sym (ran setup is.goes ∙ steps_alone setup c alone.0 (whole_of s))) alone.2,
+    )

@@ -1,0 +1,22 @@
+use Rattle.std.proofs.Common.{length, subst, arith}
+use Rattle.std.proofs.lemmas.List.{length-map}
+use Rattle.cpu.specs.declared.cpus.Cpu.{Cpu}
+use Rattle.cpu.specs.Claims.{Shown, cpu_shown}
+use Rattle.cpu.specs.Sound.{ReturnsAlone}
+use Rattle.cpu.proofs.ListReads.{there_is}
+use Rattle.cpu.proofs.Sounding.{alone_of}
+use Rattle.cpu.proofs.systems.System.alone.Goals as goal
+
+pub returns : goal.returns
+returns g c = λ step.
+    let I = g.I.IpcLayer in
+    let is = c.self.invariant in
+    let items = c.self.inside.cpus.items in
+    let count = length-map items (λ (x : Cpu g.row.I.Denot g.row.I-Machine.Denot).
+    cpu_shown (I.threads x.part) x.guests.items x.trace.items x.limit (I.is_inside x.part) (I.own x.part)) in
+    let some = is.some in
+    let first = there_is items 0 some in
+    let one = (is.each 0 first.0 first.1).holds in
+    let size = (one.3 step).size in
+    let few = one.2.few in
+    subst (λ (s : Shown). ReturnsAlone s) c.self.view_is (alone_of _ (omega (arith, size, few)) (omega (arith, some, count)) (is.sound.1 step))

@@ -1,0 +1,31 @@
+use Rattle.std.proofs.Common.{◌≡◌, ◌<◌, true, ℕ, length, ap, sym, ◌∙◌, arith}
+use Rattle.std.proofs.lemmas.List.{length-map}
+use Rattle.cpu.specs.declared.cpus.Cpu.{Cpu}
+use Rattle.cpu.specs.Calm.{calm_in}
+use Rattle.cpu.specs.Claims.{Shown, cpu_shown}
+use Rattle.cpu.proofs.Quieting.{clash, up_more}
+use Rattle.cpu.proofs.systems.System.are_calm.Goals as goal
+
+pub returns-then-not-is_calm : goal.returns-then-not-is_calm
+returns-then-not-is_calm g c =
+    let I = g.I.IpcLayer in
+    let items = c.self.inside.cpus.items in
+    let count = length-map items (λ (x : Cpu g.row.I.Denot g.row.I-Machine.Denot).
+    cpu_shown (I.threads x.part) x.guests.items x.trace.items x.limit (I.is_inside x.part) (I.own x.part)) in
+    let shown = ap (λ (s : Shown). length s.cpus) c.self.view_is in
+    let test = c.loop-number-test.true in
+    let end = c.len-number-end.ensures in (
+      (λ is. absurd (cc is)),
+      (λ all. clash c.is_calm.result (c.is_calm.ensures ∙ all (record { 0 = c.loop-number.number }) (omega (
+        arith,
+        count,
+        shown,
+        test,
+        end,
+      ))) c.if-not-is_calm.true),
+    )
+
+pub loop-number-preserved : goal.loop-number-preserved
+loop-number-preserved g c =
+    up_more (λ k. calm_in (record { 0 = k }) c.args.self.now ≡ true) c.loop-number.number c.loop-number.invariant (sym c.is_calm.ensures
+    ∙ c.if-not-is_calm.false)

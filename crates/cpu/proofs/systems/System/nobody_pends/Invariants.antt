@@ -1,0 +1,7 @@
+use Rattle.std.proofs.Common.{◌≢◌, ◌<◌, ℕ}
+use Rattle.event_log.specs.declared.ids.CpuId.{CpuId}
+use Rattle.layer_traits.specs.Places.{Pend, where_is}
+use Rattle.cpu.proofs.systems.System.nobody_pends.Given as goal
+
+abbrev pub invariant-loop-number : goal.invariant-loop-number
+invariant-loop-number g l = (k : ℕ) → k < l.number → (d : CpuId) → where_is l.self.homes l.self.moves (record { 0 = k }) ≢ Pend d

@@ -1,0 +1,60 @@
+-- A system is one that the step table reaches from boot, whichever setup of the table is its. So it has lost no wake-up, and a call of a
+-- CPU that runs alone returns.
+use Rattle.std.specs.Prelude.{◌≡◌, ◌⊎◌, ℕ, ◌+◌, ◌≤◌, List, [], ◌∷◌, length, map, replicate, Some}
+use Rattle.event_log.specs.declared.ids.BufId.{BufId}
+use Rattle.event_log.specs.declared.ids.CpuId.{CpuId}
+use Rattle.event_log.specs.declared.ids.LockId.TheVariants.{Buffer as AtBuffer}
+use Rattle.event_log.specs.declared.ids.Tid.{Tid}
+use Rattle.boot.specs.Plan.{BootPlan}
+use Rattle.cpu.specs.Boots.{homes_for}
+use Rattle.cpu.specs.Claims.{Shown}
+use Rattle.cpu.specs.Systems.{GoesBy, whole_of}
+use Rattle.cpu.specs.Table.Blocks.{Buffer, OfBuffer}
+use Rattle.cpu.specs.Table.Setups.{Setup, Private}
+use Rattle.cpu.specs.Table.Steps.{IsReached, Whole, block_at, system_step, whole_at_boot}
+use Rattle.cpu.specs.Wakeups.Alone.{HasReturned, IsReady}
+use Rattle.cpu.specs.Wakeups.Lost.{NoWakeUpIsLost}
+
+-- a setup of the step table is this system's: it agrees with each of its CPUs, and has as many
+pub record IsSetupFor (setup : Setup) (s : Shown) : Type 0 where
+  pub goes : GoesBy setup s
+  pub count : setup.cpus ≡ length s.cpus
+
+-- the setup that a plan says
+abbrev pub setup_for : BootPlan → Setup
+setup_for plan = record {
+  cpus = plan.cpus;
+  homes = homes_for plan;
+  programs = map (λ task. task.program) plan.tasks;
+  caps = plan.caps;
+  trace_room = plan.trace;
+}
+
+-- the system is as the step table has it at boot
+abbrev pub BootsByTable : Shown → Type 0
+BootsByTable s = (setup : Setup) → IsSetupFor setup s → whole_of s ≡ whole_at_boot setup s.room
+
+-- the step table reaches the system from boot, by some list of steps
+abbrev pub IsReachedByTable : Shown → Type 0
+IsReachedByTable s = (setup : Setup) → IsSetupFor setup s → IsReached setup s.room (whole_of s)
+
+-- the step table reaches the system, and it has lost no wake-up: while nobody owns the lock of a buffer, as its last section left it, the
+-- first of neither line waits although the buffer allows its call
+pub record SoundByTable (s : Shown) : Type 0 where
+  pub reached : IsReachedByTable s
+  pub awake : (setup : Setup) → IsSetupFor setup s → (b : BufId) (k : Buffer) → block_at setup (AtBuffer b) s.log ≡ Some (OfBuffer k) → NoWakeUpIsLost k
+
+-- a system of the table after one step of each of these CPUs, one after the other
+abbrev pub after_steps : Setup → List CpuId → Whole → Whole
+after_steps setup [] s = s
+after_steps setup (c ∷ more) s = after_steps setup more (system_step setup c s).next
+
+-- the system went from old to new by these steps of the step table
+abbrev pub RanByTable : Shown → List CpuId → Shown → Type 0
+RanByTable old steps new = (setup : Setup) → GoesBy setup old → whole_of new ≡ after_steps setup steps (whole_of old)
+
+-- Where CPU c rests, no lock is taken or asked for, and its thread t stands at a call that has not begun, which its buffer allows and
+-- whose line is empty: after 18 steps of c, or after 21 where its first signal wakes a thread of another CPU, the call has returned.
+abbrev pub ReturnsAlone : Shown → Type 0
+ReturnsAlone s = (setup : Setup) → IsSetupFor setup s → (c : CpuId) (p : Private) (t : Tid) → (ready : IsReady setup c (whole_of s) p t) → s.taken + 32 ≤ s.room
+    → (n : ℕ) × ((n ≡ 18) ⊎ (n ≡ 21)) × ((new : Shown) → RanByTable s (replicate n c) new → HasReturned (whole_of new) c p t ready.effect ready.buffer)

@@ -1,0 +1,80 @@
+//! Whether a system is quiet.
+
+ghost use Rattle.std.specs.Prelude.{◌≡◌, ◌<◌, ◌↔◌, true, length};
+
+use crate::systems::System;
+use event_log::{CpuId, Tid};
+use layer_traits::{Owned, Place};
+
+impl<I: Owned + Drop> System<I>
+where
+    I::Machine: Drop,
+{
+    ghost use Rattle.event_log.specs.declared.ids.CpuId.{CpuId};
+    ghost use Rattle.layer_traits.specs.Places.{Pend, where_is};
+    ghost use Rattle.cpu.specs.Calm.{AllQueuesEmpty, IsQuiet, calm_in};
+    ghost use Rattle.cpu.specs.Sound.{IsSetupFor};
+    ghost use Rattle.cpu.specs.Systems.{whole_of};
+    ghost use Rattle.cpu.specs.Table.Setups.{Setup};
+    ghost use Rattle.cpu.specs.Told.{IsStill};
+    ghost use Rattle.cpu.specs.Wakeups.Quiet.{IsQuiet as IsQuietTable};
+
+    /// Whether the system is quiet: each CPU that is not halted has no current thread, nobody ready,
+    /// an empty hand and no section under way; each thread of a halted CPU has ended; and all pending
+    /// queues are empty.
+    pub fn is_quiet(&self) -> bool
+        ensures is { result ≡ true ↔ IsQuiet self.now }
+        // It is quiet exactly where the step table has it quiet.
+        ensures table { I.IsStepwise → (setup : Setup) → IsSetupFor setup self.now → (result ≡ true ↔ IsQuietTable setup (whole_of self.now)) }
+        // And then no live thread has a next call that its buffer allows, nobody owns a lock, and
+        // nobody sleeps at one.
+        ensures still { I.IsStepwise → result ≡ true → IsStill self.now }
+    {
+        self.holds();
+        self.rests()
+    }
+
+    /// Whether each CPU is calm and all pending queues are empty.
+    fn rests(&self) -> bool
+        ensures { result ≡ true ↔ IsQuiet self.now }
+    {
+        if !self.are_calm() {
+            return false;
+        }
+        self.nobody_pends()
+    }
+
+    /// Whether each CPU is calm.
+    fn are_calm(&self) -> bool
+        ensures { result ≡ true ↔ ((c : CpuId) → c.0 < length self.now.cpus → calm_in c self.now ≡ true) }
+    {
+        for number in 0..self.cpus.len() {
+            if !self.is_calm(CpuId(number as u8)) {
+                return false;
+            }
+        }
+        true
+    }
+
+    /// Whether all pending queues are empty.
+    fn nobody_pends(&self) -> bool
+        ensures { result ≡ true ↔ AllQueuesEmpty self.now }
+    {
+        self.holds();
+        for number in 0..self.threads {
+            if self.pends(Tid(number)) {
+                return false;
+            }
+        }
+        true
+    }
+
+    /// Whether `thread`, which must exist, is in a pending queue.
+    fn pends(&self, thread: Tid) -> bool
+        requires { thread.0 < length self.now.homes }
+        ensures { result ≡ true ↔ ((d : CpuId) × (where_is self.now.homes self.now.moves thread ≡ Pend d)) }
+    {
+        self.holds();
+        matches!(self.place(thread), Place::Pending(_))
+    }
+}

@@ -1,0 +1,4 @@
+pub mod Turning
+pub mod Planning
+pub mod Joining
+pub mod Lasting

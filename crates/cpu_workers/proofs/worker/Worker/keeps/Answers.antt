@@ -1,0 +1,29 @@
+use Rattle.std.proofs.Common.{ap, ◌∙◌, subst, map, reverse}
+use Rattle.event_log.specs.Actions.{AreLegal}
+use Rattle.event_log.specs.Sections.{sections_in}
+use Rattle.layer_traits.specs.BufferEffects.{effects_in}
+use Rattle.layer_traits.specs.Queues.{buffer_sections, event_of}
+use Rattle.cpu.specs.Cpus.{of_cpu}
+use Rattle.cpu_workers.specs.Orders.{IsTraceOf}
+use Rattle.cpu_workers.specs.Working.{Working}
+use Rattle.cpu_workers.proofs.worker.Worker.keeps.Goals as goal
+
+pub returns-clause-trace : goal.returns-clause-trace
+returns-clause-trace g c =
+    let I = g.I.IpcLayer in
+    let law = g.met.I.IpcLayer in
+    let m = c.self.inside.machine in
+    let p = c.self.inside.cpu in
+    let is = c.self.invariant in
+    let seen = law.seen_is is.stepwise m ∙ ap (λ o. effects_in o (buffer_sections (map event_of (sections_in (I.acts m))))) is.opens in
+    subst (λ (w : Working). IsTraceOf w.cpu w.plan.caps w.acts w.private.trace) c.self.view_is
+    (is.is.kept ∙ ap (λ l. reverse (of_cpu p.number l)) seen)
+
+pub returns-clause-legal : goal.returns-clause-legal
+returns-clause-legal g c =
+    let I = g.I.IpcLayer in
+    let law = g.met.I.IpcLayer in
+    let m = c.self.inside.machine in
+    let p = c.self.inside.cpu in
+    let is = c.self.invariant in
+    subst (λ (w : Working). AreLegal w.acts) c.self.view_is (law.legal m (I.cpu_of p.part) (law.own_cpu p.part m is.fits))

@@ -1,0 +1,45 @@
+-- What holds of workers that run at one table.
+use Rattle.std.specs.Prelude.{◌≡◌, ℕ, ◌≤◌, ◌<◌, Bool, true, List, [], ◌++◌, Some, None}
+use Rattle.event_log.specs.declared.ids.BufId.{BufId}
+use Rattle.event_log.specs.declared.ids.CpuId.{CpuId}
+use Rattle.event_log.specs.declared.ids.LockId.TheVariants.{Buffer as AtBuffer}
+use Rattle.event_log.specs.History.{AreOthers, own_events}
+use Rattle.event_log.specs.Actions.{Action, doer}
+use Rattle.cpu.specs.Table.Blocks.{Buffer, OfBuffer, Name}
+use Rattle.cpu.specs.Table.Setups.{Setup, Private, at_boot, have_ended, home_threads}
+use Rattle.cpu.specs.Table.Steps.{block_at, cpu_step, halted_at}
+use Rattle.cpu.specs.Wakeups.Lost.{NoWakeUpIsLost}
+use Rattle.cpu_workers.specs.declared.stops.Stop.{Stop}
+use Rattle.cpu_workers.specs.declared.stops.Stop.TheVariants.{AllEnded, TurnsUsed, Held}
+use Rattle.cpu_workers.specs.Reports.{IsTrueStop, Took}
+
+-- a worker's CPU has come from boot by the step table along what it has seen, and the list goes on from that with other CPUs' actions
+pub record HasWorked (setup : Setup) (c : CpuId) (log : List (Action Name)) : Type 0 where
+  pub last : Private
+  pub seen : List (Action Name)
+  pub shown : ℕ
+  pub took : Took (cpu_step setup c) c (at_boot setup c) last seen shown
+  pub more : List (Action Name)
+  pub is : log ≡ more ++ seen
+  pub others : AreOthers doer c more
+
+-- the workers of one table, whose list has no other CPU's actions
+pub record HaveWorked (setup : Setup) (log : List (Action Name)) : Type 0 where
+  pub each : (c : CpuId) → c.0 < setup.cpus → HasWorked setup c log
+  pub rest : (c : CpuId) → setup.cpus ≤ c.0 → own_events doer c log ≡ []
+
+-- such workers lose no wake-up
+abbrev pub WorkersLoseNoWakeUp : Type 0
+WorkersLoseNoWakeUp = (setup : Setup) (log : List (Action Name)) → HaveWorked setup log
+    → (b : BufId) (k : Buffer) → block_at setup (AtBuffer b) log ≡ Some (OfBuffer k) → NoWakeUpIsLost k
+
+-- what a true stop says of the CPU: all its threads have ended, or it is not halted
+pub record SaysTrue (setup : Setup) (c : CpuId) (last : Private) (turns taken : ℕ) (stop : Stop) : Type 0 where
+  pub ended : stop ≡ AllEnded → have_ended last (home_threads setup c) ≡ true
+  pub used : stop ≡ TurnsUsed → (halted_at setup c last ≡ None) × (turns ≤ taken)
+  pub held : stop ≡ Held → halted_at setup c last ≡ None
+
+-- where the gate answered `Limit` or did not
+abbrev pub StopsAreTrue : Type 0
+StopsAreTrue = (setup : Setup) (c : CpuId) (last : Private) (held : Bool) (turns taken : ℕ) (stop : Stop)
+    → IsTrueStop (halted_at setup c last) (λ turn. held ≡ true) turns taken stop → SaysTrue setup c last turns taken stop

@@ -1,0 +1,5 @@
+pub mod Working
+pub mod Seats
+pub mod Orders
+pub mod Reports
+pub mod Laws

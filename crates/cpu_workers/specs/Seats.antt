@@ -1,0 +1,11 @@
+-- What always holds of a worker.
+-- its machine does one action a step and has room for one at any time; its CPU's part agrees with the machine and is of the CPU's number,
+-- and the CPU is as it is to be; each buffer opened empty
+pub record IsWorker (Stepwise PartFits NumberIs InOrder Tabled Roomy Opens : Type 0) : Type 0 where
+  pub stepwise : Stepwise
+  pub fits : PartFits
+  pub number : NumberIs
+  pub is : InOrder
+  pub tabled : Tabled
+  pub room : Roomy
+  pub opens : Opens

@@ -1,0 +1,62 @@
+-- A worker: one CPU with its machine, and one turn of it.
+use Rattle.std.specs.Prelude.{◌≡◌, ℕ, Bool, List, Option, Some, None, slice_index_or}
+use Rattle.event_log.specs.declared.ids.CpuId.{CpuId}
+use Rattle.event_log.specs.declared.ids.Tid.{Tid}
+use Rattle.event_log.specs.Actions.{Action, phase}
+use Rattle.guest.specs.declared.instructions.Instruction.{Instruction}
+use Rattle.layer_traits.specs.declared.steps.Step.{Step}
+use Rattle.layer_traits.specs.declared.steps.Step.TheVariants.{Stepped}
+use Rattle.layer_traits.specs.Along.{IsStep}
+use Rattle.layer_traits.specs.Plans.{is_in_section}
+use Rattle.cpu.specs.Table.Blocks.{Name}
+use Rattle.cpu.specs.Table.Setups.{Setup, Private, program_of}
+use Rattle.cpu.specs.Table.Steps.{cpu_step, halted_at}
+use Rattle.cpu.specs.Tower.Composed.{answer_of, named}
+use Rattle.cpu.specs.Tower.Views.{TowerName}
+
+-- what no turn changes: the home of each thread, the capacity of each buffer, the programs of the threads at home, and for how many
+-- entries the trace has room
+pub record Charge : Type 0 where
+  pub homes : List CpuId
+  pub caps : List ℕ
+  pub programs : List (Option (List Instruction))
+  pub limit : ℕ
+
+-- a worker to its callers: its CPU, its plan, the CPU's private state in the step table, the actions that the CPU has seen, newest first,
+-- and which machine it is
+pub record Working : Type 0 where
+  pub cpu : CpuId
+  pub plan : Charge
+  pub private : Private
+  pub acts : List (Action TowerName)
+  pub site : List ℕ
+
+-- the actions that the CPU has seen, by the names of the step table
+abbrev pub log : Working → List (Action Name)
+log w = named w.acts
+
+-- whether a section of the CPU is under way
+abbrev pub is_inside : Working → Bool
+is_inside w = is_in_section (phase w.cpu (log w))
+
+-- the step table is that of this plan: it may know more programs, those of the threads of other homes
+pub record IsPlanned (setup : Setup) (plan : Charge) : Type 0 where
+  pub homes_are : setup.homes ≡ plan.homes
+  pub caps_are : setup.caps ≡ plan.caps
+  pub room_is : setup.trace_room ≡ plan.limit
+  pub programs_are : (t : Tid) (program : List Instruction) → slice_index_or plan.programs t.0 None ≡ Some program → program_of setup t ≡ program
+
+-- what a worker keeps over its turns
+pub record IsSame (old new : Working) : Type 0 where
+  pub cpu : new.cpu ≡ old.cpu
+  pub plan : new.plan ≡ old.plan
+  pub site : new.site ≡ old.site
+
+-- a turn: other CPUs acted, and then this one went on by the step table and answered so
+abbrev pub Turned : Working → Working → Step → Type 0
+Turned old new answer = (setup : Setup) → IsPlanned setup old.plan
+    → IsStep (λ c. c ≡ old.cpu) (cpu_step setup old.cpu) old.private new.private (log old) (log new) answer
+
+-- the step table takes a step of the worker's CPU, whatever other CPUs do before it: a section of it is under way, or it is not halted
+abbrev pub MayGoOn : Setup → Working → Type 0
+MayGoOn setup w = answer_of (is_inside w) (halted_at setup w.cpu w.private) ≡ Stepped

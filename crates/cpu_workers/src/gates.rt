@@ -1,0 +1,40 @@
+//! Gates: what may hold a CPU between two of its turns.
+
+ghost use Rattle.std.specs.Prelude.{◌≡◌, ℕ};
+
+use event_log::CpuId;
+
+/// What a gate answers.
+#[derive(Clone, Copy, Debug, PartialEq, Eq)]
+pub enum Go {
+    /// The CPU may take its turn.
+    Pass,
+    /// The CPU is to stop once none of its sections is under way.
+    Limit,
+}
+
+/// What a worker asks before each turn of its CPU. A gate that wants to hold the CPU does so inside
+/// `pass`, up to a limit of its own, and then answers `Limit`; after that it is asked no more.
+pub trait Gate {
+    ghost use Rattle.event_log.specs.declared.ids.CpuId.{CpuId};
+    ghost use Rattle.cpu_workers.specs.declared.gates.Go.TheVariants.{Limit};
+
+    /// For which CPU and at which of its turns the gate may answer `Limit`.
+    ghost MayLimit: { Self → CpuId → ℕ → Type 0 };
+
+    /// Whether `cpu`, which has taken `turn` turns, may take one more.
+    fn pass(&self, cpu: CpuId, turn: u64) -> Go
+        ensures { result ≡ Limit → MayLimit self.now cpu turn };
+}
+
+/// The gate that is always open.
+#[derive(Clone, Copy, Debug, Drop)]
+pub struct OpenGate;
+
+impl Gate for OpenGate {
+    ghost MayLimit = { λ gate cpu turn. ⊥ };
+
+    fn pass(&self, _cpu: CpuId, _turn: u64) -> Go {
+        Go::Pass
+    }
+}

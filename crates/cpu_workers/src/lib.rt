@@ -1,0 +1,20 @@
+//! A worker thread for each CPU: the kernel of one step table in real threads, each CPU over its own
+//! seat at one table of shared words, under a gate.
+#![tactic(auto)]
+
+mod gates;
+mod laws;
+mod starting;
+mod stops;
+mod turns;
+mod worker;
+
+pub use gates::{Gate, Go, OpenGate};
+pub use laws::{stops_are_true, workers_lose_no_wake_up};
+pub use starting::{Came, WorkerError, work_all};
+pub use stops::Stop;
+pub use turns::{Did, work};
+pub use worker::Worker;
+
+#[cfg(test)]
+mod tests;

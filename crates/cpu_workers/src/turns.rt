@@ -1,0 +1,142 @@
+//! The turns of one worker.
+
+ghost use Rattle.std.specs.Prelude.{◌≡◌, ◌≢◌, true, false, [], None, Some, MatchOption};
+ghost use Rattle.layer_traits.specs.declared.steps.Reason.TheVariants.{StepsUsed};
+ghost use Rattle.cpu.specs.Table.Setups.{Setup};
+ghost use Rattle.cpu.specs.Table.Steps.{halted_at};
+ghost use Rattle.cpu_workers.specs.Working.{IsPlanned, MayGoOn, is_inside};
+ghost use Rattle.cpu_workers.specs.Reports.{HasRun, IsTrueStop, MayHold, counted_on};
+
+use crate::gates::{Gate, Go};
+use crate::stops::Stop;
+use crate::worker::Worker;
+use layer_traits::{IpcLayer, Reason};
+use std::sync::Wait;
+use std::thread;
+
+/// What a worker did.
+#[derive(Clone, Copy, Debug, Drop)]
+pub struct Did {
+    /// How many turns its CPU took; at 2^64 - 1 there may have been more.
+    pub taken: u64,
+    /// Why it stopped.
+    pub stop: Stop,
+}
+
+// How often a worker looks at a lock before it lets other threads run: with more threads than
+// processors, the one whose turn it is may not be running. So many looks take about as long as a
+// change of threads.
+const SPINS: u16 = 1000;
+
+// Lets other threads run where a worker's section is under way and no spins are left, and after each
+// turn that left its CPU idle: an idle CPU is nearly always inside its own queue's section, and where
+// its processor is taken there, every CPU that sends a thread home to it waits. Tells how many spins
+// are left: after the last one is one more, so that a worker whose look hits frees the lock before it
+// lets others run again.
+fn pause(busy: bool, idle: bool, spins: u16) -> u16 {
+    if busy && spins > 0 {
+        return spins - 1;
+    }
+    if busy {
+        thread::yield_now();
+        return 1;
+    }
+    if idle {
+        thread::yield_now();
+    }
+    SPINS
+}
+
+// One turn more.
+fn one_more(taken: u64) -> u64
+    ensures { result ≡ counted_on taken }
+{
+    if taken == u64::MAX { taken } else { taken + 1 }
+}
+
+// Why a worker whose CPU has no section under way stops, if it does.
+fn ending(halted: Option<Reason>, held: bool, taken: u64, turns: u64) -> Option<Stop>
+    requires { halted ≢ Some StepsUsed }
+    ensures { MatchOption result (halted ≡ None) (λ stop. IsTrueStop halted (λ turn. held ≡ true) turns taken stop) }
+{
+    match halted {
+        Some(Reason::AllEnded) => Some(Stop::AllEnded),
+        Some(Reason::TraceFull) => Some(Stop::TraceFull),
+        Some(Reason::StepsUsed) => unreachable!(),
+        None if held => Some(Stop::Held),
+        None if turns <= taken => Some(Stop::TurnsUsed),
+        None => None,
+    }
+}
+
+// Asks the gate, unless it has answered `Limit` before: whether it has now.
+fn ask<I: IpcLayer + Drop, G: Gate>(gate: &G, worker: &Worker<I>, taken: u64, held: bool) -> bool
+where
+    I::Machine: Drop,
+    requires { held ≡ true → MayHold (G.MayLimit gate.now worker.now.cpu) taken }
+    ensures { result ≡ true → MayHold (G.MayLimit gate.now worker.now.cpu) taken }
+{
+    held || gate.pass(worker.number(), taken) == Go::Limit
+}
+
+// What a worker does before a turn: whether it stops, and why. Inside a section it asks the gate alone,
+// and goes on.
+fn before<I: IpcLayer + Drop, G: Gate>(
+    gate: &G,
+    worker: &Worker<I>,
+    taken: u64,
+    turns: u64,
+    held: &mut bool,
+) -> Option<Stop>
+where
+    I::Machine: Drop,
+    requires { held.old ≡ true → MayHold (G.MayLimit gate.now worker.now.cpu) taken }
+    ensures held { held.new ≡ true → MayHold (G.MayLimit gate.now worker.now.cpu) taken }
+    ensures goes { result ≡ None → (setup : Setup) → IsPlanned setup worker.now.plan → MayGoOn setup worker.now }
+    ensures rests { (stop : _) → result ≡ Some stop → is_inside worker.now ≡ false }
+    ensures stops { (stop : _) → result ≡ Some stop → (setup : Setup) → IsPlanned setup worker.now.plan
+        → IsTrueStop (halted_at setup worker.now.cpu worker.now.private) (G.MayLimit gate.now worker.now.cpu) turns taken stop }
+{
+    if worker.is_busy() {
+        *held = ask(gate, worker, taken, *held);
+        return None;
+    }
+    let stop = ending(worker.halted(), *held, taken, turns);
+    if stop.is_some() {
+        return stop;
+    }
+    *held = ask(gate, worker, taken, *held);
+    if *held { Some(Stop::Held) } else { None }
+}
+
+/// Lets a worker take its turns, until it stops between two of its sections. Before each turn it
+/// looks whether a section is under way. Where none is, it stops if its CPU is halted, else if the
+/// gate has answered `Limit`, else if `turns` turns are taken; and else it asks the gate, whose
+/// `Limit` stops it without that turn. Inside a section it asks the gate too, but goes on to the
+/// section's end. After a `Limit` it asks the gate no more.
+///
+/// It may wait for other CPUs' sections and inside the gate, so it need not return.
+pub fn work<I: IpcLayer + Drop, G: Gate, R: Wait>(
+    rt: &R,
+    gate: &G,
+    worker: &mut Worker<I>,
+    turns: u64,
+) -> Did
+where
+    I::Machine: Drop,
+    requires { worker.old.acts ≡ [] }
+    ensures { HasRun (G.MayLimit gate.now) turns worker.old worker.new result.taken result.stop }
+{
+    let mut taken = 0;
+    let mut held = false;
+    let mut spins = SPINS;
+    for _ in rt.forever() {
+        if let Some(stop) = before(gate, worker, taken, turns, &mut held) {
+            return Did { taken, stop };
+        }
+        let _ = worker.step();
+        taken = one_more(taken);
+        spins = pause(worker.is_busy(), worker.is_idle(), spins);
+    }
+    unreachable!()
+}

@@ -1,0 +1,141 @@
+//! A worker: one CPU with its machine.
+
+ghost use Rattle.std.specs.Prelude.{◌≡◌, ◌≢◌, ◌<◌, Some, None, length, vec_capacity};
+
+use cpu::Cpu;
+use event_log::{CpuId, Entry};
+use layer_traits::{IpcLayer, Reason, Step};
+use std::marker::Model;
+
+/// One CPU with a machine of its own side, in which it may act at any time. A contract sees it as
+/// plain data: which CPU it is, its plan, and how it stands in the step table.
+#[derive(Drop)]
+pub struct Worker<I: IpcLayer + Drop>
+where
+    I::Machine: Drop,
+{
+    cpu: Cpu<I>,
+    machine: I::Machine,
+}
+
+impl<I: IpcLayer + Drop> Model for Worker<I>
+where
+    I::Machine: Drop,
+{
+    ghost use Rattle.std.specs.Prelude.{◌≡◌, ◌<◌, length, vec_capacity};
+    ghost use Rattle.cpu.specs.Cpus.{IsCpu, programs_of};
+    ghost use Rattle.cpu.specs.Tables.{IsTabled, private};
+    ghost use Rattle.cpu_workers.specs.Working.{Working};
+    ghost use Rattle.layer_traits.specs.BufferEffects.{opening_locks};
+    ghost use Rattle.layer_traits.specs.QueueBlocks.{inner};
+    ghost use Rattle.cpu_workers.specs.Seats.{IsWorker};
+
+    ghost Value = { Working };
+
+    ghost view = { λ w. record {
+      cpu = w.cpu.number;
+      plan = record { homes = I.homes_of w.machine; caps = I.caps w.machine; programs = programs_of w.cpu.guests.items; limit = w.cpu.limit };
+      private = private (I.own w.cpu.part) w.cpu.guests.items w.cpu.trace.items;
+      acts = I.acts w.machine;
+      site = I.site w.machine;
+    } };
+
+    ghost invariant = { λ w. IsWorker I.IsStepwise (I.Fits w.cpu.part w.machine) (I.cpu_of w.cpu.part ≡ w.cpu.number)
+        (IsCpu (I.homes_of w.machine) (length (I.caps w.machine)) (I.seen w.machine) (I.threads w.cpu.part) (I.talks w.cpu.part)
+        (I.doing w.cpu.part) w.cpu.number w.cpu.guests.items w.cpu.trace.items w.cpu.limit (vec_capacity w.cpu.trace))
+        (IsTabled (I.homes_of w.machine) (I.caps w.machine) w.cpu.number (I.own w.cpu.part) (I.doing w.cpu.part) w.cpu.guests.items (I.opening w.machine))
+        ((m : I.Machine) → 0 < I.room m) (inner (I.opening w.machine) ≡ opening_locks (I.caps w.machine)) };
+}
+
+impl<I: IpcLayer + Drop> Worker<I>
+where
+    I::Machine: Drop,
+{
+    ghost use Rattle.layer_traits.specs.declared.steps.Reason.TheVariants.{StepsUsed};
+    ghost use Rattle.event_log.specs.Actions.{AreLegal};
+    ghost use Rattle.layer_traits.specs.BufferEffects.{opening_locks};
+    ghost use Rattle.layer_traits.specs.QueueBlocks.{inner};
+    ghost use Rattle.cpu.specs.Cpus.{IsCpu, programs_of};
+    ghost use Rattle.cpu.specs.Tables.{IsTabled, private};
+    ghost use Rattle.cpu.specs.Table.Setups.{Setup};
+    ghost use Rattle.cpu.specs.Table.Steps.{halted_at};
+    ghost use Rattle.cpu_workers.specs.Working.{IsPlanned, IsSame, Turned, is_inside};
+    ghost use Rattle.cpu_workers.specs.Orders.{IsTraceOf};
+
+    /// The worker of a CPU and its machine, which agree. The machine does one action a step and has
+    /// room for one at any time, and each of its buffers opened empty.
+    pub fn new(cpu: Cpu<I>, machine: I::Machine) -> Worker<I>
+        requires stepwise { I.IsStepwise }
+        requires fits { I.Fits cpu.part machine }
+        requires number { I.cpu_of cpu.part ≡ cpu.number }
+        requires is { IsCpu (I.homes_of machine) (length (I.caps machine)) (I.seen machine) (I.threads cpu.part) (I.talks cpu.part)
+            (I.doing cpu.part) cpu.number cpu.guests.items cpu.trace.items cpu.limit (vec_capacity cpu.trace) }
+        requires tabled { IsTabled (I.homes_of machine) (I.caps machine) cpu.number (I.own cpu.part) (I.doing cpu.part) cpu.guests.items (I.opening machine) }
+        requires room { (m : I.Machine) → 0 < I.room m }
+        requires opens { inner (I.opening machine) ≡ opening_locks (I.caps machine) }
+        ensures cpu { result.cpu ≡ cpu.number }
+        ensures plan { result.plan
+            ≡ record { homes = I.homes_of machine; caps = I.caps machine; programs = programs_of cpu.guests.items; limit = cpu.limit } }
+        ensures private { result.private ≡ private (I.own cpu.part) cpu.guests.items cpu.trace.items }
+        ensures acts { result.acts ≡ I.acts machine }
+        ensures site { result.site ≡ I.site machine }
+    {
+        Worker { cpu, machine }
+    }
+
+    /// The trace of the worker's CPU and its machine.
+    pub fn into_parts(self) -> (Vec<Entry>, I::Machine)
+        ensures trace { result.0.items ≡ self.private.trace }
+        ensures acts { I.acts result.1 ≡ self.acts }
+        ensures site { I.site result.1 ≡ self.site }
+        ensures owns { I.ActsFor result.1 self.cpu }
+    {
+        let Worker { cpu, machine } = self;
+        (cpu.trace, machine)
+    }
+
+    /// What holds after any number of turns: the trace is, once and in their order, the CPU's effects
+    /// in the actions that it has seen, which are legal.
+    pub fn keeps(&self)
+        ensures trace { IsTraceOf self.now.cpu self.now.plan.caps self.now.acts self.now.private.trace }
+        ensures legal { AreLegal self.now.acts }
+    {
+        let _ = &self.machine;
+    }
+
+    /// The number of the worker's CPU.
+    pub fn number(&self) -> CpuId
+        ensures { result ≡ self.now.cpu }
+    {
+        self.cpu.number
+    }
+
+    /// Whether a section of the CPU is under way.
+    pub fn is_busy(&self) -> bool
+        ensures { result ≡ is_inside self.now }
+    {
+        self.cpu.part.is_busy()
+    }
+
+    /// Whether nobody runs on the CPU, is ready there or is to be sent home by it.
+    pub fn is_idle(&self) -> bool {
+        let part = &self.cpu.part;
+        part.current().is_none() && part.hand().is_none() && !part.has_ready()
+    }
+
+    /// Why the CPU takes no step while no section of it is under way: `AllEnded` or `TraceFull`.
+    pub fn halted(&self) -> Option<Reason>
+        ensures is { (setup : Setup) → IsPlanned setup self.now.plan → halted_at setup self.now.cpu self.now.private ≡ result }
+        ensures own { result ≢ Some StepsUsed }
+    {
+        self.cpu.halted()
+    }
+
+    /// One step of the CPU: one local action or one atomic action. `Halted` where it took none.
+    pub fn step(&mut self) -> Step
+        ensures same { IsSame self.old self.new }
+        ensures turned { Turned self.old self.new result }
+    {
+        self.cpu.step(&mut self.machine)
+    }
+}

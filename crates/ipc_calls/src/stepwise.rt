@@ -1,0 +1,53 @@
+//! The tower is stepwise: each layer's polls are single actions where those beneath it are.
+
+use crate::ipc::Ipc;
+use crate::opening::{OpensBuffers, OpensLocks};
+use crate::tower::{LockEdit, TowerEdit};
+use condvar::Cond;
+use fifo_buffer::Fifo;
+use layer_traits::{OwnedLocks, OwnedWords, Stepwise};
+use queuing_lock::QLock;
+use scheduler::Sched;
+use shared_queue::SharedQueues;
+use sleep_wakeup::Sleeper;
+use spinlock::Ticket;
+
+/// Critical sections of which each poll is one action.
+pub trait StepwiseSections: OwnedLocks<TowerEdit> {
+    /// Law: one poll is one action.
+    ghost steps: { Self.IsStepwise };
+}
+
+impl<W: OwnedWords<Edit = TowerEdit>> StepwiseSections for Ticket<W> {
+    ghost steps = { tt };
+}
+
+/// Sections that put threads to sleep, of which each poll is one action.
+pub trait StepwiseLocks: OpensLocks {
+    /// Law: one poll is one action.
+    ghost steps: { Self.IsStepwise };
+}
+
+impl<L: StepwiseSections> StepwiseLocks for Sleeper<LockEdit, Sched<SharedQueues<L>>> {
+    ghost steps = { L.steps };
+}
+
+/// Buffers of which each poll is one action.
+pub trait StepwiseBuffers: OpensBuffers {
+    /// Law: one poll is one action.
+    ghost steps: { Self.IsStepwise };
+}
+
+impl<S: StepwiseLocks> StepwiseBuffers for Fifo<Cond<QLock<S>>> {
+    ghost steps = { S.steps };
+}
+
+impl<B: StepwiseBuffers> Stepwise for Ipc<B> {
+    ghost steps = { B.steps };
+}
+
+/// A law: each poll of a stepwise layer is one action, and so of the tower over ticket locks of an
+/// owned machine, which is one.
+pub fn tower_is_stepwise<I: Stepwise>()
+    ensures { I.IsStepwise }
+{}

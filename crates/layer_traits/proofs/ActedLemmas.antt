@@ -1,0 +1,49 @@
+-- A layer whose history is that of its actions' sections tells of threads what these make of it.
+use Rattle.std.proofs.Common.{◌≡◌, List, Option, Some, None, option_map, map, refl, ap, sym, ◌∙◌, subst}
+use Rattle.event_log.specs.declared.ids.BufId.{BufId}
+use Rattle.event_log.specs.declared.ids.LockId.{LockId}
+use Rattle.event_log.specs.declared.ids.LockId.TheVariants.{Pending, Buffer}
+use Rattle.event_log.specs.Sections.{sections_in}
+use Rattle.layer_traits.specs.declared.buffer_edits.BufferEdit.{BufferEdit}
+use Rattle.layer_traits.specs.declared.queue_edits.QueueBlock.{QueueBlock}
+use Rattle.layer_traits.specs.declared.queue_edits.QueueBlock.TheVariants.{Above}
+use Rattle.layer_traits.specs.declared.queues.QueueEvent.{QueueEvent}
+use Rattle.layer_traits.specs.Acted.{BufferActs, MovesAre, guarded, owner_after}
+use Rattle.layer_traits.specs.BufferProtocol.{BufferLock, buffer_rules}
+use Rattle.layer_traits.specs.Conditions.{CvCall}
+use Rattle.layer_traits.specs.LockLaw.{lock_kernel}
+use Rattle.layer_traits.specs.Locking.{line_in, lock_after, lock_moves, lock_rules, owner_in}
+use Rattle.layer_traits.specs.Places.{AreMoves, pending_by}
+use Rattle.layer_traits.specs.QueueBlocks.{StartsWell, above_of, homes_in, inner, with_queue}
+use Rattle.layer_traits.specs.QueueRules.{AreProper}
+use Rattle.layer_traits.specs.Queues.{buffer_sections, event_of, moves_in}
+use Rattle.layer_traits.proofs.NestedLemmas.{proper_buffer, proper_queue}
+
+above_made : {B : Type 0} (above : Option B) → above_of (option_map Above above) ≡ above
+above_made None = refl
+above_made (Some block) = refl
+
+module _ (opening : LockId → Option (QueueBlock BufferLock)) (acts : BufferActs) (starts : StartsWell opening) (proper : AreProper (sections_in acts))
+    (seen : List (QueueEvent (CvCall BufferEdit))) (seen_is : seen ≡ map event_of (sections_in acts)) where
+  -- a buffer's lock by the history is what its block holds
+  lock_is : (b : BufId) → lock_after buffer_rules (inner opening) (Buffer b) (buffer_sections seen) ≡ above_of (guarded opening acts (Buffer b))
+  lock_is b =
+      ap (λ past. lock_after buffer_rules (inner opening) (Buffer b) (buffer_sections past)) seen_is
+      ∙ (sym (above_made (lock_after buffer_rules (inner opening) (Buffer b) (buffer_sections (map event_of (sections_in acts)))))
+      ∙ sym (ap above_of (proper_buffer (lock_rules buffer_rules) (lock_moves buffer_rules) opening starts b (sections_in acts) proper)))
+
+  pub owner_by_acts : (b : BufId) → owner_in (lock_after buffer_rules (inner opening) (Buffer b) (buffer_sections seen)) ≡ owner_after opening acts b
+  owner_by_acts b = ap owner_in (lock_is b)
+
+  pub moves_told : AreMoves (homes_in opening) (moves_in (lock_kernel buffer_rules opening) seen)
+      → MovesAre opening acts (moves_in (lock_kernel buffer_rules opening) seen)
+      (λ b line. line_in line (lock_after buffer_rules (inner opening) (Buffer b) (buffer_sections seen)))
+  moves_told moving = record {
+    made = ap (moves_in (lock_kernel buffer_rules opening)) seen_is;
+    pending = λ d. subst (λ past. guarded opening acts (Pending d)
+        ≡ with_queue (pending_by (moves_in (lock_kernel buffer_rules opening) past) d) (opening (Pending d)))
+        (sym seen_is)
+        (proper_queue (lock_rules buffer_rules) (lock_moves buffer_rules) opening starts d (sections_in acts) proper
+        (subst (λ past. AreMoves (homes_in opening) (moves_in (lock_kernel buffer_rules opening) past)) seen_is moving));
+    waiting = λ b line. ap (line_in line) (lock_is b);
+  }

@@ -1,0 +1,40 @@
+-- What the layers tell of threads is what the sections of the actions make of it.
+use Rattle.std.specs.Prelude.{◌≡◌, List, Option, map}
+use Rattle.event_log.specs.declared.ids.BufId.{BufId}
+use Rattle.event_log.specs.declared.ids.CpuId.{CpuId}
+use Rattle.event_log.specs.declared.ids.LockId.{LockId}
+use Rattle.event_log.specs.declared.ids.LockId.TheVariants.{Pending, Buffer}
+use Rattle.event_log.specs.declared.ids.Tid.{Tid}
+use Rattle.event_log.specs.Actions.{Action}
+use Rattle.event_log.specs.Sections.{block_after, sections_in}
+use Rattle.layer_traits.specs.declared.buffer_edits.BufferEdit.{BufferEdit}
+use Rattle.layer_traits.specs.declared.moves.Line.{Line}
+use Rattle.layer_traits.specs.declared.queue_edits.QueueBlock.{QueueBlock}
+use Rattle.layer_traits.specs.declared.queue_edits.QueueEdit.{QueueEdit}
+use Rattle.layer_traits.specs.BufferProtocol.{BufferLock, buffer_rules}
+use Rattle.layer_traits.specs.Conditions.{CvCall}
+use Rattle.layer_traits.specs.LockLaw.{lock_kernel}
+use Rattle.layer_traits.specs.Locking.{line_in, lock_edited, owner_in}
+use Rattle.layer_traits.specs.Places.{Step, pending_by}
+use Rattle.layer_traits.specs.QueueBlocks.{above_of, with_queue}
+use Rattle.layer_traits.specs.QueueRules.{queue_edited}
+use Rattle.layer_traits.specs.Queues.{event_of, moves_in}
+
+-- the actions on the locks of buffers and of pending queues, newest first
+abbrev pub BufferActs : Type 0
+BufferActs = List (Action (QueueEdit (CvCall BufferEdit)))
+
+-- what a lock guards after these actions: its opening block, edited by each section in turn
+abbrev pub guarded : (LockId → Option (QueueBlock BufferLock)) → BufferActs → LockId → Option (QueueBlock BufferLock)
+guarded opening acts lock = block_after (queue_edited (lock_edited buffer_rules)) opening lock (sections_in acts)
+
+-- the owner of a buffer's lock after these actions
+abbrev pub owner_after : (LockId → Option (QueueBlock BufferLock)) → BufferActs → BufId → Option Tid
+owner_after opening acts b = owner_in (above_of (guarded opening acts (Buffer b)))
+
+-- the moves are those of the actions' sections; so each pending queue that is there holds who is pending by the moves; and the waiting
+-- lists of each buffer are those of its lock
+pub record MovesAre (opening : LockId → Option (QueueBlock BufferLock)) (acts : BufferActs) (moves : List Step) (lines : BufId → Line → List Tid) : Type 0 where
+  pub made : moves ≡ moves_in (lock_kernel buffer_rules opening) (map event_of (sections_in acts))
+  pub pending : (d : CpuId) → guarded opening acts (Pending d) ≡ with_queue (pending_by moves d) (opening (Pending d))
+  pub waiting : (b : BufId) (line : Line) → lines b line ≡ line_in line (above_of (guarded opening acts (Buffer b)))

@@ -1,0 +1,113 @@
+//! A machine beneath the layers: the words and the blocks of locks with a grant word for each
+//! waiter.
+
+ghost use Rattle.std.specs.Prelude.{◌≡◌, ℕ, ◌+◌, ◌<◌, ◌≤◌, List, [], Option, IsSome, MatchOption, option_map};
+
+use crate::edits::{Edit, Mark};
+use event_log::{CpuId, GrantEvent, LockId};
+
+/// A holder of locks with grant words: each lock has the word `next` and a grant word for each CPU
+/// that may wait, and guards a block. An owned machine acts for all CPUs; a seat at shared words
+/// acts for its own CPU, and events of the others may come in at any call.
+///
+/// No call takes memory, and each succeeds.
+pub trait GrantWords {
+    ghost use Rattle.event_log.specs.declared.ids.CpuId.{CpuId};
+    ghost use Rattle.event_log.specs.declared.ids.LockId.{LockId};
+    ghost use Rattle.event_log.specs.declared.grants.GrantEvent.{GrantEvent};
+    ghost use Rattle.event_log.specs.declared.grants.GrantEvent.TheVariants.{Take, Peek, Give};
+    ghost use Rattle.layer_traits.specs.declared.edits.Mark.{Mark};
+    ghost use Rattle.event_log.specs.Grants.{grant_actor, grant_standing};
+    ghost use Rattle.event_log.specs.History.{Adds, IsLawful};
+    ghost use Rattle.event_log.specs.WordsLog.{Outside, Waiting, Inside};
+    ghost use Rattle.event_log.specs.Sections.{block_after};
+    ghost use Rattle.layer_traits.specs.GrantProtocol.{grant_sections, GrantMayCome};
+    ghost use Rattle.layer_traits.specs.Protocol.{section, StaysAllowed};
+    ghost use Rattle.layer_traits.specs.WordsProtocol.{mark_of};
+
+    /// The edits of the sections.
+    type Edit: Edit;
+
+    /// What a Give leaves in the log: it tells the section's edit.
+    type Mark;
+
+    /// The edit that a mark tells.
+    ghost edit_in: { Self.Mark → Self.Edit };
+
+    /// The opening block of each lock; None where there is no such lock.
+    ghost opening: { Self → LockId → Option Self.Edit.Block };
+
+    /// The events that this holder has seen, newest first.
+    ghost seen: { Self → List (GrantEvent (Mark Self.Edit)) };
+
+    /// For which CPUs the holder acts. It carries that the machine is sound.
+    ghost ActsFor: { Self → CpuId → Type 0 };
+
+    /// For how many more events there is room.
+    ghost room: { Self → ℕ };
+
+    /// Which machine it is, as numbers; a machine that nobody has to know again needs none. No call
+    /// changes it.
+    ghost site: { Self → List ℕ } = { λ _. [] };
+
+    /// The mark of a section with this edit.
+    fn mark(edit: Self::Edit) -> Self::Mark
+        ensures { edit_in result ≡ edit };
+
+    /// Takes a ticket of `lock` for `cpu`, which has none outstanding: a fetch-and-add of 1 on
+    /// `next`, whose old value is the ticket.
+    fn take(&mut self, cpu: CpuId, lock: LockId) -> u64
+        requires cpu { ActsFor self.old cpu }
+        requires lock { IsSome (opening self.old lock) }
+        requires room { 0 < room self.old }
+        requires outside { grant_standing cpu (seen self.old) ≡ Outside }
+        ensures adds { Adds (ActsFor self.old) grant_actor (Take cpu lock result) (seen self.old) (seen self.new) }
+        ensures opening { opening self.new ≡ opening self.old }
+        ensures site { site self.new ≡ site self.old }
+        ensures room { room self.old ≤ room self.new + 1 }
+        ensures acts { (c : CpuId) → ActsFor self.old c → ActsFor self.new c };
+
+    /// Loads the grant word of `ticket` for `cpu`, which waits at `lock` with it. Where it reads the
+    /// ticket plus 1 the peek hits: the lock's block passes to the CPU.
+    fn peek(&mut self, cpu: CpuId, lock: LockId, ticket: u64) -> Option<<Self::Edit as Edit>::Block>
+        requires cpu { ActsFor self.old cpu }
+        requires lock { IsSome (opening self.old lock) }
+        requires room { 0 < room self.old }
+        requires waiting { grant_standing cpu (seen self.old) ≡ Waiting lock ticket }
+        ensures adds { (read : ℕ) × Adds (ActsFor self.old) grant_actor (Peek cpu lock ticket read) (seen self.old) (seen self.new) }
+        ensures hits { MatchOption result
+            (grant_standing cpu (seen self.new) ≡ Waiting lock ticket)
+            (λ block. (grant_standing cpu (seen self.new) ≡ Inside lock ticket)
+            × (block_after Self.Edit.rules.edited (opening self.new) lock (grant_sections (seen self.new)) ≡ Some block)) }
+        ensures opening { opening self.new ≡ opening self.old }
+        ensures site { site self.new ≡ site self.old }
+        ensures room { room self.old ≤ room self.new + 1 }
+        ensures acts { (c : CpuId) → ActsFor self.old c → ActsFor self.new c };
+
+    /// Gives `lock` on for `cpu`, which is inside it: a store of its ticket plus 2 in the next
+    /// ticket's grant word. `block` is the one that the CPU's peek gave, edited as `mark` says, and
+    /// it goes home. The protocol allows that edit there.
+    fn give(
+        &mut self,
+        cpu: CpuId,
+        lock: LockId,
+        block: <Self::Edit as Edit>::Block,
+        mark: Self::Mark,
+    )
+        requires cpu { ActsFor self.old cpu }
+        requires lock { IsSome (opening self.old lock) }
+        requires room { 0 < room self.old }
+        requires inside { (ticket : ℕ) × (grant_standing cpu (seen self.old) ≡ Inside lock ticket) }
+        requires edited { option_map (Self.Edit.rules.edited (edit_in mark))
+            (block_after Self.Edit.rules.edited (opening self.old) lock (grant_sections (seen self.old))) ≡ Some block }
+        requires allowed { StaysAllowed (Self.Edit.rules.allowed (opening self.old)) (grant_sections (seen self.old))
+            (section cpu lock (edit_in mark)) }
+        ensures adds { Adds (ActsFor self.old) grant_actor (Give cpu lock (mark_of (edit_in mark))) (seen self.old) (seen self.new) }
+        ensures opening { opening self.new ≡ opening self.old }
+        ensures site { site self.new ≡ site self.old }
+        ensures room { room self.old ≤ room self.new + 1 }
+        ensures acts { (c : CpuId) → ActsFor self.old c → ActsFor self.new c };
+
+    /// Law: what a holder has seen is a legal log of grant words in which each section keeps the protocol.
+    ghost legal: { (w : Self) (c : CpuId) → ActsFor w c → IsLawful (GrantMayCome (Self.Edit.rules.allowed (opening w))) (seen w) };
+}

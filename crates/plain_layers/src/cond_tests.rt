@@ -1,0 +1,318 @@
+//! Conditions over ticket locks and over one-step schedulers: a wait frees its lock, and is over once the
+//! thread was woken.
+
+ghost use Rattle.std.specs.Prelude.{◌≡◌, ◌≢◌, ◌+◌, ◌*◌, ◌<◌, ◌≤◌, [], ◌∷◌, true, IsSome, IfOk};
+ghost use Rattle.event_log.specs.declared.ids.CpuId.{CpuId};
+ghost use Rattle.event_log.specs.declared.ids.LockId.TheVariants.{Buffer, Pending};
+ghost use Rattle.event_log.specs.declared.ids.Tid.{Tid};
+ghost use Rattle.event_log.specs.declared.ids.TheConstants.{CPUS, THREADS};
+ghost use Rattle.layer_traits.specs.Locking.{AreAtRest};
+ghost use Rattle.layer_traits.specs.QueueBlocks.{homes_in, inner};
+ghost use Rattle.layer_traits.specs.Renaming.{viewed};
+ghost use Rattle.queuing_lock.specs.Nested.{lock_of};
+ghost use Rattle.plain_layers.specs.CondTurns.{HasEnded, WaitsAt};
+ghost use Rattle.sleep_wakeup.specs.Nested.{state_of};
+
+use crate::PlainSched;
+use crate::cond_turns::{Turn, calls, drains, is_woken, switches, turns};
+use crate::openings::Opens;
+use condvar::Cond;
+use event_log::{BufId, CPUS, CpuId, NoMemory, THREADS, Tid};
+use layer_traits::{
+    CvEdit, CvLayer, CvLeave, CvOut, Guarded, Line, OwnedConds, QEdit, QOut, QueueEdit, Side,
+};
+use plain_machine::Plain;
+use queuing_lock::{QLock, QLockEdit, lock_blocks};
+use scheduler::Sched;
+use shared_queue::SharedQueues;
+use sleep_wakeup::{SleepEdit, Sleeper, sleep_blocks};
+use spinlock::Ticket;
+use std::alloc::Global;
+use std::test::Fail;
+
+/// Reads the block: the thread that stands at the front of either line.
+#[derive(Clone, Copy)]
+struct Reads {
+    caller: Tid,
+}
+
+impl Guarded for Reads {
+    ghost use Rattle.std.specs.Prelude.{Some};
+
+    type Block = Tid;
+
+    type Out = Tid;
+
+    ghost deeds = { record {
+      caller = λ e. e.caller;
+      edited = λ e b. b;
+      answer = λ e b. b;
+      ready = λ side b. Some b;
+      allowed = λ opening past s. Unit {0};
+    } };
+
+    fn caller(self) -> Tid {
+        self.caller
+    }
+
+    fn apply(self, block: &mut Tid) -> Tid {
+        *block
+    }
+
+    fn ready(_side: Side, block: &Tid) -> Option<Tid> {
+        Some(*block)
+    }
+}
+
+/// Thread 0 acquires in the polls of a section; after those of its Wait it waits among the receivers
+/// and the lock has no owner; and thread 1 then acquires in those of another.
+fn waits_and_frees<G: Guarded, C: OwnedConds<G>>(
+    zero: &mut C,
+    one: &mut C,
+    m: &mut C::Machine,
+    section: usize,
+) -> bool
+    requires granted { (opening : _) (past : _) (s : _) → G.deeds.allowed opening past s }
+    requires zero { C.Fits zero.old m.old }
+    requires one { C.Fits one.old m.old }
+    requires apart { C.cpu_of zero.old ≢ C.cpu_of one.old }
+    requires buffer { IsSome (C.opening m.old (Buffer (record { 0 = 0 }))) }
+    requires room { 3 * section ≤ C.room m.old }
+    requires owner { HasEnded G.deeds (C.own zero.old) (C.under_way zero.old) (record { 0 = 0 }) }
+    requires asker { HasEnded G.deeds (C.own one.old) (C.under_way one.old) (record { 0 = 1 }) }
+    ensures zero { C.Fits zero.new m.new }
+    ensures one { C.Fits one.new m.new }
+    ensures first { C.cpu_of zero.new ≡ C.cpu_of zero.old }
+    ensures second { C.cpu_of one.new ≡ C.cpu_of one.old }
+    ensures opening { C.opening m.new ≡ C.opening m.old }
+    ensures room { C.room m.old ≤ C.room m.new + 3 * section }
+    ensures waiter { result ≡ true → WaitsAt G.deeds (C.own zero.new) (C.under_way zero.new) (record { 0 = 0 }) (record { 0 = 0 }) }
+    ensures owner { result ≡ true → HasEnded G.deeds (C.own one.new) (C.under_way one.new) (record { 0 = 1 }) }
+{
+    let at = BufId(0);
+    let wait = QEdit::Release(CvLeave::Wait(Tid(0), Side::Receivers));
+    let Some(Turn::Answered(first)) = calls::<G, C>(zero, m, at, &QEdit::Acquire(Tid(0)), section)
+    else {
+        return false;
+    };
+    let Some(Turn::Sleeps) = calls::<G, C>(zero, m, at, &wait, section) else {
+        return false;
+    };
+    if zero.current().is_some() || C::line_in(m, at, Tid(0)) != Some(Line::Receivers) {
+        return false;
+    }
+    if C::owner_in(m, at) != Some(None) {
+        return false;
+    }
+    let Some(Turn::Answered(second)) = calls::<G, C>(one, m, at, &QEdit::Acquire(Tid(1)), section)
+    else {
+        return false;
+    };
+    matches!(first.out, QOut::Acquired) && matches!(second.out, QOut::Acquired)
+}
+
+/// Thread 1 signals the front of the receivers, by which thread 0 comes into CPU 1's hand and is then
+/// sent home, and leaves the lock.
+fn signals_and_leaves<G: Guarded, C: OwnedConds<G>>(
+    one: &mut C,
+    m: &mut C::Machine,
+    section: usize,
+) -> bool
+    requires granted { (opening : _) (past : _) (s : _) → G.deeds.allowed opening past s }
+    requires fits { C.Fits one.old m.old }
+    requires buffer { IsSome (C.opening m.old (Buffer (record { 0 = 0 }))) }
+    requires room { 3 * section ≤ C.room m.old }
+    requires owner { HasEnded G.deeds (C.own one.old) (C.under_way one.old) (record { 0 = 1 }) }
+    ensures opening { C.opening m.new ≡ C.opening m.old }
+    ensures room { C.room m.old ≤ C.room m.new + 3 * section }
+    ensures others { (p : C) → C.cpu_of p ≢ C.cpu_of one.old → C.Fits p m.old → C.Fits p m.new }
+{
+    let at = BufId(0);
+    let signal = QEdit::Inside(CvEdit::SignalFront(Tid(1), Side::Receivers));
+    let Some(Turn::GoesOn) = calls::<G, C>(one, m, at, &signal, section) else {
+        return false;
+    };
+    if one.hand() != Some(Tid(0)) || C::line_in(m, at, Tid(0)).is_some() {
+        return false;
+    }
+    let Some(Turn::Answered(signalled)) = turns::<G, C>(one, m, at, &signal, section) else {
+        return false;
+    };
+    if signalled.woke != Some(Tid(0)) || one.hand().is_some() {
+        return false;
+    }
+    let leave = QEdit::Release(CvLeave::Leave(Tid(1)));
+    matches!(
+        calls::<G, C>(one, m, at, &leave, section),
+        Some(Turn::Answered(_))
+    )
+}
+
+/// Thread 0's wait is over once it runs again.
+fn is_over<G: Guarded, C: CvLayer<G>>(zero: &mut C, m: &mut C::Machine, section: usize) -> bool
+    requires fits { C.Fits zero.old m.old }
+    requires buffer { IsSome (C.opening m.old (Buffer (record { 0 = 0 }))) }
+    requires room { section < C.room m.old }
+    requires waiter { WaitsAt G.deeds (C.own zero.old) (C.under_way zero.old) (record { 0 = 0 }) (record { 0 = 0 }) }
+{
+    if !drains::<G, C>(zero, m, section) || !switches::<G, C>(zero, m) {
+        return false;
+    }
+    match is_woken::<G, C>(zero, m, BufId(0), Tid(0), Side::Receivers) {
+        Some(Turn::Answered(over)) => matches!(over.out, QOut::Released(CvOut::Waited(_))),
+        _ => false,
+    }
+}
+
+/// Thread 0 waits and is woken by thread 1.
+fn is_waited_for<G: Guarded, C: OwnedConds<G>>(
+    zero: &mut C,
+    one: &mut C,
+    m: &mut C::Machine,
+    section: usize,
+) -> bool
+    requires granted { (opening : _) (past : _) (s : _) → G.deeds.allowed opening past s }
+    requires zero { C.Fits zero.old m.old }
+    requires one { C.Fits one.old m.old }
+    requires apart { C.cpu_of zero.old ≢ C.cpu_of one.old }
+    requires buffer { IsSome (C.opening m.old (Buffer (record { 0 = 0 }))) }
+    requires room { 7 * section < C.room m.old }
+    requires owner { HasEnded G.deeds (C.own zero.old) (C.under_way zero.old) (record { 0 = 0 }) }
+    requires asker { HasEnded G.deeds (C.own one.old) (C.under_way one.old) (record { 0 = 1 }) }
+{
+    if !switches::<G, C>(zero, m) || !switches::<G, C>(one, m) {
+        return false;
+    }
+    waits_and_frees::<G, C>(zero, one, m, section)
+        && signals_and_leaves::<G, C>(one, m, section)
+        && is_over::<G, C>(zero, m, section)
+}
+
+/// Thread 0 acquires and reads the block: the machine tells of the lock, and the part has no block in
+/// its hands; then it begins to leave, and looks again.
+fn is_told<C: OwnedConds<Reads>>(zero: &mut C, m: &mut C::Machine) -> bool
+    requires fits { C.Fits zero.old m.old }
+    requires buffer { IsSome (C.opening m.old (Buffer (record { 0 = 0 }))) }
+    requires queue { IsSome (C.opening m.old (Pending (record { 0 = 1 }))) }
+    requires room { 8 < C.room m.old }
+    requires ended { HasEnded ⟦<Reads as Guarded>⟧.deeds (C.own zero.old) (C.under_way zero.old) (record { 0 = 0 }) }
+{
+    let at = BufId(0);
+    let reads = QEdit::Inside(CvEdit::Edit(Reads { caller: Tid(0) }));
+    let leave = QEdit::Release(CvLeave::Leave(Tid(0)));
+    if !switches::<Reads, C>(zero, m) || zero.is_ready(Tid(0)) || zero.has_ended(Tid(0)) {
+        return false;
+    }
+    let Some(Turn::Answered(_)) = calls::<Reads, C>(zero, m, at, &QEdit::Acquire(Tid(0)), 3) else {
+        return false;
+    };
+    let Some(Turn::Answered(read)) = calls::<Reads, C>(zero, m, at, &reads, 3) else {
+        return false;
+    };
+    if C::block_in(m, at) != Some(&Tid(0)) || zero.block_here(at).is_some() {
+        return false;
+    }
+    if zero.owner_here(at).is_some() || zero.line_here(at, Tid(0)).is_some() || zero.at_once() {
+        return false;
+    }
+    if C::pends_in(m, CpuId(1), Tid(0)) != Some(false)
+        || zero.pends_here(CpuId(1), Tid(0)).is_some()
+    {
+        return false;
+    }
+    let Some(Turn::GoesOn) = calls::<Reads, C>(zero, m, at, &leave, 1) else {
+        return false;
+    };
+    matches!(read.out, QOut::Did(CvOut::Did(Tid(0)))) && zero.is_busy() && zero.look(m)
+}
+
+/// One block.
+fn one_block(alloc: Global) -> Result<Vec<Tid>, NoMemory>
+    ensures { IfOk result (λ blocks. blocks.items ≡ record { 0 = 0 } ∷ []) }
+{
+    let mut blocks = Vec::new(alloc);
+    match blocks.push(Tid(0)) {
+        Ok(()) => Ok(blocks),
+        Err(_) => Err(NoMemory),
+    }
+}
+
+/// A call on a lock with conditions, as an edit.
+type Calls = QLockEdit<CvEdit<Reads>, CvLeave>;
+
+/// What a section does to the block of its lock.
+type Edits = SleepEdit<Calls>;
+
+/// Conditions over a layer of schedulers.
+type Conds<S> = Cond<QLock<Sleeper<Calls, S>>>;
+
+/// A machine of two CPUs and one buffer; thread 0 is at home on CPU 0, and thread 1 on CPU 1.
+fn machine<S: Opens<Edits>>(alloc: Global) -> Result<S::Machine, NoMemory>
+    ensures acts { IfOk result (λ m. (c : CpuId) → c.0 < CPUS → S.ActsFor m c) }
+    ensures outside { IfOk result (λ m. (c : CpuId) → S.IsOutside m c) }
+    ensures seen { IfOk result (λ m. S.seen m ≡ []) }
+    ensures room { IfOk result (λ m. S.room m ≡ 30) }
+    ensures homes { IfOk result (λ m. homes_in (S.opening m) ≡ record { 0 = 0 } ∷ record { 0 = 1 } ∷ []) }
+    ensures queues { IfOk result (λ m. (c : CpuId) → c.0 < 2 → IsSome (S.opening m (Pending c))) }
+    ensures rest { IfOk result (λ m. AreAtRest (inner (viewed lock_of (viewed state_of (S.opening m))))) }
+    ensures buffer { IfOk result (λ m. IsSome (S.opening m (Buffer (record { 0 = 0 })))) }
+{
+    let above = one_block(alloc)?;
+    let locked = lock_blocks(alloc, above)?;
+    let blocks = sleep_blocks(alloc, locked)?;
+    S::open(alloc, blocks, 2, &[CpuId(0), CpuId(1)], 30)
+}
+
+/// The part of a CPU at boot.
+fn part<G: Guarded, C: CvLayer<G>>(m: &C::Machine, cpu: CpuId) -> C
+    requires acts { C.ActsFor m.now cpu }
+    requires outside { C.IsOutside m.now cpu }
+    requires seen { C.seen m.now ≡ [] }
+    requires homes { homes_in (C.opening m.now) ≡ record { 0 = 0 } ∷ record { 0 = 1 } ∷ [] }
+    requires queue { IsSome (C.opening m.now (Pending cpu)) }
+    requires rest { AreAtRest (inner (C.opening m.now)) }
+    ensures cpu { C.cpu_of result ≡ cpu }
+    ensures fits { C.Fits result m.now }
+    ensures ended { (t : Tid) → t.0 < THREADS → HasEnded G.deeds (C.own result) (C.under_way result) t }
+{
+    let _ = m;
+    C::part(cpu, &[CpuId(0), CpuId(1)], 1)
+}
+
+/// A wait is over once its thread was woken, over a machine of these schedulers, on which a section
+/// takes so many polls.
+fn is_woken_at_last<S: Opens<Edits> + Drop>(alloc: Global, polls: usize) -> Result<bool, NoMemory>
+where
+    S::Machine: Drop,
+    requires { polls ≤ 3 }
+{
+    let mut m = machine::<S>(alloc)?;
+    let mut zero = part::<Reads, Conds<S>>(&m, CpuId(0));
+    let mut one = part::<Reads, Conds<S>>(&m, CpuId(1));
+    Ok(is_waited_for::<Reads, Conds<S>>(&mut zero, &mut one, &mut m, polls))
+}
+
+/// A machine of ticket locks tells of its lock.
+fn tells<S: Opens<Edits> + Drop>(alloc: Global) -> Result<bool, NoMemory>
+where
+    S::Machine: Drop,
+{
+    let mut m = machine::<S>(alloc)?;
+    let mut zero = part::<Reads, Conds<S>>(&m, CpuId(0));
+    Ok(is_told::<Conds<S>>(&mut zero, &mut m))
+}
+
+type Tickets = Sched<SharedQueues<Ticket<Plain<QueueEdit<Edits>>>>>;
+
+#[test]
+fn a_wait_is_over_once_woken_over_ticket_locks(rt: HostRuntime) -> Result<(), Fail> {
+    assert!(rt; is_woken_at_last::<Tickets>(rt.alloc(), 3)?);
+    assert!(rt; tells::<Tickets>(rt.alloc())?);
+    Ok(())
+}
+
+#[test]
+fn a_wait_is_over_once_woken_in_one_step(rt: HostRuntime) -> Result<(), Fail> {
+    assert!(rt; is_woken_at_last::<PlainSched<Edits>>(rt.alloc(), 1)?);
+    Ok(())
+}

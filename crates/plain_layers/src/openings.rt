@@ -1,0 +1,106 @@
+//! Machines on which the tests run schedulers: critical sections beneath shared queues, lists beneath
+//! queues alone, and lists beneath a scheduler.
+
+ghost use Rattle.std.specs.Prelude.{◌≡◌, ◌<◌, [], IsSome, IfOk, length, slice_get};
+ghost use Rattle.event_log.specs.declared.ids.BufId.{BufId};
+ghost use Rattle.event_log.specs.declared.ids.CpuId.{CpuId};
+ghost use Rattle.event_log.specs.declared.ids.LockId.TheVariants.{Buffer, Pending};
+ghost use Rattle.event_log.specs.declared.ids.TheConstants.{CPUS};
+ghost use Rattle.layer_traits.specs.QueueBlocks.{homes_in, inner};
+ghost use Rattle.shared_queue.specs.Opening.{AreQueues};
+
+use crate::kernel::PlainKernel;
+use crate::queues::PlainQueues;
+use crate::scheds::PlainSched;
+use event_log::{CpuId, NoMemory};
+use layer_traits::{Moves, OwnedLocks, OwnedScheds, QueueEdit, SchedLayer};
+use scheduler::Sched;
+use shared_queue::{SharedQueues, queue_blocks};
+use std::alloc::Global;
+
+/// A layer of schedulers whose machine is opened with the blocks of its buffers.
+pub trait Opens<E: Moves>: OwnedScheds<E> {
+    /// A machine of so many CPUs, on which nobody is pending, with the block of each buffer in its
+    /// place. `homes` holds the home of each thread; there is room for `room` events.
+    ///
+    /// Errors: `NoMemory` where an allocation was refused.
+    fn open(
+        alloc: Global,
+        buffers: Vec<E::Block>,
+        cpus: u8,
+        homes: &[CpuId],
+        room: usize,
+    ) -> Result<Self::Machine, NoMemory>
+        requires { AreQueues cpus homes.now (length buffers.items) }
+        ensures acts { IfOk result (λ m. (c : CpuId) → c.0 < CPUS → Self.ActsFor m c) }
+        ensures outside { IfOk result (λ m. (c : CpuId) → Self.IsOutside m c) }
+        ensures seen { IfOk result (λ m. Self.seen m ≡ []) }
+        ensures room { IfOk result (λ m. Self.room m ≡ room) }
+        ensures homes { IfOk result (λ m. homes_in (Self.opening m) ≡ homes.now) }
+        ensures queues { IfOk result (λ m. (c : CpuId) → c.0 < cpus → IsSome (Self.opening m (Pending c))) }
+        ensures blocks { IfOk result (λ m. (b : BufId) → inner (Self.opening m) (Buffer b) ≡ slice_get buffers.items b.0) };
+}
+
+impl<E: Moves, L: OwnedLocks<QueueEdit<E>>> Opens<E> for Sched<SharedQueues<L>> {
+    fn open(
+        alloc: Global,
+        buffers: Vec<E::Block>,
+        cpus: u8,
+        homes: &[CpuId],
+        room: usize,
+    ) -> Result<L::Machine, NoMemory>
+        requires { AreQueues cpus homes.now (length buffers.items) }
+        ensures acts { IfOk result (λ m. (c : CpuId) → c.0 < CPUS → ⟦<Sched<SharedQueues<L>> as SchedLayer<E>>⟧.ActsFor m c) }
+        ensures outside { IfOk result (λ m. (c : CpuId) → ⟦<Sched<SharedQueues<L>> as SchedLayer<E>>⟧.IsOutside m c) }
+        ensures seen { IfOk result (λ m. ⟦<Sched<SharedQueues<L>> as SchedLayer<E>>⟧.seen m ≡ []) }
+        ensures room { IfOk result (λ m. ⟦<Sched<SharedQueues<L>> as SchedLayer<E>>⟧.room m ≡ room) }
+        ensures homes { IfOk result (λ m. homes_in (⟦<Sched<SharedQueues<L>> as SchedLayer<E>>⟧.opening m) ≡ homes.now) }
+        ensures queues { IfOk result (λ m. (c : CpuId) → c.0 < cpus → IsSome (⟦<Sched<SharedQueues<L>> as SchedLayer<E>>⟧.opening m (Pending c))) }
+        ensures blocks { IfOk result (λ m. (b : BufId) → inner (⟦<Sched<SharedQueues<L>> as SchedLayer<E>>⟧.opening m) (Buffer b) ≡ slice_get buffers.items b.0) }
+    {
+        let locks = queue_blocks(alloc, buffers, cpus, homes)?;
+        L::open(alloc, locks, room)
+    }
+}
+
+impl<E: Moves> Opens<E> for Sched<PlainQueues<E>> {
+    fn open(
+        alloc: Global,
+        buffers: Vec<E::Block>,
+        cpus: u8,
+        homes: &[CpuId],
+        room: usize,
+    ) -> Result<PlainKernel<E>, NoMemory>
+        requires { AreQueues cpus homes.now (length buffers.items) }
+        ensures acts { IfOk result (λ m. (c : CpuId) → c.0 < CPUS → ⟦<Sched<PlainQueues<E>> as SchedLayer<E>>⟧.ActsFor m c) }
+        ensures outside { IfOk result (λ m. (c : CpuId) → ⟦<Sched<PlainQueues<E>> as SchedLayer<E>>⟧.IsOutside m c) }
+        ensures seen { IfOk result (λ m. ⟦<Sched<PlainQueues<E>> as SchedLayer<E>>⟧.seen m ≡ []) }
+        ensures room { IfOk result (λ m. ⟦<Sched<PlainQueues<E>> as SchedLayer<E>>⟧.room m ≡ room) }
+        ensures homes { IfOk result (λ m. homes_in (⟦<Sched<PlainQueues<E>> as SchedLayer<E>>⟧.opening m) ≡ homes.now) }
+        ensures queues { IfOk result (λ m. (c : CpuId) → c.0 < cpus → IsSome (⟦<Sched<PlainQueues<E>> as SchedLayer<E>>⟧.opening m (Pending c))) }
+        ensures blocks { IfOk result (λ m. (b : BufId) → inner (⟦<Sched<PlainQueues<E>> as SchedLayer<E>>⟧.opening m) (Buffer b) ≡ slice_get buffers.items b.0) }
+    {
+        PlainKernel::open(alloc, buffers, cpus, homes, room)
+    }
+}
+
+impl<E: Moves> Opens<E> for PlainSched<E> {
+    fn open(
+        alloc: Global,
+        buffers: Vec<E::Block>,
+        cpus: u8,
+        homes: &[CpuId],
+        room: usize,
+    ) -> Result<PlainKernel<E>, NoMemory>
+        requires { AreQueues cpus homes.now (length buffers.items) }
+        ensures acts { IfOk result (λ m. (c : CpuId) → c.0 < CPUS → ⟦<PlainSched<E> as SchedLayer<E>>⟧.ActsFor m c) }
+        ensures outside { IfOk result (λ m. (c : CpuId) → ⟦<PlainSched<E> as SchedLayer<E>>⟧.IsOutside m c) }
+        ensures seen { IfOk result (λ m. ⟦<PlainSched<E> as SchedLayer<E>>⟧.seen m ≡ []) }
+        ensures room { IfOk result (λ m. ⟦<PlainSched<E> as SchedLayer<E>>⟧.room m ≡ room) }
+        ensures homes { IfOk result (λ m. homes_in (⟦<PlainSched<E> as SchedLayer<E>>⟧.opening m) ≡ homes.now) }
+        ensures queues { IfOk result (λ m. (c : CpuId) → c.0 < cpus → IsSome (⟦<PlainSched<E> as SchedLayer<E>>⟧.opening m (Pending c))) }
+        ensures blocks { IfOk result (λ m. (b : BufId) → inner (⟦<PlainSched<E> as SchedLayer<E>>⟧.opening m) (Buffer b) ≡ slice_get buffers.items b.0) }
+    {
+        PlainKernel::open(alloc, buffers, cpus, homes, room)
+    }
+}

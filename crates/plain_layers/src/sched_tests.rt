@@ -1,0 +1,448 @@
+//! Schedulers, run over ticket locks and over each one-step machine in its layer's place.
+
+ghost use Rattle.std.specs.Prelude.{◌≡◌, ◌≢◌, ◌+◌, ◌<◌, ◌≤◌, [], IsSome, IfOk, MatchOption, None, Some, true, length};
+ghost use Rattle.event_log.specs.declared.ids.CpuId.{CpuId};
+ghost use Rattle.event_log.specs.declared.ids.LockId.TheVariants.{Buffer, Pending};
+ghost use Rattle.event_log.specs.declared.ids.TheConstants.{CPUS, THREADS};
+ghost use Rattle.layer_traits.specs.declared.scheds.SchedCall.TheVariants.{Pass as ThePass};
+ghost use Rattle.layer_traits.specs.Passes.{MayPass};
+ghost use Rattle.layer_traits.specs.QueueBlocks.{StartsWell, homes_in, inner};
+ghost use Rattle.plain_layers.specs.Naps.{bed};
+ghost use Rattle.shared_queue.specs.Opening.{AreQueues};
+
+use crate::openings::Opens;
+use crate::{PlainLock, PlainQueues, PlainSched};
+use event_log::{BufId, CPUS, CpuId, NoMemory, Tid};
+use layer_traits::{Edit, Line, Moves, OwnedScheds, Pass, QueueEdit, SchedCall, SchedLayer};
+use plain_machine::Plain;
+use scheduler::Sched;
+use shared_queue::SharedQueues;
+use spinlock::Ticket;
+use std::alloc::Global;
+use std::process::Abort;
+use std::test::Fail;
+
+/// A nap at buffer 0: its caller sleeps in the one place there, or wakes who sleeps in it.
+#[derive(Clone, Copy)]
+struct Nap {
+    by: Tid,
+    wakes: bool,
+}
+
+impl Edit for Nap {
+    ghost use Rattle.plain_layers.specs.Naps.{nap_rules};
+
+    type Block = Option<Tid>;
+
+    type Out = (bool, Option<Tid>);
+
+    ghost rules = { nap_rules (λ e. e.wakes) (λ e. e.by) };
+
+    fn apply(self, block: &mut Option<Tid>) -> (bool, Option<Tid>) {
+        if self.wakes {
+            let woke = *block;
+            *block = None;
+            return (false, woke);
+        }
+        match *block {
+            None => {
+                *block = Some(self.by);
+                (true, None)
+            }
+            Some(_) => (false, None),
+        }
+    }
+}
+
+impl Moves for Nap {
+    ghost use Rattle.plain_layers.specs.Naps.{nap_moves, naps_wake_sleepers};
+
+    ghost moves = { nap_moves (λ e. e.by) };
+
+    fn slept(out: &(bool, Option<Tid>)) -> Option<Line> {
+        if out.0 { Some(Line::Sleepers) } else { None }
+    }
+
+    fn woke(out: &(bool, Option<Tid>)) -> Option<Tid> {
+        out.1
+    }
+
+    ghost wakes_sleepers = { naps_wake_sleepers (λ e. e.wakes) (λ e. e.by) };
+}
+
+/// A machine with one buffer, in which nobody sleeps, and with room for 40 events.
+fn machine<S: Opens<Nap>>(alloc: Global, cpus: u8, homes: &[CpuId]) -> Result<S::Machine, NoMemory>
+    requires { AreQueues cpus homes.now 1 }
+    ensures acts { IfOk result (λ m. (c : CpuId) → c.0 < CPUS → S.ActsFor m c) }
+    ensures outside { IfOk result (λ m. (c : CpuId) → S.IsOutside m c) }
+    ensures seen { IfOk result (λ m. S.seen m ≡ []) }
+    ensures room { IfOk result (λ m. S.room m ≡ 40) }
+    ensures homes { IfOk result (λ m. homes_in (S.opening m) ≡ homes.now) }
+    ensures queues { IfOk result (λ m. (c : CpuId) → c.0 < cpus → IsSome (S.opening m (Pending c))) }
+    ensures free { IfOk result (λ m. inner (S.opening m) bed ≡ Some None) }
+{
+    let mut blocks = Vec::new(alloc);
+    if blocks.push(None).is_err() {
+        return Err(NoMemory);
+    }
+    S::open(alloc, blocks, cpus, homes, 40)
+}
+
+/// Whether what the part's CPU has of its own lets a pass come.
+fn may_pass<S: SchedLayer<Nap>>(part: &S, pass: Pass) -> bool
+    ensures { result ≡ true → MayPass pass (S.threads part.now) }
+{
+    match pass {
+        Pass::Switch => part.current().is_none() && part.hand().is_none() && part.has_ready(),
+        Pass::YieldNow => part.current().is_some() && part.hand().is_none(),
+        Pass::Drain => part.current().is_none() && part.hand().is_none() && !part.has_ready(),
+        Pass::MakeReady(t) => part.hand() == Some(t),
+        Pass::End => part.current().is_some() && part.hand().is_none(),
+    }
+}
+
+/// Polls a pass, if it may come, until it answers, and tells at which poll it did; 0 where none of
+/// three polls answered.
+fn passed_at<S: SchedLayer<Nap>>(part: &mut S, m: &mut S::Machine, pass: Pass) -> u8
+    requires fits { S.Fits part.old m.old }
+    requires room { 3 ≤ S.room m.old }
+    requires free { inner (S.opening m.old) bed ≡ Some None }
+    ensures fits { S.Fits part.new m.new }
+    ensures room { S.room m.old ≤ S.room m.new + 3 }
+    ensures opening { S.opening m.new ≡ S.opening m.old }
+    ensures cpu { S.cpu_of part.new ≡ S.cpu_of part.old }
+    ensures others { (p : S) → S.cpu_of p ≢ S.cpu_of part.old → S.Fits p m.old → S.Fits p m.new }
+{
+    if part.is_busy() || !may_pass(part, pass) {
+        return 0;
+    }
+    let call = SchedCall::Pass(pass);
+    if part.poll(m, &call).is_some() {
+        return 1;
+    }
+    if part.poll(m, &call).is_some() {
+        return 2;
+    }
+    if part.poll(m, &call).is_some() { 3 } else { 0 }
+}
+
+/// The same of a nap.
+fn napped_at<S: SchedLayer<Nap>>(part: &mut S, m: &mut S::Machine, nap: Nap) -> u8
+    requires fits { S.Fits part.old m.old }
+    requires room { 3 ≤ S.room m.old }
+    requires free { inner (S.opening m.old) bed ≡ Some None }
+    ensures fits { S.Fits part.new m.new }
+    ensures room { S.room m.old ≤ S.room m.new + 3 }
+    ensures opening { S.opening m.new ≡ S.opening m.old }
+    ensures cpu { S.cpu_of part.new ≡ S.cpu_of part.old }
+    ensures others { (p : S) → S.cpu_of p ≢ S.cpu_of part.old → S.Fits p m.old → S.Fits p m.new }
+{
+    if part.is_busy() || part.current() != Some(nap.by) || part.hand().is_some() {
+        return 0;
+    }
+    let call = SchedCall::OnBuffer(BufId(0), nap);
+    if part.poll(m, &call).is_some() {
+        return 1;
+    }
+    if part.poll(m, &call).is_some() {
+        return 2;
+    }
+    if part.poll(m, &call).is_some() { 3 } else { 0 }
+}
+
+/// Thread `t` sleeps at buffer 0, or waits in CPU 0's queue: the machine tells it, and no part has the
+/// block or the queue in its hands.
+fn is_told<S: OwnedScheds<Nap>>(part: &S, m: &S::Machine, t: Tid, pends: bool) -> bool
+    requires fits { S.Fits part.now m.now }
+    requires free { inner (S.opening m.now) bed ≡ Some None }
+    requires queue { IsSome (S.opening m.now (Pending (record { 0 = 0 }))) }
+{
+    let sleeper = if pends { None } else { Some(t) };
+    if S::block_in(m, BufId(0)) != Some(&sleeper) || part.block_here(BufId(0)).is_some() {
+        return false;
+    }
+    S::pends_in(m, CpuId(0), t) == Some(pends) && part.pends_here(CpuId(0), t).is_none()
+}
+
+/// A look takes the place of the second poll of the taking of CPU 0's queue, which is then in its
+/// hands.
+fn looks_again<S: OwnedScheds<Nap>>(rt: &impl Abort, part: &mut S, m: &mut S::Machine)
+    requires fits { S.Fits part.old m.old }
+    requires room { 4 ≤ S.room m.old }
+{
+    assert!(rt; !part.is_busy());
+    assert!(rt; !polled(part, m, Pass::Drain));
+    assert!(rt; part.is_busy() && part.pends_here(CpuId(0), Tid(0)).is_none());
+    assert!(rt; part.look(m));
+    assert!(rt; part.pends_here(CpuId(0), Tid(0)) == Some(false));
+    assert!(rt; polled(part, m, Pass::Drain));
+    assert!(rt; !part.look(m));
+}
+
+/// The part of `cpu` at boot.
+fn part<S: SchedLayer<Nap>>(m: &S::Machine, cpu: CpuId, homes: &[CpuId]) -> S
+    requires few { length homes.now ≤ THREADS }
+    requires small { cpu.0 < CPUS }
+    requires acts { (c : CpuId) → c.0 < CPUS → S.ActsFor m.now c }
+    requires outside { (c : CpuId) → S.IsOutside m.now c }
+    requires seen { S.seen m.now ≡ [] }
+    requires homes { homes_in (S.opening m.now) ≡ homes.now }
+    requires queue { IsSome (S.opening m.now (Pending cpu)) }
+    ensures cpu { S.cpu_of result ≡ cpu }
+    ensures fits { S.Fits result m.now }
+{
+    let _ = m;
+    S::part(cpu, homes, 1)
+}
+
+/// Two threads at home on one CPU take turns; a call of the shared queues is done in so many polls.
+fn take_turns<S: SchedLayer<Nap>>(rt: &impl Abort, part: &mut S, m: &mut S::Machine, polls: u8)
+    requires fits { S.Fits part.old m.old }
+    requires room { 12 ≤ S.room m.old }
+    requires free { inner (S.opening m.old) bed ≡ Some None }
+{
+    assert_eq!(rt; passed_at(part, m, Pass::Switch), 1);
+    assert!(rt; part.current() == Some(Tid(0)));
+    assert_eq!(rt; passed_at(part, m, Pass::YieldNow), polls);
+    assert!(rt; part.current().is_none());
+    assert!(rt; part.is_ready(Tid(1)) && part.is_ready(Tid(0)));
+    assert_eq!(rt; passed_at(part, m, Pass::Switch), 1);
+    assert!(rt; part.current() == Some(Tid(1)));
+    assert_eq!(rt; passed_at(part, m, Pass::End), 1);
+    assert!(rt; part.has_ended(Tid(1)) && !part.is_busy());
+}
+
+/// The front of the ready threads, which is `t`, runs and goes to sleep.
+fn falls_asleep<S: SchedLayer<Nap>>(
+    rt: &impl Abort,
+    part: &mut S,
+    m: &mut S::Machine,
+    t: Tid,
+    polls: u8,
+)
+    requires fits { S.Fits part.old m.old }
+    requires room { 6 ≤ S.room m.old }
+    requires free { inner (S.opening m.old) bed ≡ Some None }
+    ensures fits { S.Fits part.new m.new }
+    ensures room { S.room m.old ≤ S.room m.new + 6 }
+    ensures opening { S.opening m.new ≡ S.opening m.old }
+    ensures cpu { S.cpu_of part.new ≡ S.cpu_of part.old }
+    ensures others { (p : S) → S.cpu_of p ≢ S.cpu_of part.old → S.Fits p m.old → S.Fits p m.new }
+{
+    assert_eq!(rt; passed_at(part, m, Pass::Switch), 1);
+    let nap = Nap {
+        by: t,
+        wakes: false,
+    };
+    assert_eq!(rt; napped_at(part, m, nap), polls);
+    assert!(rt; part.current().is_none());
+}
+
+/// The front of the ready threads, which is `t`, runs and wakes `sleeper`, which stands in hand.
+fn wakes<S: SchedLayer<Nap>>(
+    rt: &impl Abort,
+    part: &mut S,
+    m: &mut S::Machine,
+    t: Tid,
+    sleeper: Tid,
+    polls: u8,
+)
+    requires fits { S.Fits part.old m.old }
+    requires room { 6 ≤ S.room m.old }
+    requires free { inner (S.opening m.old) bed ≡ Some None }
+    ensures fits { S.Fits part.new m.new }
+    ensures room { S.room m.old ≤ S.room m.new + 6 }
+    ensures opening { S.opening m.new ≡ S.opening m.old }
+    ensures cpu { S.cpu_of part.new ≡ S.cpu_of part.old }
+    ensures others { (p : S) → S.cpu_of p ≢ S.cpu_of part.old → S.Fits p m.old → S.Fits p m.new }
+{
+    assert_eq!(rt; passed_at(part, m, Pass::Switch), 1);
+    let nap = Nap { by: t, wakes: true };
+    assert_eq!(rt; napped_at(part, m, nap), polls);
+    assert!(rt; part.hand() == Some(sleeper));
+}
+
+/// The thread in hand is pushed to its home.
+fn sends_home<S: SchedLayer<Nap>>(
+    rt: &impl Abort,
+    part: &mut S,
+    m: &mut S::Machine,
+    t: Tid,
+    polls: u8,
+)
+    requires fits { S.Fits part.old m.old }
+    requires room { 3 ≤ S.room m.old }
+    requires free { inner (S.opening m.old) bed ≡ Some None }
+    ensures room { S.room m.old ≤ S.room m.new + 3 }
+    ensures opening { S.opening m.new ≡ S.opening m.old }
+    ensures others { (p : S) → S.cpu_of p ≢ S.cpu_of part.old → S.Fits p m.old → S.Fits p m.new }
+{
+    assert_eq!(rt; passed_at(part, m, Pass::MakeReady(t)), polls);
+    assert!(rt; part.hand().is_none());
+}
+
+/// Thread `t` comes out of the pending queue and runs again.
+fn runs_again<S: SchedLayer<Nap>>(
+    rt: &impl Abort,
+    part: &mut S,
+    m: &mut S::Machine,
+    t: Tid,
+    polls: u8,
+)
+    requires fits { S.Fits part.old m.old }
+    requires room { 6 ≤ S.room m.old }
+    requires free { inner (S.opening m.old) bed ≡ Some None }
+{
+    assert_eq!(rt; passed_at(part, m, Pass::Drain), polls);
+    assert!(rt; part.is_ready(t));
+    assert_eq!(rt; passed_at(part, m, Pass::Switch), 1);
+    assert!(rt; part.current() == Some(t));
+}
+
+/// Polls a pass once, where it is under way or may come, and tells whether it is done.
+fn polled<S: SchedLayer<Nap>>(part: &mut S, m: &mut S::Machine, pass: Pass) -> bool
+    requires fits { S.Fits part.old m.old }
+    requires call { MatchOption (S.under_way part.old) (Unit {0}) (λ s. s ≡ ThePass pass) }
+    requires room { 0 < S.room m.old }
+    ensures fits { S.Fits part.new m.new }
+    ensures call { MatchOption (S.under_way part.new) (Unit {0}) (λ s. s ≡ ThePass pass) }
+    ensures room { S.room m.old ≤ S.room m.new + 1 }
+    ensures cpu { S.cpu_of part.new ≡ S.cpu_of part.old }
+    ensures others { (p : S) → S.cpu_of p ≢ S.cpu_of part.old → S.Fits p m.old → S.Fits p m.new }
+{
+    if !part.is_busy() && !may_pass(part, pass) {
+        return false;
+    }
+    part.poll(m, &SchedCall::Pass(pass)).is_some()
+}
+
+/// The second CPU pushes thread 1, which it has in hand, into the queue of the first CPU, while the
+/// first CPU takes that queue. The push came first, so the queue that is taken holds the thread.
+fn meet_at_one_queue<S: SchedLayer<Nap>>(
+    rt: &impl Abort,
+    first: &mut S,
+    second: &mut S,
+    m: &mut S::Machine,
+)
+    requires first { S.Fits first.old m.old }
+    requires second { S.Fits second.old m.old }
+    requires apart { S.cpu_of first.old ≢ S.cpu_of second.old }
+    requires others { S.cpu_of second.old ≢ S.cpu_of first.old }
+    requires room { 7 ≤ S.room m.old }
+{
+    assert!(rt; !first.is_busy() && !second.is_busy());
+    let push = Pass::MakeReady(Tid(1));
+    assert!(rt; !polled(second, m, push));
+    assert!(rt; !polled(first, m, Pass::Drain));
+    assert!(rt; !polled(first, m, Pass::Drain));
+    assert!(rt; !polled(second, m, push));
+    assert!(rt; polled(second, m, push));
+    assert!(rt; second.hand().is_none());
+    assert!(rt; !polled(first, m, Pass::Drain));
+    assert!(rt; polled(first, m, Pass::Drain));
+    assert!(rt; first.is_ready(Tid(1)));
+}
+
+/// Two threads at home on one CPU, over a machine of this layer.
+fn turns_are_taken<S: Opens<Nap> + Drop>(
+    rt: &impl Abort,
+    alloc: Global,
+    polls: u8,
+) -> Result<(), NoMemory>
+where
+    S::Machine: Drop,
+{
+    let homes = [CpuId(0), CpuId(0)];
+    let mut m = machine::<S>(alloc, 1, &homes)?;
+    let mut first: S = part(&m, CpuId(0), &homes);
+    take_turns(rt, &mut first, &mut m, polls);
+    Ok(())
+}
+
+/// Thread 0 of CPU 0 is woken by CPU 1, which sends it home.
+fn a_thread_goes_home<S: Opens<Nap> + Drop>(
+    rt: &impl Abort,
+    alloc: Global,
+    polls: u8,
+) -> Result<(), NoMemory>
+where
+    S::Machine: Drop,
+{
+    let homes = [CpuId(0), CpuId(1)];
+    let mut m = machine::<S>(alloc, 2, &homes)?;
+    let mut first: S = part(&m, CpuId(0), &homes);
+    let mut second: S = part(&m, CpuId(1), &homes);
+    falls_asleep(rt, &mut first, &mut m, Tid(0), polls);
+    assert!(rt; is_told(&first, &m, Tid(0), false));
+    wakes(rt, &mut second, &mut m, Tid(1), Tid(0), polls);
+    sends_home(rt, &mut second, &mut m, Tid(0), polls);
+    assert!(rt; is_told(&first, &m, Tid(0), true));
+    runs_again(rt, &mut first, &mut m, Tid(0), polls);
+    Ok(())
+}
+
+/// Two CPUs meet at CPU 0's queue, where a call takes three polls.
+fn cpus_meet<S: Opens<Nap> + Drop>(rt: &impl Abort, alloc: Global) -> Result<(), NoMemory>
+where
+    S::Machine: Drop,
+{
+    let homes = [CpuId(1), CpuId(0)];
+    let mut m = machine::<S>(alloc, 2, &homes)?;
+    let mut first: S = part(&m, CpuId(0), &homes);
+    let mut second: S = part(&m, CpuId(1), &homes);
+    falls_asleep(rt, &mut first, &mut m, Tid(1), 3);
+    wakes(rt, &mut second, &mut m, Tid(0), Tid(1), 3);
+    meet_at_one_queue(rt, &mut first, &mut second, &mut m);
+    Ok(())
+}
+
+/// CPU 0, whose threads are all elsewhere, takes its queue.
+fn a_look_is_a_poll<S: Opens<Nap> + Drop>(rt: &impl Abort, alloc: Global) -> Result<(), NoMemory>
+where
+    S::Machine: Drop,
+{
+    let homes = [CpuId(1)];
+    let mut m = machine::<S>(alloc, 2, &homes)?;
+    let mut first: S = part(&m, CpuId(0), &homes);
+    looks_again(rt, &mut first, &mut m);
+    Ok(())
+}
+
+/// What a machine that does a whole call in one poll does of all this: CPU 1's push and CPU 0's taking
+/// of one queue are each over at once.
+fn in_one_poll<S: Opens<Nap> + Drop>(rt: &impl Abort, alloc: Global) -> Result<(), NoMemory>
+where
+    S::Machine: Drop,
+{
+    turns_are_taken::<S>(rt, alloc, 1)?;
+    a_thread_goes_home::<S>(rt, alloc, 1)
+}
+
+type Tower = Sched<SharedQueues<Ticket<Plain<QueueEdit<Nap>>>>>;
+
+#[test]
+fn schedulers_run_over_ticket_locks(rt: HostRuntime) -> Result<(), Fail> {
+    turns_are_taken::<Tower>(&rt, rt.alloc(), 3)?;
+    a_thread_goes_home::<Tower>(&rt, rt.alloc(), 3)?;
+    cpus_meet::<Tower>(&rt, rt.alloc())?;
+    a_look_is_a_poll::<Tower>(&rt, rt.alloc())?;
+    Ok(())
+}
+
+#[test]
+fn one_step_sections_do_a_call_in_one_poll(rt: HostRuntime) -> Result<(), Fail> {
+    in_one_poll::<Sched<SharedQueues<PlainLock<QueueEdit<Nap>>>>>(&rt, rt.alloc())?;
+    Ok(())
+}
+
+#[test]
+fn one_step_queues_do_a_call_in_one_poll(rt: HostRuntime) -> Result<(), Fail> {
+    in_one_poll::<Sched<PlainQueues<Nap>>>(&rt, rt.alloc())?;
+    Ok(())
+}
+
+#[test]
+fn one_step_schedulers_do_a_call_in_one_poll(rt: HostRuntime) -> Result<(), Fail> {
+    in_one_poll::<PlainSched<Nap>>(&rt, rt.alloc())?;
+    Ok(())
+}

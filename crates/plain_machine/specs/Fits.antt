@@ -1,0 +1,16 @@
+-- What the words of a lock are after so many places taken, and given on so often.
+use Rattle.std.specs.Prelude.{◌≡◌, ℕ, ◌%◌, ◌^◌, ◌<◌, length, slice_index}
+use Rattle.event_log.specs.declared.ids.TheConstants.{CPUS}
+use Rattle.event_log.proofs.GrantWords.{WordFits}
+use Rattle.plain_machine.specs.declared.turn_words.LockWords.{LockWords}
+use Rattle.plain_machine.specs.declared.turn_words.Granting.{Granting}
+
+-- the words of a ticket lock hold the two counts modulo 2^64
+abbrev pub TicketsFit : ℕ → ℕ → LockWords → Type 0
+TicketsFit taken given w = (w.next ≡ taken % 2 ^ 64) × (w.serving ≡ given % 2 ^ 64)
+
+-- `next` holds the first count modulo 2^64, and each grant word what came to it last, if the lock was given on so often
+abbrev pub GrantsFit : ℕ → ℕ → Granting → Type 0
+GrantsFit taken given w =
+    (w.lock.next ≡ taken % 2 ^ 64) × (w.served ≡ given % 2 ^ 64) × (length w.lock.words ≡ CPUS)
+    × ((k : ℕ) → k < CPUS → WordFits k given (slice_index w.lock.words k))

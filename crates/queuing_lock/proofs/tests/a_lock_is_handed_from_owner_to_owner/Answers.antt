@@ -1,5 +1,0 @@
-use Rattle.std.proofs.Common.{arith}
-use Rattle.queuing_lock.proofs.tests.a_lock_is_handed_from_owner_to_owner.Goals as goal
-
-pub part-zero-requires-clause-acts : goal.part-zero-requires-clause-acts
-part-zero-requires-clause-acts g c = (c.in_ok-m.ensures.acts (record { 0 = 0 }) (omega arith), c.in_ok-m.ensures.starts)

@@ -1,0 +1,80 @@
+//! The threads that were taken out of a queue at once.
+
+ghost use Rattle.std.specs.Prelude.{◌≡◌, ◌<◌, ◌++◌, ◌∷◌, [], false, length, MatchOption};
+ghost use Rattle.event_log.specs.declared.ids.TheConstants.{THREADS};
+ghost use Rattle.thread_blocks.specs.Queues.{is_in, AreApart};
+
+use crate::queues::ThreadQueue;
+use arrayvec::ArrayVec;
+use event_log::{THREADS, Tid};
+use std::marker::Model;
+
+/// Threads that were taken out of a queue at once, in their order; none of them twice. They lie
+/// side by side, in a fifth of a queue's room, so whoever hands them on moves little. No call takes
+/// memory.
+#[derive(Drop)]
+pub struct ThreadList {
+    threads: ArrayVec<Tid, THREADS>,
+}
+
+impl Model for ThreadList {
+    ghost use Rattle.std.specs.Prelude.{List};
+    ghost use Rattle.event_log.specs.declared.ids.Tid.{Tid};
+    ghost use Rattle.thread_blocks.specs.Queues.{IsQueue};
+
+    ghost Value = { List Tid };
+
+    ghost view = { λ l. l.threads.items };
+
+    ghost invariant = { λ l. IsQueue l.threads.items };
+}
+
+impl ThreadList {
+    /// No thread.
+    #[inline(always)]
+    pub(crate) fn new() -> ThreadList
+        ensures { result ≡ [] }
+    {
+        ThreadList {
+            threads: ArrayVec::new(),
+        }
+    }
+
+    /// How many threads there are.
+    pub fn len(&self) -> usize
+        ensures { result ≡ length self.now }
+    {
+        self.threads.len()
+    }
+
+    /// Puts `t`, which is not there, behind the others.
+    #[inline(always)]
+    pub(crate) fn push(&mut self, t: Tid)
+        requires known { t.0 < THREADS }
+        requires new { is_in t self.old ≡ false }
+        ensures { self.new ≡ self.old ++ t ∷ [] }
+    {
+        self.threads.push(t);
+    }
+
+    /// Takes the first thread out; `None` where there is none.
+    fn pop(&mut self) -> Option<Tid>
+        ensures { MatchOption result ((self.old ≡ []) × (self.new ≡ [])) (λ t. (t.0 < THREADS) × (is_in t self.new ≡ false) × (self.old ≡ t ∷ self.new)) }
+    {
+        if self.threads.is_empty() {
+            return None;
+        }
+        Some(self.threads.remove(0))
+    }
+
+    /// Moves all threads behind those of `to`, in which none of them stands, and keeps their order.
+    pub fn drain_into(&mut self, to: &mut ThreadQueue)
+        requires { AreApart self.old to.old }
+        ensures to { to.new ≡ to.old ++ self.old }
+        ensures empty { self.new ≡ [] }
+    {
+        while let Some(t) = self.pop() {
+            to.push(t);
+        }
+    }
+}

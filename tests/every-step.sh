@@ -1,0 +1,25 @@
+#!/usr/bin/env bash
+# Holds each build of mctower against bench/plain_tower.rs, a plain program of the step table, after every step: over the plans of
+# plans/ and tests/rows/, and over 200 random ones of at most 200 steps (the same ones each time). Each text must get a yes of
+# `check`. Then runs 50 random plans until they are quiet, and looks whether anybody could go on. .ci/run calls it after rt ci.
+#
+#   tests/every-step.sh [PROGRAM..]
+#
+# Without a name it runs each build of mctower that `rt ci` or `rt run` left. Where there is no rustc it compares nothing and says so.
+set -eu
+cd "$(dirname "$0")/.."
+room=$(mktemp -d); trap 'rm -rf "$room"' EXIT
+[ $# -gt 0 ] || set -- $(ls crates/mctower/out/mctower crates/mctower/out/mctower.by-rattle 2> /dev/null)
+PATH=$PATH:$HOME/.cargo/bin
+command -v rustc > /dev/null || { echo "every step: not compared, since no rustc is here to build the plain program"; exit 0; }
+rustc -O -o "$room/plain_tower" bench/plain_tower.rs
+rustc -O -o "$room/every_step" bench/every_step.rs
+mkdir "$room/plans"
+python3 bench/random_plan.py "$room/plans" 1 200 200
+passed=0
+for program; do
+  "$room/every_step" "$program" "$room/plain_tower" plans/*.toml tests/rows/*.toml "$room"/plans/*.toml
+  python3 bench/quiet_often.py "$program" 1 50
+  passed=$((passed + 1))
+done
+[ "$passed" -gt 0 ]

@@ -1,0 +1,115 @@
+#!/usr/bin/env bash
+# Runs the built program with one thing refused, at every point of a whole run of each command: every single allocation, all from
+# one on, every start of a thread, standard output cut behind every byte, standard input that fails behind every byte. Each outcome
+# has to be the one of the unhindered run, or the refusal that is promised for it with just what may be out. It takes about a minute.
+#
+#   tests/faults.sh [PROGRAM]
+#
+# It wants the built program, and rustc. The last line is 'faults: N outcomes, M wrong'.
+set -u
+export LC_ALL=C
+cd "$(dirname "$0")/.."
+program=$(realpath "${1:-crates/mctower/out/mctower}")
+[ -x "$program" ] || { echo "faults: build the program first: (cd crates/mctower && rt run -- count --cpus 1 --times 1)"; exit 1; }
+room=$(mktemp -d)
+trap 'rm -rf "$room"' EXIT
+rustc --edition 2024 -O -C panic=abort --crate-type cdylib -o "$room/librefuse.so" bench/refuse.rs || exit 1
+outcomes=0
+wrong=0
+
+# Runs the command in `words` on the file `input`, with $1 in the environment: leaves `status`, the files out and err, and in `refused`
+# whether anything was refused.
+run() {
+  status=0
+  timeout 20 env LD_PRELOAD="$room/librefuse.so" "$1" "$program" "${words[@]}" < "$input" > "$room/out" 2> "$room/told" || status=$?
+  refused=no
+  if grep -q '^refused$' "$room/told"; then refused=yes; fi
+  grep -v '^refused$' "$room/told" > "$room/err"
+}
+# Whether the outcome is that of the unhindered run.
+is_true() {
+  [ "$status" = "$true_status" ] && cmp -s "$room/out" "$room/true_out" && cmp -s "$room/err" "$room/true_err"
+}
+# Whether the outcome is status 1 with the line of the refusal $1, and the first $2 bytes of the true output.
+is_refusal() {
+  [ "$status" = 1 ] && [ "$(cat "$room/err")" = "error: $1" ] && head -c "$2" "$room/true_out" | cmp -s - "$room/out"
+}
+# Whether the outcome is a bad command line, with nothing on standard output: what `clap` answers where it lacks memory.
+is_bad_line() {
+  [ "$status" = 2 ] && [ ! -s "$room/out" ]
+}
+# Counts an outcome, which is wrong where $1 is not 0; $2 tells what was refused.
+count() {
+  outcomes=$((outcomes + 1))
+  if [ "$1" != 0 ]; then
+    wrong=$((wrong + 1))
+    printf 'faults: %s with %s\n  status %s\n  output: %s\n  error: %s\n' "${words[*]}" "$2" "$status" "$(cat "$room/out")" "$(cat "$room/err")"
+  fi
+}
+
+# Each allocation, alone or with all later ones, by the name $1 of what refuses it. The start of a thread takes memory too.
+allocations() {
+  local n=1
+  while run "$1=$n"; [ "$refused" = yes ]; do
+    is_true || is_refusal 'NoMemory(1)' 0 || is_bad_line || { [ "${words[0]}" = count ] && is_refusal 'NoThread(5)' 0; }
+    count $? "$1=$n"
+    n=$((n + 1))
+  done
+}
+threads() {
+  local n=1
+  while run "REFUSE_THREAD=$n"; [ "$refused" = yes ]; do
+    is_true || is_refusal 'NoThread(5)' 0 || is_refusal 'NoMemory(1)' 0
+    count $? "REFUSE_THREAD=$n"
+    n=$((n + 1))
+  done
+}
+outputs() {
+  local n length
+  length=$(wc -c < "$room/true_out")
+  for ((n = 0; n < length; n++)); do
+    run "CUT_OUT=$n"
+    is_refusal 'WriteFault(8)' "$n"
+    count $? "CUT_OUT=$n"
+  done
+  run "CUT_OUT=$length"
+  is_true
+  count $? "CUT_OUT=$length"
+}
+inputs() {
+  local n length
+  length=$(wc -c < "$input")
+  for ((n = 0; n <= length; n++)); do
+    run "CUT_IN=$n"
+    is_refusal 'ReadFault(7)' 0
+    count $? "CUT_IN=$n"
+  done
+}
+
+# The words of a command behind the file that it reads; `reads` tells whether it reads it.
+command() {
+  local reads=$1
+  input=$2
+  shift 2
+  words=("$@")
+  run NOTHING=refused
+  true_status=$status
+  cp "$room/out" "$room/true_out"
+  cp "$room/err" "$room/true_err"
+  allocations REFUSE
+  allocations REFUSE_FROM
+  threads
+  outputs
+  if [ "$reads" = yes ]; then inputs; fi
+}
+
+sent=$'mctower-trace 1\nbuffers 1\ncap 0 1\ne 0 0 send 0 7 0 0\nleft 0 7\nend\n'
+printf '%s' "$sent" > "$room/yes.txt"
+printf '%s' "${sent/left 0 7/left 0 8}" > "$room/no.txt"
+command no /dev/null count --cpus 2 --times 2
+command yes plans/one-send.toml run --schedule '0*21'
+command no plans/one-send.toml run --schedule '0*'
+command yes "$room/yes.txt" check
+command yes "$room/no.txt" check
+echo "faults: $outcomes outcomes, $wrong wrong"
+[ "$wrong" = 0 ]
