@@ -4,9 +4,7 @@ use Rattle.std.proofs.Common.{is_some, refl, ap, sym, ◌∙◌, subst, arith}
 use Rattle.std.specs.Prelude.{slice_get, slice_index_or, if◌then◌else◌}
 use Rattle.std.proofs.lemmas.Bool.{and_parts}
 use Rattle.std.proofs.lemmas.Option.{slice_get_within}
-use Rattle.event_log.specs.declared.ids.BufId.{BufId}
 use Rattle.event_log.specs.declared.ids.CpuId.{CpuId}
-use Rattle.event_log.specs.declared.ids.LockId.TheVariants.{Buffer as AtBuffer}
 use Rattle.event_log.specs.declared.ids.Tid.{Tid}
 use Rattle.event_log.specs.History.{same_cpu}
 use Rattle.event_log.proofs.Same.{same_cpu_self, same_cpu_true}
@@ -17,15 +15,15 @@ use Rattle.layer_traits.specs.declared.steps.Reason.TheVariants.{AllEnded, Steps
 use Rattle.layer_traits.specs.OnePlace.{cpu_at}
 use Rattle.layer_traits.specs.Places.{Threads, pending_by}
 use Rattle.cpu.specs.Calm.{IsQuiet, calm_by, is_calm, is_nobody, rests}
-use Rattle.cpu.specs.Claims.{CpuShown, MovesAgree, Shown, beds_at, buffer_at}
+use Rattle.cpu.specs.Claims.{CpuShown, MovesAgree, Shown, buffer_at}
 use Rattle.cpu.specs.Cpus.{reason_in, halted_at as own_halted_at}
 use Rattle.cpu.specs.Sound.{IsReachedByTable, IsSetupFor}
 use Rattle.cpu.specs.Systems.{own_reason, whole_of}
-use Rattle.cpu.specs.Table.Blocks.{Block, Buffer, OfBuffer, OfPending}
+use Rattle.cpu.specs.Table.Blocks.{OfPending}
 use Rattle.cpu.specs.Table.Choice.{Alone, Choice, Goes, Halts, at_call, at_current, at_hand, at_instruction, at_ready, choice}
 use Rattle.cpu.specs.Table.Setups.{Call, Private, Setup, cpu_or, have_ended, home_of, home_threads, home_threads_from, stands_at, thread_at}
-use Rattle.cpu.specs.Table.Steps.{Whole, block_at, cpu_numbered, halted_at, halted_by}
-use Rattle.cpu.specs.Told.{CpuIsTold, IsStill, ToldByTable, owner_told, sleepers_told}
+use Rattle.cpu.specs.Table.Steps.{cpu_numbered, halted_at, halted_by}
+use Rattle.cpu.specs.Told.{CpuIsTold, IsStill, ToldByTable}
 use Rattle.cpu.specs.Wakeups.Quiet.{IsQuiet as IsQuietTable, IsQuietBy, IsStuck}
 use Rattle.cpu.proofs.ListReads.{shown_at, shows_at, there_is}
 use Rattle.cpu.proofs.Wakeups.Stuck.{quiet_is_stuck}
@@ -239,19 +237,16 @@ module _ (s : Shown) (told : ToldByTable s) (setup : Setup) (is : IsSetupFor set
       same_queue l same = cc same
 
 -- a quiet system is still
-still_of : (o : Option Block) → ((k : Buffer) → o ≡ Some (OfBuffer k) → (k.busy ≡ None) × (k.sleepers ≡ []))
-    → (owner_told o ≡ None) × (sleepers_told o ≡ [])
-still_of None each = (refl, refl)
-still_of (Some (OfBuffer k)) each = each k refl
-still_of (Some (OfPending threads)) each = (refl, refl)
-
 pub quiet_still : (s : Shown) → ToldByTable s → MovesAgree s → IsReachedByTable s → IsQuiet s → IsStill s
 quiet_still s told agree reached quiet = record {
   stuck = stuck;
-  unowned = λ setup is b within. told.owners setup is b within
-      ∙ (still_of (block_at setup (AtBuffer (buffer_at b)) s.log) (λ k at. (stuck setup is).unowned (buffer_at b) k at)).0;
-  awake = λ setup is b within. told.sleepers setup is b within
-      ∙ (still_of (block_at setup (AtBuffer (buffer_at b)) s.log) (λ k at. (stuck setup is).unowned (buffer_at b) k at)).1;
+  refused = λ setup is p u live e b m within next allowed.
+      let has = told.buffers setup is b.0 within in
+      (stuck setup is).effects p u live e b m next has.buffer has.there (rw (← has.told.capacity, ← has.told.items) allowed);
+  unowned = λ setup is b within.
+      let has = told.buffers setup is b within in has.told.owner ∙ ((stuck setup is).unowned (buffer_at b) has.buffer has.there).0;
+  awake = λ setup is b within.
+      let has = told.buffers setup is b within in has.told.sleepers ∙ ((stuck setup is).unowned (buffer_at b) has.buffer has.there).1;
 }
   where
     homes_in : (setup : Setup) → IsSetupFor setup s → setup.homes ≡ s.homes

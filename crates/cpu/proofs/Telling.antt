@@ -1,32 +1,39 @@
 -- What a system tells is what the step table has: its blocks, by the actions of all CPUs, and each CPU's threads.
-use Rattle.std.proofs.Common.{◌≡◌, inl, ℕ, ◌<◌, List, [], length, map, Option, Some, None, option_map, refl, ap, sym, ◌∙◌, subst, arith}
-use Rattle.std.specs.Prelude.{slice_get, slice_index_or}
+use Rattle.std.proofs.Common.{◌≡◌, inl, ℕ, ◌<◌, List, [], length, map, Option, Some, None, option_map, slice_index, refl, ap, sym, ◌∙◌}
+use Rattle.std.specs.Prelude.{slice_get}
+use Rattle.event_log.specs.declared.entries.Kind.{Kind}
 use Rattle.event_log.specs.declared.ids.BufId.{BufId}
 use Rattle.event_log.specs.declared.ids.CpuId.{CpuId}
 use Rattle.event_log.specs.declared.ids.LockId.{LockId}
 use Rattle.event_log.specs.declared.ids.LockId.TheVariants.{Buffer as AtBuffer, Pending}
 use Rattle.event_log.specs.declared.ids.Tid.{Tid}
 use Rattle.event_log.specs.Actions.{Action}
+use Rattle.event_log.specs.Buffers.{items_of}
+use Rattle.event_log.specs.Messages.{Message}
 use Rattle.event_log.specs.Sections.{block_after, sections_in}
 use Rattle.event_log.proofs.Renaming.{sections_in_renamed}
-use Rattle.layer_traits.specs.declared.moves.Line.{Line}
-use Rattle.layer_traits.specs.declared.moves.Line.TheVariants.{Sleepers}
+use Rattle.layer_traits.specs.declared.moves.Line.TheVariants.{Receivers, Senders, Sleepers}
 use Rattle.layer_traits.specs.declared.queue_edits.QueueBlock.TheVariants as block
-use Rattle.layer_traits.specs.Acted.{MovesAre, guarded, owner_after}
+use Rattle.layer_traits.specs.Acted.{ItemsAre, MovesAre, guarded, owner_after}
+use Rattle.layer_traits.specs.BufferEffects.{contents_of}
+use Rattle.layer_traits.specs.BufferProtocol.{BufferLock}
 use Rattle.layer_traits.specs.Locking.{line_in, owner_in}
-use Rattle.layer_traits.specs.Places.{Step, pending_by}
+use Rattle.layer_traits.specs.Places.{pending_by}
 use Rattle.layer_traits.specs.QueueBlocks.{above_of, with_queue}
 use Rattle.layer_traits.proofs.PlanRenaming.{block_viewed}
-use Rattle.cpu.specs.Claims.{Beds, beds_by, buffer_at, listed, no_beds}
-use Rattle.cpu.specs.Table.Blocks.{Block, Buffer, Name, OfBuffer, OfPending}
+use Rattle.cpu.specs.Claims.{Beds, CpuShown, Shown, beds_by, buffer_at, no_beds}
+use Rattle.cpu.specs.Sound.{IsSetupFor, SoundByTable}
+use Rattle.cpu.specs.Table.Blocks.{Buffer, OfBuffer, OfPending, stands_in}
 use Rattle.cpu.specs.Table.Edits.{edited, kernel}
 use Rattle.cpu.specs.Table.Setups.{Setup, opening as table_opening, opening_buffer}
 use Rattle.cpu.specs.Table.Steps.{block_at}
 use Rattle.cpu.specs.Tables.{bare}
-use Rattle.cpu.specs.Told.{owner_told, sleepers_told}
+use Rattle.cpu.specs.Told.{AllowsNow, BufferIsTold, HasBuffer, IsAwake}
 use Rattle.cpu.specs.Tower.Composed.{OpensAs, named}
 use Rattle.cpu.specs.Tower.Views.{TowerBlock, TowerName, answer_view, buffer_view, name_of, tower, view}
+use Rattle.cpu.specs.Wakeups.Lost.{Allows, NoWakeUpIsLost}
 use Rattle.cpu.proofs.ListReads.{listed_there}
+use Rattle.cpu.proofs.Sounding.{Told, shown_in}
 use Rattle.cpu.proofs.Tower.Polls.{opens_alike}
 use Rattle.cpu.proofs.Tower.Viewed.{tables_agree}
 
@@ -44,36 +51,57 @@ queue_viewed None queue is = absurd (cc is)
 queue_viewed (Some (block.Queue threads homes)) queue is = refl
 queue_viewed (Some (block.Above state)) queue is = absurd (cc is)
 
-owner_viewed : (o : Option TowerBlock) → owner_in (above_of o) ≡ owner_told (option_map view o)
-owner_viewed None = refl
-owner_viewed (Some (block.Queue threads homes)) = refl
-owner_viewed (Some (block.Above state)) = refl
+-- the table's view of a buffer's lock
+lock_viewed : (o : Option TowerBlock) (lock : BufferLock) → above_of o ≡ Some lock → option_map view o ≡ Some (OfBuffer (buffer_view lock))
+lock_viewed None lock is = absurd (cc is)
+lock_viewed (Some (block.Queue threads homes)) lock is = absurd (cc is)
+lock_viewed (Some (block.Above state)) lock is = let same : state ≡ lock = cc is in ap (λ (l : BufferLock). Some (OfBuffer (buffer_view l))) same
 
-sleepers_viewed : (o : Option TowerBlock) → line_in Sleepers (above_of o) ≡ sleepers_told (option_map view o)
-sleepers_viewed None = refl
-sleepers_viewed (Some (block.Queue threads homes)) = refl
-sleepers_viewed (Some (block.Above state)) = refl
+-- no wake-up is lost at a buffer of the table, so none at one that is told as it is
+awake_told : (s : Shown) (b : ℕ) (k : Buffer) → BufferIsTold s b k → NoWakeUpIsLost k → IsAwake s b k
+awake_told s b k told awake = record {
+  senders = λ free t m leads waits e asks allowed. awake.senders (sym told.owner ∙ free) t m leads (ap (stands_in t) (sym told.senders) ∙ waits) e asks
+      (allows e m allowed);
+  receivers = λ free t m leads waits e asks allowed. awake.receivers (sym told.owner ∙ free) t m leads (ap (stands_in t) (sym told.receivers) ∙ waits)
+      e asks (allows e m allowed);
+}
+  where
+    allows : (e : Kind) (m : Message) → AllowsNow s b e m → Allows k e m
+    allows e m now = rw (← told.capacity, ← told.items) now
 
-module _ (setup : Setup) (homes : List CpuId) (caps : List ℕ) (c : CpuId) (opening : LockId → Option TowerBlock) (acts : List (Action TowerName))
-    (moves : List Step) (lines : BufId → Line → List Tid) (opens : OpensAs (bare homes caps) c opening) (caps_are : setup.caps ≡ caps)
-    (are : MovesAre opening acts moves lines) where
-  pub pending_told : block_at setup (Pending c) (named acts) ≡ Some (OfPending (pending_by moves c))
+module _ (setup : Setup) (m : Told) (c : CpuId) (opening : LockId → Option TowerBlock) (opens : OpensAs (bare m.homes m.caps) c opening)
+    (caps_are : setup.caps ≡ m.caps) (are : MovesAre opening m.acts m.moves m.lines) where
+  pub pending_told : block_at setup (Pending c) (named m.acts) ≡ Some (OfPending (pending_by m.moves c))
   pending_told =
-      block_told setup opening acts (Pending c) (opens (Pending c) (inl refl)) ∙ ap (option_map view) (are.pending c)
-      ∙ queue_viewed (opening (Pending c)) (pending_by moves c) (opens (Pending c) (inl refl))
+      block_told setup opening m.acts (Pending c) (opens (Pending c) (inl refl)) ∙ ap (option_map view) (are.pending c)
+      ∙ queue_viewed (opening (Pending c)) (pending_by m.moves c) (opens (Pending c) (inl refl))
 
-  buffer_told : (b : BufId) → block_at setup (AtBuffer b) (named acts) ≡ option_map view (guarded opening acts (AtBuffer b))
+  buffer_told : (b : BufId) → block_at setup (AtBuffer b) (named m.acts) ≡ option_map view (guarded opening m.acts (AtBuffer b))
   buffer_told b =
-      block_told setup opening acts (AtBuffer b) (opens (AtBuffer b) tt ∙ ap (λ (l : List ℕ). opening_buffer (slice_get l b.0)) (sym caps_are))
+      block_told setup opening m.acts (AtBuffer b) (opens (AtBuffer b) tt ∙ ap (λ (l : List ℕ). opening_buffer (slice_get l b.0)) (sym caps_are))
 
-  pub owner_is_told : (owner : BufId → Option Tid) (n b : ℕ) → ((d : BufId) → owner d ≡ owner_after opening acts d) → b < n
-      → slice_index_or (listed (λ k. owner (buffer_at k)) 0 n) b None ≡ owner_told (block_at setup (AtBuffer (buffer_at b)) (named acts))
-  owner_is_told owner n b after within =
-      listed_there (λ k. owner (buffer_at k)) n b None within ∙ after (buffer_at b)
-      ∙ owner_viewed (guarded opening acts (AtBuffer (buffer_at b))) ∙ ap owner_told (sym (buffer_told (buffer_at b)))
+  -- a system over this machine tells its buffers as the table has them
+  module _ (cpus : List CpuShown) (room taken : ℕ) (sound : SoundByTable (shown_in m cpus room taken)) (is : IsSetupFor setup (shown_in m cpus room taken))
+      (owner_is : (b : BufId) → m.owner b ≡ owner_after opening m.acts b) where
+    abbrev s : Shown
+    s = shown_in m cpus room taken
 
-  pub sleepers_are_told : (n b : ℕ) → b < n
-      → (slice_index_or (listed (beds_by lines) 0 n) b no_beds).sleepers ≡ sleepers_told (block_at setup (AtBuffer (buffer_at b)) (named acts))
-  sleepers_are_told n b within =
-      ap (λ (x : Beds). x.sleepers) (listed_there (beds_by lines) n b no_beds within) ∙ are.waiting (buffer_at b) Sleepers
-      ∙ sleepers_viewed (guarded opening acts (AtBuffer (buffer_at b))) ∙ ap sleepers_told (sym (buffer_told (buffer_at b)))
+    pub has_buffer : (b : ℕ) → b < length m.caps
+        → ItemsAre opening m.acts (buffer_at b) (items_of (contents_of m.caps m.seen) b) (slice_index m.caps b) → HasBuffer setup s b
+    has_buffer b within held =
+        let there = buffer_told (buffer_at b) ∙ lock_viewed (guarded opening m.acts (AtBuffer (buffer_at b))) held.lock held.there in
+        let beds = listed_there (beds_by m.lines) (length m.caps) b no_beds within in
+        let told : BufferIsTold s b (buffer_view held.lock) = record {
+          owner = listed_there (λ k. m.owner (buffer_at k)) (length m.caps) b None within ∙ owner_is (buffer_at b) ∙ ap owner_in held.there;
+          sleepers = ap (λ (x : Beds). x.sleepers) beds ∙ are.waiting (buffer_at b) Sleepers ∙ ap (line_in Sleepers) held.there;
+          receivers = ap (λ (x : Beds). x.receivers) beds ∙ are.waiting (buffer_at b) Receivers ∙ ap (line_in Receivers) held.there;
+          senders = ap (λ (x : Beds). x.senders) beds ∙ are.waiting (buffer_at b) Senders ∙ ap (line_in Senders) held.there;
+          items = held.holds;
+          capacity = held.may_hold;
+        } in
+        record {
+          buffer = buffer_view held.lock;
+          there = there;
+          told = told;
+          awake = awake_told s b (buffer_view held.lock) told (sound.awake setup is (buffer_at b) (buffer_view held.lock) there);
+        }

@@ -1,21 +1,25 @@
 -- What a system tells of its CPUs, its queues and its buffers is what the step table has there.
-use Rattle.std.specs.Prelude.{◌≡◌, ℕ, ◌<◌, ◌≤◌, Bool, List, [], length, Option, Some, None, slice_get, slice_index_or}
+use Rattle.std.specs.Prelude.{◌≡◌, ℕ, ◌<◌, ◌≤◌, true, [], length, Some, None, slice_get, slice_index, slice_index_or}
+use Rattle.event_log.specs.declared.entries.Kind.{Kind}
 use Rattle.event_log.specs.declared.ids.BufId.{BufId}
 use Rattle.event_log.specs.declared.ids.CpuId.{CpuId}
 use Rattle.event_log.specs.declared.ids.LockId.TheVariants.{Buffer as AtBuffer, Pending}
 use Rattle.event_log.specs.declared.ids.Tid.{Tid}
 use Rattle.event_log.specs.declared.ids.TheConstants.{THREADS}
 use Rattle.event_log.specs.Actions.{phase}
+use Rattle.event_log.specs.Buffers.{IsAllowedEffect, items_of}
+use Rattle.event_log.specs.Messages.{Message}
 use Rattle.layer_traits.specs.Places.{pending_by}
 use Rattle.layer_traits.specs.Plans.{is_in_section}
 use Rattle.cpu.specs.Claims.{CpuShown, Shown, beds_at, buffer_at}
 use Rattle.cpu.specs.Cpus.{halted_at as own_halted_at}
 use Rattle.cpu.specs.Sound.{IsSetupFor}
 use Rattle.cpu.specs.Systems.{whole_of}
-use Rattle.cpu.specs.Table.Blocks.{Block, OfBuffer, OfPending}
-use Rattle.cpu.specs.Table.Setups.{Setup}
+use Rattle.cpu.specs.Table.Blocks.{Buffer, OfBuffer, OfPending, Receives, Sends, front, stands_in}
+use Rattle.cpu.specs.Table.Setups.{Private, Setup, stands_at, thread_at}
 use Rattle.cpu.specs.Table.Steps.{block_at, cpu_numbered, halted_at}
-use Rattle.cpu.specs.Wakeups.Quiet.{IsQuiet, IsStuck}
+use Rattle.cpu.specs.Wakeups.Lost.{asks_of}
+use Rattle.cpu.specs.Wakeups.Quiet.{IsLive, IsNextEffect, IsStuck}
 
 -- CPU k is told as it is: whether it has a section under way, why it is halted, its threads, and who is pending for it
 pub record CpuIsTold (setup : Setup) (s : Shown) (k : ℕ) (p : CpuShown) : Type 0 where
@@ -26,31 +30,46 @@ pub record CpuIsTold (setup : Setup) (s : Shown) (k : ℕ) (p : CpuShown) : Type
   pub hand : p.private.hand ≡ p.own.hand
   pub pending : block_at setup (Pending (cpu_numbered k)) s.log ≡ Some (OfPending (pending_by s.moves (cpu_numbered k)))
 
--- the owner of a block's lock, and who sleeps at it
-abbrev pub owner_told : Option Block → Option Tid
-owner_told None = None
-owner_told (Some (OfBuffer k)) = k.busy
-owner_told (Some (OfPending threads)) = None
+-- buffer b is told as it is: who owns its lock, who sleeps at it and who waits, what it holds, and how much it may hold
+pub record BufferIsTold (s : Shown) (b : ℕ) (k : Buffer) : Type 0 where
+  pub owner : slice_index_or s.owners b None ≡ k.busy
+  pub sleepers : (beds_at s b).sleepers ≡ k.sleepers
+  pub receivers : (beds_at s b).receivers ≡ k.waiting_receivers
+  pub senders : (beds_at s b).senders ≡ k.waiting_senders
+  pub items : items_of s.contents b ≡ k.items
+  pub capacity : slice_index s.caps b ≡ k.capacity
 
-abbrev pub sleepers_told : Option Block → List Tid
-sleepers_told None = []
-sleepers_told (Some (OfBuffer k)) = k.sleepers
-sleepers_told (Some (OfPending threads)) = []
+-- buffer b, as the system tells it, allows an effect of this kind with this message
+abbrev pub AllowsNow : Shown → ℕ → Kind → Message → Type 0
+AllowsNow s b e m = IsAllowedEffect e (slice_index s.caps b) (items_of s.contents b) m
 
--- each CPU is told as it is, and so are the owner of each buffer's lock and who sleeps at it; there is a CPU, and there are no more
--- threads than a machine may have
+-- no wake-up is lost at buffer b, of what the system tells: while nobody owns its lock, the first of neither line waits although the buffer
+-- allows an effect of its call
+pub record IsAwake (s : Shown) (b : ℕ) (k : Buffer) : Type 0 where
+  pub senders : slice_index_or s.owners b None ≡ None → (t : Tid) (m : Message) → front k.send_line ≡ Some t
+      → stands_in t (beds_at s b).senders ≡ true → (e : Kind) → asks_of e ≡ Sends → AllowsNow s b e m → ⊥
+  pub receivers : slice_index_or s.owners b None ≡ None → (t : Tid) (m : Message) → front k.receive_line ≡ Some t
+      → stands_in t (beds_at s b).receivers ≡ true → (e : Kind) → asks_of e ≡ Receives → AllowsNow s b e m → ⊥
+
+-- the table has buffer b, and it is told as it is
+pub record HasBuffer (setup : Setup) (s : Shown) (b : ℕ) : Type 0 where
+  pub buffer : Buffer
+  pub there : block_at setup (AtBuffer (buffer_at b)) s.log ≡ Some (OfBuffer buffer)
+  pub told : BufferIsTold s b buffer
+  pub awake : IsAwake s b buffer
+
+-- each CPU is told as it is, and so is each buffer; there is a CPU, and there are no more threads than a machine may have
 pub record ToldByTable (s : Shown) : Type 0 where
   pub cpus : (setup : Setup) → IsSetupFor setup s → (k : ℕ) (p : CpuShown) → slice_get s.cpus k ≡ Some p → CpuIsTold setup s k p
-  pub owners : (setup : Setup) → IsSetupFor setup s → (b : ℕ) → b < length s.caps
-      → slice_index_or s.owners b None ≡ owner_told (block_at setup (AtBuffer (buffer_at b)) s.log)
-  pub sleepers : (setup : Setup) → IsSetupFor setup s → (b : ℕ) → b < length s.caps
-      → (beds_at s b).sleepers ≡ sleepers_told (block_at setup (AtBuffer (buffer_at b)) s.log)
+  pub buffers : (setup : Setup) → IsSetupFor setup s → (b : ℕ) → b < length s.caps → HasBuffer setup s b
   pub some : 0 < length s.cpus
   pub few : length s.homes ≤ THREADS
 
--- a quiet system is stuck: no live thread has a next effect that its buffer allows, nobody owns the lock of a buffer, and nobody sleeps
--- at one
+-- a quiet system is stuck: no live thread has a next effect that its buffer, as the system tells it, allows, nobody owns the lock of a
+-- buffer, and nobody sleeps at one
 pub record IsStill (s : Shown) : Type 0 where
   pub stuck : (setup : Setup) → IsSetupFor setup s → IsStuck setup (whole_of s)
+  pub refused : (setup : Setup) → IsSetupFor setup s → (p : Private) (u : Tid) → IsLive setup (whole_of s) p u → (e : Kind) (b : BufId) (m : Message)
+      → b.0 < length s.caps → IsNextEffect (stands_at setup p u) (thread_at p u).guest (asks_of e) b m → AllowsNow s b.0 e m → ⊥
   pub unowned : (setup : Setup) → IsSetupFor setup s → (b : ℕ) → b < length s.caps → slice_index_or s.owners b None ≡ None
   pub awake : (setup : Setup) → IsSetupFor setup s → (b : ℕ) → b < length s.caps → (beds_at s b).sleepers ≡ []

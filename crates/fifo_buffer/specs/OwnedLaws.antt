@@ -1,6 +1,6 @@
 -- What the conditions beneath tell of their locks, the buffers tell of their items, owners and waiting lists.
-use Rattle.std.proofs.Common.{◌≡◌, ◌<◌, Bool, true, false, List, [], ◌∷◌, ◌++◌, length, Option, Some, None, IsSome}
-use Rattle.std.proofs.Common.{option_map, option_to_list, if◌then◌else◌, refl, ap, sym, ◌∙◌, subst}
+use Rattle.std.proofs.Common.{◌≡◌, ◌<◌, Bool, true, false, List, [], ◌∷◌, ◌++◌, length, map, Option, Some, None, IsSome}
+use Rattle.std.proofs.Common.{option_map, option_to_list, slice_index, if◌then◌else◌, refl, ap, sym, ◌∙◌, subst}
 use Rattle.std.proofs.lemmas.Option.{slice_get-get_or}
 use Rattle.std.specs.List.{AllByRecursion}
 use Rattle.event_log.specs.declared.entries.Entry.{Entry}
@@ -13,11 +13,13 @@ use Rattle.event_log.specs.declared.ids.TheConstants.{CPUS}
 use Rattle.event_log.specs.Buffers.{items_of}
 use Rattle.event_log.specs.History.{IsLawful, same_lock}
 use Rattle.event_log.specs.Messages.{Message}
+use Rattle.event_log.specs.Sections.{sections_in}
 use Rattle.layer_traits.specs.declared.buffer_edits.BufferEdit.{BufferEdit}
 use Rattle.layer_traits.specs.declared.moves.Line.{Line}
 use Rattle.layer_traits.specs.declared.queue_edits.QueueBlock.{QueueBlock}
 use Rattle.layer_traits.specs.declared.queues.QueueCall.{QueueCall}
 use Rattle.layer_traits.specs.declared.queues.QueueCall.TheVariants.{Push, TakeAll, OnBuffer}
+use Rattle.layer_traits.specs.Acted.{BufferActs, ItemsAre}
 use Rattle.layer_traits.specs.BufferEffects.{contents_of, drawn, effect_of, effects_in, fresh_lock}
 use Rattle.layer_traits.specs.BufferProtocol.{BufferLock, BufferSection, buffer_at, buffer_deeds}
 use Rattle.layer_traits.specs.Conditions.{CvCall, cv_rules}
@@ -25,9 +27,11 @@ use Rattle.layer_traits.specs.LockLaw.{lock_kernel}
 use Rattle.layer_traits.specs.Locking.{line_in, lock_after, lock_edited, owner_in}
 use Rattle.layer_traits.specs.Owned.{IsShown}
 use Rattle.layer_traits.specs.Protocol.{section}
-use Rattle.layer_traits.specs.QueueBlocks.{above_of, inner}
-use Rattle.layer_traits.specs.Queues.{IsKnownEvent, QueueAllowed, buffer_sections, with_section}
+use Rattle.layer_traits.specs.QueueBlocks.{StartsWell, above_of, inner}
+use Rattle.layer_traits.specs.QueueRules.{AreProper}
+use Rattle.layer_traits.specs.Queues.{IsKnownEvent, QueueAllowed, buffer_sections, event_of, with_section}
 use Rattle.layer_traits.specs.Told.{IsTold}
+use Rattle.layer_traits.proofs.ActedLemmas.{lock_is}
 use Rattle.layer_traits.proofs.OwnedLemmas.{shown_under, told_shown, viewed_shown}
 use Rattle.fifo_buffer.specs.FifoFits.{BootsSo, caps_in}
 use Rattle.fifo_buffer.specs.Tallies.{all_tallied, effect_place}
@@ -89,6 +93,21 @@ module _ (opening : LockId → Option (QueueBlock BufferLock)) (boots : BootsSo 
   items_told past lawful =
       let lock = found past in
       ap (option_map items_in) lock.1 ∙ ap Some (sym (all_tallied opening (caps_in opening) boots past lawful b lock.0 lock.1).items)
+
+  -- and where they are those of the actions' sections, they are what these leave in its lock
+  pub items_acted : (past : List BufferEvent) (acts : BufferActs) → StartsWell opening → AreProper (sections_in acts)
+      → past ≡ map event_of (sections_in acts) → IsLawful (QueueAllowed (lock_kernel (cv_rules buffer_deeds) opening)) past
+      → ItemsAre opening acts b (items_of (contents_of (caps_in opening) (effects_in (inner opening) (buffer_sections past))) b.0)
+      (slice_index (caps_in opening) b.0)
+  items_acted past acts starts proper past_is lawful =
+      let lock = found past in
+      let tally = all_tallied opening (caps_in opening) boots past lawful b lock.0 lock.1 in
+      record {
+        lock = lock.0;
+        there = sym (lock_is opening acts starts proper past past_is b) ∙ lock.1;
+        holds = tally.items;
+        may_hold = tally.capacity;
+      }
 
   pub owner_told : (past : List BufferEvent) → option_map owner_of (lock_of opening past b) ≡ Some (owner_in (lock_of opening past b))
   owner_told past =

@@ -248,7 +248,7 @@ impl<C: OwnedConds<BufferEdit>> OwnedBuffers for Fifo<C> {
     ghost use Rattle.layer_traits.specs.QueueBlocks.{inner};
     ghost use Rattle.layer_traits.specs.Queues.{buffer_sections, moves_in};
     ghost use Rattle.fifo_buffer.specs.FifoFits.{caps_in};
-    ghost use Rattle.fifo_buffer.specs.OwnedLaws.{block_there, effects_known, items_in, items_told, lines_of};
+    ghost use Rattle.fifo_buffer.specs.OwnedLaws.{block_there, effects_known, items_acted, items_in, items_told, lines_of};
     ghost use Rattle.fifo_buffer.specs.OwnedLaws.{lines_told, lock_of, lock_told, owner_of, owner_told, queue_told};
 
     ghost owner = { λ m b. owner_in (lock_of (C.opening m) (C.seen m) b) };
@@ -340,6 +340,9 @@ impl<C: OwnedConds<BufferEdit>> OwnedBuffers for Fifo<C> {
 
     ghost owner_is = { λ step m c b acts. owner_by_acts (C.opening m) (C.acts m) (C.opens m c acts.0) (C.proper step m c acts.0) (C.seen m)
         (C.seen_is step m) b };
+
+    ghost items_are = { λ step m c b acts within. items_acted (C.opening m) acts.1 b within (C.seen m) (C.acts m) (C.opens m c acts.0)
+        (C.proper step m c acts.0) (C.seen_is step m) (C.lawful m c acts.0) };
 
     ghost beds = { λ m c b acts within. lock_told (λ (p : Self). p.lower) (λ p. C.Fits p m) (λ (p : Self). Self.Fits p m)
         (λ p. C.cpu_of p) (λ d. C.IsStepwise × (is_in_section (phase d (C.acts m)) ≡ true)) (λ p fits. fits.0)

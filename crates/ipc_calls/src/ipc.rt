@@ -347,6 +347,8 @@ impl<B: OpensBuffers> Owned for Ipc<B> {
 
     ghost owner_is = { B.owner_is };
 
+    ghost items_are = { B.items_are };
+
     ghost place = { λ p m t fits there.
         let home = home_there (homes_in (B.opening m)) t there in
         let acts = B.own_cpu p.lower m fits.0 in

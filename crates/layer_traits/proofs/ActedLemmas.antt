@@ -26,7 +26,7 @@ above_made (Some block) = refl
 module _ (opening : LockId → Option (QueueBlock BufferLock)) (acts : BufferActs) (starts : StartsWell opening) (proper : AreProper (sections_in acts))
     (seen : List (QueueEvent (CvCall BufferEdit))) (seen_is : seen ≡ map event_of (sections_in acts)) where
   -- a buffer's lock by the history is what its block holds
-  lock_is : (b : BufId) → lock_after buffer_rules (inner opening) (Buffer b) (buffer_sections seen) ≡ above_of (guarded opening acts (Buffer b))
+  pub lock_is : (b : BufId) → lock_after buffer_rules (inner opening) (Buffer b) (buffer_sections seen) ≡ above_of (guarded opening acts (Buffer b))
   lock_is b =
       ap (λ past. lock_after buffer_rules (inner opening) (Buffer b) (buffer_sections past)) seen_is
       ∙ (sym (above_made (lock_after buffer_rules (inner opening) (Buffer b) (buffer_sections (map event_of (sections_in acts)))))

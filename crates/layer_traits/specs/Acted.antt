@@ -1,11 +1,12 @@
 -- What the layers tell of threads is what the sections of the actions make of it.
-use Rattle.std.specs.Prelude.{◌≡◌, List, Option, map}
+use Rattle.std.specs.Prelude.{◌≡◌, ℕ, List, Option, Some, map}
 use Rattle.event_log.specs.declared.ids.BufId.{BufId}
 use Rattle.event_log.specs.declared.ids.CpuId.{CpuId}
 use Rattle.event_log.specs.declared.ids.LockId.{LockId}
 use Rattle.event_log.specs.declared.ids.LockId.TheVariants.{Pending, Buffer}
 use Rattle.event_log.specs.declared.ids.Tid.{Tid}
 use Rattle.event_log.specs.Actions.{Action}
+use Rattle.event_log.specs.Messages.{Message}
 use Rattle.event_log.specs.Sections.{block_after, sections_in}
 use Rattle.layer_traits.specs.declared.buffer_edits.BufferEdit.{BufferEdit}
 use Rattle.layer_traits.specs.declared.moves.Line.{Line}
@@ -31,6 +32,13 @@ guarded opening acts lock = block_after (queue_edited (lock_edited buffer_rules)
 -- the owner of a buffer's lock after these actions
 abbrev pub owner_after : (LockId → Option (QueueBlock BufferLock)) → BufferActs → BufId → Option Tid
 owner_after opening acts b = owner_in (above_of (guarded opening acts (Buffer b)))
+
+-- a buffer has a lock after these actions, and in it these items, first in front, and this capacity
+pub record ItemsAre (opening : LockId → Option (QueueBlock BufferLock)) (acts : BufferActs) (b : BufId) (items : List Message) (capacity : ℕ) : Type 0 where
+  pub lock : BufferLock
+  pub there : above_of (guarded opening acts (Buffer b)) ≡ Some lock
+  pub holds : items ≡ lock.above.items
+  pub may_hold : capacity ≡ lock.above.capacity
 
 -- the moves are those of the actions' sections; so each pending queue that is there holds who is pending by the moves; and the waiting
 -- lists of each buffer are those of its lock

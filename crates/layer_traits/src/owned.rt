@@ -1,6 +1,6 @@
 //! A layer of message calls that opens a machine and tells of its blocks and threads.
 
-ghost use Rattle.std.specs.Prelude.{◌≡◌, ◌⊎◌, ◌<◌, true, [], List, Option, Some, None, IfOk, length, option_map};
+ghost use Rattle.std.specs.Prelude.{◌≡◌, ◌⊎◌, ◌<◌, true, [], List, Option, Some, None, IfOk, length, option_map, slice_index};
 
 use crate::calls::Place;
 use crate::ipc_layers::IpcLayer;
@@ -20,7 +20,7 @@ pub trait Owned: IpcLayer {
     ghost use Rattle.event_log.specs.Buffers.{items_of};
     ghost use Rattle.event_log.specs.Messages.{Message};
     ghost use Rattle.layer_traits.specs.declared.calls.Place.{Place};
-    ghost use Rattle.layer_traits.specs.Acted.{owner_after};
+    ghost use Rattle.layer_traits.specs.Acted.{ItemsAre, owner_after};
     ghost use Rattle.layer_traits.specs.BufferEffects.{contents_of};
     ghost use Rattle.layer_traits.specs.Openings.{AreOpenable, Opened};
     ghost use Rattle.layer_traits.specs.Places.{home_of, where_is};
@@ -114,6 +114,11 @@ pub trait Owned: IpcLayer {
     /// the actions leave.
     ghost owner_is: { Self.IsStepwise → (m : Self.Machine) (c : CpuId) (b : BufId) → Self.ActsFor m c
         → owner m b ≡ owner_after (Self.opening m) (Self.acts m) b };
+
+    /// Law: where a poll is one action, what a buffer holds and may hold is what the sections of the
+    /// actions leave in its lock.
+    ghost items_are: { Self.IsStepwise → (m : Self.Machine) (c : CpuId) (b : BufId) → Self.ActsFor m c → b.0 < length (Self.caps m)
+        → ItemsAre (Self.opening m) (Self.acts m) b (items_of (contents_of (Self.caps m) (Self.seen m)) b.0) (slice_index (Self.caps m) b.0) };
 
     /// Law: of each thread some CPU can tell where it stands: its home, the CPU that has it in its
     /// hand, or one that is in a section.

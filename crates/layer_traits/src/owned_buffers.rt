@@ -1,6 +1,6 @@
 //! A layer of buffers that tells of its blocks.
 
-ghost use Rattle.std.specs.Prelude.{◌≡◌, ◌<◌, true, List, Option, Some, IsSome, length, option_and_then, option_map};
+ghost use Rattle.std.specs.Prelude.{◌≡◌, ◌<◌, true, List, Option, Some, IsSome, length, option_and_then, option_map, slice_index};
 
 use crate::buffer_layers::BufferLayer;
 use crate::moves::Line;
@@ -20,7 +20,7 @@ pub trait OwnedBuffers: BufferLayer {
     ghost use Rattle.event_log.specs.Buffers.{items_of};
     ghost use Rattle.event_log.specs.Messages.{Message};
     ghost use Rattle.layer_traits.specs.declared.moves.Line.{Line};
-    ghost use Rattle.layer_traits.specs.Acted.{owner_after};
+    ghost use Rattle.layer_traits.specs.Acted.{ItemsAre, owner_after};
     ghost use Rattle.layer_traits.specs.BufferEffects.{contents_of};
     ghost use Rattle.layer_traits.specs.Owned.{line_among};
     ghost use Rattle.layer_traits.specs.Places.{pending_by};
@@ -126,6 +126,11 @@ pub trait OwnedBuffers: BufferLayer {
     /// the actions leave.
     ghost owner_is: { Self.IsStepwise → (m : Self.Machine) (c : CpuId) (b : BufId) → Self.ActsFor m c
         → owner m b ≡ owner_after (Self.opening m) (Self.acts m) b };
+
+    /// Law: where a poll is one action, what a buffer holds and may hold is what the sections of the
+    /// actions leave in its lock.
+    ghost items_are: { Self.IsStepwise → (m : Self.Machine) (c : CpuId) (b : BufId) → Self.ActsFor m c → b.0 < length (Self.caps m)
+        → ItemsAre (Self.opening m) (Self.acts m) b (items_of (contents_of (Self.caps m) (Self.seen m)) b.0) (slice_index (Self.caps m) b.0) };
 
     /// Law: the waiting lists that the machine or a part tells of a buffer are those that its last
     /// section left.

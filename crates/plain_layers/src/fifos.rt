@@ -306,6 +306,8 @@ impl<S: OwnedSleeps<Attempt>> OwnedBuffers for PlainFifo<S> {
 
     ghost owner_is = { λ step m c b acts. absurd step };
 
+    ghost items_are = { λ step m c b acts within. absurd step };
+
     ghost beds = { λ m c b acts within. view_told (λ (p : Self). p.lower) (λ p. S.Fits p m) (λ (p : Self). Self.Fits p m) (λ p. S.cpu_of p)
         (λ d. S.IsStepwise × (is_in_section (phase d (S.acts m)) ≡ true)) (λ d. ⊥ × (is_in_section (phase d (Self.acts m)) ≡ true)) (λ p fits. fits.0)
         (λ d inside. absurd (acts.1 inside.0)) (locked_after (inner (S.opening m)) (Buffer b) (buffer_sections (S.seen m))) lines_of

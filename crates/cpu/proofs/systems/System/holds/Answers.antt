@@ -4,12 +4,12 @@ use Rattle.std.proofs.lemmas.List.{length-map}
 use Rattle.event_log.specs.declared.entries.Entry.{Entry}
 use Rattle.event_log.specs.declared.ids.TheConstants.{CPUS}
 use Rattle.layer_traits.proofs.EffectRunLemmas.{effects_are_run}
-use Rattle.cpu.specs.Claims.{FollowPrograms, HasOneOrder, MovesAgree, Shown, StandsOnce, StayHome, cpu_shown, shown_of}
+use Rattle.cpu.specs.Claims.{FollowPrograms, HasOneOrder, MovesAgree, Shown, StandsOnce, StayHome, buffer_at, cpu_shown, shown_of}
 use Rattle.cpu.proofs.ListReads.{there_is}
 use Rattle.cpu.proofs.Onces.{once_of}
 use Rattle.cpu.proofs.Orders.{each_has, follow_programs, stay_home, traces_interleaved}
 use Rattle.cpu.specs.Sound.{SoundByTable}
-use Rattle.cpu.proofs.Sounding.{sound_of}
+use Rattle.cpu.proofs.Sounding.{Told, shown_in, sound_of}
 use Rattle.std.specs.Prelude.{Some, slice_get}
 use Rattle.event_log.specs.declared.ids.CpuId.{CpuId}
 use Rattle.event_log.specs.declared.ids.LockId.TheVariants.{Pending}
@@ -31,7 +31,7 @@ use Rattle.cpu.specs.Tower.Composed.{named}
 use Rattle.cpu.specs.Tower.Views.{name_of}
 use Rattle.cpu.proofs.ListReads.{shown_at, shows_at}
 use Rattle.cpu.proofs.TableCalls.{halted_told}
-use Rattle.cpu.proofs.Telling.{owner_is_told, pending_told, sleepers_are_told}
+use Rattle.cpu.proofs.Telling.{has_buffer, pending_told}
 use Rattle.cpu.proofs.systems.System.holds.Goals as goal
 
 pub returns-clause-sound : goal.returns-clause-sound
@@ -72,10 +72,19 @@ returns-clause-told g c = λ step.
     let first = there_is items 0 is.some in
     let one = (is.each 0 first.0 first.1).holds in
     let tabled = one.3 step in
-    let s = shown_of (I.caps m) (I.homes_of m) (I.seen m) (I.lines m) (g.I.Owned.owner m) (I.moves m) (I.acts m) (map shown items) c.self.inside.room
-    c.self.inside.taken in
+    let machine : Told = record {
+      caps = I.caps m;
+      homes = I.homes_of m;
+      seen = I.seen m;
+      lines = I.lines m;
+      owner = g.I.Owned.owner m;
+      moves = I.moves m;
+      acts = I.acts m;
+    } in
+    let s = shown_in machine (map shown items) c.self.inside.room c.self.inside.taken in
     let caps : (setup : Setup) → IsSetupFor setup s → setup.caps ≡ I.caps m =
     λ setup goes. (goes.goes.each 0 (shown first.0) (shows_at shown items 0 first.0 first.1)).caps_are in
+    let sound : SoundByTable s = sound_of s (c.self.invariant.sound.1 step) in
     subst (λ (x : Shown). ToldByTable x) c.self.view_is (record {
       some = let least = is.some in omega (arith, least, count);
       few = let size = tabled.size in let few = one.2.few in omega (arith, size, few);
@@ -89,8 +98,7 @@ returns-clause-told g c = λ step.
           let halted = halted_told (I.homes_of m) (I.caps m) (length (I.caps m)) (I.seen m) (I.own x.part) (I.threads x.part) (I.talks x.part)
           (I.doing x.part) (I.cpu_of x.part) x.number x.guests.items x.trace.items x.limit (vec_capacity x.trace) (I.opening m) at.1 tells at.2 (at.3 step) home
           setup (goes.goes.each j (shown x) (shows_at shown items j x there)) in
-          let pending = pending_told setup (I.homes_of m) (I.caps m) x.number (I.opening m) (I.acts m) (I.moves m) (I.lines m) (at.3 step).opens
-          (caps setup goes) are in
+          let pending = pending_told setup machine x.number (I.opening m) (at.3 step).opens (caps setup goes) are in
           record {
             inside = ap is_in_section (phase_renamed name_of (cpu_at j) (I.acts m))
                 ∙ ap (λ (d : CpuId). is_in_section (phase d (I.acts m))) (sym (at.1 ∙ number)) ∙ sym (law.busy x.part m at.0 step);
@@ -101,11 +109,9 @@ returns-clause-told g c = λ step.
             hand = ap (λ (t : Threads). t.hand) tells.0;
             pending = subst (λ (d : CpuId). block_at setup (Pending d) (named (I.acts m)) ≡ Some (OfPending (pending_by (I.moves m) d))) number pending;
           });
-      owners = λ setup goes b within. owner_is_told setup (I.homes_of m) (I.caps m) first.0.number (I.opening m) (I.acts m) (I.moves m) (I.lines m) tabled.opens
-          (caps setup goes) are (g.I.Owned.owner m) (length (I.caps m)) b (λ d. g.met.I.Owned.owner_is step m zero d acts) within;
-      sleepers = λ setup goes b within. sleepers_are_told setup (I.homes_of m) (I.caps m) first.0.number (I.opening m) (I.acts m) (I.moves m) (I.lines
-          m) tabled.opens
-          (caps setup goes) are (length (I.caps m)) b within;
+      buffers = λ setup goes b within. has_buffer setup machine first.0.number (I.opening m) tabled.opens (caps setup goes) are
+          (map shown items) c.self.inside.room c.self.inside.taken sound goes (λ d. g.met.I.Owned.owner_is step m zero d acts) b within
+          (g.met.I.Owned.items_are step m zero (buffer_at b) acts within);
     })
 
 pub returns-clause-one_order : goal.returns-clause-one_order
