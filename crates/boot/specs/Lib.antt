@@ -1,3 +1,4 @@
+pub mod Locks
 pub mod Plan
 pub mod Seen
 pub mod Names

@@ -12,8 +12,11 @@ use Rattle.guest.specs.declared.refusals.GuestError.{GuestError}
 use Rattle.guest.specs.declared.refusals.GuestError.TheVariants.{NoMemory as GuestNoMemory, At}
 use Rattle.guest.specs.Instructions.{IsProgram, names_below}
 use Rattle.guest.specs.Language.{program_in}
+use Rattle.boot.specs.Locks.{lock_named}
+use Rattle.boot.specs.declared.locks.LockKind.{LockKind}
+use Rattle.boot.specs.declared.locks.LockKind.TheVariants.{Grant}
 use Rattle.boot.specs.declared.refusals.PlanKey.{PlanKey}
-use Rattle.boot.specs.declared.refusals.PlanKey.TheVariants.{Cpus, Trace, Buffers, Threads, Cpu, Program}
+use Rattle.boot.specs.declared.refusals.PlanKey.TheVariants.{Cpus, Trace, Buffers, Lock, Threads, Cpu, Program}
 use Rattle.boot.specs.declared.refusals.BootError.{BootError}
 use Rattle.boot.specs.declared.refusals.BootError.TheVariants.{NoMemory, BadToml, MissingKey, OutOfRange, Guest}
 
@@ -22,11 +25,12 @@ pub record Task : Type 0 where
   pub home : ℕ
   pub program : List Instruction
 
--- what a plan says: the number of CPUs, the entries that each may trace, the capacities by buffer, the threads
+-- what a plan says: the number of CPUs, the entries that each may trace, the capacities by buffer, the lock, the threads
 pub record BootPlan : Type 0 where
   pub cpus : ℕ
   pub trace : ℕ
   pub caps : List ℕ
+  pub lock : LockKind
   pub tasks : List Task
 
 -- the items of an array, as a list
@@ -68,6 +72,11 @@ some_to most xs = kept (nat_le 1 (length xs) && nat_le (length xs) most) xs
 unfoldable pub caps_at : Option Data → Result (List ℕ) BootError
 caps_at d = wanted Buffers (list_at as_integer d) >>= λ zs. ranged Buffers (some_to BUFFERS zs) >>= λ zs. ranged Buffers (all_as (number_within 1 CAPACITY) zs)
 
+-- the lock: one with grant words, where the key is absent
+unfoldable pub lock_at : Option Data → Result LockKind BootError
+lock_at None = Ok Grant
+lock_at (Some d) = wanted Lock (as_str d) >>= λ name. ranged Lock (lock_named name)
+
 -- the threads' tables
 unfoldable pub tables_at : Option Data → Result (List Members) BootError
 tables_at d = wanted Threads (list_at as_table d) >>= λ tables. ranged Threads (some_to THREADS tables)
@@ -98,9 +107,10 @@ plan_in document =
     number_at Cpus 1 CPUS (get_member (codes "cpus") document)
     >>= λ cpus. number_at Trace 1 TRACE (get_member (codes "trace") document)
     >>= λ trace. caps_at (get_member (codes "buffers") document)
-    >>= λ caps. tables_at (get_member (codes "thread") document)
+    >>= λ caps. lock_at (get_member (codes "lock") document)
+    >>= λ lock. tables_at (get_member (codes "thread") document)
     >>= λ tables. read_from (task_at cpus (length caps)) 0 tables
-    >>= λ tasks. Ok (record { cpus = cpus; trace = trace; caps = caps; tasks = tasks })
+    >>= λ tasks. Ok (record { cpus = cpus; trace = trace; caps = caps; lock = lock; tasks = tasks })
 
 -- a document, if the text is one
 abbrev pub document_of : Option Members → Result Members BootError

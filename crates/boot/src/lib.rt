@@ -1,9 +1,10 @@
 //! Reads a plan: how many CPUs a system has, how many entries each may trace, the capacities of
-//! its buffers, and each thread's CPU and program. A plan is a TOML document.
+//! its buffers, which lock they use, and each thread's CPU and program. A plan is a TOML document.
 //!
 //! A `Boot` is within all limits, so whatever is built from one needs no test of its own.
 #![tactic(auto)]
 
+mod locks;
 mod numbers;
 mod plans;
 mod refusals;
@@ -12,5 +13,6 @@ mod tasks;
 #[cfg(test)]
 mod tests;
 
+pub use locks::LockKind;
 pub use plans::Boot;
 pub use refusals::{BootError, PlanKey};

@@ -1,5 +1,6 @@
 //! What a plan says, once it is read.
 
+use crate::locks::{LockKind, lock_at};
 use crate::numbers::{caps_at, number_at};
 use crate::refusals::{BootError, PlanKey};
 use crate::tasks::{Task, tables_at, tasks_of};
@@ -16,6 +17,7 @@ pub struct Boot {
     cpus: u8,
     trace: u32,
     caps: ArrayVec<u8, BUFFERS>,
+    lock: LockKind,
     tasks: Vec<Task>,
 }
 
@@ -25,9 +27,9 @@ impl Model for Boot {
 
     ghost Value = { BootPlan };
 
-    ghost view = { λ b. record { cpus = b.cpus; trace = b.trace; caps = b.caps.items; tasks = tasks_of b.tasks.items } };
+    ghost view = { λ b. record { cpus = b.cpus; trace = b.trace; caps = b.caps.items; lock = b.lock; tasks = tasks_of b.tasks.items } };
 
-    ghost invariant = { λ b. IsPlan (record { cpus = b.cpus; trace = b.trace; caps = b.caps.items; tasks = tasks_of b.tasks.items }) };
+    ghost invariant = { λ b. IsPlan (record { cpus = b.cpus; trace = b.trace; caps = b.caps.items; lock = b.lock; tasks = tasks_of b.tasks.items }) };
 }
 
 impl Boot {
@@ -38,10 +40,10 @@ impl Boot {
     /// Reads a plan from its text.
     ///
     /// Errors: `BadToml` where the text is no TOML document. Then the keys are tested in the order
-    /// `cpus`, `trace`, `buffers`, `thread`, and in each thread's table `cpu` before `program`:
-    /// `MissingKey` where a key is absent, is of another kind or has an item of another kind;
-    /// otherwise `OutOfRange` where a length or a number is out of range. A program that is no
-    /// program gives `Guest`, and one that names a buffer that the plan has not `OutOfRange`. The
+    /// `cpus`, `trace`, `buffers`, `lock`, `thread`, and in each thread's table `cpu` before `program`:
+    /// `MissingKey` where a key is absent (but `lock`, which may be), is of another kind or has an
+    /// item of another kind; otherwise `OutOfRange` where a length or a number is out of range or the
+    /// name is no lock's. A program that is no program gives `Guest`, and one that names a buffer that the plan has not `OutOfRange`. The
     /// first of these is the answer. `NoMemory` where an allocation was refused.
     #[tactic(auto, unfolding(crate::specs::Plan::plan_of))]
     pub fn read(alloc: Global, text: &str) -> Result<Boot, BootError>
@@ -69,12 +71,14 @@ impl Boot {
         let cpus = number_at(document, "cpus", PlanKey::Cpus, 1, CPUS as u64)? as u8;
         let trace = number_at(document, "trace", PlanKey::Trace, 1, TRACE as u64)? as u32;
         let caps = caps_at(alloc, document)?;
+        let lock = lock_at(document)?;
         let tables = tables_at(alloc, document)?;
         let tasks = tasks_of(alloc, &tables, cpus, caps.len())?;
         Ok(Boot {
             cpus,
             trace,
             caps,
+            lock,
             tasks,
         })
     }
@@ -104,6 +108,14 @@ impl Boot {
         let mut caps = ArrayVec::new();
         caps.try_extend_from_slice(self.caps.as_slice()).unwrap();
         caps
+    }
+
+    /// Which lock the system's buffers and pending queues use: a lock with grant words, if the plan
+    /// names none.
+    pub fn lock(&self) -> LockKind
+        ensures { result ≡ self.now.lock }
+    {
+        self.lock
     }
 
     /// How many threads the system has, from 1 to `THREADS`. They are numbered from 0.

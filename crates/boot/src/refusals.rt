@@ -18,6 +18,8 @@ pub enum PlanKey {
     Trace,
     /// `buffers`: the capacity of each buffer.
     Buffers,
+    /// `lock`: which lock stands beneath.
+    Lock,
     /// `thread`: the table of each thread.
     Threads,
     /// `cpu` in the table of this thread.
@@ -37,6 +39,7 @@ impl fmt::Display for PlanKey {
             PlanKey::Cpus => write!(f, "cpus"),
             PlanKey::Trace => write!(f, "trace"),
             PlanKey::Buffers => write!(f, "buffers"),
+            PlanKey::Lock => write!(f, "lock"),
             PlanKey::Threads => write!(f, "thread"),
             PlanKey::Cpu(thread) => write!(f, "thread {} cpu", thread.0),
             PlanKey::Program(thread) => write!(f, "thread {} program", thread.0),
@@ -56,8 +59,8 @@ pub enum BootError {
     /// The key is absent, is of another kind, or has an item of another kind.
     #[error("MissingKey(21) {0}")]
     MissingKey(PlanKey),
-    /// A length or a number of the key is out of range, or a program names a buffer that the plan
-    /// has not.
+    /// A length or a number of the key is out of range, its name is no lock's, or a program names a
+    /// buffer that the plan has not.
     #[error("OutOfRange(22) {0}")]
     OutOfRange(PlanKey),
     /// The program of a thread is refused: the thread, the line and the fault.

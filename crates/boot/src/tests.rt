@@ -1,6 +1,6 @@
 //! Plans that are read, and each change of one plan with its error line.
 
-use crate::{Boot, BootError, PlanKey};
+use crate::{Boot, BootError, LockKind, PlanKey};
 use event_log::{BufId, CpuId, Tid};
 use guest::{Instruction, Register};
 use std::test::Fail;
@@ -32,6 +32,7 @@ fn a_plan_is_read_whole(rt: HostRuntime) -> Result<(), Fail> {
     assert_eq!(rt; boot.cpus(), 2);
     assert_eq!(rt; boot.trace(), 65536);
     assert_eq!(rt; boot.caps().as_slice(), [1u8, 32].as_slice());
+    assert_eq!(rt; boot.lock(), LockKind::Grant);
     let threads = boot.threads();
     assert_eq!(rt; threads, 2);
     assert_eq!(rt; boot.home(Tid(0)), CpuId(1));
@@ -140,6 +141,16 @@ fn each_change_of_a_thread_has_its_line(rt: HostRuntime) -> Result<(), Fail> {
     Ok(())
 }
 
+#[test]
+fn a_plan_names_its_lock(rt: HostRuntime) -> Result<(), Fail> {
+    for (name, lock) in [("ticket", LockKind::Ticket), ("grant", LockKind::Grant)] {
+        let text = format!(in rt.alloc(); "lock = \"{name}\"\n{ONE_SEND}")?;
+        let boot = Boot::read(rt.alloc(), text.as_str())?;
+        assert_eq!(rt; boot.lock(), lock);
+    }
+    Ok(())
+}
+
 /// The lines of the plan's program.
 const LINES: &str = "\"set r0 7\", \"send 0 r0\", \"exit\"";
 
@@ -187,7 +198,7 @@ fn a_text_that_is_no_document_is_refused(rt: HostRuntime) -> Result<(), Fail> {
 
 /// Each key of the plan: at the end of its range, absent, of another kind, with an item of another
 /// kind, out of range.
-const KEYS: [(&str, &str, &str); 31] = [
+const KEYS: [(&str, &str, &str); 37] = [
     ("cpus = 1", "cpus = 8", "read"),
     ("trace = 4", "trace = 1", "read"),
     ("[1]", "[1,2,3,4,5,6,7,8,9,10,11,12,13,14,15,32]", "read"),
@@ -205,6 +216,24 @@ const KEYS: [(&str, &str, &str); 31] = [
     ("[1]", "[1, true]", "MissingKey(21) buffers"),
     ("[1]", "[0]", "OutOfRange(22) buffers"),
     ("[1]", "[-1]", "OutOfRange(22) buffers"),
+    (
+        "trace = 4",
+        "trace = 4\nlock = \"mcs\"",
+        "OutOfRange(22) lock",
+    ),
+    ("trace = 4", "trace = 4\nlock = \"\"", "OutOfRange(22) lock"),
+    (
+        "trace = 4",
+        "trace = 4\nlock = \"Grant\"",
+        "OutOfRange(22) lock",
+    ),
+    ("trace = 4", "trace = 4\nlock = 1", "MissingKey(21) lock"),
+    (
+        "trace = 4",
+        "trace = 4\nlock = [\"grant\"]",
+        "MissingKey(21) lock",
+    ),
+    ("trace = 4", "trace = 4\nlock = \"ticket\"", "read"),
     ("[[thread]]", "[[threads]]", "MissingKey(21) thread"),
     ("[[thread]]", "[thread]", "MissingKey(21) thread"),
     (
@@ -246,7 +275,7 @@ fn each_key_is_there_and_in_its_range(rt: HostRuntime) -> Result<(), Fail> {
 }
 
 /// Two faults in one plan: the one that is tested first counts.
-const TWO_FAULTS: [(&str, &str, &str); 11] = [
+const TWO_FAULTS: [(&str, &str, &str); 13] = [
     (
         "cpus = 1\ntrace = 4",
         "cpus = 9\ntrace = 0",
@@ -263,6 +292,12 @@ const TWO_FAULTS: [(&str, &str, &str); 11] = [
         "[1]",
         "[1,1,1,1,1,1,1,1,1,1,1,1,1,1,1,1,\"1\"]",
         "MissingKey(21) buffers",
+    ),
+    ("[1]", "[33]\nlock = 1", "OutOfRange(22) buffers"),
+    (
+        "[1]\n\n[[thread]]",
+        "[1]\nlock = \"mcs\"\n[thread]",
+        "OutOfRange(22) lock",
     ),
     (
         "0\nprogram =",

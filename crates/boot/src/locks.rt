@@ -1,0 +1,50 @@
+//! Which lock a plan asks for.
+
+ghost use Rattle.std.specs.Prelude.{◌≡◌, codes};
+ghost use Rattle.toml.specs.Data.{get_member};
+ghost use Rattle.toml.specs.View.{table_view};
+ghost use Rattle.boot.specs.Locks.{lock_named};
+ghost use Rattle.boot.specs.Plan.{lock_at};
+
+use crate::refusals::{BootError, PlanKey};
+use crate::tables::value_at;
+use toml::Table;
+
+/// The lock at which CPUs take turns.
+#[derive(Clone, Copy, Debug, PartialEq, Eq)]
+pub enum LockKind {
+    /// `ticket`: a ticket lock.
+    Ticket,
+    /// `grant`: a lock with a grant word for each waiter.
+    Grant,
+}
+
+impl LockKind {
+    /// The lock of this name: `ticket` or `grant`. `None` where the name is no lock's.
+    pub fn named(name: &str) -> Option<LockKind>
+        ensures { result ≡ lock_named name.now }
+    {
+        match name {
+            "ticket" => Some(LockKind::Ticket),
+            "grant" => Some(LockKind::Grant),
+            _ => None,
+        }
+    }
+}
+
+/// The lock of a plan: a lock with grant words, where the key is absent.
+#[tactic(auto, unfolding(crate::specs::Plan::lock_at))]
+pub fn lock_at(table: &Table) -> Result<LockKind, BootError>
+    ensures { result ≡ lock_at (get_member (codes "lock") (table_view table.now)) }
+{
+    let Some(value) = value_at(table, "lock") else {
+        return Ok(LockKind::Grant);
+    };
+    let Some(name) = value.as_str() else {
+        return Err(BootError::MissingKey(PlanKey::Lock));
+    };
+    match LockKind::named(name) {
+        Some(lock) => Ok(lock),
+        None => Err(BootError::OutOfRange(PlanKey::Lock)),
+    }
+}
