@@ -5,12 +5,12 @@ use crate::opening::{OpensBuffers, OpensLocks};
 use crate::tower::{LockEdit, TowerEdit};
 use condvar::Cond;
 use fifo_buffer::Fifo;
-use layer_traits::{OwnedLocks, OwnedWords, Stepwise};
+use layer_traits::{OwnedLocks, Stepwise};
 use queuing_lock::QLock;
 use scheduler::Sched;
 use shared_queue::SharedQueues;
 use sleep_wakeup::Sleeper;
-use spinlock::Ticket;
+use spinlock::{OwnedLockLine, Turn};
 
 /// Critical sections of which each poll is one action.
 pub trait StepwiseSections: OwnedLocks<TowerEdit> {
@@ -18,7 +18,7 @@ pub trait StepwiseSections: OwnedLocks<TowerEdit> {
     ghost steps: { Self.IsStepwise };
 }
 
-impl<W: OwnedWords<Edit = TowerEdit>> StepwiseSections for Ticket<W> {
+impl<M: OwnedLockLine<By, Edit = TowerEdit>, By> StepwiseSections for Turn<M, By> {
     ghost steps = { tt };
 }
 
@@ -46,8 +46,8 @@ impl<B: StepwiseBuffers> Stepwise for Ipc<B> {
     ghost steps = { B.steps };
 }
 
-/// A law: each poll of a stepwise layer is one action, and so of the tower over ticket locks of an
-/// owned machine, which is one.
+/// A law: each poll of a stepwise layer is one action, and so of the tower over the locks of an
+/// owned machine, ticket locks or locks with grant words, which is one.
 pub fn tower_is_stepwise<I: Stepwise>()
     ensures { I.IsStepwise }
 {}
