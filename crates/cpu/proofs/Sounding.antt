@@ -33,7 +33,7 @@ use Rattle.cpu.specs.Tables.{IsSetupOf, private, state_of, states}
 use Rattle.cpu.specs.Tower.Composed.{named}
 use Rattle.cpu.specs.Tower.Privates.{numbered, thread_of, tid}
 use Rattle.cpu.specs.Tower.Views.{TowerName}
-use Rattle.cpu.specs.Wakeups.Alone.{HasReturned}
+use Rattle.cpu.specs.Wakeups.Alone.{HasReturned, IsInCall, steps_to_return}
 use Rattle.cpu.proofs.GuestLists.{at_programs, guest_within}
 use Rattle.cpu.proofs.ListReads.{shown_length, shown_same, shows_at, there_is}
 use Rattle.cpu.proofs.TableSystems.{shown_step}
@@ -184,8 +184,10 @@ alone_of s few some reached setup is c p t ready room =
     let first = there_is s.cpus 0 some in
     let homes = ap (λ (l : List CpuId). length l) (is.goes.each 0 first.0 first.1).homes_are in
     let alone = calls_return_alone setup s.room (whole_of s) c p t (omega (arith, homes, few)) (reached setup is) ready (omega (arith, room)) in (
-      alone.0,
-      alone.1,
       λ new ran. subst (λ (w : Whole). HasReturned w c p t ready.effect ready.buffer)
-          (sym (ran setup is.goes ∙ steps_alone setup c alone.0 (whole_of s))) alone.2,
+          (after (steps_to_return setup c ready.asks ready.block) new ran) alone.0,
+      λ n before one_more ran. subst (λ (w : Whole). IsInCall w c t) (after n before ran) (alone.1 n one_more),
     )
+  where
+    after : (n : ℕ) (new : Shown) → RanByTable s (replicate n c) new → steps_by setup c n (whole_of s) ≡ whole_of new
+    after n new ran = sym (ran setup is.goes ∙ steps_alone setup c n (whole_of s))

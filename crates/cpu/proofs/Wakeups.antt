@@ -17,6 +17,7 @@ pub mod Kept
 pub mod Stuck
 pub mod Alone
 pub mod Filled
+pub mod Holding
 pub mod Returning
 pub mod Ready
 pub mod Everyone

@@ -1,6 +1,6 @@
 -- A system is one that the step table reaches from boot, whichever setup of the table is its. So it has lost no wake-up, and a call of a
 -- CPU that runs alone returns.
-use Rattle.std.specs.Prelude.{◌≡◌, ◌⊎◌, ℕ, ◌+◌, ◌≤◌, List, [], ◌∷◌, length, map, replicate, Some}
+use Rattle.std.specs.Prelude.{◌≡◌, ℕ, ◌+◌, ◌≤◌, List, [], ◌∷◌, length, map, replicate, Some}
 use Rattle.event_log.specs.declared.ids.BufId.{BufId}
 use Rattle.event_log.specs.declared.ids.CpuId.{CpuId}
 use Rattle.event_log.specs.declared.ids.LockId.TheVariants.{Buffer as AtBuffer}
@@ -12,7 +12,7 @@ use Rattle.cpu.specs.Systems.{GoesBy, whole_of}
 use Rattle.cpu.specs.Table.Blocks.{Buffer, OfBuffer}
 use Rattle.cpu.specs.Table.Setups.{Setup, Private}
 use Rattle.cpu.specs.Table.Steps.{IsReached, Whole, block_at, system_step, whole_at_boot}
-use Rattle.cpu.specs.Wakeups.Alone.{HasReturned, IsReady}
+use Rattle.cpu.specs.Wakeups.Alone.{HasReturned, IsInCall, IsReady, steps_to_return}
 use Rattle.cpu.specs.Wakeups.Lost.{NoWakeUpIsLost}
 
 -- a setup of the step table is this system's: it agrees with each of its CPUs, and has as many
@@ -54,7 +54,11 @@ abbrev pub RanByTable : Shown → List CpuId → Shown → Type 0
 RanByTable old steps new = (setup : Setup) → GoesBy setup old → whole_of new ≡ after_steps setup steps (whole_of old)
 
 -- Where CPU c rests, no lock is taken or asked for, and its thread t stands at a call that has not begun, which its buffer allows and
--- whose line is empty: after 18 steps of c, or after 21 where its first signal wakes a thread of another CPU, the call has returned.
+-- whose line is empty: after 18 steps of c the call has returned, or after 21 where its first signal wakes a thread of another CPU, which
+-- is the first of the other side's line and waits; and one step before it is still under way.
 abbrev pub ReturnsAlone : Shown → Type 0
 ReturnsAlone s = (setup : Setup) → IsSetupFor setup s → (c : CpuId) (p : Private) (t : Tid) → (ready : IsReady setup c (whole_of s) p t) → s.taken + 32 ≤ s.room
-    → (n : ℕ) × ((n ≡ 18) ⊎ (n ≡ 21)) × ((new : Shown) → RanByTable s (replicate n c) new → HasReturned (whole_of new) c p t ready.effect ready.buffer)
+    → ((new : Shown) → RanByTable s (replicate (steps_to_return setup c ready.asks ready.block) c) new
+    → HasReturned (whole_of new) c p t ready.effect ready.buffer)
+    × ((n : ℕ) (before : Shown) → n + 1 ≡ steps_to_return setup c ready.asks ready.block → RanByTable s (replicate n c) before
+    → IsInCall (whole_of before) c t)

@@ -70,7 +70,8 @@ pub fn quiet_is_stuck()
 {}
 
 /// A call on free locks that its buffer allows, with nobody in its line, takes effect and returns
-/// after 18 steps of its CPU alone, or after 21 where its first signal wakes a thread of another CPU.
+/// after just 18 steps of its CPU alone, or 21 where it wakes a thread of another CPU: the first of
+/// the other side's line, where that waits. One step before it is still under way.
 pub fn calls_return_alone()
     ensures { CallsReturnAlone }
 {}

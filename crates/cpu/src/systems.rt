@@ -284,8 +284,9 @@ where
 
     /// A law of every system over layers whose polls are single actions. Where a thread stands at a
     /// call that has not begun, on a free lock, with nobody in its line, and its buffer allows it,
-    /// the call has returned after 18 steps of its CPU alone, or after 21 where its first signal
-    /// wakes a thread of another CPU. It computes nothing.
+    /// the call returns after just 18 steps of its CPU alone, or 21 where the first of the other
+    /// side's line waits and is of another CPU, which the call's first signal then wakes. It computes
+    /// nothing.
     pub fn alone(&self)
         ensures { I.IsStepwise → ReturnsAlone self.now }
     {

@@ -83,21 +83,22 @@ module _ (setup : Setup) (c : CpuId) where
   begins_now : (p q : Private) (log : List (Action Name)) → phase c log ≡ Rests → choice setup c p ≡ Goes q → cpu_step setup c p log ≡ acting setup c q log
   begins_now p q log at goes = ap (λ x. step_in setup c p log (is_in_section x)) at ∙ ap (λ w. chosen setup c p w log) goes
 
-  -- the system after the three actions of a section
+  -- the system after the first two actions of a section, and after all three
+  abbrev pub after_two : Whole → Private → Whole
+  after_two s q =
+      let lock = (asked setup c q).lock in
+      let one = whole_after c s (record { next = q; acts = Take c lock ∷ []; answer = Stepped }) in
+      whole_after c one (record { next = q; acts = Try c lock true ∷ []; answer = Stepped })
+
   abbrev pub after_three : Whole → Private → Answer → Whole
   after_three s q a =
-      let lock = (asked setup c q).lock in
-      let name = (asked setup c q).name in
-      let one = whole_after c s (record { next = q; acts = Take c lock ∷ []; answer = Stepped }) in
-      let two = whole_after c one (record { next = q; acts = Try c lock true ∷ []; answer = Stepped }) in
-      whole_after c two (record { next = after_section setup c q a; acts = Give c lock name ∷ []; answer = Stepped })
+      whole_after c (after_two s q)
+      (record { next = after_section setup c q a; acts = Give c (asked setup c q).lock (asked setup c q).name ∷ []; answer = Stepped })
 
-  -- three steps are one section
-  pub three_steps : (s : Whole) (p q : Private) (past : List (Section Name)) (left : ℕ) (a : Answer)
-      → Stands setup c s p past (left + 3) → choice setup c p ≡ Goes q
-      → option_map (answer (asked setup c q).name) (block_of setup (asked setup c q).lock past) ≡ Some a → steps_by setup c 3 s ≡ after_three s q a
-  three_steps s p q past left a at goes told =
-      ap (λ x. (system_step setup c (system_step setup c x).next).next) first ∙ ap (λ x. (system_step setup c x).next) second ∙ third
+  -- after two steps the section is under way
+  pub two_steps : (s : Whole) (p q : Private) (past : List (Section Name)) (left : ℕ)
+      → Stands setup c s p past (left + 3) → choice setup c p ≡ Goes q → steps_by setup c 2 s ≡ after_two s q
+  two_steps s p q past left at goes = ap (λ x. (system_step setup c x).next) first ∙ second
     where
       first : (system_step setup c s).next ≡ whole_after c s (record { next = q; acts = Take c (asked setup c q).lock ∷ []; answer = Stepped })
       first =
@@ -108,8 +109,7 @@ module _ (setup : Setup) (c : CpuId) where
           (omega (arith, room))
 
       second : (system_step setup c (whole_after c s (record { next = q; acts = Take c (asked setup c q).lock ∷ []; answer = Stepped }))).next
-          ≡ whole_after c (whole_after c s (record { next = q; acts = Take c (asked setup c q).lock ∷ []; answer = Stepped }))
-          (record { next = q; acts = Try c (asked setup c q).lock true ∷ []; answer = Stepped })
+          ≡ after_two s q
       second =
           let room = at.room in
           let log = Take c (asked setup c q).lock ∷ s.log in
@@ -119,8 +119,16 @@ module _ (setup : Setup) (c : CpuId) where
           ∙ act q log (WaitsAt (asked setup c q).lock) (Try c (asked setup c q).lock true) now
           (second_action c (asked setup c q).lock (asked setup c q).name s.log (at.free (asked setup c q).lock))) refl (omega (arith, room))
 
-      third : (system_step setup c (whole_after c (whole_after c s (record { next = q; acts = Take c (asked setup c q).lock ∷ []; answer = Stepped }))
-          (record { next = q; acts = Try c (asked setup c q).lock true ∷ []; answer = Stepped }))).next ≡ after_three s q a
+  pub here_two : (s : Whole) (p q : Private) → slice_get s.cpus c.0 ≡ Some p → slice_get (after_two s q).cpus c.0 ≡ Some q
+  here_two s p q at = set_here (slice_set s.cpus c.0 q) c.0 q q (set_here s.cpus c.0 p q at)
+
+  -- three steps are one section
+  pub three_steps : (s : Whole) (p q : Private) (past : List (Section Name)) (left : ℕ) (a : Answer)
+      → Stands setup c s p past (left + 3) → choice setup c p ≡ Goes q
+      → option_map (answer (asked setup c q).name) (block_of setup (asked setup c q).lock past) ≡ Some a → steps_by setup c 3 s ≡ after_three s q a
+  three_steps s p q past left a at goes told = ap (λ x. (system_step setup c x).next) (two_steps s p q past left at goes) ∙ third
+    where
+      third : (system_step setup c (after_two s q)).next ≡ after_three s q a
       third =
           let room = at.room in
           let log = Try c (asked setup c q).lock true ∷ Take c (asked setup c q).lock ∷ s.log in
@@ -129,7 +137,7 @@ module _ (setup : Setup) (c : CpuId) where
           ≡ record { next = after_section setup c q a; acts = Give c (asked setup c q).lock (asked setup c q).name ∷ []; answer = Stepped } =
           ap (λ r. record { next = after_reply setup c q r; acts = Give c (asked setup c q).lock (asked setup c q).name ∷ []; answer = Stepped })
           (ap (λ x. option_map (answer (asked setup c q).name) (block_of setup (asked setup c q).lock x)) at.did ∙ told) in
-          one_step _ q _ (set_here (slice_set s.cpus c.0 q) c.0 q q (set_here s.cpus c.0 p q at.here))
+          one_step _ q _ (here_two s p q at.here)
           (within q log (Holds (asked setup c q).lock) now refl
           ∙ act q log (Holds (asked setup c q).lock) (Give c (asked setup c q).lock (asked setup c q).name) now
           (third_action c (asked setup c q).lock (asked setup c q).name (Take c (asked setup c q).lock ∷ s.log))
@@ -138,8 +146,7 @@ module _ (setup : Setup) (c : CpuId) where
   pub stands_after : (s : Whole) (p q : Private) (past : List (Section Name)) (left : ℕ) (a : Answer) → Stands setup c s p past (left + 3)
       → Stands setup c (after_three s q a) (after_section setup c q a) (section_of c (asked setup c q) ∷ past) left
   stands_after s p q past left a at = record {
-    here = set_here (slice_set (slice_set s.cpus c.0 q) c.0 q) c.0 q (after_section setup c q a)
-        (set_here (slice_set s.cpus c.0 q) c.0 q q (set_here s.cpus c.0 p q at.here));
+    here = set_here (slice_set (slice_set s.cpus c.0 q) c.0 q) c.0 q (after_section setup c q a) (here_two s p q at.here);
     did = ap (λ x. section_of c (asked setup c q) ∷ x) at.did;
     free = free_again c (asked setup c q).lock (asked setup c q).name true s.log at.free;
     rests = phase_own (Give c (asked setup c q).lock (asked setup c q).name) (Try c (asked setup c q).lock true ∷ Take c (asked setup c q).lock ∷ s.log);

@@ -1,7 +1,7 @@
--- A call that is ready, on a CPU alone, returns after 18 steps, or after 21.
-use Rattle.std.proofs.Common.{◌≡◌, ℕ, ◌+◌, ◌<◌, ◌≤◌, ◌==◌, ◌⊎◌, inl, inr, Bool, true, false, ◌&&◌, List, [], ◌∷◌, ◌++◌}
-use Rattle.std.proofs.Common.{length, Option, Some, None, is_some, if◌then◌else◌, refl, sym, ap, ◌∙◌, subst, arith}
-use Rattle.std.proofs.lemmas.Bool.{and_from}
+-- A call that is ready, on a CPU alone, returns after just 18 steps, or 21.
+use Rattle.std.proofs.Common.{◌≡◌, ℕ, ◌+◌, ◌<◌, ◌≤◌, ◌==◌, Bool, true, false, ◌&&◌, List, [], ◌∷◌, ◌++◌}
+use Rattle.std.proofs.Common.{length, Option, Some, None, is_some, nat_lt, if◌then◌else◌, refl, sym, ap, ◌∙◌, subst, arith, length-append}
+use Rattle.std.proofs.lemmas.Bool.{and_from, lt-ltb}
 use Rattle.event_log.specs.declared.ids.CpuId.{CpuId}
 use Rattle.event_log.specs.declared.ids.Tid.{Tid}
 use Rattle.event_log.specs.declared.ids.BufId.{BufId}
@@ -19,21 +19,23 @@ use Rattle.thread_blocks.specs.Queues.{rest}
 use Rattle.thread_blocks.proofs.Members.{same_tid_self}
 use Rattle.layer_traits.specs.declared.steps.Reason.{Reason}
 use Rattle.layer_traits.specs.declared.steps.Reason.TheVariants.{AllEnded, TraceFull}
-use Rattle.layer_traits.specs.BufferBlocks.{is_first, first_item}
-use Rattle.cpu.specs.Table.Blocks.{Buffer, OfBuffer, Asks, Sends, Receives, side_of}
-use Rattle.cpu.specs.Table.Edits.{line_of, can_put, can_take}
+use Rattle.layer_traits.specs.declared.locked.Side.TheVariants.{Receivers, Senders}
+use Rattle.layer_traits.specs.BufferBlocks.{is_first, first_item, other_items}
+use Rattle.cpu.specs.Table.Blocks.{Buffer, OfBuffer, Asks, Sends, Receives, front, front_stands_in, side_of}
+use Rattle.cpu.specs.Table.Edits.{line_of, can_put, can_take, due_receiver, due_sender, entered, put, taken}
 use Rattle.cpu.specs.Table.Setups.{Setup, Call, Private, thread_at, stands_at, home_threads, open_calls, have_ended}
 use Rattle.cpu.specs.Table.Choice.{Halts, Goes, new_call, with_call, begins, at_instruction, at_call, at_current, at_hand, choice}
 use Rattle.cpu.specs.Table.Steps.{Whole, IsReached, block_at, halted_by, steps_by}
 use Rattle.cpu.specs.Wakeups.Lost.{asks_of, Allows}
 use Rattle.cpu.specs.Wakeups.Quiet.{AreFew}
-use Rattle.cpu.specs.Wakeups.Alone.{IsCallOn, IsReady, HasReturned, CallsReturnAlone}
+use Rattle.cpu.specs.Wakeups.Alone.{IsCallOn, IsInCall, IsReady, HasReturned, CallsReturnAlone, is_away, other_waiter, steps_to_return}
 use Rattle.cpu.proofs.Wakeups.Lists.{refuted}
 use Rattle.cpu.proofs.Wakeups.Ordered.{putting, taking}
 use Rattle.cpu.proofs.Wakeups.Spots.{is_local, spot, turn}
 use Rattle.cpu.proofs.Wakeups.Agreement.{Agrees, runs, known_of, within}
 use Rattle.cpu.proofs.Wakeups.Reaching.{reached_sound, free_locks_have_no_sleepers}
 use Rattle.cpu.proofs.Wakeups.Filled.{reached_filled}
+use Rattle.cpu.proofs.Wakeups.Holding.{holds_no_more}
 use Rattle.cpu.proofs.Wakeups.Alone.{with_new}
 use Rattle.cpu.proofs.Wakeups.Returning.{Gets, Returned, acquires, enters_send, enters_receive, puts, takes_one, ending_sends, ending_receives}
 
@@ -120,21 +122,41 @@ module _ (setup : Setup) (room : ℕ) (s : Whole) (c : CpuId) (p : Private) (t :
   is_receive RecvKind is = refl
   is_receive SendKind is = absurd (cc is)
 
-  -- what returned, with an entry of this kind
-  told : (e : Kind) (b : BufId) (entry : Entry) → (entry.thread ≡ t) × (entry.kind ≡ e) × (entry.buffer ≡ b)
-      → Returned setup c t s 18 (p.trace ++ entry ∷ []) ⊎ Returned setup c t s 21 (p.trace ++ entry ∷ [])
-      → (n : ℕ) × ((n ≡ 18) ⊎ (n ≡ 21)) × HasReturned (steps_by setup c n s) c p t e b
-  told e b entry is_of (inl early) =
-      (18, inl refl, record { now = early.now; here = early.here; outside = early.outside; entry = entry; adds = early.trace; is_of = is_of })
-  told e b entry is_of (inr late) =
-      (21, inr refl, record { now = late.now; here = late.here; outside = late.outside; entry = entry; adds = late.trace; is_of = is_of })
+  -- after so many steps the call has returned, with an entry of this kind; one step before it was under way
+  abbrev IsBack : ℕ → Kind → BufId → Type 0
+  IsBack n e b = HasReturned (steps_by setup c n s) c p t e b × ((m : ℕ) → m + 1 ≡ n → IsInCall (steps_by setup c m s) c t)
+
+  told : (n : ℕ) (e : Kind) (b : BufId) (entry : Entry) → (entry.thread ≡ t) × (entry.kind ≡ e) × (entry.buffer ≡ b)
+      → Returned setup c t s n (p.trace ++ entry ∷ []) → IsBack n e b
+  told n e b entry is_of back = (
+    record { now = back.now; here = back.here; outside = back.outside; entry = entry; adds = back.trace; is_of = is_of },
+    back.before,
+  )
+
+  -- the effect allows one of the other side, so the signal behind it wakes the first of the other line where that waits
+  woken_is : (waits can : Bool) (o : Option Tid) → can ≡ true → (if waits && can then o else None) ≡ (if waits then o else None)
+  woken_is true can o on = ap (λ (b : Bool). if b then o else None) on
+  woken_is false can o on = refl
+
+  some_now : (items : List Message) (m : Message) → nat_lt 0 (length (items ++ m ∷ [])) ≡ true
+  some_now items m = lt-ltb 0 (length (items ++ m ∷ [])) (let more = length-append items (m ∷ []) in omega (arith, more))
+
+  room_now : (items : List Message) (capacity : ℕ) → length items ≤ capacity → nat_lt 0 (length items) ≡ true
+      → nat_lt (length (other_items items)) capacity ≡ true
+  room_now [] capacity fits some = absurd (cc some)
+  room_now (x ∷ items) capacity fits some = lt-ltb (length items) capacity (omega (arith, fits))
+
+  -- so many steps as the woken thread's home makes them
+  by_woken : (e : Kind) (b : BufId) (woke other : Option Tid) → woke ≡ other
+      → ((away : Bool) → is_away setup c woke ≡ away → IsBack (if away then 21 else 18) e b) → IsBack (if is_away setup c other then 21 else 18) e b
+  by_woken e b woke other same back = back (is_away setup c other) (ap (is_away setup c) same)
 
   first_after : (line : List Tid) (can : Bool) → line ≡ [] → can ≡ true → (is_first t (line ++ t ∷ []) && can) ≡ true
   first_after line can empty_now on = ap (λ l. is_first t (l ++ t ∷ []) && can) empty_now ∙ and_from _ can (same_tid_self t) on
 
   pub returns : (asks : Asks) (b : BufId) (k : Buffer) (e : Kind) (m : Message) → IsCallOn asks b (stands_at setup p t) → s.taken + 21 ≤ s.room
       → block_at setup (AtBuffer b) s.log ≡ Some (OfBuffer k) → k.busy ≡ None → asks_of e ≡ asks → Allows k e m → line_of (side_of asks) k ≡ []
-      → (n : ℕ) × ((n ≡ 18) ⊎ (n ≡ 21)) × HasReturned (steps_by setup c n s) c p t e b
+      → IsBack (steps_to_return setup c asks k) e b
   returns Sends b k e m at_call space block free kind allowed line =
       let begin = begins_as Sends b (stands_at setup p t) refl at_call in
       let call = new_call Sends b begin.0 in
@@ -144,19 +166,26 @@ module _ (setup : Setup) (room : ℕ) (s : Whole) (c : CpuId) (p : Private) (t :
       let may = first_after k.send_line (can_put k) line (putting k e m kind allowed) in
       let done = puts setup c t s 6 12 _ (record call { position = k.send_positions }) p.trace may entered_now in
       let left = ap (λ l. rest (l ++ t ∷ [])) line in
-      told e b _ (refl, is_send e kind, refl) (ending_sends setup c t small s 9 _
-      (record call { position = k.send_positions; effect = Some k.effects }) _ left none done)
+      by_woken e b (due_receiver (put begin.0 (entered t Senders (record k { busy = Some t })))) (other_waiter Sends k)
+      (woken_is (front_stands_in k.receive_line k.waiting_receivers) _ (front k.receive_line) (some_now k.items begin.0))
+      (λ away is. told (if away then 21 else 18) e b _ (refl, is_send e kind, refl)
+      (ending_sends setup c t small s 9 _ (record call { position = k.send_positions; effect = Some k.effects }) _ away is left none done))
   returns Receives b k e m at_call space block free kind allowed line =
       let begin = begins_as Receives b (stands_at setup p t) refl at_call in
       let call = new_call Receives b begin.0 in
       let none = free_locks_have_no_sleepers setup room s reached b k block free in
       let got = acquires setup c t s 0 18 k call p.trace free (first_gets Receives b k begin.0 begin.1 space block) in
       let entered_now = enters_receive setup c t small s 3 15 (record k { busy = Some t }) call p.trace line got in
-      let may = first_after k.receive_line (can_take k) line (taking k e m kind allowed) in
+      let some = taking k e m kind allowed in
+      let may = first_after k.receive_line (can_take k) line some in
       let done = takes_one setup c t s 6 12 _ (record call { position = k.receive_positions }) p.trace may entered_now in
       let left = ap (λ l. rest (l ++ t ∷ [])) line in
-      told e b _ (refl, is_receive e kind, refl) (ending_receives setup c t small s 9 _
-      (record call { position = k.receive_positions; message = first_item k.items; effect = Some k.effects }) _ left none done)
+      by_woken e b (due_sender (taken (entered t Receivers (record k { busy = Some t })))) (other_waiter Receives k)
+      (woken_is (front_stands_in k.send_line k.waiting_senders) _ (front k.send_line)
+      (room_now k.items k.capacity (holds_no_more setup (sections_in s.log) b k block) some))
+      (λ away is. told (if away then 21 else 18) e b _ (refl, is_receive e kind, refl)
+      (ending_receives setup c t small s 9 _
+      (record call { position = k.receive_positions; message = first_item k.items; effect = Some k.effects }) _ away is left none done))
 
 pub calls_return_alone : CallsReturnAlone
 calls_return_alone setup room s c p t few reached ready space =

@@ -1,5 +1,5 @@
 -- A call alone goes through its six sections, with one more where its first signal wakes a thread of another CPU.
-use Rattle.std.proofs.Common.{◌≡◌, ℕ, ◌+◌, ◌<◌, ◌⊎◌, inl, inr, Bool, true, false, ◌&&◌, List, [], ◌∷◌, ◌++◌, slice_get}
+use Rattle.std.proofs.Common.{◌≡◌, ℕ, ◌+◌, ◌<◌, Bool, true, false, not, ◌&&◌, List, [], ◌∷◌, ◌++◌, slice_get}
 use Rattle.std.proofs.Common.{Option, Some, None, option_map, if◌then◌else◌, refl, sym, ap, ◌∙◌, subst, arith}
 use Rattle.std.proofs.lemmas.Bool.{lt-ltb}
 use Rattle.event_log.specs.declared.ids.CpuId.{CpuId}
@@ -22,10 +22,11 @@ use Rattle.cpu.specs.Table.Setups.{Call, Private, thread_at, home_of, home_threa
 use Rattle.cpu.specs.Table.Choice.{section_at, asked, Goes, choice, with_call, entry_of, effected, heard}
 use Rattle.cpu.specs.Table.Choice.{woken, guest_after, returned, returned_at, settled, after_section}
 use Rattle.cpu.specs.Table.Steps.{Whole, steps_by}
+use Rattle.cpu.specs.Wakeups.Alone.{IsInCall, is_away}
 use Rattle.cpu.specs.Wakeups.Order.{block_of}
 use Rattle.cpu.proofs.Wakeups.Agreement.{at_same}
 use Rattle.cpu.proofs.Wakeups.CpuStep.{pending_there}
-use Rattle.cpu.proofs.Wakeups.Alone.{steps_more, section_of, Stands, after_three, three_steps, stands_after}
+use Rattle.cpu.proofs.Wakeups.Alone.{steps_more, section_of, Stands, after_three, two_steps, here_two, three_steps, stands_after}
 use Rattle.cpu.proofs.Wakeups.Alone.{InCall, with_new, goes_on, asks_for, after_is, settled_is, block_next}
 
 module _ (setup : Setup) (c : CpuId) (t : Tid) where
@@ -298,26 +299,36 @@ module _ (setup : Setup) (c : CpuId) (t : Tid) where
           have_same [] = refl
           have_same (v ∷ ts) = ap (λ b. (thread_at (with_call p t (Some more)) v).ended && b) (have_same ts)
 
-  -- a signal, whomever it wakes: 3 steps, or 6
-  signals : (s : Whole) (n left : ℕ) (k next : Buffer) (call more : Call) (traced : List Entry) (woke : Option Tid) → call.buffer ≡ more.buffer
+  -- a signal, whomever it wakes: 6 steps where that is a thread of another CPU, else 3
+  signals : (s : Whole) (n left : ℕ) (k next : Buffer) (call more : Call) (traced : List Entry) (woke : Option Tid) (away : Bool) → is_away setup c woke ≡ away
+      → call.buffer ≡ more.buffer
       → answer_of_buffer (section_at t call call.stage) k ≡ wakes woke → edited_buffer (section_at t call call.stage) k ≡ next
       → ((p : Private) (told : Told) → heard c p t call call.stage told ≡ with_call p t (Some more))
       → ((p : Private) → returned_at setup p t more more.stage ≡ p)
-      → Gets s n k call traced ((left + 3) + 3) → Gets s (n + 3) next more traced (left + 3) ⊎ Gets s ((n + 3) + 3) next more traced left
-  signals s n left k next call more traced None same_buffer told edits heard_so stays gets =
-      inl (signals_none s n (left + 3) k next call more traced same_buffer told edits heard_so stays gets)
-  signals s n left k next call more traced (Some u) same_buffer told edits heard_so stays gets = by_home (same_cpu (home_of setup u) c) refl
+      → Gets s n k call traced ((left + 3) + 3) → Gets s (if away then (n + 3) + 3 else n + 3) next more traced (if away then left else left + 3)
+  signals s n left k next call more traced None true is same_buffer told edits heard_so stays gets = absurd (cc is)
+  signals s n left k next call more traced None false is same_buffer told edits heard_so stays gets =
+      signals_none s n (left + 3) k next call more traced same_buffer told edits heard_so stays gets
+  signals s n left k next call more traced (Some u) true is same_buffer told edits heard_so stays gets =
+      signals_away s n left k next call more traced u (not_true (same_cpu (home_of setup u) c) is) same_buffer told edits heard_so stays gets
     where
-      by_home : (here : Bool) → same_cpu (home_of setup u) c ≡ here → Gets s (n + 3) next more traced (left + 3) ⊎ Gets s ((n + 3) + 3) next more traced left
-      by_home true here = inl (signals_home s n (left + 3) k next call more traced u here same_buffer told edits heard_so stays gets)
-      by_home false away = inr (signals_away s n left k next call more traced u away same_buffer told edits heard_so stays gets)
+      not_true : (b : Bool) → not b ≡ true → b ≡ false
+      not_true false is = refl
+      not_true true is = absurd (cc is)
+  signals s n left k next call more traced (Some u) false is same_buffer told edits heard_so stays gets =
+      signals_home s n (left + 3) k next call more traced u (not_false (same_cpu (home_of setup u) c) is) same_buffer told edits heard_so stays gets
+    where
+      not_false : (b : Bool) → not b ≡ false → b ≡ true
+      not_false true is = refl
+      not_false false is = absurd (cc is)
 
-  -- the call has returned, with this trace
+  -- the call has returned, with this trace; one step before it was under way
   pub record Returned (s : Whole) (n : ℕ) (traced : List Entry) : Type 0 where
     pub now : Private
     pub here : slice_get (steps_by setup c n s).cpus c.0 ≡ Some now
     pub outside : (thread_at now t).call ≡ None
     pub trace : now.trace ≡ traced
+    pub before : (m : ℕ) → m + 1 ≡ n → IsInCall (steps_by setup c m s) c t
 
   -- the lock is given back, and nobody sleeps at it
   releases : (s : Whole) (n left : ℕ) (k : Buffer) (call : Call) (traced : List Entry) → k.sleepers ≡ []
@@ -348,17 +359,29 @@ module _ (setup : Setup) (c : CpuId) (t : Tid) where
               call = None;
             }) now.known);
         trace = now.trace;
+        before = λ m last_step.
+            let same_step : n + 2 ≡ m = omega (arith, last_step) in
+            subst (λ k. IsInCall (steps_by setup c k s) c t) same_step (record {
+              now = q;
+              here = ap (λ x. slice_get x.cpus c.0)
+                  (steps_more setup c n 2 s ∙ ap (steps_by setup c 2) gets.by
+                  ∙ two_steps setup c gets.now gets.before q gets.past left gets.stands gets.goes)
+                  ∙ here_two setup c gets.now gets.before q gets.stands.here;
+              call = last;
+              inside = gets.inside.calls;
+            });
       }
 
   -- From the effect to the return.
 
   module _ (small : t.0 < THREADS) where
     -- the two signals and the release, of a caller whose own line is empty now
-    pub ending_sends : (s : Whole) (n : ℕ) (k : Buffer) (call : Call) (traced : List Entry) → k.send_line ≡ [] → k.sleepers ≡ []
-        → Gets s n k (record call { asks = Sends; stage = Signals }) traced 12 → Returned s (n + 9) traced ⊎ Returned s (n + 12) traced
-    ending_sends s n k call traced line none gets =
-        by_late (signals s n 6 k next (record call { asks = Sends; stage = Signals }) (record call { asks = Sends; stage = SignalsOwn })
-        traced (due_receiver k) refl refl refl (λ p told. refl) (λ p. refl) gets)
+    pub ending_sends : (s : Whole) (n : ℕ) (k : Buffer) (call : Call) (traced : List Entry) (away : Bool) → is_away setup c (due_receiver k) ≡ away
+        → k.send_line ≡ [] → k.sleepers ≡ []
+        → Gets s n k (record call { asks = Sends; stage = Signals }) traced 12 → Returned s (if away then n + 12 else n + 9) traced
+    ending_sends s n k call traced away is line none gets =
+        by_late away (signals s n 6 k next (record call { asks = Sends; stage = Signals }) (record call { asks = Sends; stage = SignalsOwn })
+        traced (due_receiver k) away is refl refl refl (λ p told. refl) (λ p. refl) gets)
       where
         next : Buffer
         next = edited_buffer (SigRecv t) k
@@ -374,18 +397,19 @@ module _ (setup : Setup) (c : CpuId) (t : Tid) where
             (record call { asks = Sends; stage = SignalsOwn }) (record call { asks = Sends; stage = Releases }) traced refl
             (ap wakes (due_none k.send_line k.waiting_senders (can_put k) line)) refl (λ p told. refl) (λ p. refl) got)
 
-        by_late : Gets s (n + 3) (edited_buffer (SigRecv t) k) (record call { asks = Sends; stage = SignalsOwn }) traced 9
-            ⊎ Gets s ((n + 3) + 3) (edited_buffer (SigRecv t) k) (record call { asks = Sends; stage = SignalsOwn }) traced 6
-            → Returned s (n + 9) traced ⊎ Returned s (n + 12) traced
-        by_late (inl early) = let same : ((n + 3) + 3) + 3 ≡ n + 9 = omega arith in inl (subst (λ m. Returned s m traced) same (rest_of (n + 3) 3 early))
-        by_late (inr late) =
-            let same : (((n + 3) + 3) + 3) + 3 ≡ n + 12 = omega arith in inr (subst (λ m. Returned s m traced) same (rest_of ((n + 3) + 3) 0 late))
+        by_late : (away : Bool) → Gets s (if away then (n + 3) + 3 else n + 3) (edited_buffer (SigRecv t) k)
+            (record call { asks = Sends; stage = SignalsOwn }) traced (if away then 6 else 9)
+            → Returned s (if away then n + 12 else n + 9) traced
+        by_late false early = let same : ((n + 3) + 3) + 3 ≡ n + 9 = omega arith in subst (λ m. Returned s m traced) same (rest_of (n + 3) 3 early)
+        by_late true late =
+            let same : (((n + 3) + 3) + 3) + 3 ≡ n + 12 = omega arith in subst (λ m. Returned s m traced) same (rest_of ((n + 3) + 3) 0 late)
 
-    pub ending_receives : (s : Whole) (n : ℕ) (k : Buffer) (call : Call) (traced : List Entry) → k.receive_line ≡ [] → k.sleepers ≡ []
-        → Gets s n k (record call { asks = Receives; stage = Signals }) traced 12 → Returned s (n + 9) traced ⊎ Returned s (n + 12) traced
-    ending_receives s n k call traced line none gets =
-        by_late (signals s n 6 k next (record call { asks = Receives; stage = Signals }) (record call { asks = Receives; stage = SignalsOwn })
-        traced (due_sender k) refl refl refl (λ p told. refl) (λ p. refl) gets)
+    pub ending_receives : (s : Whole) (n : ℕ) (k : Buffer) (call : Call) (traced : List Entry) (away : Bool) → is_away setup c (due_sender k) ≡ away
+        → k.receive_line ≡ [] → k.sleepers ≡ []
+        → Gets s n k (record call { asks = Receives; stage = Signals }) traced 12 → Returned s (if away then n + 12 else n + 9) traced
+    ending_receives s n k call traced away is line none gets =
+        by_late away (signals s n 6 k next (record call { asks = Receives; stage = Signals }) (record call { asks = Receives; stage = SignalsOwn })
+        traced (due_sender k) away is refl refl refl (λ p told. refl) (λ p. refl) gets)
       where
         next : Buffer
         next = edited_buffer (SigSend t) k
@@ -401,9 +425,9 @@ module _ (setup : Setup) (c : CpuId) (t : Tid) where
             (record call { asks = Receives; stage = SignalsOwn }) (record call { asks = Receives; stage = Releases }) traced refl
             (ap wakes (due_none k.receive_line k.waiting_receivers (can_take k) line)) refl (λ p told. refl) (λ p. refl) got)
 
-        by_late : Gets s (n + 3) (edited_buffer (SigSend t) k) (record call { asks = Receives; stage = SignalsOwn }) traced 9
-            ⊎ Gets s ((n + 3) + 3) (edited_buffer (SigSend t) k) (record call { asks = Receives; stage = SignalsOwn }) traced 6
-            → Returned s (n + 9) traced ⊎ Returned s (n + 12) traced
-        by_late (inl early) = let same : ((n + 3) + 3) + 3 ≡ n + 9 = omega arith in inl (subst (λ m. Returned s m traced) same (rest_of (n + 3) 3 early))
-        by_late (inr late) =
-            let same : (((n + 3) + 3) + 3) + 3 ≡ n + 12 = omega arith in inr (subst (λ m. Returned s m traced) same (rest_of ((n + 3) + 3) 0 late))
+        by_late : (away : Bool) → Gets s (if away then (n + 3) + 3 else n + 3) (edited_buffer (SigSend t) k)
+            (record call { asks = Receives; stage = SignalsOwn }) traced (if away then 6 else 9)
+            → Returned s (if away then n + 12 else n + 9) traced
+        by_late false early = let same : ((n + 3) + 3) + 3 ≡ n + 9 = omega arith in subst (λ m. Returned s m traced) same (rest_of (n + 3) 3 early)
+        by_late true late =
+            let same : (((n + 3) + 3) + 3) + 3 ≡ n + 12 = omega arith in subst (λ m. Returned s m traced) same (rest_of ((n + 3) + 3) 0 late)
