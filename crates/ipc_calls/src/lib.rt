@@ -6,11 +6,13 @@ mod ipc;
 mod opening;
 mod stepwise;
 mod tower;
+mod whole;
 
 pub use ipc::Ipc;
 pub use opening::{OpensBuffers, OpensLocks};
 pub use stepwise::{StepwiseBuffers, StepwiseLocks, StepwiseSections, tower_is_stepwise};
 pub use tower::{LockEdit, Over, TowerBlock, TowerEdit, part_over, tower_blocks};
+pub use whole::{WholeBuffers, calls_are_whole};
 
 #[cfg(test)]
 mod tests;

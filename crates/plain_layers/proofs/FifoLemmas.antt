@@ -20,7 +20,7 @@ use Rattle.layer_traits.specs.declared.talks.Stage.{Stage}
 use Rattle.layer_traits.specs.declared.talks.Stage.TheVariants.{Between, Acquires, Enters, Tries, Waits, AcquiresAgain, Signals, SignalsOwn, Releases}
 use Rattle.layer_traits.specs.declared.talks.Talk.{Talk}
 use Rattle.layer_traits.specs.BufferLaw.{Answered, Called, IsEffectOf, IsRefused, MayTalk, buffer_of, entry_of, going, going_at, quiet, talk_of}
-use Rattle.layer_traits.specs.Passes.{own_slept, own_woken, queue_for}
+use Rattle.layer_traits.specs.Passes.{own_slept, queue_for}
 use Rattle.layer_traits.specs.Places.{AreMoves, Pushed, Stands, Step, step}
 use Rattle.layer_traits.specs.Protocol.{section}
 use Rattle.layer_traits.specs.Queues.{call_move, out_at}

@@ -5,3 +5,4 @@ pub mod FifoLemmas
 pub mod LockTurnLemmas
 pub mod CondTurnLemmas
 pub mod OpeningLemmas
+pub mod PlainOpenings

@@ -1,5 +1,5 @@
 -- What follows of a machine from two things that hold of it where it was opened.
-use Rattle.std.proofs.Common.{◌≡◌, ◌<◌, lit<, Result, Ok, Err, IfOk}
+use Rattle.std.proofs.Common.{◌<◌, lit<, Result, Ok, Err, IfOk}
 use Rattle.event_log.specs.declared.ids.CpuId.{CpuId}
 use Rattle.event_log.specs.declared.ids.TheConstants.{CPUS}
 

@@ -1,5 +1,5 @@
 -- What sleep and wakeup beneath tells of its locks, buffers in one section a call tell of their items and waiting lists.
-use Rattle.std.specs.Prelude.{◌≡◌, ◌<◌, List, [], ◌∷◌, ◌++◌, length, Option, Some, None, IsSome, option_map, option_to_list, slice_get, refl}
+use Rattle.std.specs.Prelude.{◌≡◌, ◌<◌, List, [], ◌∷◌, ◌++◌, length, Option, Some, None, IsSome, option_map, option_to_list, refl}
 use Rattle.std.proofs.Common.{ap, sym, ◌∙◌, subst}
 use Rattle.std.proofs.lemmas.Option.{same_Some, slice_get-get_or}
 use Rattle.std.specs.List.{AllByRecursion}
@@ -31,7 +31,7 @@ use Rattle.layer_traits.proofs.Alone.{block_there}
 use Rattle.layer_traits.proofs.OwnedLemmas.{shown_under, told_shown, viewed_shown}
 use Rattle.plain_layers.specs.declared.attempts.Attempt.{Attempt}
 use Rattle.plain_layers.specs.Attempts.{attempts}
-use Rattle.plain_layers.specs.Fifos.{PlainLocked, caps_in, effect_by, entries_in, entry_at, fresh_buffer, fresh_buffers, lines_in, locked_after}
+use Rattle.plain_layers.specs.Fifos.{PlainLocked, caps_in, effect_by, entries_in, fresh_buffer, fresh_buffers, lines_in, locked_after}
 use Rattle.plain_layers.specs.FifoTallies.{plain_tally}
 
 -- the items of a lock's buffer, and its waiting lists

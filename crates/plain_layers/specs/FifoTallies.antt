@@ -1,9 +1,8 @@
 -- What a buffer tells of its effects; so each effect may come after those before it.
-use Rattle.std.proofs.Common.{◌≡◌, ℕ, zero, suc, ◌+◌, ◌<◌, ◌%◌, ◌^◌, Bool, true, false, ◌&&◌, ◌==◌, List, [], ◌∷◌, ◌++◌, length, drop, Option, Some, None}
+use Rattle.std.proofs.Common.{◌≡◌, ℕ, ◌+◌, ◌<◌, ◌%◌, ◌^◌, Bool, true, false, ◌&&◌, ◌==◌, List, [], ◌∷◌, ◌++◌, length, drop, Option, Some, None}
 use Rattle.std.proofs.Common.{option_map, option_to_list, slice_get, slice_index, slice_set, if◌then◌else◌, refl, ap, sym, ◌∙◌, subst, arith}
-use Rattle.std.proofs.lemmas.Bool.{eq-eqb, eqb-false, eqb-true, ltb-true, ne_eqb}
+use Rattle.std.proofs.lemmas.Bool.{eqb-false, eqb-true, ltb-true, ne_eqb}
 use Rattle.std.proofs.lemmas.List.{get_or-set_other, get_or-set_same, length-map, length-set}
-use Rattle.std.proofs.lemmas.List.Sums.{sum_by-cons}
 use Rattle.std.proofs.lemmas.Option.{get_or_from_slice_get, slice_get_within}
 use Rattle.event_log.specs.declared.entries.Entry.{Entry}
 use Rattle.event_log.specs.declared.entries.Kind.{Kind}
@@ -13,7 +12,7 @@ use Rattle.event_log.specs.declared.ids.CpuId.{CpuId}
 use Rattle.event_log.specs.declared.ids.LockId.{LockId}
 use Rattle.event_log.specs.declared.ids.LockId.TheVariants.{Pending, Buffer}
 use Rattle.event_log.specs.declared.ids.Tid.{Tid}
-use Rattle.event_log.specs.Buffers.{after_effect, empty_buffers, items_of}
+use Rattle.event_log.specs.Buffers.{after_effect, items_of}
 use Rattle.event_log.specs.History.{IsLawful}
 use Rattle.event_log.specs.Messages.{Message}
 use Rattle.event_log.specs.Runs.{count_of, count_of_kind, kind_eq}
@@ -22,7 +21,6 @@ use Rattle.event_log.proofs.RunLemmas.{count_cons, counts_here, items_none, kind
 use Rattle.layer_traits.specs.declared.calls.Effect.{Effect}
 use Rattle.layer_traits.specs.declared.locked.Side.{Side}
 use Rattle.layer_traits.specs.declared.locked.Side.TheVariants.{Receivers, Senders}
-use Rattle.layer_traits.specs.BufferBlocks.{counted, first_item, other_items}
 use Rattle.layer_traits.specs.BufferEffects.{MayTakeEffect, contents_of}
 use Rattle.layer_traits.specs.BufferLaw.{entry_of}
 use Rattle.layer_traits.specs.Sleeping.{sleep_edited}

@@ -2,8 +2,10 @@
 //! does a whole call in one step.
 #![tactic(auto)]
 
+mod attempt_layers;
 mod attempts;
 mod fifos;
+mod ipcs;
 mod kernel;
 mod lock_table;
 mod locks;
@@ -12,8 +14,10 @@ mod scheds;
 mod sleepers;
 mod wholes;
 
+pub use attempt_layers::{OpensAttempts, plain_buffers};
 pub use attempts::{Attempt, PlainBuffer, Tried};
 pub use fifos::PlainFifo;
+pub use ipcs::{PlainIpc, ipc_is_whole};
 pub use kernel::{Lists, Opening, PlainKernel};
 pub use lock_table::{LockTable, Noted};
 pub use locks::PlainLock;

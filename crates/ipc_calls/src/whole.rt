@@ -1,0 +1,22 @@
+//! Message calls over buffers of which each poll is a whole call are whole too.
+
+use crate::ipc::Ipc;
+use crate::opening::OpensBuffers;
+use layer_traits::Prompt;
+
+/// Buffers of which each poll is a whole call: it takes effect at the first poll at which its buffer
+/// allows it.
+pub trait WholeBuffers: OpensBuffers {
+    /// Law: one poll is one call.
+    ghost whole: { Self.IsWhole };
+}
+
+impl<B: WholeBuffers> Prompt for Ipc<B> {
+    ghost whole = { B.whole };
+}
+
+/// A law: each poll of a prompt layer is a whole call, and so of message calls over one-step buffers,
+/// which are one.
+pub fn calls_are_whole<I: Prompt>()
+    ensures { I.IsWhole }
+{}

@@ -1,0 +1,97 @@
+-- A machine that opens with empty buffers, as one-step buffers read it and as their layer's trait shows it.
+use Rattle.std.proofs.Common.{◌≡◌, ℕ, zero, suc, ◌+◌, ◌≤◌, List, [], ◌∷◌, length, map, Option, Some, None, option_map, slice_get}
+use Rattle.std.proofs.Common.{refl, ap, sym, ◌∙◌, ◌*◌, ◌/◌, lit<, arith}
+use Rattle.std.proofs.Math.Nat.{le-div_iff_mul-le}
+use Rattle.std.proofs.Math.Path.{fun_ext}
+use Rattle.std.proofs.lemmas.Option.{slice_get-map}
+use Rattle.event_log.specs.declared.ids.BufId.{BufId}
+use Rattle.event_log.specs.declared.ids.LockId.{LockId}
+use Rattle.event_log.specs.declared.ids.LockId.TheVariants.{Pending, Buffer}
+use Rattle.event_log.specs.declared.ids.Tid.{Tid}
+use Rattle.layer_traits.specs.declared.queue_edits.QueueBlock.{QueueBlock}
+use Rattle.layer_traits.specs.declared.queue_edits.QueueBlock.TheVariants.{Queue}
+use Rattle.layer_traits.specs.BufferEffects.{fresh_lock, opening_locks}
+use Rattle.layer_traits.specs.QueueBlocks.{above_of, inner}
+use Rattle.layer_traits.specs.Renaming.{viewed}
+use Rattle.layer_traits.proofs.KernelRenaming.{inner_viewed}
+use Rattle.sleep_wakeup.specs.declared.edits.SleepBlock.{SleepBlock}
+use Rattle.sleep_wakeup.specs.Nested.{resting, state_of}
+use Rattle.plain_layers.specs.declared.kernel.Opening.{Opening}
+use Rattle.plain_layers.specs.Attempts.{PlainState, empty_buffer}
+use Rattle.plain_layers.specs.Fifos.{PlainLocked, caps_at, caps_from, caps_in, fresh_buffer, fresh_buffers, shown}
+use Rattle.plain_layers.specs.Kernels.{opening_of}
+
+-- the buffers of a machine of lists that opened with these blocks
+module _ (start : Opening (SleepBlock PlainState)) (caps : List ℕ) (buffers : List PlainState) (blocks : List (SleepBlock PlainState))
+    (buffers_are : buffers ≡ map empty_buffer caps) (blocks_are : blocks ≡ map resting buffers)
+    (at : (b : BufId) → inner (opening_of start) (Buffer b) ≡ slice_get blocks b.0) where
+  no_buffer : (o : Option (List Tid)) → option_map (state_of {B = PlainState}) (above_of (option_map (λ (queue : List Tid). Queue queue start.homes) o)) ≡ None
+  no_buffer None = refl
+  no_buffer (Some queue) = refl
+
+  made : (o : Option ℕ) → option_map state_of (option_map resting (option_map empty_buffer o)) ≡ option_map fresh_buffer o
+  made None = refl
+  made (Some capacity) = refl
+
+  by_lock : (lock : LockId) → inner (viewed state_of (opening_of start)) lock ≡ fresh_buffers caps lock
+  by_lock (Pending c) = inner_viewed state_of (opening_of start) (Pending c) ∙ no_buffer (slice_get start.lists.value.pending.items c.0)
+  by_lock (Buffer b) =
+      inner_viewed state_of (opening_of start) (Buffer b)
+      ∙ ap (option_map state_of) (at b ∙ ap (λ l. slice_get l b.0) (blocks_are ∙ ap (map resting) buffers_are)
+      ∙ slice_get-map resting (map empty_buffer caps) b.0 ∙ ap (option_map resting) (slice_get-map empty_buffer caps b.0))
+      ∙ made (slice_get caps b.0)
+
+  pub opens_fresh : inner (viewed state_of (opening_of start)) ≡ fresh_buffers caps
+  opens_fresh = fun_ext by_lock
+
+-- the capacities are read off the locks one by one
+module _ (all : List ℕ) where
+  here : (n : ℕ) (o : Option ℕ) → slice_get all (n + 0) ≡ o → slice_get all n ≡ o
+  here n o is = let at : n ≡ n + 0 = omega arith in ap (slice_get all) at ∙ is
+
+  further : (n i : ℕ) (o : Option ℕ) → slice_get all (n + suc i) ≡ o → slice_get all (n + 1 + i) ≡ o
+  further n i o is = let at : n + 1 + i ≡ n + suc i = omega arith in ap (slice_get all) at ∙ is
+
+  caps_read : (caps : List ℕ) (more n : ℕ) → ((i : ℕ) → slice_get all (n + i) ≡ slice_get caps i) → length caps ≤ more
+      → caps_from more n (fresh_buffers all) ≡ caps
+  unfolding caps_from
+  caps_read [] zero n same few = refl
+  caps_read (capacity ∷ caps) zero n same few = absurd (omega (arith, few))
+  caps_read [] (suc more) n same few =
+      ap (λ o. caps_at (option_map fresh_buffer o) (caps_from more (n + 1) (fresh_buffers all))) (here n None (same 0))
+  caps_read (capacity ∷ caps) (suc more) n same few =
+      ap (λ o. caps_at (option_map fresh_buffer o) (caps_from more (n + 1) (fresh_buffers all))) (here n (Some capacity) (same 0))
+      ∙ ap (λ rest. capacity ∷ rest)
+      (caps_read caps more (n + 1) (λ i. further n i (slice_get caps i) (same (suc i))) (omega (arith, few)))
+
+-- a machine whose locks are those of fresh buffers has their capacities
+module _ (opening : LockId → Option (QueueBlock PlainLocked)) (caps : List ℕ) (fresh : inner opening ≡ fresh_buffers caps)
+    (few : length caps ≤ 256) where
+  pub caps_told : caps_in (inner opening) ≡ caps
+  unfolding caps_in
+  caps_told = ap (caps_from 256 0) fresh ∙ caps_read caps caps 256 0 from_zero few
+    where
+      from_zero : (i : ℕ) → slice_get caps (0 + i) ≡ slice_get caps i
+      from_zero i = let at : 0 + i ≡ i = omega arith in ap (slice_get caps) at
+
+  pub fresh_told : inner opening ≡ fresh_buffers (caps_in (inner opening))
+  fresh_told = fresh ∙ ap fresh_buffers (sym caps_told)
+
+  shown_fresh : (o : Option ℕ) → option_map shown (option_map fresh_buffer o) ≡ option_map fresh_lock o
+  shown_fresh None = refl
+  shown_fresh (Some capacity) = refl
+
+  by_shown : (lock : LockId) → option_map shown (fresh_buffers caps lock) ≡ opening_locks caps lock
+  by_shown (Pending c) = refl
+  by_shown (Buffer b) = shown_fresh (slice_get caps b.0)
+
+  at_lock : (lock : LockId) → inner (viewed shown opening) lock ≡ opening_locks caps lock
+  at_lock lock = inner_viewed shown opening lock ∙ ap (λ locks. option_map shown (locks lock)) fresh ∙ by_shown lock
+
+  -- and shows the locks of empty buffers
+  pub boots_shown : inner (viewed shown opening) ≡ opening_locks (caps_in (inner opening))
+  boots_shown = fun_ext at_lock ∙ ap opening_locks (sym caps_told)
+
+-- there is room for so many calls where there is room for twice as many events
+pub half_room : (room events : ℕ) → room * 2 ≤ events → room ≤ events / 2
+half_room room events enough = (le-div_iff_mul-le {k = 2} (lit< tt)).1 enough

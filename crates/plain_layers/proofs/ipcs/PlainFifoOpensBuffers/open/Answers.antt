@@ -1,0 +1,53 @@
+use Rattle.std.proofs.Common.{◌≡◌, [], ◌<◌, ◌≤◌, ◌*◌, length, refl, ◌∙◌, arith}
+use Rattle.std.proofs.lemmas.Result.{IfOk-weaker}
+use Rattle.event_log.specs.declared.ids.CpuId.{CpuId}
+use Rattle.event_log.specs.declared.ids.TheConstants.{CPUS}
+use Rattle.layer_traits.specs.QueueBlocks.{homes_in, inner}
+use Rattle.layer_traits.proofs.KernelRenaming.{homes_viewed}
+use Rattle.plain_layers.specs.Fifos.{fresh_buffers, shown}
+use Rattle.plain_layers.proofs.OpeningLemmas.{both_ok}
+use Rattle.plain_layers.proofs.PlainOpenings.{boots_shown, caps_told, fresh_told, half_room}
+use Rattle.plain_layers.proofs.ipcs.PlainFifoOpensBuffers.open.Goals as goal
+
+-- the machine has the capacities and homes of the plan, and nothing was done in it
+pub returns-clause-opened : goal.returns-clause-opened
+returns-clause-opened g c =
+    let S = g.S.SleepLayer in
+    let r = c.open.result in
+    let opens = c.open.ensures in
+    let caps = c.args.caps.now in
+    let homes = c.args.homes.now in
+    let most = c.requires.buffers in
+    let few : length caps ≤ 256 = omega (arith, most) in
+    both_ok r (λ m. (inner (S.opening m) ≡ fresh_buffers caps) × (homes_in (S.opening m) ≡ homes))
+    (λ m. (S.seen m ≡ []) × (c.args.room * 2 ≤ S.room m)) _
+    (both_ok r (λ m. inner (S.opening m) ≡ fresh_buffers caps) (λ m. homes_in (S.opening m) ≡ homes) _ opens.buffers opens.homes (λ m one other. (one, other)))
+    (both_ok r (λ m. S.seen m ≡ []) (λ m. c.args.room * 2 ≤ S.room m) _ opens.seen opens.room (λ m one other. (one, other)))
+    (λ m it been. record {
+      caps_are = caps_told (S.opening m) caps it.0 few;
+      homes_are = homes_viewed shown (S.opening m) ∙ it.1;
+      none_seen = rw been.0 refl;
+      none_moved = rw been.0 refl;
+      room_is = half_room c.args.room (S.room m) been.1;
+    })
+
+-- its locks are those of the capacities that it tells
+pub returns-clause-boot : goal.returns-clause-boot
+returns-clause-boot g c =
+    let S = g.S.SleepLayer in
+    let caps = c.args.caps.now in
+    let most = c.requires.buffers in
+    let few : length caps ≤ 256 = omega (arith, most) in
+    IfOk-weaker c.open.result (λ m. inner (S.opening m) ≡ fresh_buffers caps) _
+    (λ m fresh. boots_shown (S.opening m) caps fresh few) c.open.ensures.buffers
+
+-- and each CPU may act on it
+pub returns-clause-acts : goal.returns-clause-acts
+returns-clause-acts g c =
+    let S = g.S.SleepLayer in
+    let r = c.open.result in
+    let caps = c.args.caps.now in
+    let most = c.requires.buffers in
+    let few : length caps ≤ 256 = omega (arith, most) in
+    both_ok r (λ m. (d : CpuId) → d.0 < CPUS → S.ActsFor m d) (λ m. inner (S.opening m) ≡ fresh_buffers caps) _ c.open.ensures.acts c.open.ensures.buffers
+    (λ m acts fresh d within. (acts d within, g.met.S.OpensAttempts.whole, record { all = acts; fresh = fresh_told (S.opening m) caps fresh few }))

@@ -1,0 +1,82 @@
+//! Layers of attempts whose machine is opened with empty buffers.
+
+ghost use Rattle.std.specs.Prelude.{◌≡◌, ◌<◌, ◌≤◌, [], All, IfOk, IsSome, map};
+ghost use Rattle.event_log.specs.Buffers.{IsCapacity};
+ghost use Rattle.plain_layers.specs.Attempts.{empty_buffer};
+
+use crate::attempts::{Attempt, PlainBuffer};
+use crate::kernel::PlainKernel;
+use crate::scheds::PlainSched;
+use event_log::{CpuId, NoMemory};
+use layer_traits::OwnedSleeps;
+use sleep_wakeup::{SleepEdit, Sleeper, sleep_blocks};
+use std::alloc::Global;
+
+/// A layer of sleep and wakeup for attempts, whose machine is opened with empty buffers, and of which
+/// each poll does a whole section where it may.
+pub trait OpensAttempts: OwnedSleeps<Attempt> {
+    ghost use Rattle.event_log.specs.declared.ids.CpuId.{CpuId};
+    ghost use Rattle.event_log.specs.declared.ids.LockId.TheVariants.{Pending};
+    ghost use Rattle.event_log.specs.declared.ids.TheConstants.{CPUS};
+    ghost use Rattle.layer_traits.specs.Openings.{AreOpenable};
+    ghost use Rattle.layer_traits.specs.Plans.{IsWhole};
+    ghost use Rattle.layer_traits.specs.QueueBlocks.{homes_in, inner};
+    ghost use Rattle.plain_layers.specs.Fifos.{fresh_buffers};
+
+    /// A machine of so many CPUs, with an empty buffer of each of these capacities and a thread of
+    /// each of these homes, and with room for `room` events. All memory is taken here.
+    ///
+    /// Errors: `NoMemory` where an allocation was refused.
+    fn open(
+        alloc: Global,
+        cpus: u8,
+        caps: &[u8],
+        homes: &[CpuId],
+        room: usize,
+    ) -> Result<Self::Machine, NoMemory>
+        requires { AreOpenable cpus caps.now homes.now }
+        ensures seen { IfOk result (λ m. Self.seen m ≡ []) }
+        ensures room { IfOk result (λ m. room ≤ Self.room m) }
+        ensures homes { IfOk result (λ m. homes_in (Self.opening m) ≡ homes.now) }
+        ensures queues { IfOk result (λ m. (c : CpuId) → c.0 < cpus → IsSome (Self.opening m (Pending c))) }
+        ensures buffers { IfOk result (λ m. inner (Self.opening m) ≡ fresh_buffers caps.now) }
+        ensures acts { IfOk result (λ m. (c : CpuId) → c.0 < CPUS → Self.ActsFor m c) }
+        ensures outside { IfOk result (λ m. (c : CpuId) → Self.IsOutside m c) }
+        ensures none { IfOk result (λ m. Self.acts m ≡ []) };
+
+    /// Law: one poll is not one action.
+    ghost whole: { IsWhole Self.IsStepwise };
+}
+
+/// Empty buffers of these capacities, in their order. All memory that they need is taken here.
+///
+/// Errors: `NoMemory` where there is none for them.
+pub fn plain_buffers(alloc: Global, caps: &[u8]) -> Result<Vec<PlainBuffer>, NoMemory>
+    requires { All IsCapacity caps.now }
+    ensures { IfOk result (λ buffers. buffers.items ≡ map empty_buffer caps.now) }
+{
+    let Ok(mut buffers) = Vec::with_capacity(alloc, caps.len()) else {
+        return Err(NoMemory);
+    };
+    for capacity in caps {
+        buffers
+            .push(PlainBuffer::new(usize::from(*capacity)))
+            .unwrap();
+    }
+    Ok(buffers)
+}
+
+impl OpensAttempts for Sleeper<Attempt, PlainSched<SleepEdit<Attempt>>> {
+    fn open(
+        alloc: Global,
+        cpus: u8,
+        caps: &[u8],
+        homes: &[CpuId],
+        room: usize,
+    ) -> Result<PlainKernel<SleepEdit<Attempt>>, NoMemory> {
+        let blocks = sleep_blocks(alloc, plain_buffers(alloc, caps)?)?;
+        PlainKernel::open(alloc, blocks, cpus, homes, room)
+    }
+
+    ghost whole = { λ step. step };
+}

@@ -1,0 +1,39 @@
+//! Message calls in one step: the top of the layers, over one-step buffers.
+
+use crate::attempt_layers::OpensAttempts;
+use crate::attempts::Attempt;
+use crate::fifos::PlainFifo;
+use crate::sleepers::PlainSleep;
+use event_log::{CpuId, NoMemory};
+use ipc_calls::{Ipc, OpensBuffers, WholeBuffers};
+use layer_traits::IpcLayer;
+use std::alloc::Global;
+
+/// One CPU's part of message calls in one step: a call takes effect at the first poll at which its
+/// buffer allows it, and else its thread sleeps.
+pub type PlainIpc = Ipc<PlainFifo<PlainSleep<Attempt>>>;
+
+impl<S: OpensAttempts> OpensBuffers for PlainFifo<S> {
+    // A poll is at most two events beneath: the section, and the sending home of whom it woke.
+    fn open(
+        alloc: Global,
+        cpus: u8,
+        caps: &[u8],
+        homes: &[CpuId],
+        room: usize,
+    ) -> Result<S::Machine, NoMemory> {
+        if usize::MAX / 2 < room {
+            return Err(NoMemory);
+        }
+        S::open(alloc, cpus, caps, homes, room * 2)
+    }
+}
+
+impl<S: OpensAttempts> WholeBuffers for PlainFifo<S> {
+    ghost whole = { tt };
+}
+
+/// Law: each poll of one-step message calls is a whole call.
+pub fn ipc_is_whole()
+    ensures { ⟦<PlainIpc as IpcLayer>⟧.IsWhole }
+{}
