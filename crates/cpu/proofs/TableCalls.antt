@@ -240,7 +240,7 @@ looked_steps ActsFor homes caps cpu number limit own own2 guests trace old new c
 
 -- At boot.
 
-opens_so : (homes : List CpuId) (caps : List ℕ) (number : CpuId) (opening : LockId → Option TowerBlock) → OpensSo caps homes number opening
+pub opens_so : (homes : List CpuId) (caps : List ℕ) (number : CpuId) (opening : LockId → Option TowerBlock) → OpensSo caps homes number opening
     → OpensAs (bare homes caps) number opening
 opens_so homes caps number opening opens (AtBuffer b) asked = ap (option_map view) (opens.buffers b) ∙ go (slice_get caps b.0)
   where

@@ -31,7 +31,7 @@ use Rattle.cpu.proofs.Wakeups.Stuck.{quiet_is_stuck}
 -- Whether all home threads of a CPU have ended.
 
 -- a thread at home on c, where all of these threads have ended
-ended_at : (p : Private) (c : CpuId) (homes : List CpuId) (i k : ℕ) (h : CpuId) → slice_get homes k ≡ Some h → same_cpu h c ≡ true
+pub ended_at : (p : Private) (c : CpuId) (homes : List CpuId) (i k : ℕ) (h : CpuId) → slice_get homes k ≡ Some h → same_cpu h c ≡ true
     → have_ended p (home_threads_from c homes i) ≡ true → (thread_at p (record { 0 = i + k })).ended ≡ true
 ended_at p c [] i k h at same all = absurd (cc at)
 ended_at p c (home ∷ homes) i zero h at same all =

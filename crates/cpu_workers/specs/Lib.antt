@@ -3,3 +3,5 @@ pub mod Seats
 pub mod Orders
 pub mod Reports
 pub mod Laws
+pub mod Lawful
+pub mod Closing

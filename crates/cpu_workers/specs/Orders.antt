@@ -1,13 +1,21 @@
 -- The effects of a list of actions, and a CPU's trace among them.
-use Rattle.std.specs.Prelude.{◌≡◌, ℕ, List, map, reverse}
+use Rattle.std.specs.Prelude.{◌≡◌, ℕ, ◌≤◌, Bool, true, List, length, map, reverse, Option, Some, None, slice_index_or}
+use Rattle.std.specs.List.{AllByRecursion}
 use Rattle.event_log.specs.declared.entries.Entry.{Entry}
 use Rattle.event_log.specs.declared.ids.CpuId.{CpuId}
+use Rattle.event_log.specs.declared.ids.Tid.{Tid}
 use Rattle.event_log.specs.Actions.{Action}
 use Rattle.event_log.specs.Sections.{sections_in}
+use Rattle.guest.specs.declared.instructions.Instruction.{Instruction}
+use Rattle.guest.specs.Calls.{IsProgramsCalls, HasEnded}
+use Rattle.guest.specs.State.{State}
 use Rattle.layer_traits.specs.Queues.{buffer_sections, event_of}
 use Rattle.layer_traits.specs.BufferEffects.{effects_in, opening_locks}
-use Rattle.cpu.specs.Cpus.{of_cpu}
+use Rattle.layer_traits.specs.Places.{home_of}
+use Rattle.cpu.specs.Cpus.{IsOfHome, of_cpu, of_thread}
+use Rattle.cpu.specs.Table.Setups.{thread_at}
 use Rattle.cpu.specs.Tower.Views.{TowerName}
+use Rattle.cpu_workers.specs.Working.{Working}
 
 -- the effects of the sections of these actions on buffers of these capacities, which were empty; newest first
 abbrev pub effects_of : List ℕ → List (Action TowerName) → List Entry
@@ -16,3 +24,18 @@ effects_of caps acts = effects_in (opening_locks caps) (buffer_sections (map eve
 -- a trace, oldest first, is the CPU's effects, once and in their order
 abbrev pub IsTraceOf : CpuId → List ℕ → List (Action TowerName) → List Entry → Type 0
 IsTraceOf c caps acts trace = trace ≡ reverse (of_cpu c (effects_of caps acts))
+
+-- a thread's entries, oldest first, are the calls of its program up to some state, and it has ended only where the program ends there
+pub record FollowsProgram (program : List Instruction) (entries : List Entry) (ended : Bool) : Type 0 where
+  pub state : State
+  pub calls : IsProgramsCalls program (reverse entries) state
+  pub ends : ended ≡ true → HasEnded program state
+
+-- the threads of a worker have followed their programs: its trace has no more entries than there is room for, each is of a thread at home,
+-- and each thread at home has a program, whose calls its entries are
+pub record HasFollowed (w : Working) : Type 0 where
+  pub room : length w.private.trace ≤ w.plan.limit
+  pub stays : AllByRecursion (IsOfHome w.plan.homes w.cpu) w.private.trace
+  pub homed : (t : Tid) → home_of w.plan.homes t ≡ Some w.cpu → (program : List Instruction) × (slice_index_or w.plan.programs t.0 None ≡ Some program)
+  pub follows : (t : Tid) (program : List Instruction) → slice_index_or w.plan.programs t.0 None ≡ Some program
+      → FollowsProgram program (of_thread t.0 w.private.trace) (thread_at w.private t).ended

@@ -60,7 +60,7 @@ where
     ghost use Rattle.cpu.specs.Table.Setups.{Setup};
     ghost use Rattle.cpu.specs.Table.Steps.{halted_at};
     ghost use Rattle.cpu_workers.specs.Working.{IsPlanned, IsSame, Turned, is_inside};
-    ghost use Rattle.cpu_workers.specs.Orders.{IsTraceOf};
+    ghost use Rattle.cpu_workers.specs.Orders.{HasFollowed, IsTraceOf};
 
     /// The worker of a CPU and its machine, which agree. The machine does one action a step and has
     /// room for one at any time, and each of its buffers opened empty.
@@ -95,10 +95,12 @@ where
     }
 
     /// What holds after any number of turns: the trace is, once and in their order, the CPU's effects
-    /// in the actions that it has seen, which are legal.
+    /// in the actions that it has seen, which are legal; it has kept to its room, each of its entries
+    /// is of a thread at home, and each of these has followed its program.
     pub fn keeps(&self)
         ensures trace { IsTraceOf self.now.cpu self.now.plan.caps self.now.acts self.now.private.trace }
         ensures legal { AreLegal self.now.acts }
+        ensures follows { HasFollowed self.now }
     {
         let _ = &self.machine;
     }

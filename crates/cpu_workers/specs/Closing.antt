@@ -1,0 +1,125 @@
+-- The workers of one table of the tower's locks, once they have come back and the table is closed.
+use Rattle.std.specs.Prelude.{◌≡◌, ℕ, ◌*◌, ◌^◌, ◌<◌, ◌≤◌, false, List, length, map, Option, Some, IsSome, option_map, slice_get}
+use Rattle.std.specs.List.{AllByRecursion}
+use Rattle.event_log.specs.declared.entries.Entry.{Entry}
+use Rattle.event_log.specs.declared.events.Event.{Event}
+use Rattle.event_log.specs.declared.ids.CpuId.{CpuId}
+use Rattle.event_log.specs.declared.ids.LockId.{LockId}
+use Rattle.event_log.specs.declared.ids.LockId.TheVariants.{Pending}
+use Rattle.event_log.specs.declared.ids.TheConstants.{BUFFERS}
+use Rattle.event_log.specs.declared.ids.Tid.{Tid}
+use Rattle.event_log.specs.Actions.{Action, AreLegal, acts_of, phase, renamed}
+use Rattle.layer_traits.specs.declared.buffer_edits.BufferEdit.{BufferEdit}
+use Rattle.layer_traits.specs.declared.buffer_edits.BufferOut.{BufferOut}
+use Rattle.layer_traits.specs.declared.conditions.CvEdit.{CvEdit}
+use Rattle.layer_traits.specs.declared.conditions.CvLeave.{CvLeave}
+use Rattle.layer_traits.specs.declared.conditions.CvOut.{CvOut}
+use Rattle.layer_traits.specs.declared.edits.Mark.{Mark}
+use Rattle.layer_traits.specs.declared.locked.QOut.{QOut}
+use Rattle.layer_traits.specs.declared.queue_edits.QueueBlock.{QueueBlock}
+use Rattle.layer_traits.specs.declared.queue_edits.QueueEdit.{QueueEdit}
+use Rattle.layer_traits.specs.declared.queues.QueueAnswer.{QueueAnswer}
+use Rattle.layer_traits.specs.declared.sleeps.Outcome.{Outcome}
+use Rattle.layer_traits.specs.BufferBlocks.{BufferState}
+use Rattle.layer_traits.specs.BufferEffects.{opening_locks}
+use Rattle.layer_traits.specs.BufferProtocol.{buffer_deeds}
+use Rattle.layer_traits.specs.Conditions.{cv_rules}
+use Rattle.layer_traits.specs.OneLock.{AreDistinct, opened}
+use Rattle.layer_traits.specs.Places.{home_of}
+use Rattle.layer_traits.specs.Plans.{is_in_section}
+use Rattle.layer_traits.specs.Protocol.{Rules}
+use Rattle.layer_traits.specs.QueueBlocks.{StartsWell, homes_in, inner}
+use Rattle.layer_traits.specs.QueueRules.{queue_rules}
+use Rattle.layer_traits.specs.Renaming.{renamed_edit, viewed}
+use Rattle.layer_traits.specs.WordsProtocol.{edit_of}
+use Rattle.sleep_wakeup.specs.declared.edits.SleepBlock.{SleepBlock}
+use Rattle.sleep_wakeup.specs.declared.edits.SleepEdit.{SleepEdit}
+use Rattle.sleep_wakeup.specs.Nested.{nested_moves, nested_rules, state_of}
+use Rattle.sleep_wakeup.specs.Nested as sleep
+use Rattle.queuing_lock.specs.declared.edits.QBlock.{QBlock}
+use Rattle.queuing_lock.specs.declared.edits.QLockEdit.{QLockEdit}
+use Rattle.queuing_lock.specs.Nested.{busy_rules, lock_of}
+use Rattle.queuing_lock.specs.Nested as lock
+use Rattle.table_machine.specs.Desks.{Board, Desk}
+use Rattle.cpu.specs.Table.Blocks.{Block}
+use Rattle.cpu.specs.Cpus.{IsOfHome, of_thread}
+use Rattle.cpu.specs.Table.Setups.{Setup, Private, at_boot, program_of, thread_at}
+use Rattle.cpu.specs.Table.Steps.{cpu_step, halted_at}
+use Rattle.cpu.specs.Tower.Composed.{named}
+use Rattle.cpu.specs.Tower.Views.{TowerBlock, TowerName, view}
+use Rattle.cpu_workers.specs.declared.stops.Stop.{Stop}
+use Rattle.cpu_workers.specs.Lawful.{IsLineOf, Line, Shown}
+use Rattle.cpu_workers.specs.Orders.{FollowsProgram, IsTraceOf}
+use Rattle.cpu_workers.specs.Reports.{IsTrueStop, Took}
+
+-- the tower's edit of the block of a lock, the block, and what an edit answers
+abbrev pub LockEdit : Type 0
+LockEdit = SleepEdit (QLockEdit (CvEdit BufferEdit) CvLeave)
+
+abbrev pub LockBlock : Type 0
+LockBlock = SleepBlock (QBlock BufferState)
+
+abbrev pub LockOut : Type 0
+LockOut = Outcome (QOut (CvOut BufferOut))
+
+-- a words log of the tower's locks
+abbrev pub WordsOfTower : Type 0
+WordsOfTower = List (Event (Mark (QueueEdit LockEdit)))
+
+-- the key of a CPU at a table of these locks
+abbrev pub Key : Type 0
+Key = Desk (QueueEdit LockEdit) (QueueBlock LockBlock)
+
+-- what the tower's edits mean
+abbrev pub tower_rules : Rules (QueueEdit LockEdit) (QueueBlock LockBlock) (QueueAnswer LockOut)
+tower_rules = queue_rules (nested_rules (busy_rules (cv_rules buffer_deeds))) (nested_moves (busy_rules (cv_rules buffer_deeds)))
+
+-- the actions of a words log, by the names of the layers above
+abbrev pub acts_in : WordsOfTower → List (Action TowerName)
+acts_in log = map (renamed (renamed_edit lock.edit_in)) (map (renamed (renamed_edit sleep.edit_in)) (acts_of edit_of log))
+
+-- opening blocks, as the layers above see them
+abbrev pub seen_above : (LockId → Option (QueueBlock LockBlock)) → LockId → Option TowerBlock
+seen_above opening = viewed lock_of (viewed state_of opening)
+
+-- the block of each lock in a list of locks with their blocks, as the step table has blocks
+abbrev pub blocks_told : List (LockId × QueueBlock LockBlock) → LockId → Option Block
+blocks_told blocks lock = option_map view (seen_above (opened blocks) lock)
+
+-- a table that opened with the locks of this setup: a queue for each of its CPUs, with the homes of its threads, and its buffers, each empty
+-- under a free lock with nobody asleep; all its traces together have less than 2^64 entries
+pub record StartsSo (setup : Setup) (board : Board (QueueBlock LockBlock)) : Type 0 where
+  pub cpus : board.cpus ≡ setup.cpus
+  pub distinct : AreDistinct board.start
+  pub starts : StartsWell (opened board.start)
+  pub homes : homes_in (opened board.start) ≡ setup.homes
+  pub queues : (c : CpuId) → c.0 < setup.cpus → IsSome (opened board.start (Pending c))
+  pub locks : inner (seen_above (opened board.start)) ≡ opening_locks setup.caps
+  pub buffers : length setup.caps ≤ BUFFERS
+  pub small : setup.cpus * setup.trace_room < 2 ^ 64
+
+-- what a CPU did that has seen these actions: it went from boot to its last state by the step table, in just as many steps as its line tells,
+-- with none of its sections under way at the end; its stop is true of where it stands, and its trace is its effects in what it has seen; the
+-- trace kept to its room, each entry is of a thread at home, and each thread at home followed its program
+pub record HasSeen (setup : Setup) (May : ℕ → Type 0) (turns : ℕ) (c : CpuId) (acts : List (Action TowerName)) (line : Line) : Type 0 where
+  pub last : Private
+  pub took : Took (cpu_step setup c) c (at_boot setup c) last (named acts) line.taken
+  pub rests : is_in_section (phase c (named acts)) ≡ false
+  pub stop_is : IsTrueStop (halted_at setup c last) May turns line.taken line.stop
+  pub trace_is : line.trace ≡ last.trace
+  pub own : IsTraceOf c setup.caps acts line.trace
+  pub legal : AreLegal acts
+  pub room : length line.trace ≤ setup.trace_room
+  pub stays : AllByRecursion (IsOfHome setup.homes c) line.trace
+  pub follows : (t : Tid) → home_of setup.homes t ≡ Some c
+      → FollowsProgram (program_of setup t) (of_thread t.0 line.trace) (thread_at last t).ended
+
+-- the report has a line for each worker that came back with the key of its CPU
+pub record HaveCome (setup : Setup) (May : CpuId → ℕ → Type 0) (turns : ℕ) (keys : List Key) (r : Shown) : Type 0 where
+  pub traces : length r.traces ≡ setup.cpus
+  pub each : (c : CpuId) → c.0 < setup.cpus → (key : Key) × (line : Line) × (slice_get keys c.0 ≡ Some key) × (key.cpu ≡ c) × IsLineOf r c line
+      × HasSeen setup (May c) turns c (acts_in key.seen) line
+
+-- a report of the closed table: its blocks are those that `close` gave
+abbrev pub shown : List (List Entry) → List ℕ → List Stop → List (LockId × QueueBlock LockBlock) → Shown
+shown traces taken stops blocks = record { traces = traces; taken = taken; stops = stops; blocks = blocks_told blocks }

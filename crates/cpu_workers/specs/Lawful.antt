@@ -1,0 +1,104 @@
+-- What the report of workers tells: one order of their traces, and the run of each by the step table along one list of actions.
+use Rattle.std.specs.Prelude.{◌≡◌, ℕ, ◌<◌, ◌≤◌, false, List, [], length, reverse, Option, Some, None, slice_get}
+use Rattle.std.specs.List.{AllByRecursion}
+use Rattle.event_log.specs.declared.entries.Entry.{Entry}
+use Rattle.event_log.specs.declared.ids.BufId.{BufId}
+use Rattle.event_log.specs.declared.ids.CpuId.{CpuId}
+use Rattle.event_log.specs.declared.ids.LockId.{LockId}
+use Rattle.event_log.specs.declared.ids.LockId.TheVariants.{Pending, Buffer as AtBuffer}
+use Rattle.event_log.specs.declared.ids.Tid.{Tid}
+use Rattle.event_log.specs.Actions.{Action, AreLegal, doer, phase}
+use Rattle.event_log.specs.History.{own_events}
+use Rattle.event_log.specs.Messages.{Message}
+use Rattle.event_log.specs.Runs.{IsRun}
+use Rattle.event_log.specs.Traces.{IsInterleaving}
+use Rattle.guest.specs.Calls.{AreProgramsCalls, IsProgramsCalls, HasEnded}
+use Rattle.guest.specs.State.{State}
+use Rattle.layer_traits.specs.Places.{home_of}
+use Rattle.layer_traits.specs.Plans.{is_in_section}
+use Rattle.cpu.specs.Claims.{buffer_at, listed}
+use Rattle.cpu.specs.Cpus.{IsOfHome, of_thread}
+use Rattle.cpu.specs.Table.Blocks.{Block, Buffer, Name, OfBuffer, OfPending}
+use Rattle.cpu.specs.Table.Setups.{Setup, Private, at_boot, program_of}
+use Rattle.cpu.specs.Table.Steps.{block_at, cpu_step, halted_at}
+use Rattle.cpu.specs.Wakeups.Lost.{NoWakeUpIsLost}
+use Rattle.cpu_workers.specs.declared.stops.Stop.{Stop}
+use Rattle.cpu_workers.specs.declared.stops.Stop.TheVariants.{AllEnded, TurnsUsed, Held}
+use Rattle.cpu_workers.specs.Reports.{IsTrueStop, MayHold, Took}
+
+-- what a report tells of one CPU: its trace, oldest first, how many turns it took, and why it stopped
+pub record Line : Type 0 where
+  pub trace : List Entry
+  pub taken : ℕ
+  pub stop : Stop
+
+-- a report as plain data: the traces, the turns taken and the stops of all CPUs, and the block of each lock, as the step table has blocks
+pub record Shown : Type 0 where
+  pub traces : List (List Entry)
+  pub taken : List ℕ
+  pub stops : List Stop
+  pub blocks : LockId → Option Block
+
+-- the report has this line at the CPU's number
+pub record IsLineOf (r : Shown) (c : CpuId) (line : Line) : Type 0 where
+  pub trace : slice_get r.traces c.0 ≡ Some line.trace
+  pub taken : slice_get r.taken c.0 ≡ Some line.taken
+  pub stop : slice_get r.stops c.0 ≡ Some line.stop
+
+-- the messages in a block, first in front
+abbrev pub messages_in : Option Block → List Message
+messages_in None = []
+messages_in (Some (OfBuffer k)) = k.items
+messages_in (Some (OfPending threads)) = []
+
+-- what is left in the first n buffers
+abbrev pub left_in : ℕ → Shown → List (List Message)
+left_in n r = listed (λ b. messages_in (r.blocks (AtBuffer (buffer_at b)))) 0 n
+
+-- the program of a thread has ended behind these entries, oldest first
+pub record EndsAt (setup : Setup) (t : Tid) (entries : List Entry) : Type 0 where
+  pub state : State
+  pub calls : IsProgramsCalls (program_of setup t) (reverse entries) state
+  pub ends : HasEnded (program_of setup t) state
+
+-- what is told of a CPU is true: each entry is of a thread at home, and a thread's entries are its program's calls; it stopped with `AllEnded`
+-- only where all programs at home have ended, with `TurnsUsed` only after its turns, and with `Held` only where the gate may have held it
+pub record TellsTrue (setup : Setup) (May : ℕ → Type 0) (turns : ℕ) (c : CpuId) (line : Line) : Type 0 where
+  pub stays : AllByRecursion (IsOfHome setup.homes c) line.trace
+  pub calls : (t : Tid) → home_of setup.homes t ≡ Some c → AreProgramsCalls (program_of setup t) (of_thread t.0 line.trace)
+  pub ended : line.stop ≡ AllEnded → (t : Tid) → home_of setup.homes t ≡ Some c → EndsAt setup t (of_thread t.0 line.trace)
+  pub used : line.stop ≡ TurnsUsed → turns ≤ line.taken
+  pub held : line.stop ≡ Held → MayHold May line.taken
+
+-- a report of workers: its traces have one order that keeps each of them, is a run of first-in first-out buffers and ends in what the blocks hold;
+-- and what it tells of each CPU is true
+pub record IsReport (setup : Setup) (May : CpuId → ℕ → Type 0) (turns : ℕ) (r : Shown) : Type 0 where
+  pub order : List Entry
+  pub keeps : IsInterleaving r.traces order
+  pub run : IsRun setup.caps order (left_in (length setup.caps) r)
+  pub each : (c : CpuId) → c.0 < setup.cpus → (line : Line) × IsLineOf r c line × TellsTrue setup (May c) turns c line
+
+-- a CPU went along this list of actions by the step table: from boot to its last state, in just as many steps as its line tells, with none of
+-- its sections under way at the end; the line has its trace, and its stop is true of where it stands
+pub record HasGone (setup : Setup) (May : ℕ → Type 0) (turns : ℕ) (c : CpuId) (log : List (Action Name)) (line : Line) : Type 0 where
+  pub last : Private
+  pub trace_is : line.trace ≡ last.trace
+  pub took : Took (cpu_step setup c) c (at_boot setup c) last log line.taken
+  pub rests : is_in_section (phase c log) ≡ false
+  pub stop_is : IsTrueStop (halted_at setup c last) May turns line.taken line.stop
+
+-- the blocks are what the sections of these actions leave
+pub record AreLeft (setup : Setup) (log : List (Action Name)) (r : Shown) : Type 0 where
+  pub buffers : (b : BufId) → r.blocks (AtBuffer b) ≡ block_at setup (AtBuffer b) log
+  pub queues : (c : CpuId) → c.0 < setup.cpus → r.blocks (Pending c) ≡ block_at setup (Pending c) log
+
+-- a lawful report: there is one legal list of actions along which each CPU went by the step table, and which has no others' actions; the blocks
+-- are what it leaves; and no wake-up is lost in them
+pub record IsLawfulReport (setup : Setup) (May : CpuId → ℕ → Type 0) (turns : ℕ) (r : Shown) : Type 0 where
+  pub report : IsReport setup May turns r
+  pub log : List (Action Name)
+  pub legal : AreLegal log
+  pub gone : (c : CpuId) → c.0 < setup.cpus → (line : Line) × IsLineOf r c line × HasGone setup (May c) turns c log line
+  pub rest : (c : CpuId) → setup.cpus ≤ c.0 → own_events doer c log ≡ []
+  pub left : AreLeft setup log r
+  pub awake : (b : BufId) (k : Buffer) → r.blocks (AtBuffer b) ≡ Some (OfBuffer k) → NoWakeUpIsLost k
