@@ -56,7 +56,7 @@ module _ (setup : Setup) (c : CpuId) (p : Private) where
   current_only (Some t) is = call_only t (thread_at p t).call is
 
   -- a CPU that is halted for it has no thread left
-  all_ended : halted_at setup c p ≡ Some reason.AllEnded → have_ended p (home_threads setup c) ≡ true
+  pub all_ended : halted_at setup c p ≡ Some reason.AllEnded → have_ended p (home_threads setup c) ≡ true
   all_ended is = by_hand p.hand is
     where
       by_end : (b : Bool) → halted_by (if b then Halts reason.AllEnded else at_current setup c p p.current) ≡ Some reason.AllEnded → b ≡ true

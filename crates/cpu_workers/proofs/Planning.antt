@@ -135,7 +135,8 @@ has_followed homes caps buffers seen own threads talks doing number guests trace
   follows = λ t program at. let there = guest_with guests t.0 program at in
       subst (λ (l : List Instruction). FollowsProgram l (of_thread t.0 trace) (thread_at (private own guests trace) t).ended) there.2
       (subst (λ (l : List Entry). FollowsProgram there.0.program l (thread_at (private own guests trace) t).ended) (sym (entries t))
-      (follows_by there.0 (of_thread t.0 (of_cpu number seen)) (begun_of (talk_of talks t)) (talk_of talks t).effect (thread_at (private own guests trace) t).ended
+      (follows_by there.0 (of_thread t.0 (of_cpu number seen)) (begun_of (talk_of talks t)) (talk_of talks t).effect
+      (thread_at (private own guests trace) t).ended
       (λ over. is_own.over t (sym (ap (λ (x : Thread). x.ended) (thread_there t there.0 there.1)) ∙ over) there.0 there.1)
       (is.follow t there.0 there.1).1));
 }

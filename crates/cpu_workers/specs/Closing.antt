@@ -24,7 +24,7 @@ use Rattle.layer_traits.specs.BufferBlocks.{BufferState}
 use Rattle.layer_traits.specs.BufferEffects.{opening_locks}
 use Rattle.layer_traits.specs.BufferProtocol.{buffer_deeds}
 use Rattle.layer_traits.specs.Conditions.{cv_rules}
-use Rattle.layer_traits.specs.OneLock.{AreDistinct, opened}
+use Rattle.layer_traits.specs.OneLock.{opened}
 use Rattle.layer_traits.specs.Places.{home_of}
 use Rattle.layer_traits.specs.Plans.{is_in_section}
 use Rattle.layer_traits.specs.Protocol.{Rules}
@@ -40,7 +40,7 @@ use Rattle.queuing_lock.specs.declared.edits.QBlock.{QBlock}
 use Rattle.queuing_lock.specs.declared.edits.QLockEdit.{QLockEdit}
 use Rattle.queuing_lock.specs.Nested.{busy_rules, lock_of}
 use Rattle.queuing_lock.specs.Nested as lock
-use Rattle.table_machine.specs.Desks.{Board, Desk}
+use Rattle.table_machine.specs.Desks.{Board, Closes, Desk}
 use Rattle.cpu.specs.Table.Blocks.{Block}
 use Rattle.cpu.specs.Cpus.{IsOfHome, of_thread}
 use Rattle.cpu.specs.Table.Setups.{Setup, Private, at_boot, program_of, thread_at}
@@ -48,7 +48,7 @@ use Rattle.cpu.specs.Table.Steps.{cpu_step, halted_at}
 use Rattle.cpu.specs.Tower.Composed.{named}
 use Rattle.cpu.specs.Tower.Views.{TowerBlock, TowerName, view}
 use Rattle.cpu_workers.specs.declared.stops.Stop.{Stop}
-use Rattle.cpu_workers.specs.Lawful.{IsLineOf, Line, Shown}
+use Rattle.cpu_workers.specs.Lawful.{IsLawfulReport, IsLineOf, Line, Shown}
 use Rattle.cpu_workers.specs.Orders.{FollowsProgram, IsTraceOf}
 use Rattle.cpu_workers.specs.Reports.{IsTrueStop, Took}
 
@@ -87,10 +87,10 @@ abbrev pub blocks_told : List (LockId × QueueBlock LockBlock) → LockId → Op
 blocks_told blocks lock = option_map view (seen_above (opened blocks) lock)
 
 -- a table that opened with the locks of this setup: a queue for each of its CPUs, with the homes of its threads, and its buffers, each empty
--- under a free lock with nobody asleep; all its traces together have less than 2^64 entries
+-- under a free lock with nobody asleep; there is a CPU, and all traces together have less than 2^64 entries
 pub record StartsSo (setup : Setup) (board : Board (QueueBlock LockBlock)) : Type 0 where
+  pub some : 0 < setup.cpus
   pub cpus : board.cpus ≡ setup.cpus
-  pub distinct : AreDistinct board.start
   pub starts : StartsWell (opened board.start)
   pub homes : homes_in (opened board.start) ≡ setup.homes
   pub queues : (c : CpuId) → c.0 < setup.cpus → IsSome (opened board.start (Pending c))
@@ -120,6 +120,19 @@ pub record HaveCome (setup : Setup) (May : CpuId → ℕ → Type 0) (turns : �
   pub each : (c : CpuId) → c.0 < setup.cpus → (key : Key) × (line : Line) × (slice_get keys c.0 ≡ Some key) × (key.cpu ≡ c) × IsLineOf r c line
       × HasSeen setup (May c) turns c (acts_in key.seen) line
 
--- a report of the closed table: its blocks are those that `close` gave
+-- a report of the closed table, whose blocks are those that `close` gave
 abbrev pub shown : List (List Entry) → List ℕ → List Stop → List (LockId × QueueBlock LockBlock) → Shown
 shown traces taken stops blocks = record { traces = traces; taken = taken; stops = stops; blocks = blocks_told blocks }
+
+-- the workers of a table came back, the table was closed with their keys and gave these blocks, and this is the report
+pub record IsReported (setup : Setup) (May : CpuId → ℕ → Type 0) (turns : ℕ) (board : Board (QueueBlock LockBlock)) (keys : List Key)
+    (blocks : List (LockId × QueueBlock LockBlock)) (r : Shown) : Type 0 where
+  pub starts : StartsSo setup board
+  pub come : HaveCome setup May turns keys r
+  pub closes : Closes tower_rules board keys blocks
+  pub told : r.blocks ≡ blocks_told blocks
+
+-- such a report is lawful, whatever this gate may answer
+abbrev pub ReportsAreLawful : (CpuId → ℕ → Type 0) → Type 0
+ReportsAreLawful May = (setup : Setup) (turns : ℕ) (board : Board (QueueBlock LockBlock)) (keys : List Key)
+    (blocks : List (LockId × QueueBlock LockBlock)) (r : Shown) → IsReported setup May turns board keys blocks r → IsLawfulReport setup May turns r

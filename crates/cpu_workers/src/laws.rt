@@ -1,7 +1,10 @@
 //! What holds of workers that run at one table. Each law is the contract of a function that does
 //! nothing, so that the law is proved with the crate.
 
+ghost use Rattle.cpu_workers.specs.Closing.{ReportsAreLawful};
 ghost use Rattle.cpu_workers.specs.Laws.{StopsAreTrue, WorkersLoseNoWakeUp};
+
+use crate::gates::Gate;
 
 /// Workers that have each run from boot lose no wake-up, however their actions come between one
 /// another: in a list of actions that goes on from what each has seen, with none of its own beside,
@@ -16,3 +19,14 @@ pub fn workers_lose_no_wake_up()
 pub fn stops_are_true()
     ensures { StopsAreTrue }
 {}
+
+/// Where workers came back from their threads and their table was closed, the report is lawful:
+/// there is one legal list of actions along which each CPU went by the step table, and the blocks
+/// are what it leaves. So the traces have one order, which keeps each of them, is a run of first-in
+/// first-out buffers and ends in what the blocks hold; each thread followed its program, the stops
+/// are true, and no wake-up is lost in the blocks.
+pub fn reports_are_lawful<G: Gate>(gate: &G)
+    ensures { ReportsAreLawful (G.MayLimit gate.now) }
+{
+    let _ = gate;
+}

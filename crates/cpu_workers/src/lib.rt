@@ -10,7 +10,7 @@ mod turns;
 mod worker;
 
 pub use gates::{Gate, Go, OpenGate};
-pub use laws::{stops_are_true, workers_lose_no_wake_up};
+pub use laws::{reports_are_lawful, stops_are_true, workers_lose_no_wake_up};
 pub use starting::{Came, WorkerError, work_all};
 pub use stops::Stop;
 pub use turns::{Did, work};

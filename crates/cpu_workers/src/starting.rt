@@ -95,8 +95,8 @@ where
     I::Machine: Drop,
     requires empty { done.items ≡ [] }
     requires room { length children.items ≤ vec_capacity done }
-    ensures { Both (λ child came. HasRun (G.MayLimit child.promise.gate.value) child.promise.turns child.promise.worker.value came.worker came.did.taken came.did.stop)
-        children.items result.items }
+    ensures { Both (λ child came. HasRun (G.MayLimit child.promise.gate.value) child.promise.turns child.promise.worker.value
+        came.worker came.did.taken came.did.stop) children.items result.items }
 {
     for child in children {
         let came = join_one(rt, child);

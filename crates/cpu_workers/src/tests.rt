@@ -11,6 +11,7 @@ fn an_open_gate_lets_every_turn_pass(rt: HostRuntime) {
 
 #[test]
 fn each_law_can_be_called(_rt: HostRuntime) {
+    reports_are_lawful(&OpenGate);
     stops_are_true();
     workers_lose_no_wake_up();
 }

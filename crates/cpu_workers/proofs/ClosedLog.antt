@@ -1,0 +1,247 @@
+-- What one legal words log of the tower's locks says: its effects may come one after the other, and what its sections leave is the
+-- step table's, and in the buffers what its effects leave.
+use Rattle.std.proofs.Common.{◌≡◌, ℕ, suc, ◌<◌, ◌≤◌, Bool, true, false, List, [], ◌∷◌, length, map, slice_get, slice_index, Option, Some, None}
+use Rattle.std.proofs.Common.{option_map, if◌then◌else◌, inl, refl, ap, sym, ◌∙◌, subst, arith}
+use Rattle.event_log.specs.declared.ids.BufId.{BufId}
+use Rattle.event_log.specs.declared.ids.CpuId.{CpuId}
+use Rattle.event_log.specs.declared.ids.LockId.{LockId}
+use Rattle.event_log.specs.declared.ids.LockId.TheVariants.{Pending, Buffer as AtBuffer}
+use Rattle.event_log.specs.Actions.{Action, AreLegal, acts_of, renamed}
+use Rattle.event_log.specs.Buffers.{items_of}
+use Rattle.event_log.specs.History.{IsLawful, same_lock}
+use Rattle.event_log.specs.Sections.{Section, block_after, renamed_section, sections_in}
+use Rattle.event_log.proofs.Foreign.{sections_acts}
+use Rattle.event_log.proofs.Renaming.{legal_renamed, sections_in_renamed}
+use Rattle.event_log.proofs.Same.{same_lock_true}
+use Rattle.event_log.proofs.Tickets.{legal_acts}
+use Rattle.layer_traits.specs.declared.buffer_edits.BufferEdit.{BufferEdit}
+use Rattle.layer_traits.specs.declared.conditions.CvEdit.{CvEdit}
+use Rattle.layer_traits.specs.declared.conditions.CvLeave.{CvLeave}
+use Rattle.layer_traits.specs.declared.queue_edits.QueueBlock.{QueueBlock}
+use Rattle.layer_traits.specs.declared.queue_edits.QueueBlock.TheVariants as block
+use Rattle.layer_traits.specs.declared.queue_edits.QueueEdit.{QueueEdit}
+use Rattle.layer_traits.specs.declared.queue_edits.QueueEdit.TheVariants as edit
+use Rattle.layer_traits.specs.declared.queues.QueueEvent.{QueueEvent}
+use Rattle.layer_traits.specs.Acted.{ItemsAre, guarded}
+use Rattle.layer_traits.specs.BufferEffects.{MayTakeEffect, contents_of, effects_in}
+use Rattle.layer_traits.specs.BufferProtocol.{BufferLock, buffer_deeds}
+use Rattle.layer_traits.specs.Conditions.{CvCall, cv_rules}
+use Rattle.layer_traits.specs.IpcLaw.{OpensSo}
+use Rattle.layer_traits.specs.LockLaw.{lock_kernel}
+use Rattle.layer_traits.specs.Locking.{lock_edited}
+use Rattle.layer_traits.specs.OneLock.{opened}
+use Rattle.layer_traits.specs.QueueBlocks.{StartsWell, above_of}
+use Rattle.layer_traits.specs.QueueRules.{AreProper, queue_edited}
+use Rattle.layer_traits.specs.Queues.{QueueAllowed, buffer_sections, event_of}
+use Rattle.layer_traits.specs.Renaming.{renamed_edit, renamed_events, viewed, viewed_block}
+use Rattle.layer_traits.specs.Sleeping.{sleep_edited}
+use Rattle.layer_traits.specs.WordsProtocol.{MayCome, edit_of, sections}
+use Rattle.layer_traits.proofs.KernelRenaming.{homes_viewed, proper_renamed, seen_renamed, starts_viewed, viewed_there}
+use Rattle.layer_traits.proofs.NestedLemmas.{lawful_events, lawful_proper}
+use Rattle.layer_traits.proofs.PlanRenaming.{block_viewed}
+use Rattle.layer_traits.proofs.Seen.{sections_allowed, words_legal}
+use Rattle.sleep_wakeup.specs.Nested.{nested_edited, nested_moves, nested_rules, state_of}
+use Rattle.sleep_wakeup.specs.Nested as sleep
+use Rattle.sleep_wakeup.specs.NestedLaws.{nested_lawful}
+use Rattle.queuing_lock.specs.declared.edits.QLockEdit.{QLockEdit}
+use Rattle.queuing_lock.specs.Edits as locked
+use Rattle.queuing_lock.specs.Nested.{busy_rules, lock_of}
+use Rattle.queuing_lock.specs.Nested as lock
+use Rattle.queuing_lock.specs.NestedLaws.{locks_lawful}
+use Rattle.fifo_buffer.specs.OwnedLaws.{items_acted}
+use Rattle.fifo_buffer.specs.Tallies.{effects_lawful}
+use Rattle.fifo_buffer.proofs.Opening.{boots_well, caps_are}
+use Rattle.ipc_calls.specs.OpeningLaws.{opens_so}
+use Rattle.table_machine.specs.Desks.{Board}
+use Rattle.cpu.specs.Table.Setups.{Setup, opening as table_opening}
+use Rattle.cpu.specs.Table.Steps.{block_at}
+use Rattle.cpu.specs.Tower.Composed.{named}
+use Rattle.cpu.specs.Tower.Views.{TowerBlock, TowerName, view}
+use Rattle.cpu.proofs.TableCalls.{opens_so as opens_as}
+use Rattle.cpu.proofs.Telling.{block_told}
+use Rattle.cpu_workers.specs.Closing.{LockBlock, LockEdit, StartsSo, WordsOfTower, acts_in, blocks_told, seen_above, tower_rules}
+use Rattle.cpu_workers.specs.Lawful.{messages_in}
+use Rattle.cpu_workers.specs.Orders.{effects_of}
+
+-- Blocks under other names.
+
+module _ {D E A B : Type 0} (low : D → A → A) (high : E → B → B) (name : D → E) (sees : A → B)
+    (edits : (d : D) (a : A) → sees (low d a) ≡ high (name d) (sees a)) where
+  edits_seen : (e : QueueEdit D) (b : QueueBlock A)
+      → viewed_block sees (queue_edited low e b) ≡ queue_edited high (renamed_edit name e) (viewed_block sees b)
+  edits_seen (edit.Push t) (block.Queue queue homes) = refl
+  edits_seen (edit.Push t) (block.Above a) = refl
+  edits_seen edit.TakeAll (block.Queue queue homes) = refl
+  edits_seen edit.TakeAll (block.Above a) = refl
+  edits_seen (edit.Above d) (block.Queue queue homes) = refl
+  edits_seen (edit.Above d) (block.Above a) = ap (λ x. block.Above x) (edits d a)
+
+  -- what the same sections under other names leave is seen so
+  block_seen : (opening : LockId → Option (QueueBlock A)) (at : LockId) (past : List (Section (QueueEdit D)))
+      → block_after (queue_edited high) (viewed sees opening) at (map (renamed_section (renamed_edit name)) past)
+      ≡ option_map (viewed_block sees) (block_after (queue_edited low) opening at past)
+  block_seen opening at past =
+      block_viewed (record { edited = queue_edited low; answer = λ e b. tt }) (record { edited = queue_edited high; answer = λ e b. tt })
+      (renamed_edit name) (viewed_block sees) (λ (u : Unit {0}). u) edits_seen (λ e b. refl) opening at past
+
+-- The blocks that are given back.
+
+module _ {E B : Type 0} (edited : E → B → B) (opening : LockId → Option B) (at : LockId) where
+  after_none : (past : List (Section E)) → opening at ≡ None → block_after edited opening at past ≡ None
+  after_none [] none = none
+  after_none (s ∷ past) none = go (same_lock at s.lock) (after_none past none)
+    where
+      go : (b : Bool) → block_after edited opening at past ≡ None
+          → (if b then option_map (edited s.edit) (block_after edited opening at past) else block_after edited opening at past) ≡ None
+      go true is = ap (option_map (edited s.edit)) is
+      go false is = is
+
+-- a list of blocks that has each lock's in the order of another list has it for the lock
+given_back : {B : Type 0} (left : LockId → Option B) (at : LockId) (start blocks : List (LockId × B)) → length blocks ≡ length start
+    → ((i : ℕ) (o : LockId × B) → slice_get start i ≡ Some o → (b : B) × (slice_get blocks i ≡ Some (o.0, b)) × (left o.0 ≡ Some b))
+    → (opened start at ≡ None → left at ≡ None) → opened blocks at ≡ left at
+given_back left at [] [] count each none = sym (none refl)
+given_back left at [] (x ∷ blocks) count each none = absurd (omega (arith, count))
+given_back left at (o ∷ start) [] count each none = absurd (omega (arith, count))
+given_back {B} left at (o ∷ start) (x ∷ blocks) count each none =
+    let here = each 0 o refl in
+    let is : x ≡ (o.0, here.0) = cc here.1 in
+    let later = given_back left at start blocks (omega (arith, count)) (λ i z found. each (suc i) z found) in
+    subst (λ (y : LockId × B). (if same_lock y.0 at then Some y.1 else opened blocks at) ≡ left at) (sym is)
+    (go (same_lock o.0 at) refl here.0 here.2
+    (λ other. later (λ nothing. none (ap (λ (b : Bool). if b then Some o.1 else opened start at) other ∙ nothing))))
+  where
+    go : (b : Bool) → same_lock o.0 at ≡ b → (y : B) → left o.0 ≡ Some y → (same_lock o.0 at ≡ false → opened blocks at ≡ left at)
+        → (if b then Some y else opened blocks at) ≡ left at
+    go true same y leaves later = sym leaves ∙ ap left (same_lock_true o.0 at same)
+    go false other y leaves later = later other
+
+module _ (setup : Setup) (board : Board (QueueBlock LockBlock)) (so : StartsSo setup board) (log : WordsOfTower)
+    (legal : IsLawful (MayCome (tower_rules.allowed (opened board.start))) log) where
+  abbrev opening : LockId → Option (QueueBlock LockBlock)
+  opening = opened board.start
+
+  abbrev above : LockId → Option TowerBlock
+  above = seen_above opening
+
+  abbrev acts : List (Action TowerName)
+  acts = acts_in log
+
+  -- the actions beneath, under the names of the locks' words and under those of sleep and wakeup
+  abbrev acts_words : List (Action (QueueEdit LockEdit))
+  acts_words = acts_of edit_of log
+
+  abbrev acts_slept : List (Action (QueueEdit (QLockEdit (CvEdit BufferEdit) CvLeave)))
+  acts_slept = map (renamed (renamed_edit sleep.edit_in)) acts_words
+
+  -- The actions are legal.
+  pub acts_legal : AreLegal acts
+  acts_legal =
+      legal_renamed (renamed_edit lock.edit_in) acts_slept (legal_renamed (renamed_edit sleep.edit_in) acts_words
+      (legal_acts edit_of log (words_legal (tower_rules.allowed opening) log legal)))
+
+  -- The calls of the layers above are allowed.
+  lawful_words : IsLawful (tower_rules.allowed opening) (sections_in acts_words)
+  lawful_words = subst (λ l. IsLawful (tower_rules.allowed opening) l) (sym (sections_acts edit_of log))
+      (sections_allowed (tower_rules.allowed opening) log legal)
+
+  abbrev events : List (QueueEvent (CvCall BufferEdit))
+  events = renamed_events lock.edit_in (renamed_events sleep.edit_in (map event_of (sections_in acts_words)))
+
+  lawful_calls : IsLawful (QueueAllowed (lock_kernel (cv_rules buffer_deeds) above)) events
+  lawful_calls =
+      locks_lawful (cv_rules buffer_deeds) (viewed state_of opening) (renamed_events sleep.edit_in (map event_of (sections_in acts_words)))
+      (nested_lawful (busy_rules (cv_rules buffer_deeds)) opening (map event_of (sections_in acts_words))
+      (lawful_events (nested_rules (busy_rules (cv_rules buffer_deeds))) (nested_moves (busy_rules (cv_rules buffer_deeds))) opening
+      (sections_in acts_words) lawful_words))
+
+  events_are : events ≡ map event_of (sections_in acts)
+  events_are = ap (renamed_events lock.edit_in) (seen_renamed sleep.edit_in acts_words) ∙ seen_renamed lock.edit_in acts_slept
+
+  proper : AreProper (sections_in acts)
+  proper = proper_renamed lock.edit_in acts_slept (proper_renamed sleep.edit_in acts_words
+      (lawful_proper (nested_rules (busy_rules (cv_rules buffer_deeds))) (nested_moves (busy_rules (cv_rules buffer_deeds))) opening
+      (sections_in acts_words) lawful_words))
+
+  starts : StartsWell above
+  starts = starts_viewed lock_of (viewed state_of opening) (starts_viewed state_of opening so.starts)
+
+  -- Each effect may come after those before it.
+  pub effects_may : IsLawful (MayTakeEffect setup.caps) (effects_of setup.caps acts)
+  effects_may = subst (λ x. x)
+      (λ i. IsLawful (MayTakeEffect setup.caps) (effects_in (so.locks i) (buffer_sections (events_are i))))
+      (effects_lawful above setup.caps so.locks events lawful_calls)
+
+  -- What the sections leave.
+
+  left_above : (at : LockId) → guarded above acts at ≡ seen_above (λ l. block_after tower_rules.edited opening l (sections log)) at
+  left_above at =
+      ap (λ l. block_after (queue_edited (lock_edited (cv_rules buffer_deeds))) above at l)
+      (sections_in_renamed (renamed_edit lock.edit_in) acts_slept
+      ∙ ap (map (renamed_section (renamed_edit lock.edit_in)))
+      (sections_in_renamed (renamed_edit sleep.edit_in) acts_words
+      ∙ ap (map (renamed_section (renamed_edit sleep.edit_in))) (sections_acts edit_of log)))
+      ∙ block_seen (sleep_edited (busy_rules (cv_rules buffer_deeds))) (lock_edited (cv_rules buffer_deeds)) lock.edit_in lock_of
+      (locked.edits (cv_rules buffer_deeds)) (viewed state_of opening) at (map (renamed_section (renamed_edit sleep.edit_in)) (sections log))
+      ∙ ap (option_map (viewed_block lock_of))
+      (block_seen (nested_edited (busy_rules (cv_rules buffer_deeds))) (sleep_edited (busy_rules (cv_rules buffer_deeds))) sleep.edit_in state_of
+      (λ d a. refl) opening at (sections log))
+
+  opens : (c : CpuId) → c.0 < setup.cpus → OpensSo setup.caps setup.homes c above
+  opens c within =
+      opens_so setup.caps setup.homes c above starts
+      (homes_viewed lock_of (viewed state_of opening) ∙ homes_viewed state_of opening ∙ so.homes)
+      (viewed_there lock_of (viewed state_of opening) (Pending c) (viewed_there state_of opening (Pending c) (so.queues c within))) so.locks
+
+  buffer_opens : (b : BufId) → option_map view (above (AtBuffer b)) ≡ table_opening setup (AtBuffer b)
+  buffer_opens b = opens_as setup.homes setup.caps (record { 0 = 0 }) above (opens (record { 0 = 0 }) so.some) (AtBuffer b) tt
+
+  queue_opens : (c : CpuId) → c.0 < setup.cpus → option_map view (above (Pending c)) ≡ table_opening setup (Pending c)
+  queue_opens c within = opens_as setup.homes setup.caps c above (opens c within) (Pending c) (inl refl)
+
+  module _ (blocks : List (LockId × QueueBlock LockBlock)) (count : length blocks ≡ length board.start)
+      (given : (i : ℕ) (o : LockId × QueueBlock LockBlock) → slice_get board.start i ≡ Some o
+      → (b : QueueBlock LockBlock) × (slice_get blocks i ≡ Some (o.0, b))
+      × (block_after tower_rules.edited opening o.0 (sections log) ≡ Some b)) where
+    -- the blocks that were given back, as the layers above see them
+    blocks_above : (at : LockId) → seen_above (opened blocks) at ≡ guarded above acts at
+    blocks_above at =
+        ap (λ o. option_map (viewed_block lock_of) (option_map (viewed_block state_of) o))
+        (given_back (λ l. block_after tower_rules.edited opening l (sections log)) at board.start blocks count given
+        (λ none. after_none tower_rules.edited opening at (sections log) none))
+        ∙ sym (left_above at)
+
+    blocks_at : (at : LockId) → option_map view (above at) ≡ table_opening setup at → blocks_told blocks at ≡ block_at setup at (named acts)
+    blocks_at at same = ap (option_map view) (blocks_above at) ∙ sym (block_told setup above acts at same)
+
+    pub buffers_left : (b : BufId) → blocks_told blocks (AtBuffer b) ≡ block_at setup (AtBuffer b) (named acts)
+    buffers_left b = blocks_at (AtBuffer b) (buffer_opens b)
+
+    pub queues_left : (c : CpuId) → c.0 < setup.cpus → blocks_told blocks (Pending c) ≡ block_at setup (Pending c) (named acts)
+    queues_left c within = blocks_at (Pending c) (queue_opens c within)
+
+    -- a buffer holds what the effects leave in it
+    few : length setup.caps ≤ 256
+    few = let most = so.buffers in omega (arith, most)
+
+    items : (b : BufId) → b.0 < length setup.caps
+        → ItemsAre above acts b (items_of (contents_of setup.caps (effects_of setup.caps acts)) b.0) (slice_index setup.caps b.0)
+    items b within =
+        let caps_same = caps_are above setup.caps so.locks few in
+        subst (λ x. x)
+        (λ i. ItemsAre above acts b (items_of (contents_of (caps_same i) (effects_in (so.locks i) (buffer_sections (events_are i)))) b.0)
+        (slice_index (caps_same i) b.0))
+        (items_acted above (boots_well above setup.caps so.locks few) b (subst (λ (l : List ℕ). b.0 < length l) (sym caps_same) within)
+        events acts starts proper events_are lawful_calls)
+
+    messages_told : (o : Option TowerBlock) (held : BufferLock) → above_of o ≡ Some held → messages_in (option_map view o) ≡ held.above.items
+    messages_told None held is = absurd (cc is)
+    messages_told (Some (block.Queue queue homes)) held is = absurd (cc is)
+    messages_told (Some (block.Above state)) held is = let same : state ≡ held = cc is in ap (λ (x : BufferLock). x.above.items) same
+
+    pub messages_left : (b : BufId) → b.0 < length setup.caps
+        → items_of (contents_of setup.caps (effects_of setup.caps acts)) b.0 ≡ messages_in (blocks_told blocks (AtBuffer b))
+    messages_left b within =
+        let are = items b within in
+        are.holds
+        ∙ sym (ap (λ o. messages_in (option_map view o)) (blocks_above (AtBuffer b)) ∙ messages_told (guarded above acts (AtBuffer b)) are.lock are.there)
