@@ -26,6 +26,7 @@ use Rattle.cpu.specs.Systems.{IsAt, IsSystem, halted_in, own_reason, own_reason_
 use Rattle.cpu.proofs.GuestLists.{cpu_same}
 use Rattle.cpu.proofs.ListReads.{all_both, all_by, all_left, all_right, set_again, set_else, set_there}
 use Rattle.cpu.proofs.Schedules.{seen_stays}
+use Rattle.cpu.proofs.Sounding.{Told}
 
 -- where the holder acts for each CPU that there may be, no effect is foreign
 no_others : (ActsFor : CpuId → Type 0) (others : List Entry) → ((c : CpuId) → c.0 < CPUS → ActsFor c) → AllByRecursion (λ e. e.cpu.0 < CPUS) others
@@ -143,19 +144,36 @@ system_step One Two number Acts1 Acts2 IsStepwise acts1 acts2 cpus homes homes2 
         let most = is.most in
         record { number_is = before.number_is; holds = there j x other (omega (arith, inside, most)) before }
 
--- What stands in a system: parts that fit a machine, and CPUs of which what always holds is true.
-module _ {M X N : Type 0} (Fits : X → M → Type 0) (number cpu : X → CpuId) (own : X → Threads) (talks : X → List Talk) (doing : X → Option Doing)
-    (guests : X → List (Option Guest)) (trace : X → List Entry) (limit capacity : X → ℕ) (ActsFor : M → CpuId → Type 0) (IsStepwise : Type 0)
-    (acts : M → List (Action N)) (homes : M → List CpuId) (caps : M → List ℕ) (seen : M → List Entry) (left : M → ℕ)
-    (Tabled : M → X → Type 0) (Sound : M → List X → ℕ → ℕ → Type 0) where
+-- What a machine M and the CPUs X that work in it tell of themselves: whether a CPU's part fits the machine, its number and that of its
+-- part, what it shows, its talks, what it is doing, and for how many entries its trace has memory; of the machine for whom it acts, whether
+-- it does one action a step, what it tells, and how much room is left; and what else is asked of a CPU and of the system.
+pub record Works (M X : Type 0) : Type 1 where
+  pub Fits : X → M → Type 0
+  pub number : X → CpuId
+  pub cpu : X → CpuId
+  pub shown : X → CpuShown
+  pub talks : X → List Talk
+  pub doing : X → Option Doing
+  pub capacity : X → ℕ
+  pub ActsFor : M → CpuId → Type 0
+  pub IsStepwise : Type 0
+  pub told : M → Told
+  pub left : M → ℕ
+  pub Tabled : M → X → Type 0
+  pub Sound : M → List X → ℕ → ℕ → Type 0
+
+module _ {M X : Type 0} (of : Works M X) where
+  -- what always holds of one CPU
+  abbrev Keeps : M → X → Type 0
+  Keeps m x = IsCpu (of.told m).homes (length (of.told m).caps) (of.told m).seen (of.shown x).own (of.talks x) (of.doing x) (of.number x)
+      (of.shown x).guests (of.shown x).trace (of.shown x).limit (of.capacity x)
+
   abbrev IsOne : M → X → Type 0
-  IsOne m x = Fits x m × (cpu x ≡ number x)
-      × IsCpu (homes m) (length (caps m)) (seen m) (own x) (talks x) (doing x) (number x) (guests x) (trace x) (limit x) (capacity x)
-      × Tabled m x
+  IsOne m x = of.Fits x m × (of.cpu x ≡ of.number x) × Keeps m x × of.Tabled m x
 
   abbrev Holds : M → List X → ℕ → ℕ → Type 0
-  Holds m cpus room taken = IsSystem (IsOne m) number (ActsFor m) IsStepwise (acts m) cpus (homes m) (seen m) room taken (left m)
-      (Sound m cpus room taken)
+  Holds m cpus room taken = IsSystem (IsOne m) of.number (of.ActsFor m) of.IsStepwise (of.told m).acts cpus (of.told m).homes (of.told m).seen room taken
+      (of.left m) (of.Sound m cpus room taken)
 
   -- nothing has changed
   pub again : (m m2 : M) (cpus : List X) (room taken k : ℕ) (x y : X) → Holds m cpus room taken → slice_get cpus k ≡ Some x → m2 ≡ m → y ≡ x
@@ -165,36 +183,37 @@ module _ {M X N : Type 0} (Fits : X → M → Type 0) (number cpu : X → CpuId)
       (subst (λ (l : List X). Holds m l room taken) (sym (set_again cpus k y (at ∙ ap (λ (z : X). Some z) (sym same)))) is)
 
   -- a CPU took a step
-  pub stepped : (m m2 : M) (cpus : List X) (room taken k : ℕ) (x y : X) → Holds m cpus room taken → Sound m2 (slice_set cpus k y) room (taken + 1)
-      → slice_get cpus k ≡ Some x → number y ≡ number x
-      → cpu y ≡ number x → Fits y m2
-      → IsCpu (homes m2) (length (caps m2)) (seen m2) (own y) (talks y) (doing y) (number y) (guests y) (trace y) (limit y) (capacity y)
-      → Tabled m2 y → ((z : X) → Tabled m z → Tabled m2 z)
-      → ((z : X) → cpu z ≢ number x → Fits z m → Fits z m2) → ((c : CpuId) → ActsFor m c → ActsFor m2 c)
-      → SeenGrows (ActsFor m) (number x) (seen m) (seen m2) → (IsStepwise → ActsGrow (ActsFor m) (number x) (acts m) (acts m2))
-      → AllByRecursion (λ e. e.cpu.0 < CPUS) (seen m2) → homes m2 ≡ homes m → caps m2 ≡ caps m → left m ≤ left m2 + 1 → taken < room
-      → Holds m2 (slice_set cpus k y) room (taken + 1)
+  pub stepped : (m m2 : M) (cpus : List X) (room taken k : ℕ) (x y : X) → Holds m cpus room taken → of.Sound m2 (slice_set cpus k y) room (taken + 1)
+      → slice_get cpus k ≡ Some x → of.number y ≡ of.number x → of.cpu y ≡ of.number x → of.Fits y m2 → Keeps m2 y
+      → of.Tabled m2 y → ((z : X) → of.Tabled m z → of.Tabled m2 z)
+      → ((z : X) → of.cpu z ≢ of.number x → of.Fits z m → of.Fits z m2) → ((c : CpuId) → of.ActsFor m c → of.ActsFor m2 c)
+      → SeenGrows (of.ActsFor m) (of.number x) (of.told m).seen (of.told m2).seen
+      → (of.IsStepwise → ActsGrow (of.ActsFor m) (of.number x) (of.told m).acts (of.told m2).acts)
+      → AllByRecursion (λ e. e.cpu.0 < CPUS) (of.told m2).seen → (of.told m2).homes ≡ (of.told m).homes → (of.told m2).caps ≡ (of.told m).caps
+      → of.left m ≤ of.left m2 + 1 → taken < room → Holds m2 (slice_set cpus k y) room (taken + 1)
   stepped m m2 cpus room taken k x y is sound at numbered of_cpu_is fits here tabled tables others goes grows does known same_homes same_caps room_left live =
-      system_step (IsOne m) (IsOne m2) number (ActsFor m) (ActsFor m2) IsStepwise (acts m) (acts m2) cpus (homes m) (homes m2) (seen m) (seen m2) room taken
-      (left m) (left m2) k y (Sound m cpus room taken) (Sound m2 (slice_set cpus k y) room (taken + 1)) is sound (slice_get_within cpus k x at) (numbered
-      ∙ is_k) (fits, of_cpu_is ∙ sym numbered, here, tabled) there goes
-      (subst (λ (c : CpuId). SeenGrows (ActsFor m) c (seen m) (seen m2)) is_k grows)
-      (λ step. subst (λ (c : CpuId). ActsGrow (ActsFor m) c (acts m) (acts m2)) is_k (does step)) known same_homes room_left live
+      system_step (IsOne m) (IsOne m2) of.number (of.ActsFor m) (of.ActsFor m2) of.IsStepwise (of.told m).acts (of.told m2).acts cpus
+      (of.told m).homes (of.told m2).homes (of.told m).seen (of.told m2).seen room taken (of.left m) (of.left m2) k y (of.Sound m cpus room taken)
+      (of.Sound m2 (slice_set cpus k y) room (taken + 1)) is sound
+      (slice_get_within cpus k x at) (numbered ∙ is_k) (fits, of_cpu_is ∙ sym numbered, here, tabled) there goes
+      (subst (λ (c : CpuId). SeenGrows (of.ActsFor m) c (of.told m).seen (of.told m2).seen) is_k grows)
+      (λ step. subst (λ (c : CpuId). ActsGrow (of.ActsFor m) c (of.told m).acts (of.told m2).acts) is_k (does step)) known same_homes room_left live
     where
-      is_k : number x ≡ cpu_at k
+      is_k : of.number x ≡ cpu_at k
       is_k = (is.each k x at).number_is
 
-      there : (j : ℕ) (z : X) → j ≢ k → j < CPUS → IsAt (IsOne m) number j z → IsOne m2 z
+      there : (j : ℕ) (z : X) → j ≢ k → j < CPUS → IsAt (IsOne m) of.number j z → IsOne m2 z
       there j z other below before =
-          let apart : (number z).0 ≢ (number x).0 =
+          let apart : (of.number z).0 ≢ (of.number x).0 =
           λ e. other (sym (ap (λ (c : CpuId). c.0) before.number_is) ∙ e ∙ ap (λ (c : CpuId). c.0) is_k) in
-          let act : ActsFor m (number z) = subst (λ (c : CpuId). ActsFor m c) (sym before.number_is) (is.acts_for (cpu_at j) below) in (
+          let act : of.ActsFor m (of.number z) = subst (λ (c : CpuId). of.ActsFor m c) (sym before.number_is) (is.acts_for (cpu_at j) below) in (
             others z (λ e. apart (ap (λ (c : CpuId). c.0) (sym before.holds.1 ∙ e))) before.holds.0,
             before.holds.1,
-            cpu_frame (homes m) (homes m2) (length (caps m)) (length (caps m2)) (seen m) (seen m2) (own z)
-                (talks z) (doing z) (number z) (guests z) (trace z) (limit z)
-                (capacity z) same_homes
-                (ap (λ (l : List ℕ). length l) same_caps) (same_of (ActsFor m) (number x) (number z) (seen m) (seen m2) apart act grows) before.holds.2,
+            cpu_frame (of.told m).homes (of.told m2).homes (length (of.told m).caps) (length (of.told m2).caps) (of.told m).seen (of.told m2).seen
+                (of.shown z).own (of.talks z) (of.doing z) (of.number z) (of.shown z).guests (of.shown z).trace (of.shown z).limit (of.capacity z)
+                same_homes (ap (λ (l : List ℕ). length l) same_caps)
+                (same_of (of.ActsFor m) (of.number x) (of.number z) (of.told m).seen (of.told m2).seen apart act grows)
+                before.holds.2,
             tables z before.holds.3,
           )
 

@@ -121,31 +121,49 @@ pub record Told : Type 0 where
 abbrev pub shown_in : Told → List CpuShown → ℕ → ℕ → Shown
 shown_in m cpus room taken = shown_of m.caps m.homes m.seen m.lines m.owner m.moves m.acts cpus room taken
 
--- A step of one CPU among those that are shown, by what it leaves of the machine.
-module _ {X : Type 0} (shown : X → CpuShown) (m m2 : Told) (c : CpuId) (xs : List X) (k : ℕ) (x y : X) (room taken : ℕ) (at : slice_get xs k ≡ Some x)
-    (same : k ≡ c.0) where
-  abbrev old : Shown
-  old = shown_in m (map shown xs) room taken
+-- a step of CPU c, at number k among those that are shown: x became y, and what the machine told before, it tells after; there was room
+-- for so many steps, and so many were taken
+pub record Turn (X : Type 0) : Type 0 where
+  pub shown : X → CpuShown
+  pub before : Told
+  pub after : Told
+  pub c : CpuId
+  pub cpus : List X
+  pub k : ℕ
+  pub x : X
+  pub y : X
+  pub room : ℕ
+  pub taken : ℕ
+  pub at : slice_get cpus k ≡ Some x
+  pub same : k ≡ c.0
 
-  abbrev new : Shown
-  new = shown_in m2 (map shown (slice_set xs k y)) room (taken + 1)
+module _ {X : Type 0} (turn : Turn X) where
+  -- the system before the step, and after it
+  abbrev pub old_of : Shown
+  old_of = shown_in turn.before (map turn.shown turn.cpus) turn.room turn.taken
 
-  pub same_plan : m2.caps ≡ m.caps → m2.homes ≡ m.homes → programs_of (shown y).guests ≡ programs_of (shown x).guests → (shown y).limit ≡ (shown x).limit
-      → SamePlan old new
+  abbrev pub new_of : Shown
+  new_of = shown_in turn.after (map turn.shown (slice_set turn.cpus turn.k turn.y)) turn.room (turn.taken + 1)
+
+  pub same_plan : turn.after.caps ≡ turn.before.caps → turn.after.homes ≡ turn.before.homes
+      → programs_of (turn.shown turn.y).guests ≡ programs_of (turn.shown turn.x).guests → (turn.shown turn.y).limit ≡ (turn.shown turn.x).limit
+      → SamePlan old_of new_of
   same_plan caps homes programs limit = record {
     caps = caps;
     homes = homes;
-    programs = shown_same shown (λ (p : CpuShown). programs_of p.guests) xs k x y at programs;
-    count = shown_length shown xs k y;
-    limits = shown_same shown (λ (p : CpuShown). p.limit) xs k x y at limit;
+    programs = shown_same turn.shown (λ (p : CpuShown). programs_of p.guests) turn.cpus turn.k turn.x turn.y turn.at programs;
+    count = shown_length turn.shown turn.cpus turn.k turn.y;
+    limits = shown_same turn.shown (λ (p : CpuShown). p.limit) turn.cpus turn.k turn.x turn.y turn.at limit;
     room = refl;
   }
 
-  pub went_so : (ActsFor : CpuId → Type 0) → ((setup : Setup) → IsSetupOf setup m.homes m.caps (shown x).guests (shown x).limit
-      → IsStep ActsFor (cpu_step setup c) (shown x).private (shown y).private (named m.acts) (named m2.acts) Stepped)
-      → ((d : CpuId) → d.0 < CPUS → ActsFor d) → AreLegal m2.acts → taken ≢ room → SteppedByTable c old new Stepped
+  pub went_so : (ActsFor : CpuId → Type 0)
+      → ((setup : Setup) → IsSetupOf setup turn.before.homes turn.before.caps (turn.shown turn.x).guests (turn.shown turn.x).limit
+      → IsStep ActsFor (cpu_step setup turn.c) (turn.shown turn.x).private (turn.shown turn.y).private (named turn.before.acts) (named turn.after.acts) Stepped)
+      → ((d : CpuId) → d.0 < CPUS → ActsFor d) → AreLegal turn.after.acts → turn.taken ≢ turn.room → SteppedByTable turn.c old_of new_of Stepped
   went_so ActsFor went all legal live setup goes =
-      shown_step shown ActsFor setup c xs k x y m.acts m2.acts room taken at same (went setup (goes.each k (shown x) (shows_at shown xs k x at))) all legal live
+      shown_step turn.shown ActsFor setup turn.c turn.cpus turn.k turn.x turn.y turn.before.acts turn.after.acts turn.room turn.taken turn.at turn.same
+      (went setup (goes.each turn.k (turn.shown turn.x) (shows_at turn.shown turn.cpus turn.k turn.x turn.at))) all legal live
 
 -- A schedule.
 

@@ -68,7 +68,7 @@ where
     ghost use Rattle.layer_traits.specs.declared.steps.Step.TheVariants.{Halted, Stepped};
     ghost use Rattle.event_log.specs.Buffers.{items_of};
     ghost use Rattle.cpu.specs.Cpus.{step_answer};
-    ghost use Rattle.cpu.specs.Claims.{FollowPrograms, HasOneOrder, IsPlaceOf, MovesAgree, StandsOnce, StayHome, traces_of};
+    ghost use Rattle.cpu.specs.Claims.{FollowPrograms, HasOneOrder, IsPlaceOf, MovesAgree, StandsOnce, StayHome, shown_of, traces_of};
     ghost use Rattle.cpu.specs.Sound.{RanByTable, ReturnsAlone, SoundByTable};
     ghost use Rattle.cpu.specs.Told.{ToldByTable};
     ghost use Rattle.cpu.specs.Systems.{HaltsByTable, Ran, SamePlan, SteppedByTable, halted_in, reason_of};
@@ -264,8 +264,12 @@ where
         at.trace()
     }
 
-    /// The machine beneath.
-    pub fn machine(&self) -> &I::Machine {
+    /// The machine beneath: it is the one whose capacities, homes, contents, waiting lists, owners,
+    /// moves and actions the system shows.
+    pub fn machine(&self) -> &I::Machine
+        ensures { self.now ≡ shown_of (I.caps result.now) (I.homes_of result.now) (I.seen result.now) (I.lines result.now) (I.owner result.now)
+            (I.moves result.now) (I.acts result.now) self.now.cpus self.now.room self.now.taken }
+    {
         &self.machine
     }
 

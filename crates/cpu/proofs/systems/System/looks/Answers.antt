@@ -9,13 +9,13 @@ use Rattle.cpu.specs.declared.cpus.Cpu.{Cpu}
 use Rattle.cpu.specs.Table.Steps.{cpu_step}
 use Rattle.cpu.specs.Tower.Composed.{named}
 use Rattle.cpu.specs.Sound.{IsReachedByTable}
-use Rattle.cpu.proofs.Sounding.{Told, reached_on, same_plan, shown_in, went_so}
+use Rattle.cpu.proofs.Sounding.{Told, Turn, new_of, old_of, reached_on, same_plan, shown_in, went_so}
 use Rattle.cpu.proofs.TableSystems.{shown_step}
 use Rattle.cpu.specs.Cpus.{programs_of}
 use Rattle.cpu.specs.Tables.{IsTabled}
-use Rattle.cpu.specs.Claims.{CpuShown, Shown, cpu_shown, shown_of}
+use Rattle.cpu.specs.Claims.{CpuShown, Shown, cpu_shown}
 use Rattle.cpu.specs.Systems.{reason_of}
-use Rattle.cpu.proofs.Advances.{again, live_of, stepped}
+use Rattle.cpu.proofs.Advances.{Works, again, live_of, stepped}
 use Rattle.cpu.proofs.ListReads.{read_at, shown_length, shown_same, shows_at}
 use Rattle.cpu.proofs.systems.System.looks.Goals as goal
 
@@ -59,12 +59,32 @@ invariant_of-self g c =
     let at = read_at shown items c.args.self.now.cpus c.from.result c.args.cpu.0 c.index_mut-at.result.now (ap (λ (s : Shown). s.cpus) c.self.view_is)
     c.from.ensures c.requires c.index_mut-at.ensures.value in
     let still = c.look.ensures.still c.if-not-look.true in
-    again (λ x n. I.Fits x.part n) (λ x. x.number) (λ x. I.cpu_of x.part) (λ x. I.threads x.part) (λ x. I.talks x.part) (λ x. I.doing x.part)
-    (λ x. x.guests.items) (λ x. x.trace.items) (λ x. x.limit) (λ x. vec_capacity x.trace) (λ n d. I.ActsFor n d) I.IsStepwise
-    (λ n. I.acts n) (λ n. I.homes_of n) (λ n. I.caps n) (λ n. I.seen n) (λ n. I.room n)
-    (λ n x. I.IsStepwise → IsTabled (I.homes_of n) (I.caps n) x.number (I.own x.part) (I.doing x.part) x.guests.items (I.opening n))
-    (λ n l space done. (c.self.inside.threads ≡ length (I.homes_of n)) × (I.IsStepwise → IsReachedByTable (shown_of (I.caps n) (I.homes_of n) (I.seen n)
-    (I.lines n) (g.I.Owned.owner n) (I.moves n) (I.acts n) (map shown l) space done)))
+    let told : g.row.I-Machine.Denot → Told = λ n. record {
+      caps = I.caps n;
+      homes = I.homes_of n;
+      seen = I.seen n;
+      lines = I.lines n;
+      owner = g.I.Owned.owner n;
+      moves = I.moves n;
+      acts = I.acts n;
+    } in
+    let works : Works g.row.I-Machine.Denot (Cpu g.row.I.Denot g.row.I-Machine.Denot) = record {
+      Fits = λ x n. I.Fits x.part n;
+      number = λ x. x.number;
+      cpu = λ x. I.cpu_of x.part;
+      shown = shown;
+      talks = λ x. I.talks x.part;
+      doing = λ x. I.doing x.part;
+      capacity = λ x. vec_capacity x.trace;
+      ActsFor = λ n d. I.ActsFor n d;
+      IsStepwise = I.IsStepwise;
+      told = told;
+      left = λ n. I.room n;
+      Tabled = λ n x. I.IsStepwise → IsTabled (I.homes_of n) (I.caps n) x.number (I.own x.part) (I.doing x.part) x.guests.items (I.opening n);
+      Sound = λ n l space done. (c.self.inside.threads ≡ length (I.homes_of n))
+          × (I.IsStepwise → IsReachedByTable (shown_in (told n) (map shown l) space done));
+    } in
+    again works
     m c.look.new.m items c.self.inside.room c.self.inside.taken
     c.from.result c.index_mut-at.result.now c.look.new.self c.self.invariant at still.1 still.0
 
@@ -97,25 +117,45 @@ invariant_of-self-2 g c =
       moves = I.moves n;
       acts = I.acts n;
     } in
-    let reached : I.IsStepwise → IsReachedByTable (shown_in (told c.look.new.m) (map shown (slice_set items k y)) c.self.inside.room
-    (c.self.inside.taken + 1)) = λ step.
+    let turn : Turn (Cpu g.row.I.Denot g.row.I-Machine.Denot) = record {
+      shown = shown;
+      before = told m;
+      after = told c.look.new.m;
+      c = c.args.cpu;
+      cpus = items;
+      k = k;
+      x = x;
+      y = y;
+      room = c.self.inside.room;
+      taken = c.self.inside.taken;
+      at = at;
+      same = c.from.ensures;
+    } in
+    let reached : I.IsStepwise → IsReachedByTable (new_of turn) = λ step.
     let legal = g.met.I.IpcLayer.legal c.look.new.m (I.cpu_of y.part) (g.met.I.IpcLayer.own_cpu y.part c.look.new.m e.fits) in
-    reached_on c.args.cpu (shown_in (told m) (map shown items) c.self.inside.room c.self.inside.taken)
-    (shown_in (told c.look.new.m) (map shown (slice_set items k y)) c.self.inside.room (c.self.inside.taken + 1)) Stepped within
-    (same_plan shown (told m) (told c.look.new.m) c.args.cpu items k x y c.self.inside.room c.self.inside.taken at c.from.ensures e.caps e.homes
-    e.programs e.limit)
-    (went_so shown (told m) (told c.look.new.m) c.args.cpu items k x y c.self.inside.room c.self.inside.taken at c.from.ensures (λ d. I.ActsFor m d)
-    (λ setup of.
+    reached_on c.args.cpu (old_of turn) (new_of turn) Stepped within (same_plan turn e.caps e.homes e.programs e.limit)
+    (went_so turn (λ d. I.ActsFor m d) (λ setup of.
     subst (λ (d : CpuId). IsStep (λ a. I.ActsFor m a) (cpu_step setup d) (shown x).private (shown y).private (named (I.acts m)) (named (I.acts
     c.look.new.m)) Stepped) number
     (e.steps step (search rules) setup of)) is.acts_for legal c.if-self.false) (is.sound.1 step) in
     let count = is.sound.0 ∙ ap (λ (l : List CpuId). length l) (sym e.homes) in
-    stepped (λ x n. I.Fits x.part n) (λ x. x.number) (λ x. I.cpu_of x.part) (λ x. I.threads x.part) (λ x. I.talks x.part) (λ x. I.doing x.part)
-    (λ x. x.guests.items) (λ x. x.trace.items) (λ x. x.limit) (λ x. vec_capacity x.trace) (λ n d. I.ActsFor n d) I.IsStepwise
-    (λ n. I.acts n) (λ n. I.homes_of n) (λ n. I.caps n) (λ n. I.seen n) (λ n. I.room n)
-    (λ n x. I.IsStepwise → IsTabled (I.homes_of n) (I.caps n) x.number (I.own x.part) (I.doing x.part) x.guests.items (I.opening n))
-    (λ n l space done. (c.self.inside.threads ≡ length (I.homes_of n)) × (I.IsStepwise → IsReachedByTable (shown_of (I.caps n) (I.homes_of n) (I.seen n)
-    (I.lines n) (g.I.Owned.owner n) (I.moves n) (I.acts n) (map shown l) space done)))
+    let works : Works g.row.I-Machine.Denot (Cpu g.row.I.Denot g.row.I-Machine.Denot) = record {
+      Fits = λ x n. I.Fits x.part n;
+      number = λ x. x.number;
+      cpu = λ x. I.cpu_of x.part;
+      shown = shown;
+      talks = λ x. I.talks x.part;
+      doing = λ x. I.doing x.part;
+      capacity = λ x. vec_capacity x.trace;
+      ActsFor = λ n d. I.ActsFor n d;
+      IsStepwise = I.IsStepwise;
+      told = told;
+      left = λ n. I.room n;
+      Tabled = λ n x. I.IsStepwise → IsTabled (I.homes_of n) (I.caps n) x.number (I.own x.part) (I.doing x.part) x.guests.items (I.opening n);
+      Sound = λ n l space done. (c.self.inside.threads ≡ length (I.homes_of n))
+          × (I.IsStepwise → IsReachedByTable (shown_in (told n) (map shown l) space done));
+    } in
+    stepped works
     m c.look.new.m items c.self.inside.room c.self.inside.taken
     c.from.result c.index_mut-at.result.now c.look.new.self is (count, reached) at e.number e.cpu e.fits e.is e.table
     (λ z before step. rw (e.homes, e.caps, e.opening) (before step)) (λ z other fits. e.others z.part other fits) e.acts e.seen e.grows
