@@ -1,7 +1,8 @@
 -- Lists whose elements belong together, and loops over them.
 use Rattle.std.proofs.Common.{◌≡◌, ℕ, suc, ◌+◌, ◌<◌, ◌≤◌, List, [], ◌∷◌, ◌++◌, length, All, refl, ap}
-use Rattle.std.proofs.Common.{sym, ◌∙◌, subst, append_assoc, append-nil, length-append, arith}
+use Rattle.std.proofs.Common.{sym, ◌∙◌, subst, length-append, arith}
 use Rattle.std.specs.Prelude.{Option, MatchOption}
+pub use Rattle.table_machine.proofs.Returning.{all_tail, no_more, yield_more}
 use Rattle.event_log.specs.declared.ids.CpuId.{CpuId}
 use Rattle.cpu_workers.specs.declared.stops.Stop.{Stop}
 use Rattle.cpu_workers.specs.Working.{Working}
@@ -38,17 +39,6 @@ room_for ys xs rest all zs x n cap whole is room same count =
     omega arith
 
 module _ {A : Type 0} where
-  pub yield_more : (ys xs rest all : List A) (x : A) → ys ++ xs ≡ all → xs ≡ x ∷ rest → (ys ++ x ∷ []) ++ rest ≡ all
-  yield_more ys xs rest all x whole is = append_assoc ys (x ∷ []) rest ∙ (ap (λ l. ys ++ l) (sym is) ∙ whole)
-
-  pub no_more : (ys xs all : List A) (n : ℕ) → ys ++ xs ≡ all → n ≡ length xs → n ≡ 0 → ys ≡ all
-  no_more ys [] all n whole count done = sym (append-nil ys) ∙ whole
-  no_more ys (x ∷ xs) all n whole count done = absurd (omega arith)
-
-  pub all_tail : (P : A → Type 0) (xs rest : List A) (x : A) → xs ≡ x ∷ rest → All P xs → All P rest
-  all_tail P xs rest x is all k d below =
-      let whole : All P (x ∷ rest) = subst (λ (l : List A). All P l) is all in whole (suc k) d (omega arith)
-
   pub all_head : (P : A → Type 0) (xs rest : List A) (x : A) → xs ≡ x ∷ rest → All P xs → P x
   all_head P xs rest x is all = let whole : All P (x ∷ rest) = subst (λ (l : List A). All P l) is all in whole 0 x (omega arith)
 
