@@ -42,3 +42,5 @@ mod openings;
 mod sched_tests;
 #[cfg(test)]
 mod sleep_tests;
+#[cfg(test)]
+mod system_tests;
