@@ -1,12 +1,12 @@
 //! The outcome of a section whose answer waits until the thread that it woke has left the hand.
 
-ghost use Rattle.std.specs.Prelude.{◌≡◌};
+ghost use Rattle.std.specs.Prelude.{◌≡◌, None};
 ghost use Rattle.layer_traits.specs.SleepLaw.{due};
 ghost use Rattle.sleep_wakeup.specs.Parts.{answer_told, as_edit, done_of, kept_told};
 
 use crate::edits::SleepEdit;
 use event_log::{BufId, Tid};
-use layer_traits::{Outcome, Pass, SchedAnswer, SchedCall};
+use layer_traits::{Outcome, SchedAnswer, SchedCall};
 
 /// A section that is done and not answered yet: which it was, and its outcome.
 #[derive(Drop)]
@@ -19,15 +19,12 @@ pub struct Kept<E, O> {
     pub outcome: Outcome<O>,
 }
 
-/// The call on the scheduler that is due: to send home who stands in the hand, or else the section.
+/// The section's call on the scheduler.
 #[inline(always)]
-pub fn next<E: Copy + Drop>(hand: Option<Tid>, buffer: BufId, edit: E) -> SchedCall<SleepEdit<E>>
-    ensures { result ≡ due hand buffer (as_edit edit) }
+pub fn section<E: Copy + Drop>(buffer: BufId, edit: E) -> SchedCall<SleepEdit<E>>
+    ensures { result ≡ due None buffer (as_edit edit) }
 {
-    match hand {
-        None => SchedCall::OnBuffer(buffer, SleepEdit { edit }),
-        Some(t) => SchedCall::Pass(Pass::MakeReady(t)),
-    }
+    SchedCall::OnBuffer(buffer, SleepEdit { edit })
 }
 
 /// Takes the scheduler's answer, after which the hand is this, and gives the outcome of the section

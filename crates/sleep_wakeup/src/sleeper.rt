@@ -1,7 +1,7 @@
 //! The layer of sections that put threads to sleep and wake them.
 
 use crate::edits::{SleepEdit, line_in_block};
-use crate::kept::{Kept, done, next, told};
+use crate::kept::{Kept, done, section, told};
 use event_log::{BufId, CpuId, Tid};
 use layer_traits::{
     Line, Outcome, OwnedScheds, OwnedSleeps, Pass, SchedCall, SchedLayer, SleepLayer, Sleeps,
@@ -101,10 +101,16 @@ impl<E: Sleeps, S: SchedLayer<SleepEdit<E>>> SleepLayer<E> for Sleeper<E, S> {
 
     #[inline(always)]
     fn poll(&mut self, m: &mut S::Machine, buffer: BufId, edit: E) -> Option<Outcome<E::Out>> {
-        let call = next(self.lower.hand(), buffer, edit);
-        match self.lower.poll(m, &call) {
-            None => None,
-            Some(answer) => told(&mut self.kept, self.lower.hand(), buffer, edit, answer),
+        // Two arms in full, as one that polls either call would copy the edit with the other's bytes.
+        match self.lower.hand() {
+            None => match self.lower.poll(m, &section(buffer, edit)) {
+                None => None,
+                Some(answer) => told(&mut self.kept, self.lower.hand(), buffer, edit, answer),
+            },
+            Some(t) => match self.lower.poll(m, &SchedCall::Pass(Pass::MakeReady(t))) {
+                None => None,
+                Some(answer) => told(&mut self.kept, self.lower.hand(), buffer, edit, answer),
+            },
         }
     }
 
