@@ -67,7 +67,7 @@ fresh_sound Fit rules blocks cells all = record {
 }
 
 -- an event at another lock counts nothing here
-counts_elsewhere : {M : Type 0} (Fit : ℕ → ℕ → Type 0) (e : Event M) (log : List (Event M)) (lock : LockId) → same_lock lock (event_lock e) ≡ false
+pub counts_elsewhere : {M : Type 0} (Fit : ℕ → ℕ → Type 0) (e : Event M) (log : List (Event M)) (lock : LockId) → same_lock lock (event_lock e) ≡ false
     → Fit (draws lock log) (frees lock log) → Fit (draws lock (e ∷ log)) (frees lock (e ∷ log))
 counts_elsewhere Fit (Draw cpu at ticket) log lock other fits =
     subst (λ b. Fit (if b then draws lock log + 1 else draws lock log) (frees lock log)) (sym other) fits
@@ -76,7 +76,7 @@ counts_elsewhere Fit (Free cpu at mark) log lock other fits =
     subst (λ b. Fit (draws lock log) (if b then frees lock log + 1 else frees lock log)) (sym other) fits
 
 -- a home is read off the words that the log says
-at_home : {E B : Type 0} (edited : E → B → B) (opening : LockId → Option B) (log : List (Event (Mark E))) (lock : LockId) (next serving : ℕ)
+pub at_home : {E B : Type 0} (edited : E → B → B) (opening : LockId → Option B) (log : List (Event (Mark E))) (lock : LockId) (next serving : ℕ)
     (home : Option B) → LockFits edited opening log lock next serving home → HomeFits edited opening log lock home
 at_home edited opening log lock next serving home fits = record { next_is = refl; serving_is = refl; home_is = fits.home_is }
 

@@ -15,14 +15,15 @@ use Rattle.layer_traits.specs.WordsProtocol.{MayCome}
 use Rattle.layer_traits.specs.OneLock.{opened}
 use Rattle.table_machine.specs.declared.views.Home.{Home}
 use Rattle.table_machine.specs.declared.views.View.{View}
-use Rattle.table_machine.specs.Layout.{rank_of, next_at, word_count}
+use Rattle.table_machine.specs.Kinds.{WordKind, IsWordKind}
+use Rattle.table_machine.specs.Layout.{rank_of, word_at, word_count}
 use Rattle.table_machine.specs.Views.{mine, owner, IsCpu}
 use Rattle.table_machine.specs.Rule.{Kept}
 use Rattle.table_machine.specs.Plays.{Moves, Drew}
-use Rattle.table_machine.specs.Desks.{Board, Desk, IsOf, Carries, IsKey}
+use Rattle.table_machine.specs.Desks.{Board, Desk, IsOf, Carries, IsKey, Remembers}
 use Rattle.layer_traits.proofs.OneLockLemmas.{standing_own}
 use Rattle.table_machine.proofs.Finding.{rank_same}
-use Rattle.table_machine.proofs.Showing.{next_within}
+use Rattle.table_machine.proofs.Showing.{next_tells, within_table}
 use Rattle.table_machine.proofs.Stepping.{draws_allowed}
 
 abbrev pub desk_of : {E B : Type 0} → CpuId → TableId → Me (Home E B) (View E B) → Desk E B
@@ -33,45 +34,45 @@ board_of table start cpus = record { table = table; start = start; cpus = cpus }
 
 module _ {E B O : Type 0} (R : Rules E B O) where
   -- a key's token, at the opening blocks of its table
-  pub me_is : (cpu : CpuId) (me : Me (Home E B) (View E B)) (start : List (LockId × B)) → IsKey R cpu me → me.0.start ≡ start
+  pub me_is : (cpu : CpuId) (kept : ℕ) (me : Me (Home E B) (View E B)) (start : List (LockId × B)) → IsKey R cpu kept me → me.0.start ≡ start
       → me ≡ (mine start cpu me.0.seen, me.1)
-  me_is cpu me start key st = ap (λ (v : View E B). (v, me.1)) (key.view ∙ ap (λ (s : List (LockId × B)). mine s cpu me.0.seen) st)
+  me_is cpu kept me start key st = ap (λ (v : View E B). (v, me.1)) (key.view ∙ ap (λ (s : List (LockId × B)). mine s cpu me.0.seen) st)
 
-  module _ (table z : TableId) (start : List (LockId × B)) (n id word : ℕ) (words_are : z.words ≡ word_count (length start)) (cpu : CpuId)
-      (me : Me (Home E B) (View E B)) (key : IsKey R cpu me) where
+  module _ (K : WordKind) (law : IsWordKind K) (table z : TableId) (start : List (LockId × B)) (n id word : ℕ)
+      (words_are : z.words ≡ word_count (length start)) (cpu : CpuId) (kept : ℕ) (me : Me (Home E B) (View E B)) (key : IsKey R cpu kept me) where
     draw_plain : (lock : LockId) → IsOf (board_of z start n) (desk_of cpu table me) → IsSome (opened me.0.start lock) → standing cpu me.0.seen ≡ Outside
-        → word ≡ next_at (rank_of start lock)
-        → (table ≡ z) × (word < z.words) × Allows (Kept R n start) z.slots id me word (λ m. (m + 1) % 2 ^ 64) (Drew R (step z.slots word 1 0 none) me)
+        → word ≡ word_at (rank_of start lock) 0
+        → (table ≡ z) × (word < z.words) × Allows (Kept K R n start) z.slots id me word (λ m. (m + 1) % 2 ^ 64) (Drew R (step z.slots word 1 0 none) me)
     draw_plain lock of exists out word_is =
         let there : IsSome (opened start lock) = subst (λ s. IsSome (opened s lock)) of.1 exists in (
           of.0,
           subst (λ (w : ℕ). w < z.words) (sym word_is)
-              (subst (λ (w : ℕ). next_at (rank_of start lock) < w) (sym words_are) (next_within R.edited start lock there)),
-          subst (λ (m : Me (Home E B) (View E B)). Allows (Kept R n start) z.slots id m word (λ m. (m + 1) % 2 ^ 64) (Drew R (step z.slots word 1 0 none) m))
-              (sym (me_is cpu me start key of.1))
-              (subst (λ (w : ℕ). Allows (Kept R n start) z.slots id (mine start cpu me.0.seen, me.1) w (λ m. (m + 1) % 2 ^ 64)
+              (subst (λ (w : ℕ). word_at (rank_of start lock) 0 < w) (sym words_are) (within_table K law R.edited start lock 0 there (omega arith))),
+          subst (λ (m : Me (Home E B) (View E B)). Allows (Kept K R n start) z.slots id m word (λ m. (m + 1) % 2 ^ 64) (Drew R (step z.slots word 1 0 none) m))
+              (sym (me_is cpu kept me start key of.1))
+              (subst (λ (w : ℕ). Allows (Kept K R n start) z.slots id (mine start cpu me.0.seen, me.1) w (λ m. (m + 1) % 2 ^ 64)
               (Drew R (step z.slots w 1 0 none) (mine start cpu me.0.seen, me.1))) (sym word_is)
-              (draws_allowed R n start z.slots id cpu me.0.seen me.1 lock there out)),
+              (draws_allowed K R n start law z.slots id cpu me.0.seen me.1 lock there out)),
         )
 
     pub draw_asks : (d : Desk E B) (b : Board B) (lock : LockId) → desk_of cpu table me ≡ d → board_of z start n ≡ b → IsOf b d → IsSome (opened d.start lock)
-        → standing d.cpu d.seen ≡ Outside → word ≡ next_at (rank_of b.start lock)
-        → (table ≡ z) × (word < z.words) × Allows (Kept R n start) z.slots id me word (λ m. (m + 1) % 2 ^ 64) (Drew R (step z.slots word 1 0 none) me)
+        → standing d.cpu d.seen ≡ Outside → word ≡ word_at (rank_of b.start lock) 0
+        → (table ≡ z) × (word < z.words) × Allows (Kept K R n start) z.slots id me word (λ m. (m + 1) % 2 ^ 64) (Drew R (step z.slots word 1 0 none) me)
     draw_asks d b lock d_is b_is of exists out word_is =
         let P : Desk E B → Board B → Type 0 = λ d b. IsOf b d → IsSome (opened d.start lock) → standing d.cpu d.seen ≡ Outside
-        → word ≡ next_at (rank_of b.start lock)
-        → (table ≡ z) × (word < z.words) × Allows (Kept R n start) z.slots id me word (λ m. (m + 1) % 2 ^ 64) (Drew R (step z.slots word 1 0 none) me) in
+        → word ≡ word_at (rank_of b.start lock) 0
+        → (table ≡ z) × (word < z.words) × Allows (Kept K R n start) z.slots id me word (λ m. (m + 1) % 2 ^ 64) (Drew R (step z.slots word 1 0 none) me) in
         subst (λ d. P d b) d_is (subst (λ b. P (desk_of cpu table me) b) b_is (draw_plain lock)) of exists out word_is
 
   -- a step of a key: its token goes on from the event
-  pub record Went (cpu : CpuId) (v w : Me (Home E B) (View E B)) (e : Event (Mark E)) : Type 0 where
+  pub record Went (cpu : CpuId) (ticket : ℕ) (v w : Me (Home E B) (View E B)) (e : Event (Mark E)) : Type 0 where
     pub start : w.0.start ≡ v.0.start
     pub adds : Adds (IsCpu cpu) actor e v.0.seen w.0.seen
-    pub key : IsKey R cpu w
+    pub key : IsKey R cpu ticket w
 
-  pub went : (cpu : CpuId) (v w : Me (Home E B) (View E B)) (e : Event (Mark E)) → IsKey R cpu v → Moves R v.0 w.0 e
-      → Carries v.0.start (standing cpu w.0.seen) w.1 → Went cpu v w e
-  went cpu v w e key moves carries =
+  pub went : (cpu : CpuId) (kept ticket : ℕ) (v w : Me (Home E B) (View E B)) (e : Event (Mark E)) → IsKey R cpu kept v → Moves R v.0 w.0 e
+      → Carries v.0.start (standing cpu w.0.seen) w.1 → Remembers ticket (standing cpu w.0.seen) → Went cpu ticket v w e
+  went cpu kept ticket v w e key moves carries remembers =
       let mine_is : owner v.0.cpus ≡ cpu = ap (λ (u : View E B). owner u.cpus) key.view in
       let view : w.0 ≡ mine v.0.start cpu w.0.seen = subst (λ c. w.0 ≡ mine v.0.start c w.0.seen) mine_is moves.view in
       let start : w.0.start ≡ v.0.start = ap (λ (u : View E B). u.start) view in
@@ -81,6 +82,7 @@ module _ {E B O : Type 0} (R : Rules E B O) where
         key = record {
           view = subst (λ (s : List (LockId × B)). w.0 ≡ mine s cpu w.0.seen) (sym start) view;
           held = subst (λ (s : List (LockId × B)). Carries s (standing cpu w.0.seen) w.1) (sym start) carries;
+          remembers = remembers;
           legal = subst (λ (s : List (LockId × B)). IsLawful (MayCome (R.allowed (opened s))) w.0.seen) (sym start) moves.legal;
         };
       }
@@ -91,30 +93,33 @@ module _ {E B O : Type 0} (R : Rules E B O) where
   stands_after cpu e v w its moves = subst (λ c. standing c w.seen ≡ Rattle.event_log.specs.WordsLog.left_by e) its
       (ap (standing (actor e)) moves.adds.is ∙ standing_own e (moves.adds.others ++ v.seen))
 
-  pub draw_went : (cpu : CpuId) (v w : Me (Home E B) (View E B)) (slots word found : ℕ) (lock : LockId) → IsKey R cpu v → standing cpu v.0.seen ≡ Outside
-      → IsSome (opened v.0.start lock) → word ≡ next_at (rank_of v.0.start lock)
-      → Drew R (step slots word 1 0 none) v found w → Went cpu v w (Draw cpu lock found)
-  draw_went cpu v w slots word found lock key out exists word_is told =
+  pub draw_went : (cpu : CpuId) (kept : ℕ) (v w : Me (Home E B) (View E B)) (slots word found : ℕ) (lock : LockId) → IsKey R cpu kept v
+      → standing cpu v.0.seen ≡ Outside
+      → IsSome (opened v.0.start lock) → word ≡ word_at (rank_of v.0.start lock) 0
+      → Drew R (step slots word 1 0 none) v found w → Went cpu found v w (Draw cpu lock found)
+  draw_went cpu kept v w slots word found lock key out exists word_is told =
       let mine_is : owner v.0.cpus ≡ cpu = ap (λ (u : View E B). owner u.cpus) key.view in
-      let next_same : next_at (rank_of v.0.start told.lock) ≡ next_at (rank_of v.0.start lock) = sym told.word ∙ word_is in
-      let same_rank : rank_of v.0.start told.lock ≡ rank_of v.0.start lock = omega arith in
+      let next_same : word_at (rank_of v.0.start told.lock) 0 ≡ word_at (rank_of v.0.start lock) 0 = sym told.word ∙ word_is in
+      let same_rank : rank_of v.0.start told.lock ≡ rank_of v.0.start lock =
+      next_tells (rank_of v.0.start told.lock) (rank_of v.0.start lock) next_same in
       let lock_is : told.lock ≡ lock = rank_same v.0.start told.lock lock told.exists same_rank in
       let moves : Moves R v.0 w.0 (Draw cpu lock found) =
       subst (λ c. Moves R v.0 w.0 (Draw c lock found)) mine_is (subst (λ l. Moves R v.0 w.0 (Draw (owner v.0.cpus) l found)) lock_is told.moves) in
       let nothing : v.1 ≡ [] = subst (λ st. Carries v.0.start st v.1) out key.held in
-      went cpu v w (Draw cpu lock found) key moves
-      (subst (λ st. Carries v.0.start st w.1) (sym (stands_after cpu (Draw cpu lock found) v.0 w.0 refl moves)) (told.held ∙ nothing))
+      let stands : standing cpu w.0.seen ≡ Waiting lock found = stands_after cpu (Draw cpu lock found) v.0 w.0 refl moves in
+      went cpu kept found v w (Draw cpu lock found) key moves
+      (subst (λ st. Carries v.0.start st w.1) (sym stands) (told.held ∙ nothing)) (subst (λ st. Remembers found st) (sym stands) refl)
 
-  pub draw_tells : (cpu : CpuId) (table : TableId) (v w : Me (Home E B) (View E B)) (slots word found : ℕ) (lock : LockId) (d : Desk E B) (b : Board B)
-      → desk_of cpu table v ≡ d → IsKey R cpu v
-      → IsOf b d → IsSome (opened d.start lock) → standing d.cpu d.seen ≡ Outside → word ≡ next_at (rank_of b.start lock)
-      → Drew R (step slots word 1 0 none) v found w → (d.start ≡ w.0.start) × Adds (IsCpu d.cpu) actor (Draw d.cpu lock found) d.seen w.0.seen × IsKey R cpu w
-  draw_tells cpu table v w slots word found lock d b d_is key of exists out word_is told =
+  pub draw_tells : (cpu : CpuId) (kept : ℕ) (table : TableId) (v w : Me (Home E B) (View E B)) (slots word found : ℕ) (lock : LockId) (d : Desk E B) (b : Board B)
+      → desk_of cpu table v ≡ d → IsKey R cpu kept v
+      → IsOf b d → IsSome (opened d.start lock) → standing d.cpu d.seen ≡ Outside → word ≡ word_at (rank_of b.start lock) 0
+      → Drew R (step slots word 1 0 none) v found w → (d.start ≡ w.0.start) × Adds (IsCpu d.cpu) actor (Draw d.cpu lock found) d.seen w.0.seen × IsKey R cpu found w
+  draw_tells cpu kept table v w slots word found lock d b d_is key of exists out word_is told =
       let P : Desk E B → Type 0 = λ d. IsOf b d → IsSome (opened d.start lock) → standing d.cpu d.seen ≡ Outside
-      → (d.start ≡ w.0.start) × Adds (IsCpu d.cpu) actor (Draw d.cpu lock found) d.seen w.0.seen × IsKey R cpu w in
+      → (d.start ≡ w.0.start) × Adds (IsCpu d.cpu) actor (Draw d.cpu lock found) d.seen w.0.seen × IsKey R cpu found w in
       let plain : P (desk_of cpu table v) = λ of exists out. (
-      let word_is' : word ≡ next_at (rank_of v.0.start lock) = word_is ∙ ap (λ s. next_at (rank_of s lock)) (sym of.1) in
-      let done = draw_went cpu v w slots word found lock key out exists word_is' told in (sym done.start, done.adds, done.key)) in
+      let word_is' : word ≡ word_at (rank_of v.0.start lock) 0 = word_is ∙ ap (λ s. word_at (rank_of s lock) 0) (sym of.1) in
+      let done = draw_went cpu kept v w slots word found lock key out exists word_is' told in (sym done.start, done.adds, done.key)) in
       subst P d_is plain of exists out
 
 -- an event of the own CPU, to the holder that acts for that CPU alone

@@ -1,5 +1,5 @@
 -- What is known once all keys are back.
-use Rattle.std.proofs.Common.{◌≡◌, ℕ, zero, suc, ◌<◌, ◌≤◌, inl, inr, ⊎_elim, List, [], ◌∷◌, ◌++◌, length, map, slice_get, Some, IsSome, is_some, if◌then◌else◌}
+use Rattle.std.proofs.Common.{◌≡◌, ℕ, zero, suc, ◌%◌, ◌^◌, ◌<◌, ◌≤◌, inl, inr, ⊎_elim, List, [], ◌∷◌, ◌++◌, length, map, slice_get, Some, IsSome, is_some, if◌then◌else◌}
 use Rattle.std.proofs.Common.{refl, ap, sym, ◌∙◌, subst, append_assoc, lt_of_not-le, arith}
 use mathlib.Core.Option.{none, some}
 use native.Mathlib.Decide.{dec_le}
@@ -11,7 +11,7 @@ use Rattle.event_log.specs.declared.ids.CpuId.{CpuId}
 use Rattle.event_log.specs.declared.ids.LockId.{LockId}
 use Rattle.event_log.specs.declared.events.Event.{Event}
 use Rattle.event_log.specs.History.{AreOthers, IsLawful, own_events}
-use Rattle.event_log.specs.WordsLog.{actor, standing, left_by, Outside}
+use Rattle.event_log.specs.WordsLog.{actor, draws, frees, standing, left_by, Outside}
 use Rattle.event_log.specs.Sections.{block_after}
 use Rattle.layer_traits.specs.declared.edits.Mark.{Mark}
 use Rattle.layer_traits.specs.Protocol.{Rules}
@@ -19,7 +19,8 @@ use Rattle.layer_traits.specs.WordsProtocol.{MayCome, sections}
 use Rattle.layer_traits.specs.OneLock.{LockFits, NobodyInside, opened, AreDistinct}
 use Rattle.table_machine.specs.declared.views.Home.{Home}
 use Rattle.table_machine.specs.declared.views.View.{View}
-use Rattle.table_machine.specs.Layout.{rank_of, next_at, serving_at}
+use Rattle.table_machine.specs.Kinds.{WordKind}
+use Rattle.table_machine.specs.Layout.{rank_of}
 use Rattle.table_machine.specs.Views.{viewed, Has, IsSince}
 use Rattle.table_machine.specs.Rule.{home_block, Kept}
 use Rattle.table_machine.specs.Plays.{Met}
@@ -91,11 +92,11 @@ module _ {E B O : Type 0} (R : Rules E B O) where
       }
 
   -- where all keys are in, no CPU is inside a lock, and each block is at home
-  pub settles : (board : Board B) (v : View E B) (desks : List (Desk E B)) (id : ℕ) (words : List ℕ) (homes : List (Home E B))
+  pub settles : (K : WordKind) (board : Board B) (v : View E B) (desks : List (Desk E B)) (id : ℕ) (words : List ℕ) (homes : List (Home E B))
       → AreDistinct board.start → Gathered board.start v desks → Covers board.cpus desks
-      → Final (Seen (Kept R board.cpus board.start) id v) words homes
+      → Final (Seen (Kept K R board.cpus board.start) id v) words homes
       → Settled R board desks homes
-  settles board v desks id words homes distinct g covers final =
+  settles K board v desks id words homes distinct g covers final =
       let s = final.0 in
       let kept = final.1.0 in
       let fits = kept.sees.fits id v final.1.1 in
@@ -121,19 +122,18 @@ module _ {E B O : Type 0} (R : Rules E B O) where
             let found = home_of stands.home (all_home R.edited (opened board.start) o.0 log nobody _ _ (home_block stands.home) stands.is) in
             let block_there : home_block stands.home ≡ Some found.1 = ap home_block found.2 ∙ found.3 in
             let folds = (subst (λ x. LockFits R.edited (opened board.start) log o.0
-            (Rattle.std.specs.Prelude.slice_index s.words (next_at (rank_of board.start o.0)))
-            (Rattle.std.specs.Prelude.slice_index s.words (serving_at (rank_of board.start o.0))) x) block_there stands.is).home_is.1 in
+            (draws o.0 log % 2 ^ 64) (frees o.0 log % 2 ^ 64) x) block_there stands.is).home_is.1 in
             let home_at : get_elem? s.homes i ≡ some (some found.0) =
             subst (λ k. get_elem? s.homes k ≡ some (some found.0)) rank.0 (stands.at ∙ ap some found.2) in
             (found.0, found.1, final.4 i found.0 home_at, found.3, folds));
       }
 
   -- a key is taken in
-  pub absorb_tells : (start : List (LockId × B)) (cpu : CpuId) (table : TableId) (v u w o : Me (Home E B) (View E B)) (slots found : ℕ) (d : Desk E B)
-      → desk_of cpu table o ≡ d → IsKey R cpu o → standing d.cpu d.seen ≡ Outside
+  pub absorb_tells : (start : List (LockId × B)) (cpu : CpuId) (ticket : ℕ) (table : TableId) (v u w o : Me (Home E B) (View E B)) (slots found : ℕ) (d : Desk E B)
+      → desk_of cpu table o ≡ d → IsKey R cpu ticket o → standing d.cpu d.seen ≡ Outside
       → u ≡ (joined v.0 o.0, v.1) → Met R (step slots 0 0 0 none) u found w
       → (desks : List (Desk E B)) → Gathered start v.0 desks → Gathered start w.0 (desks ++ d ∷ [])
-  absorb_tells start cpu table v u w o slots found d d_is key over u_is met =
+  absorb_tells start cpu ticket table v u w o slots found d d_is key over u_is met =
       let cpus_are : o.0.cpus ≡ cpu ∷ [] = ap (λ (x : View E B). x.cpus) key.view in
       let u_at : u ≡ (record { start = v.0.start; cpus = v.0.cpus; seen = v.0.seen; told = o.0.seen; lent = cpu ∷ [] }, v.1) =
       u_is ∙ ap (λ (l : List CpuId). (record { start = v.0.start; cpus = v.0.cpus; seen = v.0.seen; told = o.0.seen; lent = l }, v.1)) cpus_are in
@@ -143,9 +143,10 @@ module _ {E B O : Type 0} (R : Rules E B O) where
       (λ over desks g. gathered_more start v.0 desks (desk_of cpu table o) (step slots 0 0 0 none) v.1 found w g over met') over
 
   -- a key whose CPU is outside carries no slot
-  pub absorb_carries : (cpu : CpuId) (table : TableId) (o : Me (Home E B) (View E B)) (d : Desk E B) → desk_of cpu table o ≡ d → IsKey R cpu o
+  pub absorb_carries : (cpu : CpuId) (ticket : ℕ) (table : TableId) (o : Me (Home E B) (View E B)) (d : Desk E B) → desk_of cpu table o ≡ d
+      → IsKey R cpu ticket o
       → standing d.cpu d.seen ≡ Outside → o.1 ≡ []
-  absorb_carries cpu table o d d_is key over = subst (λ (d : Desk E B). standing d.cpu d.seen ≡ Outside → o.1 ≡ []) d_is
+  absorb_carries cpu ticket table o d d_is key over = subst (λ (d : Desk E B). standing d.cpu d.seen ≡ Outside → o.1 ≡ []) d_is
       (λ over. subst (λ st. Carries o.0.start st o.1) over key.held) over
 
   -- what `close` gives
@@ -178,10 +179,10 @@ module _ {E B O : Type 0} (R : Rules E B O) where
       (there.0, there.2, ap is_some there.3)
 
   -- the same, as the table is seen from outside
-  pub settles_at : (z : TableId) (start : List (LockId × B)) (n : ℕ) (board : Board B) (v : View E B) (desks : List (Desk E B)) (id : ℕ) (words : List ℕ)
+  pub settles_at : (K : WordKind) (z : TableId) (start : List (LockId × B)) (n : ℕ) (board : Board B) (v : View E B) (desks : List (Desk E B)) (id : ℕ) (words : List ℕ)
       (homes : List (Home E B)) → board_of z start n ≡ board
-      → AreDistinct start → Gathered board.start v desks → Covers board.cpus desks → Final (Seen (Kept R n start) id v) words homes
+      → AreDistinct start → Gathered board.start v desks → Covers board.cpus desks → Final (Seen (Kept K R n start) id v) words homes
       → Settled R board desks homes
-  settles_at z start n board v desks id words homes board_is distinct g covers final =
+  settles_at K z start n board v desks id words homes board_is distinct g covers final =
       let P : Board B → Type 0 = λ b. Gathered b.start v desks → Covers b.cpus desks → Settled R b desks homes in
-      subst P board_is (λ g covers. settles (board_of z start n) v desks id words homes distinct g covers final) g covers
+      subst P board_is (λ g covers. settles K (board_of z start n) v desks id words homes distinct g covers final) g covers

@@ -13,7 +13,8 @@ use Rattle.layer_traits.specs.declared.edits.Mark.{Mark}
 use Rattle.layer_traits.specs.Protocol.{Rules}
 use Rattle.table_machine.specs.declared.views.Home.{Home}
 use Rattle.table_machine.specs.declared.views.View.{View}
-use Rattle.table_machine.specs.Layout.{word_count}
+use Rattle.table_machine.specs.Kinds.{WordKind, IsWordKind}
+use Rattle.table_machine.specs.Layout.{AreFirst}
 use Rattle.table_machine.specs.Views.{viewed, mine, owner, cpus_from, Has, Owns, Fits, Sees}
 use Rattle.table_machine.specs.Rule.{Kept, fresh_home}
 use Rattle.table_machine.proofs.Logs.{ends_nil}
@@ -29,7 +30,7 @@ at_one : {A : Type 0} (a b : A) (i : ℕ) → get_elem? (a ∷ []) i ≡ some b 
 at_one a b zero e = (refl, some-injective a b e)
 at_one a b (suc i) e = absurd (some-ne-none b (sym e))
 
-module _ {E B O : Type 0} (R : Rules E B O) (n : ℕ) (start : List (LockId × B)) where
+module _ (K : WordKind) {E B O : Type 0} (R : Rules E B O) (n : ℕ) (start : List (LockId × B)) where
   -- nothing was seen yet
   unseen : (cpus : List CpuId) (log : List (Event (Mark E))) → (v : View E B) → Fits log v → v.seen ≡ [] → ((c : CpuId) → Has c cpus → Has c v.cpus)
       → Fits log (viewed start cpus [])
@@ -41,7 +42,7 @@ module _ {E B O : Type 0} (R : Rules E B O) (n : ℕ) (start : List (LockId × B
   }
 
   -- the first CPU of the dealer's seat goes to a seat of its own
-  pub deals_split : (id k m : ℕ) → Splits (Kept R n start) id (viewed start (cpus_from k (suc m)) []) (viewed start (cpus_from (k + 1) m) [])
+  pub deals_split : (id k m : ℕ) → Splits (Kept K R n start) id (viewed start (cpus_from k (suc m)) []) (viewed start (cpus_from (k + 1) m) [])
       (mine start (record { 0 = k }) [])
   deals_split id k m s kept at =
       let v : View E B = viewed start (cpus_from k (suc m)) [] in
@@ -71,16 +72,16 @@ module _ {E B O : Type 0} (R : Rules E B O) (n : ℕ) (start : List (LockId × B
       }
 
   -- the table that `open` makes
-  pub kept_opening : (words : List ℕ) (homes : List (Home E B)) → n ≤ CPUS → words ≡ replicate (word_count (length start)) 0
+  pub kept_opening : IsWordKind K → (words : List ℕ) (homes : List (Home E B)) → n ≤ CPUS → AreFirst K.opens (length start) (length start) words
       → homes ≡ map (λ (o : LockId × B). fresh_home o.1) start
-      → Kept R n start (opening words homes (viewed start (cpus_from 0 n) []))
-  kept_opening words homes few zeros are =
+      → Kept K R n start (opening words homes (viewed start (cpus_from 0 n) []))
+  kept_opening law words homes few first are =
       let v : View E B = viewed start (cpus_from 0 n) [] in
       record {
         few = few;
         log = [];
         legal = tt;
-        shows = subst (λ w. Rattle.table_machine.specs.Rule.Shows R.edited start w (map some homes) []) (sym zeros) (shows_opening R.edited start homes are);
+        shows = shows_opening K law R.edited start words homes first are;
         sees = record {
           fits = λ i u there. subst (λ (u : View E B). Fits [] u) (at_one v u i there).1 (fits_viewed start (cpus_from 0 n) []);
           seat_of = λ m. 0;

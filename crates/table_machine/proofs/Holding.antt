@@ -16,12 +16,13 @@ use Rattle.layer_traits.specs.WordsProtocol.{sections, mark_of}
 use Rattle.layer_traits.specs.OneLock.{opened}
 use Rattle.table_machine.specs.declared.views.Home.{Home}
 use Rattle.table_machine.specs.declared.views.View.{View}
-use Rattle.table_machine.specs.Layout.{rank_of, serving_at, word_count}
+use Rattle.table_machine.specs.Kinds.{WordKind, IsWordKind, given_on}
+use Rattle.table_machine.specs.Layout.{rank_of, word_at, word_count}
 use Rattle.table_machine.specs.Views.{mine, owner, IsCpu}
 use Rattle.table_machine.specs.Rule.{Kept}
-use Rattle.table_machine.specs.Plays.{Moves, Hits, Looked, Freed}
-use Rattle.table_machine.specs.Desks.{Board, Desk, IsOf, Carries, IsKey}
-use Rattle.table_machine.proofs.Showing.{serving_within}
+use Rattle.table_machine.specs.Plays.{Moves, Hits, Misses, Looked, Freed}
+use Rattle.table_machine.specs.Desks.{Board, Desk, IsOf, Carries, IsKey, Remembers}
+use Rattle.table_machine.proofs.Showing.{within_table}
 use Rattle.table_machine.proofs.Stepping.{looks_allowed, frees_allowed}
 use Rattle.table_machine.proofs.Asking.{desk_of, board_of, went, me_is, stands_after}
 
@@ -32,66 +33,69 @@ lock_in (Inside lock ticket) other = lock
 
 module _ {E B O : Type 0} (R : Rules E B O) where
   -- what a look that missed leaves
-  pub record LookMissed (d : Desk E B) (cpu : CpuId) (lock : LockId) (ticket found : ℕ) (w : Me (Home E B) (View E B)) : Type 0 where
+  pub record LookMissed (d : Desk E B) (cpu : CpuId) (kept : ℕ) (lock : LockId) (ticket : ℕ) (w : Me (Home E B) (View E B)) : Type 0 where
     pub start : d.start ≡ w.0.start
-    pub adds : Adds (IsCpu d.cpu) actor (Look d.cpu lock ticket found) d.seen w.0.seen
+    pub read : ℕ
+    pub adds : Adds (IsCpu d.cpu) actor (Look d.cpu lock ticket read) d.seen w.0.seen
     pub waits : standing d.cpu w.0.seen ≡ Waiting lock ticket
-    pub key : IsKey R cpu w
+    pub key : IsKey R cpu kept w
 
   -- what a look that hit leaves
-  pub record LookHit (d : Desk E B) (cpu : CpuId) (lock : LockId) (ticket found rank : ℕ) (w : Me (Home E B) (View E B)) : Type 0 where
+  pub record LookHit (d : Desk E B) (cpu : CpuId) (kept : ℕ) (lock : LockId) (ticket rank : ℕ) (w : Me (Home E B) (View E B)) : Type 0 where
     pub start : d.start ≡ w.0.start
-    pub adds : Adds (IsCpu d.cpu) actor (Look d.cpu lock ticket found) d.seen w.0.seen
+    pub read : ℕ
+    pub adds : Adds (IsCpu d.cpu) actor (Look d.cpu lock ticket read) d.seen w.0.seen
     pub inside : standing d.cpu w.0.seen ≡ Inside lock ticket
     pub home : Home E B
     pub block : B
     pub held : w.1 ≡ (rank, home) ∷ []
     pub is : home.block ≡ Some block
     pub folds : block_after R.edited (opened d.start) lock (sections w.0.seen) ≡ Some block
-    pub key : (x : Home E B) → IsKey R cpu (w.0, (rank, x) ∷ [])
+    pub key : (x : Home E B) → IsKey R cpu kept (w.0, (rank, x) ∷ [])
 
   -- what a free leaves
-  pub record FreeDone (d : Desk E B) (cpu : CpuId) (lock : LockId) (edit : E) (w : Me (Home E B) (View E B)) : Type 0 where
+  pub record FreeDone (d : Desk E B) (cpu : CpuId) (kept : ℕ) (lock : LockId) (edit : E) (w : Me (Home E B) (View E B)) : Type 0 where
     pub start : d.start ≡ w.0.start
     pub adds : Adds (IsCpu d.cpu) actor (Free d.cpu lock (mark_of edit)) d.seen w.0.seen
-    pub key : IsKey R cpu w
+    pub key : IsKey R cpu kept w
 
-  module _ (table z : TableId) (start : List (LockId × B)) (n id word : ℕ) (words_are : z.words ≡ word_count (length start)) (cpu : CpuId)
-      (me : Me (Home E B) (View E B)) (key : IsKey R cpu me) where
+  module _ (K : WordKind) (law : IsWordKind K) (table z : TableId) (start : List (LockId × B)) (n id word : ℕ)
+      (words_are : z.words ≡ word_count (length start)) (cpu : CpuId) (kept : ℕ) (me : Me (Home E B) (View E B)) (key : IsKey R cpu kept me) where
     look_plain : (lock : LockId) (ticket : ℕ) → IsOf (board_of z start n) (desk_of cpu table me) → IsSome (opened me.0.start lock)
-        → standing cpu me.0.seen ≡ Waiting lock ticket → word ≡ serving_at (rank_of start lock)
-        → (table ≡ z) × (word < z.words) × Allows (Kept R n start) z.slots id me word (λ m. m) (Looked R (step z.slots word 0 0 none) me)
+        → standing cpu me.0.seen ≡ Waiting lock ticket → word ≡ word_at (rank_of start lock) (K.looks_at ticket)
+        → (table ≡ z) × (word < z.words) × Allows (Kept K R n start) z.slots id me word (λ m. m) (Looked K R me)
     look_plain lock ticket of exists waits word_is =
         let there : IsSome (opened start lock) = subst (λ s. IsSome (opened s lock)) of.1 exists in
         let nothing : me.1 ≡ [] = subst (λ st. Carries me.0.start st me.1) waits key.held in
-        let me_at : me ≡ (mine start cpu me.0.seen, []) = me_is R cpu me start key of.1
+        let me_at : me ≡ (mine start cpu me.0.seen, []) = me_is R cpu kept me start key of.1
         ∙ ap (λ (h : List (ℕ × Home E B)). (mine start cpu me.0.seen, h)) nothing in (
           of.0,
           subst (λ (w : ℕ). w < z.words) (sym word_is)
-              (subst (λ (w : ℕ). serving_at (rank_of start lock) < w) (sym words_are) (serving_within R.edited start lock there)),
-          subst (λ (m : Me (Home E B) (View E B)). Allows (Kept R n start) z.slots id m word (λ m. m) (Looked R (step z.slots word 0 0 none) m)) (sym me_at)
-              (subst (λ (w : ℕ). Allows (Kept R n start) z.slots id (mine start cpu me.0.seen, []) w (λ m. m)
-              (Looked R (step z.slots w 0 0 none) (mine start cpu me.0.seen, []))) (sym word_is)
-              (looks_allowed R n start z.slots id cpu me.0.seen lock ticket there waits)),
+              (subst (λ (w : ℕ). word_at (rank_of start lock) (K.looks_at ticket) < w) (sym words_are) (within_table K law R.edited start lock (K.looks_at ticket) there (law.looks_within ticket))),
+          subst (λ (m : Me (Home E B) (View E B)). Allows (Kept K R n start) z.slots id m word (λ m. m) (Looked K R m)) (sym me_at)
+              (subst (λ (w : ℕ). Allows (Kept K R n start) z.slots id (mine start cpu me.0.seen, []) w (λ m. m)
+              (Looked K R (mine start cpu me.0.seen, []))) (sym word_is)
+              (looks_allowed K R n start law z.slots id cpu me.0.seen lock ticket there waits)),
         )
 
     pub look_asks : (d : Desk E B) (b : Board B) (lock : LockId) (ticket : ℕ) → desk_of cpu table me ≡ d → board_of z start n ≡ b → IsOf b d
-        → IsSome (opened d.start lock) → standing d.cpu d.seen ≡ Waiting lock ticket → word ≡ serving_at (rank_of b.start lock)
-        → (table ≡ z) × (word < z.words) × Allows (Kept R n start) z.slots id me word (λ m. m) (Looked R (step z.slots word 0 0 none) me)
+        → IsSome (opened d.start lock) → standing d.cpu d.seen ≡ Waiting lock ticket → word ≡ word_at (rank_of b.start lock) (K.looks_at ticket)
+        → (table ≡ z) × (word < z.words) × Allows (Kept K R n start) z.slots id me word (λ m. m) (Looked K R me)
     look_asks d b lock ticket d_is b_is of exists waits word_is =
         let P : Desk E B → Board B → Type 0 = λ d b. IsOf b d → IsSome (opened d.start lock) → standing d.cpu d.seen ≡ Waiting lock ticket
-        → word ≡ serving_at (rank_of b.start lock)
-        → (table ≡ z) × (word < z.words) × Allows (Kept R n start) z.slots id me word (λ m. m) (Looked R (step z.slots word 0 0 none) me) in
+        → word ≡ word_at (rank_of b.start lock) (K.looks_at ticket)
+        → (table ≡ z) × (word < z.words) × Allows (Kept K R n start) z.slots id me word (λ m. m) (Looked K R me) in
         subst (λ d. P d b) d_is (subst (λ b. P (desk_of cpu table me) b) b_is (look_plain lock ticket)) of exists waits word_is
 
-    free_plain : (lock : LockId) (ticket : ℕ) (block : B) (edit : E) (now : TableId) (v : Me (Home E B) (View E B)) (rank : ℕ)
+    free_plain : (lock : LockId) (ticket : ℕ) (block : B) (edit : E) (now : TableId) (v : Me (Home E B) (View E B)) (rank : ℕ) (f : ℕ → ℕ)
         → IsOf (board_of z start n) (desk_of cpu table me) → IsSome (opened me.0.start lock) → standing cpu me.0.seen ≡ Inside lock ticket
         → option_map (R.edited edit) (block_after R.edited (opened me.0.start) lock (sections me.0.seen)) ≡ Some block
         → StaysAllowed (R.allowed (opened me.0.start)) (sections me.0.seen) (section cpu lock edit)
-        → word ≡ serving_at (rank_of start lock) → rank ≡ rank_of start lock
-        → now ≡ table → v ≡ (me.0, (rank, record { block = Some block; edit = Some edit }) ∷ rest me.1)
-        → (now ≡ z) × (word < z.words) × Allows (Kept R n start) z.slots id v word (λ m. (m + 1) % 2 ^ 64) (Freed R (step z.slots word 1 0 none) v)
-    free_plain lock ticket block edit now v rank of exists inside edited stays word_is rank_is now_is v_is =
+        → word ≡ word_at (rank_of start lock) (K.gives_at kept) → rank ≡ rank_of start lock
+        → ((m : ℕ) → f m ≡ given_on (K.stores kept) m) → now ≡ table → v ≡ (me.0, (rank, record { block = Some block; edit = Some edit }) ∷ rest me.1)
+        → (now ≡ z) × (word < z.words) × Allows (Kept K R n start) z.slots id v word f (λ _. Freed R v)
+    free_plain lock ticket block edit now v rank f of exists inside edited stays word_is rank_is f_is now_is v_is =
+        let ticket_is : kept ≡ ticket = subst (λ st. Remembers kept st) inside key.remembers in
         let there : IsSome (opened start lock) = subst (λ s. IsSome (opened s lock)) of.1 exists in
         let x : Home E B = record { block = Some block; edit = Some edit } in
         let carries : (home : Home E B) × (me.1 ≡ (rank_of me.0.start lock, home) ∷ []) = subst (λ st. Carries me.0.start st me.1) inside key.held in
@@ -99,41 +103,43 @@ module _ {E B O : Type 0} (R : Rules E B O) where
         let v_at : v ≡ (mine start cpu me.0.seen, (rank_of start lock, x) ∷ []) =
         v_is ∙ (ap (λ (l : List (ℕ × Home E B)). (me.0, (rank, x) ∷ l)) none_left
         ∙ (ap (λ (p : ℕ). (me.0, (p, x) ∷ [])) rank_is
-        ∙ ap (λ (m : Me (Home E B) (View E B)). (m.0, (rank_of start lock, x) ∷ [])) (me_is R cpu me start key of.1))) in
+        ∙ ap (λ (m : Me (Home E B) (View E B)). (m.0, (rank_of start lock, x) ∷ [])) (me_is R cpu kept me start key of.1))) in
         let edited' : option_map (R.edited edit) (block_after R.edited (opened start) lock (sections me.0.seen)) ≡ Some block =
         subst (λ s. option_map (R.edited edit) (block_after R.edited (opened s) lock (sections me.0.seen)) ≡ Some block) of.1 edited in
         let stays' : StaysAllowed (R.allowed (opened start)) (sections me.0.seen) (section cpu lock edit) =
         subst (λ s. StaysAllowed (R.allowed (opened s)) (sections me.0.seen) (section cpu lock edit)) of.1 stays in (
           now_is ∙ of.0,
           subst (λ (w : ℕ). w < z.words) (sym word_is)
-              (subst (λ (w : ℕ). serving_at (rank_of start lock) < w) (sym words_are) (serving_within R.edited start lock there)),
-          subst (λ (m : Me (Home E B) (View E B)). Allows (Kept R n start) z.slots id m word (λ m. (m + 1) % 2 ^ 64) (Freed R (step z.slots word 1 0 none) m))
-              (sym v_at)
-              (subst (λ (w : ℕ). Allows (Kept R n start) z.slots id (mine start cpu me.0.seen, (rank_of start lock, x) ∷ []) w (λ m. (m + 1) % 2 ^ 64)
-              (Freed R (step z.slots w 1 0 none) (mine start cpu me.0.seen, (rank_of start lock, x) ∷ []))) (sym word_is)
-              (frees_allowed R n start z.slots id cpu me.0.seen lock ticket edit block x there inside refl refl edited' stays')),
+              (subst (λ (w : ℕ). word_at (rank_of start lock) (K.gives_at kept) < w) (sym words_are) (within_table K law R.edited start lock (K.gives_at kept) there (law.gives_within kept))),
+          subst (λ (m : Me (Home E B) (View E B)). Allows (Kept K R n start) z.slots id m word f (λ _. Freed R m)) (sym v_at)
+              (subst (λ (w : ℕ). Allows (Kept K R n start) z.slots id (mine start cpu me.0.seen, (rank_of start lock, x) ∷ []) w f
+              (λ _. Freed R (mine start cpu me.0.seen, (rank_of start lock, x) ∷ [])))
+              (sym (word_is ∙ ap (λ (t : ℕ). word_at (rank_of start lock) (K.gives_at t)) ticket_is))
+              (frees_allowed K R n start law z.slots id cpu me.0.seen lock ticket edit block x there inside refl refl edited' stays' f
+              (λ m. f_is m ∙ ap (λ (t : ℕ). given_on (K.stores t) m) ticket_is))),
         )
 
-    pub free_asks : (d : Desk E B) (b : Board B) (lock : LockId) (ticket : ℕ) (block : B) (edit : E) (now : TableId) (v : Me (Home E B) (View E B)) (rank : ℕ)
+    pub free_asks : (d : Desk E B) (b : Board B) (lock : LockId) (ticket : ℕ) (block : B) (edit : E) (now : TableId) (v : Me (Home E B) (View E B)) (rank : ℕ) (f : ℕ → ℕ)
         → desk_of cpu table me ≡ d → board_of z start n ≡ b → IsOf b d → IsSome (opened d.start lock) → standing d.cpu d.seen ≡ Inside lock ticket
         → option_map (R.edited edit) (block_after R.edited (opened d.start) lock (sections d.seen)) ≡ Some block
         → StaysAllowed (R.allowed (opened d.start)) (sections d.seen) (section d.cpu lock edit)
-        → word ≡ serving_at (rank_of b.start lock) → rank ≡ rank_of b.start lock
-        → now ≡ table → v ≡ (me.0, (rank, record { block = Some block; edit = Some edit }) ∷ rest me.1)
-        → (now ≡ z) × (word < z.words) × Allows (Kept R n start) z.slots id v word (λ m. (m + 1) % 2 ^ 64) (Freed R (step z.slots word 1 0 none) v)
-    free_asks d b lock ticket block edit now v rank d_is b_is =
+        → word ≡ word_at (rank_of b.start lock) (K.gives_at kept) → rank ≡ rank_of b.start lock
+        → ((m : ℕ) → f m ≡ given_on (K.stores kept) m) → now ≡ table → v ≡ (me.0, (rank, record { block = Some block; edit = Some edit }) ∷ rest me.1)
+        → (now ≡ z) × (word < z.words) × Allows (Kept K R n start) z.slots id v word f (λ _. Freed R v)
+    free_asks d b lock ticket block edit now v rank f d_is b_is =
         let P : Desk E B → Board B → Type 0 = λ d b. IsOf b d → IsSome (opened d.start lock) → standing d.cpu d.seen ≡ Inside lock ticket
         → option_map (R.edited edit) (block_after R.edited (opened d.start) lock (sections d.seen)) ≡ Some block
         → StaysAllowed (R.allowed (opened d.start)) (sections d.seen) (section d.cpu lock edit)
-        → word ≡ serving_at (rank_of b.start lock) → rank ≡ rank_of b.start lock
-        → now ≡ table → v ≡ (me.0, (rank, record { block = Some block; edit = Some edit }) ∷ rest me.1)
-        → (now ≡ z) × (word < z.words) × Allows (Kept R n start) z.slots id v word (λ m. (m + 1) % 2 ^ 64) (Freed R (step z.slots word 1 0 none) v) in
-        subst (λ d. P d b) d_is (subst (λ b. P (desk_of cpu table me) b) b_is (free_plain lock ticket block edit now v rank))
+        → word ≡ word_at (rank_of b.start lock) (K.gives_at kept) → rank ≡ rank_of b.start lock
+        → ((m : ℕ) → f m ≡ given_on (K.stores kept) m) → now ≡ table → v ≡ (me.0, (rank, record { block = Some block; edit = Some edit }) ∷ rest me.1)
+        → (now ≡ z) × (word < z.words) × Allows (Kept K R n start) z.slots id v word f (λ _. Freed R v) in
+        subst (λ d. P d b) d_is (subst (λ b. P (desk_of cpu table me) b) b_is (free_plain lock ticket block edit now v rank f))
 
-  module _ (cpu : CpuId) (table : TableId) (v w : Me (Home E B) (View E B)) (slots word found : ℕ) (lock : LockId) (ticket : ℕ) (key : IsKey R cpu v) where
+  module _ (K : WordKind) (cpu : CpuId) (kept : ℕ) (table : TableId) (v w : Me (Home E B) (View E B)) (found : ℕ) (lock : LockId) (ticket : ℕ)
+      (key : IsKey R cpu kept v) where
     -- the event is the CPU's own look
-    look_moves : standing cpu v.0.seen ≡ Waiting lock ticket → (told : Looked R (step slots word 0 0 none) v found w)
-        → (told.lock ≡ lock) × (told.ticket ≡ ticket) × Moves R v.0 w.0 (Look cpu lock ticket found)
+    look_moves : standing cpu v.0.seen ≡ Waiting lock ticket → (told : Looked K R v found w)
+        → (told.lock ≡ lock) × (told.ticket ≡ ticket) × (owner v.0.cpus ≡ cpu) × Moves R v.0 w.0 (Look cpu lock ticket told.read)
     look_moves waits told =
         let mine_is : owner v.0.cpus ≡ cpu = ap (λ (u : View E B). owner u.cpus) key.view in
         let both : Waiting told.lock told.ticket ≡ Waiting lock ticket = sym told.waits ∙ (ap (λ c. standing c v.0.seen) mine_is ∙ waits) in
@@ -141,48 +147,59 @@ module _ {E B O : Type 0} (R : Rules E B O) where
         let ticket_is : told.ticket ≡ ticket = cc in (
           lock_is,
           ticket_is,
-          subst (λ c. Moves R v.0 w.0 (Look c lock ticket found)) mine_is
-              (subst (λ t. Moves R v.0 w.0 (Look (owner v.0.cpus) lock t found)) ticket_is
-              (subst (λ l. Moves R v.0 w.0 (Look (owner v.0.cpus) l told.ticket found)) lock_is told.moves)),
+          mine_is,
+          subst (λ c. Moves R v.0 w.0 (Look c lock ticket told.read)) mine_is
+              (subst (λ t. Moves R v.0 w.0 (Look (owner v.0.cpus) lock t told.read)) ticket_is
+              (subst (λ l. Moves R v.0 w.0 (Look (owner v.0.cpus) l told.ticket told.read)) lock_is told.moves)),
         )
 
-    missed_plain : standing cpu v.0.seen ≡ Waiting lock ticket → (found == ticket) ≡ false → Looked R (step slots word 0 0 none) v found w
-        → LookMissed (desk_of cpu table v) cpu lock ticket found w
+    -- the key's ticket is the one that the CPU waits with
+    same_ticket : standing cpu v.0.seen ≡ Waiting lock ticket → kept ≡ ticket
+    same_ticket waits = subst (λ st. Remembers kept st) waits key.remembers
+
+    missed_plain : standing cpu v.0.seen ≡ Waiting lock ticket → K.serves ticket found ≡ false → Looked K R v found w
+        → LookMissed (desk_of cpu table v) cpu kept lock ticket w
     missed_plain waits other told =
         let moved = look_moves waits told in
-        let stands : standing cpu w.0.seen ≡ Waiting lock ticket = stands_after R cpu (Look cpu lock ticket found) v.0 w.0 refl moved.2
-        ∙ ap (λ b. if b then Inside lock ticket else Waiting lock ticket) other in
         let nothing : v.1 ≡ [] = subst (λ st. Carries v.0.start st v.1) waits key.held in
-        let held : w.1 ≡ v.1 = elim told.finds [
-          | inl miss ↦ miss.held
+        let miss : Misses K told.lock told.ticket v found w = elim told.finds [
+          | inl miss ↦ miss
           | inr hit ↦
-              absurd (let same = hit.same in let same' : (found == ticket) ≡ true = subst (λ t. (found == t) ≡ true) moved.1 same in cc (other, same'))
+              absurd (let same = hit.same in let same' : K.serves ticket found ≡ true = subst (λ t. K.serves t found ≡ true) moved.1 same in cc (other, same'))
         ] in
-        let done = went R cpu v w (Look cpu lock ticket found) key moved.2 (subst (λ st. Carries v.0.start st w.1) (sym stands) (held ∙ nothing)) in
-        record { start = sym done.start; adds = done.adds; waits = stands; key = done.key }
+        let stands : standing cpu w.0.seen ≡ Waiting lock ticket =
+        subst (λ c. standing c w.0.seen ≡ Waiting lock ticket) moved.2
+        (miss.waits ∙ (ap (λ l. Waiting l told.ticket) moved.0 ∙ ap (λ t. Waiting lock t) moved.1)) in
+        let done = went R cpu kept kept v w (Look cpu lock ticket told.read) key moved.3
+        (subst (λ st. Carries v.0.start st w.1) (sym stands) (miss.held ∙ nothing)) (subst (λ st. Remembers kept st) (sym stands) (same_ticket waits)) in
+        record { start = sym done.start; read = told.read; adds = done.adds; waits = stands; key = done.key }
 
-    pub look_missed : (d : Desk E B) → desk_of cpu table v ≡ d → standing d.cpu d.seen ≡ Waiting lock ticket → (found ≡ ticket → ⊥)
-        → Looked R (step slots word 0 0 none) v found w → LookMissed d cpu lock ticket found w
-    look_missed d d_is waits other told = subst (λ d. standing d.cpu d.seen ≡ Waiting lock ticket → LookMissed d cpu lock ticket found w) d_is
-        (λ waits. missed_plain waits (ne_eqb found ticket other) told) waits
+    pub look_missed : (d : Desk E B) → desk_of cpu table v ≡ d → standing d.cpu d.seen ≡ Waiting lock ticket → K.serves ticket found ≡ false
+        → Looked K R v found w → LookMissed d cpu kept lock ticket w
+    look_missed d d_is waits other told = subst (λ d. standing d.cpu d.seen ≡ Waiting lock ticket → LookMissed d cpu kept lock ticket w) d_is
+        (λ waits. missed_plain waits other told) waits
 
-    hit_plain : (rank : ℕ) → standing cpu v.0.seen ≡ Waiting lock ticket → (found == ticket) ≡ true → rank ≡ rank_of v.0.start lock
-        → Looked R (step slots word 0 0 none) v found w → LookHit (desk_of cpu table v) cpu lock ticket found rank w
+    hit_plain : (rank : ℕ) → standing cpu v.0.seen ≡ Waiting lock ticket → K.serves ticket found ≡ true → rank ≡ rank_of v.0.start lock
+        → Looked K R v found w → LookHit (desk_of cpu table v) cpu kept lock ticket rank w
     hit_plain rank waits same rank_is told =
         let moved = look_moves waits told in
-        let stands : standing cpu w.0.seen ≡ Inside lock ticket = stands_after R cpu (Look cpu lock ticket found) v.0 w.0 refl moved.2
-        ∙ ap (λ b. if b then Inside lock ticket else Waiting lock ticket) same in
         let nothing : v.1 ≡ [] = subst (λ st. Carries v.0.start st v.1) waits key.held in
-        let hit : Hits R told.lock told.ticket v found w =
+        let hit : Hits K R told.lock told.ticket v found w =
         elim told.finds [
           | inl miss ↦
-              absurd (let other = miss.other in let other' : (found == ticket) ≡ false = subst (λ t. (found == t) ≡ false) moved.1 other in cc (other', same))
+              absurd (let other = miss.other in let other' : K.serves ticket found ≡ false = subst (λ t. K.serves t found ≡ false) moved.1 other in
+              cc (other', same))
           | inr hit ↦ hit
         ] in
-        let done = λ (x : Home E B). went R cpu v (w.0, (rank, x) ∷ []) (Look cpu lock ticket found) key moved.2
-        (subst (λ st. Carries v.0.start st ((rank, x) ∷ [])) (sym stands) (x, ap (λ (p : ℕ). (p, x) ∷ []) rank_is)) in
+        let stands : standing cpu w.0.seen ≡ Inside lock ticket =
+        subst (λ c. standing c w.0.seen ≡ Inside lock ticket) moved.2
+        (hit.inside ∙ (ap (λ l. Inside l told.ticket) moved.0 ∙ ap (λ t. Inside lock t) moved.1)) in
+        let done = λ (x : Home E B). went R cpu kept kept v (w.0, (rank, x) ∷ []) (Look cpu lock ticket told.read) key moved.3
+        (subst (λ st. Carries v.0.start st ((rank, x) ∷ [])) (sym stands) (x, ap (λ (p : ℕ). (p, x) ∷ []) rank_is))
+        (subst (λ st. Remembers kept st) (sym stands) (same_ticket waits)) in
         record {
           start = sym (done hit.home).start;
+          read = told.read;
           adds = (done hit.home).adds;
           inside = stands;
           home = hit.home;
@@ -194,11 +211,11 @@ module _ {E B O : Type 0} (R : Rules E B O) where
           key = λ x. (done x).key;
         }
 
-    pub look_hit : (d : Desk E B) (b : Board B) (rank : ℕ) → desk_of cpu table v ≡ d → IsOf b d → standing d.cpu d.seen ≡ Waiting lock ticket → found ≡ ticket
-        → rank ≡ rank_of b.start lock → Looked R (step slots word 0 0 none) v found w → LookHit d cpu lock ticket found rank w
+    pub look_hit : (d : Desk E B) (b : Board B) (rank : ℕ) → desk_of cpu table v ≡ d → IsOf b d → standing d.cpu d.seen ≡ Waiting lock ticket
+        → K.serves ticket found ≡ true → rank ≡ rank_of b.start lock → Looked K R v found w → LookHit d cpu kept lock ticket rank w
     look_hit d b rank d_is of waits same rank_is told =
-        subst (λ d. IsOf b d → standing d.cpu d.seen ≡ Waiting lock ticket → LookHit d cpu lock ticket found rank w) d_is
-        (λ of waits. hit_plain rank waits (eq-eqb found ticket same) (rank_is ∙ ap (λ s. rank_of s lock) (sym of.1)) told) of waits
+        subst (λ d. IsOf b d → standing d.cpu d.seen ≡ Waiting lock ticket → LookHit d cpu kept lock ticket rank w) d_is
+        (λ of waits. hit_plain rank waits same (rank_is ∙ ap (λ s. rank_of s lock) (sym of.1)) told) of waits
 
     -- the slot that a CPU inside a lock carries
     pub carried : (d : Desk E B) (b : Board B) (rank : ℕ) → desk_of cpu table v ≡ d → IsOf b d → standing d.cpu d.seen ≡ Inside lock ticket
@@ -213,11 +230,11 @@ module _ {E B O : Type 0} (R : Rules E B O) where
         )) of inside
 
   -- the event is the free of the lock that the CPU was inside
-  free_done : (cpu : CpuId) (table : TableId) (me v w : Me (Home E B) (View E B)) (slots word found rank : ℕ) (lock : LockId) (ticket : ℕ) (block : B)
-      (edit : E) → IsKey R cpu me
+  free_done : (cpu : CpuId) (kept : ℕ) (table : TableId) (me v w : Me (Home E B) (View E B)) (rank : ℕ) (lock : LockId) (ticket : ℕ) (block : B)
+      (edit : E) → IsKey R cpu kept me
       → standing cpu me.0.seen ≡ Inside lock ticket → v ≡ (me.0, (rank, record { block = Some block; edit = Some edit }) ∷ rest me.1)
-      → Freed R (step slots word 1 0 none) v found w → FreeDone (desk_of cpu table me) cpu lock edit w
-  free_done cpu table me v w slots word found rank lock ticket block edit key inside v_is told =
+      → Freed R v w → FreeDone (desk_of cpu table me) cpu kept lock edit w
+  free_done cpu kept table me v w rank lock ticket block edit key inside v_is told =
       let mine_is : owner me.0.cpus ≡ cpu = ap (λ (u : View E B). owner u.cpus) key.view in
       let view_is : v.0 ≡ me.0 = ap (λ (m : Me (Home E B) (View E B)). m.0) v_is in
       let owner_is : owner v.0.cpus ≡ cpu = ap (λ (u : View E B). owner u.cpus) view_is ∙ mine_is in
@@ -233,8 +250,9 @@ module _ {E B O : Type 0} (R : Rules E B O) where
       (subst (λ c. Moves R v.0 w.0 (Free c lock (mark_of edit))) owner_is
       (subst (λ e. Moves R v.0 w.0 (Free (owner v.0.cpus) lock (mark_of e))) edit_is
       (subst (λ l. Moves R v.0 w.0 (Free (owner v.0.cpus) l (mark_of told.edit))) lock_is told.moves))) in
-      let done = went R cpu me w (Free cpu lock (mark_of edit)) key moves
-      (subst (λ st. Carries me.0.start st w.1) (sym (stands_after R cpu (Free cpu lock (mark_of edit)) me.0 w.0 refl moves)) told.held) in
+      let stands : standing cpu w.0.seen ≡ Outside = stands_after R cpu (Free cpu lock (mark_of edit)) me.0 w.0 refl moves in
+      let done = went R cpu kept kept me w (Free cpu lock (mark_of edit)) key moves
+      (subst (λ st. Carries me.0.start st w.1) (sym stands) told.held) (subst (λ st. Remembers kept st) (sym stands) tt) in
       record { start = sym done.start; adds = done.adds; key = done.key }
     where
       head_home : Home E B → List (ℕ × Home E B) → Home E B
@@ -244,10 +262,10 @@ module _ {E B O : Type 0} (R : Rules E B O) where
       home_in : {a b : ℕ} {p q : Home E B} {ps qs : List (ℕ × Home E B)} → (a, p) ∷ ps ≡ (b, q) ∷ qs → p ≡ q
       home_in {p = p} e = ap (head_home p) e
 
-  pub free_tells : (cpu : CpuId) (table : TableId) (me v w : Me (Home E B) (View E B)) (slots word found rank : ℕ) (lock : LockId) (ticket : ℕ) (block : B)
-      (edit : E) (d : Desk E B) → desk_of cpu table me ≡ d → IsKey R cpu me
+  pub free_tells : (cpu : CpuId) (kept : ℕ) (table : TableId) (me v w : Me (Home E B) (View E B)) (rank : ℕ) (lock : LockId) (ticket : ℕ) (block : B)
+      (edit : E) (d : Desk E B) → desk_of cpu table me ≡ d → IsKey R cpu kept me
       → standing d.cpu d.seen ≡ Inside lock ticket → v ≡ (me.0, (rank, record { block = Some block; edit = Some edit }) ∷ rest me.1)
-      → Freed R (step slots word 1 0 none) v found w → FreeDone d cpu lock edit w
-  free_tells cpu table me v w slots word found rank lock ticket block edit d d_is key inside v_is told =
-      subst (λ d. standing d.cpu d.seen ≡ Inside lock ticket → FreeDone d cpu lock edit w) d_is
-      (λ inside. free_done cpu table me v w slots word found rank lock ticket block edit key inside v_is told) inside
+      → Freed R v w → FreeDone d cpu kept lock edit w
+  free_tells cpu kept table me v w rank lock ticket block edit d d_is key inside v_is told =
+      subst (λ d. standing d.cpu d.seen ≡ Inside lock ticket → FreeDone d cpu kept lock edit w) d_is
+      (λ inside. free_done cpu kept table me v w rank lock ticket block edit key inside v_is told) inside

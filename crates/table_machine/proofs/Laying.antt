@@ -1,6 +1,6 @@
 -- How a table is laid out, and its keys dealt.
 use Rattle.std.proofs.Common.{◌≡◌, ◌≢◌, ℕ, suc, ◌+◌, ◌-◌, ◌<◌, ◌≤◌, Bool, true, false, if◌then◌else◌, List, [], ◌∷◌, ◌++◌, length, get_or, set, drop, map}
-use Rattle.std.proofs.Common.{replicate, ◌^◌, zero-add, Some, IsSome, refl, ap, sym, ◌∙◌, subst, arith, add-one, get_or-set_same, get_or-set_other}
+use Rattle.std.proofs.Common.{◌^◌, zero-add, Some, IsSome, refl, ap, sym, ◌∙◌, subst, arith, add-one, get_or-set_same, get_or-set_other}
 use Rattle.std.proofs.Common.{drop-cons}
 use Rattle.atomic_table.specs.Seated.{TableId}
 use Rattle.atomic_table.specs.Table.{Me, Splits}
@@ -14,7 +14,8 @@ use Rattle.layer_traits.specs.Protocol.{Rules}
 use Rattle.layer_traits.specs.OneLock.{opened}
 use Rattle.table_machine.specs.declared.views.Home.{Home}
 use Rattle.table_machine.specs.declared.views.View.{View}
-use lib.ListN.{length-replicate, length-map}
+use lib.ListN.{length-map}
+use Rattle.table_machine.specs.Kinds.{WordKind}
 use Rattle.table_machine.specs.Layout.{rank_of, word_count, TellsRanks, IsLaidOut}
 use Rattle.table_machine.specs.Views.{viewed, mine, owner, cpus_from}
 use Rattle.table_machine.specs.Rule.{Kept, fresh_home}
@@ -68,15 +69,15 @@ all_left n = omega arith
 pub desks_more : {E B : Type 0} (b : Board B) (k : ℕ) → new_desks {E = E} b (k + 1) ≡ new_desks {E = E} b k ++ new_desk b k ∷ []
 desks_more b k = rw add-one refl
 
-module _ {E B O : Type 0} (R : Rules E B O) where
+module _ (K : WordKind) {E B O : Type 0} (R : Rules E B O) where
   pub deal_asks : (table z : TableId) (start : List (LockId × B)) (n id : ℕ) (ranks : List ℕ) (locks : List LockId) (me : Me (Home E B) (View E B)) (cpu : ℕ)
       (b : Board B) → IsLaidOut start z.words z.slots ranks locks → board_of z start n ≡ b
       → cpu < b.cpus → table ≡ b.table → me ≡ (viewed b.start (cpus_from cpu (b.cpus - cpu)) [], [])
-      → (table ≡ z) × (0 < z.words) × Splits (Kept R n start) id me.0 (viewed me.0.start (drop 1 me.0.cpus) me.0.seen)
+      → (table ≡ z) × (0 < z.words) × Splits (Kept K R n start) id me.0 (viewed me.0.start (drop 1 me.0.cpus) me.0.seen)
       (mine me.0.start (owner me.0.cpus) me.0.seen)
   deal_asks table z start n id ranks locks me cpu b laid b_is below table_is me_is =
       let P : Board B → Type 0 = λ b. cpu < b.cpus → table ≡ b.table → me ≡ (viewed b.start (cpus_from cpu (b.cpus - cpu)) [], [])
-      → (table ≡ z) × (0 < z.words) × Splits (Kept R n start) id me.0 (viewed me.0.start (drop 1 me.0.cpus) me.0.seen)
+      → (table ≡ z) × (0 < z.words) × Splits (Kept K R n start) id me.0 (viewed me.0.start (drop 1 me.0.cpus) me.0.seen)
       (mine me.0.start (owner me.0.cpus) me.0.seen) in
       let plain : P (board_of z start n) = λ below table_is me_is. (
       let m : ℕ = n - (cpu + 1) in
@@ -84,8 +85,8 @@ module _ {E B O : Type 0} (R : Rules E B O) where
       = me_is ∙ ap (λ (k : ℕ). (viewed start (cpus_from cpu k) [], [])) (one_less n cpu below) in (
         table_is,
         has_words start z.words z.slots ranks locks laid,
-        subst (λ (x : Me (Home E B) (View E B)). Splits (Kept R n start) id x.0 (viewed x.0.start (drop 1 x.0.cpus) x.0.seen)
-            (mine x.0.start (owner x.0.cpus) x.0.seen)) (sym me_at) (deals_split R n start id cpu m),
+        subst (λ (x : Me (Home E B) (View E B)). Splits (Kept K R n start) id x.0 (viewed x.0.start (drop 1 x.0.cpus) x.0.seen)
+            (mine x.0.start (owner x.0.cpus) x.0.seen)) (sym me_at) (deals_split K R n start id cpu m),
       )) in
       subst P b_is plain below table_is me_is
 
@@ -105,12 +106,12 @@ tells_all row blocks rank done tells lock exists =
 
 module _ {E B : Type 0} where
   pub laid_fits : (start blocks : List (LockId × B)) (words slots : ℕ) (row ranks : List ℕ) (locks : List LockId) (homes : List (Home E B)) → start ≡ blocks
-      → words ≡ length row → row ≡ replicate (word_count (length blocks)) 0 → slots ≡ length homes → homes ≡ map (λ (o : LockId × B). fresh_home o.1) blocks
+      → words ≡ length row → length row ≡ word_count (length blocks) → slots ≡ length homes → homes ≡ map (λ (o : LockId × B). fresh_home o.1) blocks
       → word_count (length blocks) < 2 ^ 64 → length ranks ≡ LOCKS → TellsRanks ranks blocks → locks ≡ map (λ (o : LockId × B). o.0) blocks
       → IsLaidOut start words slots ranks locks
   laid_fits start blocks words slots row ranks locks homes same words_is row_is slots_is homes_are small ranks_are tells locks_are =
       subst (λ (s : List (LockId × B)). IsLaidOut s words slots ranks locks) (sym same) (record {
-        words_are = words_is ∙ (ap length row_is ∙ length-replicate (word_count (length blocks)) 0);
+        words_are = words_is ∙ row_is;
         slots_are = slots_is ∙ (ap length homes_are ∙ length-map blocks (λ (o : LockId × B). fresh_home {E = E} o.1));
         small = small;
         row = ranks_are;

@@ -14,11 +14,12 @@ use Rattle.layer_traits.specs.WordsProtocol.{MayCome}
 use Rattle.layer_traits.specs.OneLock.{opened}
 use Rattle.table_machine.specs.declared.views.Home.{Home}
 use Rattle.table_machine.specs.declared.views.View.{View}
+use Rattle.table_machine.specs.Kinds.{WordKind}
 use Rattle.table_machine.specs.Layout.{word_count, IsLaidOut}
 use Rattle.table_machine.specs.Views.{viewed, mine, Has, IsCpu, EndsWith, IsSince}
 use Rattle.table_machine.specs.Rule.{Kept}
 use Rattle.table_machine.specs.Plays.{Met}
-use Rattle.table_machine.specs.Desks.{Board, Desk, IsOf, Carries, IsKey}
+use Rattle.table_machine.specs.Desks.{Board, Desk, IsOf, Carries, IsKey, Remembers}
 use Rattle.table_machine.proofs.Logs.{standing_since}
 use Rattle.table_machine.proofs.Stepping.{meets_allowed}
 use Rattle.table_machine.proofs.Asking.{desk_of, board_of}
@@ -40,15 +41,15 @@ one_table {E} {B} table z start n cpu me d b d_is b_is of =
 
 module _ {E B O : Type 0} (R : Rules E B O) where
   -- what a meeting leaves
-  pub record MeetDone (d : Desk E B) (cpu : CpuId) (seen : List (Event (Mark E))) (w : Me (Home E B) (View E B)) : Type 0 where
+  pub record MeetDone (d : Desk E B) (cpu : CpuId) (ticket : ℕ) (seen : List (Event (Mark E))) (w : Me (Home E B) (View E B)) : Type 0 where
     pub start : d.start ≡ w.0.start
     pub begins : EndsWith w.0.seen seen
     pub grows : Grows (IsCpu d.cpu) actor d.seen w.0.seen
-    pub key : IsKey R cpu w
+    pub key : IsKey R cpu ticket w
 
-  meet_plain : (cpu : CpuId) (table : TableId) (v w : Me (Home E B) (View E B)) (o : View E B) (slots found : ℕ) → IsKey R cpu v → o.cpus ≡ []
-      → Met R (step slots 0 0 0 none) (joined v.0 o, v.1) found w → MeetDone (desk_of cpu table v) cpu o.seen w
-  meet_plain cpu table v w o slots found key nobody met =
+  meet_plain : (cpu : CpuId) (ticket : ℕ) (table : TableId) (v w : Me (Home E B) (View E B)) (o : View E B) (slots found : ℕ) → IsKey R cpu ticket v → o.cpus ≡ []
+      → Met R (step slots 0 0 0 none) (joined v.0 o, v.1) found w → MeetDone (desk_of cpu table v) cpu ticket o.seen w
+  meet_plain cpu ticket table v w o slots found key nobody met =
       let cpus_are : o.cpus ++ v.0.cpus ≡ cpu ∷ [] = ap (λ (l : List CpuId). l ++ v.0.cpus) nobody ∙ ap (λ (u : View E B). u.cpus) key.view in
       let view : w.0 ≡ mine v.0.start cpu w.0.seen = subst (λ (l : List CpuId). w.0 ≡ viewed v.0.start l w.0.seen) cpus_are met.view in
       let start : w.0.start ≡ v.0.start = ap (λ (u : View E B). u.start) view in
@@ -63,25 +64,26 @@ module _ {E B O : Type 0} (R : Rules E B O) where
           view = subst (λ (s : List (LockId × B)). w.0 ≡ mine s cpu w.0.seen) (sym start) view;
           held = subst (λ (s : List (LockId × B)). Carries s (standing cpu w.0.seen) w.1) (sym start)
               (subst (λ st. Carries v.0.start st w.1) (sym stands) (subst (λ h. Carries v.0.start (standing cpu v.0.seen) h) (sym met.held) key.held));
+          remembers = subst (λ st. Remembers ticket st) (sym stands) key.remembers;
           legal = subst (λ (s : List (LockId × B)). IsLawful (MayCome (R.allowed (opened s))) w.0.seen) (sym start) met.legal;
         };
       }
 
-  pub meet_tells : (cpu : CpuId) (table : TableId) (v u w : Me (Home E B) (View E B)) (o : View E B) (slots found : ℕ) (d : Desk E B) → desk_of cpu table v ≡ d
-      → IsKey R cpu v → o.cpus ≡ []
-      → u ≡ (joined v.0 o, v.1) → Met R (step slots 0 0 0 none) u found w → MeetDone d cpu o.seen w
-  meet_tells cpu table v u w o slots found d d_is key nobody u_is met =
-      subst (λ (d : Desk E B). MeetDone d cpu o.seen w) d_is
-      (meet_plain cpu table v w o slots found key nobody (subst (λ (m : Me (Home E B) (View E B)). Met R (step slots 0 0 0 none) m found w) u_is met))
+  pub meet_tells : (cpu : CpuId) (ticket : ℕ) (table : TableId) (v u w : Me (Home E B) (View E B)) (o : View E B) (slots found : ℕ) (d : Desk E B) → desk_of cpu table v ≡ d
+      → IsKey R cpu ticket v → o.cpus ≡ []
+      → u ≡ (joined v.0 o, v.1) → Met R (step slots 0 0 0 none) u found w → MeetDone d cpu ticket o.seen w
+  meet_tells cpu ticket table v u w o slots found d d_is key nobody u_is met =
+      subst (λ (d : Desk E B). MeetDone d cpu ticket o.seen w) d_is
+      (meet_plain cpu ticket table v w o slots found key nobody (subst (λ (m : Me (Home E B) (View E B)). Met R (step slots 0 0 0 none) m found w) u_is met))
 
   -- a load of the word that is never written
-  pub meet_asks : (table z : TableId) (start : List (LockId × B)) (n id : ℕ) (ranks : List ℕ) (locks : List LockId) (now : TableId)
+  pub meet_asks : (K : WordKind) (table z : TableId) (start : List (LockId × B)) (n id : ℕ) (ranks : List ℕ) (locks : List LockId) (now : TableId)
       (v u : Me (Home E B) (View E B)) (o : View E B) → IsLaidOut start z.words z.slots ranks locks
       → (table ≡ z) × (v.0.start ≡ start) → now ≡ table → u ≡ (joined v.0 o, v.1)
-      → (now ≡ z) × (0 < z.words) × Allows (Kept R n start) z.slots id u 0 (λ m. m) (Met R (step z.slots 0 0 0 none) u)
-  meet_asks table z start n id ranks locks now v u o laid of now_is u_is = (
+      → (now ≡ z) × (0 < z.words) × Allows (Kept K R n start) z.slots id u 0 (λ m. m) (Met R (step z.slots 0 0 0 none) u)
+  meet_asks K table z start n id ranks locks now v u o laid of now_is u_is = (
     now_is ∙ of.0,
     has_words start z.words z.slots ranks locks laid,
-    subst (λ (m : Me (Home E B) (View E B)). Allows (Kept R n start) z.slots id m 0 (λ m. m) (Met R (step z.slots 0 0 0 none) m)) (sym u_is)
-        (meets_allowed R n start z.slots id (joined v.0 o) v.1 of.1),
+    subst (λ (m : Me (Home E B) (View E B)). Allows (Kept K R n start) z.slots id m 0 (λ m. m) (Met R (step z.slots 0 0 0 none) m)) (sym u_is)
+        (meets_allowed K R n start z.slots id (joined v.0 o) v.1 of.1),
   )

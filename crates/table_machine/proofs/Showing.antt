@@ -1,41 +1,53 @@
 -- How the words and the slots change with a step.
-use Rattle.std.proofs.Common.{length-set, ◌≡◌, ◌≢◌, ℕ, zero, suc, ◌<◌, Bool, true, false, List, [], ◌∷◌, length, set, get_or, map, replicate, Option, Some}
-use Rattle.std.proofs.Common.{None, IsSome, slice_index, refl, ap, sym, ◌∙◌, subst, arith, get_or-set_other}
+use Rattle.std.proofs.Common.{length-set, ◌≡◌, ◌≢◌, ℕ, zero, suc, ◌+◌, ◌%◌, ◌^◌, ◌<◌, ◌≤◌, ◌==◌, if◌then◌else◌, Bool, true, false, List, [], ◌∷◌, length, set, get_or, map, replicate, Option, Some}
+use Rattle.std.proofs.Common.{None, IsSome, slice_index, refl, ap, sym, ◌∙◌, subst, arith, get_or-set_same, get_or-set_other}
+use Rattle.std.proofs.lemmas.Bool.{eqb-true, eqb-false}
 use mathlib.Core.Option.{Option as Maybe, none, some}
 use lib.ListN.{get_elem?, length-replicate, length-map}
 use Rattle.event_log.specs.declared.ids.LockId.{LockId}
 use Rattle.event_log.specs.declared.events.Event.{Event}
 use Rattle.event_log.specs.History.{same_lock}
-use Rattle.event_log.specs.WordsLog.{MayFollow}
+use Rattle.event_log.specs.WordsLog.{MayFollow, draws, frees}
+use Rattle.event_log.specs.declared.ids.TheConstants.{CPUS}
 use Rattle.event_log.proofs.Same.{same_lock_true, same_lock_self}
 use Rattle.layer_traits.specs.declared.edits.Mark.{Mark}
-use Rattle.layer_traits.specs.OneLock.{LockFits, opened}
+use Rattle.layer_traits.specs.OneLock.{opened}
 use Rattle.layer_traits.proofs.OneLockLemmas.{event_lock, elsewhere, fresh}
 use Rattle.table_machine.specs.declared.views.Home.{Home}
-use Rattle.table_machine.specs.Layout.{rank_of, next_at, serving_at, word_count}
+use Rattle.plain_machine.proofs.MachineLemmas.{at_home, counts_elsewhere}
+use Rattle.table_machine.specs.Kinds.{WordKind, IsWordKind, first_words}
+use Rattle.table_machine.specs.Layout.{AreFirst, rank_of, word_at, words_of, word_count}
 use Rattle.table_machine.specs.Rule.{home_block, fresh_home, ShowsLock, Shows}
 use Rattle.table_machine.proofs.Finding.{rank_same, rank_below, opened_there}
 
--- a lock that a step does not touch
-abbrev pub IsApart : ℕ → ℕ → Type 0
-IsApart word index = (j : ℕ) → j ≢ index → (next_at j ≢ word) × (serving_at j ≢ word)
+-- words of two locks, and two words of one lock, lie apart
+pub locks_apart : (j k a b : ℕ) → j ≢ k → a ≤ CPUS → b ≤ CPUS → word_at j a ≢ word_at k b
+locks_apart j k a b other within within' same = other (omega arith)
 
-pub next_apart : (k : ℕ) → IsApart (next_at k) k
-next_apart k j other = ((λ same. other (omega arith)), (λ same. omega arith))
+pub words_apart : (k a b : ℕ) → a ≢ b → word_at k a ≢ word_at k b
+words_apart k a b other same = other (omega arith)
 
-pub serving_apart : (k : ℕ) → IsApart (serving_at k) k
-serving_apart k j other = ((λ same. omega arith), (λ same. other (omega arith)))
-
-pub next_not_serving : (k : ℕ) → serving_at k ≢ next_at k
-next_not_serving k same = omega arith
-
-pub serving_not_next : (k : ℕ) → next_at k ≢ serving_at k
-serving_not_next k same = omega arith
+-- two locks whose `next` lies at one place have one rank
+pub next_tells : (j k : ℕ) → word_at j 0 ≡ word_at k 0 → j ≡ k
+next_tells j k same = omega arith
 
 pub zeros_at : (n i : ℕ) → ◌≡◌ {A = ℕ} (get_or (replicate n 0) i 0) 0
 zeros_at zero i = refl
 zeros_at (suc n) zero = refl
 zeros_at (suc n) (suc i) = zeros_at n i
+
+-- a word within the table
+pub lies_within : (k n word : ℕ) → k < n → word ≤ CPUS → word_at k word < word_count n
+lies_within k n word below within = omega arith
+
+-- what a write to one word of a lock leaves of all its words
+pub written : (words : List ℕ) (k word x : ℕ) → word ≤ CPUS → word_at k word < length words
+    → (words_of (set words (word_at k word) x) k word ≡ x)
+    × ((i : ℕ) → i ≤ CPUS → i ≢ word → words_of (set words (word_at k word) x) k i ≡ words_of words k i)
+written words k word x within lies = (
+  get_or-set_same words (word_at k word) x 0 lies,
+  λ i small other. get_or-set_other words (word_at k word) (word_at k i) x 0 (words_apart k i word other),
+)
 
 pub some_of : {B : Type 0} (o : Option B) → IsSome o → (b : B) × (o ≡ Some b)
 some_of None there = absurd cc
@@ -52,57 +64,91 @@ map_both : {E B : Type 0} (start : List (LockId × B)) → map some (map (λ (o 
 map_both [] = refl
 map_both {E = E} (o ∷ rest) = ap (λ l. some (fresh_home {E = E} o.1) ∷ l) (map_both {E = E} rest)
 
-module _ {E B : Type 0} (edited : E → B → B) (start : List (LockId × B)) where
-  -- one lock's facts at words that read the same
-  pub reword : (log : List (Event (Mark E))) (lock : LockId) (a a' b b' : ℕ) (home : Option B) → a ≡ a' → b ≡ b'
-      → LockFits edited (opened start) log lock a b home → LockFits edited (opened start) log lock a' b' home
-  reword log lock a a' b b' home p q fits = subst (λ y. LockFits edited (opened start) log lock a' y home) q
-      (subst (λ x. LockFits edited (opened start) log lock x b home) p fits)
+-- one's own words at the opening
+pub first_zeros : (opens locks : ℕ) (words : List ℕ) → words ≡ replicate (word_count locks) 0 → AreFirst opens locks 0 words
+first_zeros opens locks words are = record {
+  count = ap length are ∙ length-replicate (word_count locks) 0;
+  done_so = λ rank word none within. absurd (omega arith);
+  zeros = λ rank word from below within. ap (λ l. slice_index l (word_at rank word)) are ∙ zeros_at (word_count locks) (word_at rank word);
+}
 
-  -- the words of a lock lie within the table
-  pub next_within : (lock : LockId) → IsSome (opened start lock) → next_at (rank_of start lock) < word_count (length start)
-  next_within lock there = let below : rank_of start lock < length start = rank_below start lock there in omega arith
+-- one lock more
+pub first_more : (opens locks done : ℕ) (words : List ℕ) → done < locks → AreFirst opens locks done words
+    → AreFirst opens locks (done + 1) (set words (word_at done 1) opens)
+first_more opens locks done words below first =
+    let lies : word_at done 1 < length words = subst (λ n. word_at done 1 < n) (sym first.count) (lies_within done locks 1 below (omega arith)) in
+    let wrote = written words done 1 opens (omega arith) lies in
+    record {
+      count = length-set words (word_at done 1) opens ∙ first.count;
+      done_so = λ rank word more within. here rank word within wrote more (rank == done) refl;
+      zeros = λ rank word from under within. get_or-set_other words (word_at done 1) (word_at rank word) opens 0
+          (locks_apart rank done word 1 (λ e. omega arith) within (omega arith)) ∙ first.zeros rank word (omega arith) under within;
+    }
+  where
+    word_here : (word : ℕ) → word ≤ CPUS
+        → (words_of (set words (word_at done 1) opens) done 1 ≡ opens)
+        × ((i : ℕ) → i ≤ CPUS → i ≢ 1 → words_of (set words (word_at done 1) opens) done i ≡ words_of words done i)
+        → (b : Bool) → (word == 1) ≡ b → words_of (set words (word_at done 1) opens) done word ≡ (if b then opens else 0)
+    word_here word within wrote true is = ap (λ i. words_of (set words (word_at done 1) opens) done i) (eqb-true word 1 is) ∙ wrote.0
+    word_here word within wrote false is = wrote.1 word within (eqb-false word 1 is) ∙ first.zeros done word (omega arith) below within
 
-  pub serving_within : (lock : LockId) → IsSome (opened start lock) → serving_at (rank_of start lock) < word_count (length start)
-  serving_within lock there = let below : rank_of start lock < length start = rank_below start lock there in omega arith
+    here : (rank word : ℕ) → word ≤ CPUS
+        → (words_of (set words (word_at done 1) opens) done 1 ≡ opens)
+        × ((i : ℕ) → i ≤ CPUS → i ≢ 1 → words_of (set words (word_at done 1) opens) done i ≡ words_of words done i)
+        → rank < done + 1 → (b : Bool) → (rank == done) ≡ b → words_of (set words (word_at done 1) opens) rank word ≡ first_words opens word
+    here rank word within wrote more true is =
+        subst (λ r. words_of (set words (word_at done 1) opens) r word ≡ first_words opens word) (sym (eqb-true rank done is))
+        (word_here word within wrote (word == 1) refl)
+    here rank word within wrote more false is =
+        let other : rank ≢ done = eqb-false rank done is in
+        get_or-set_other words (word_at done 1) (word_at rank word) opens 0 (locks_apart rank done word 1 other within (omega arith))
+        ∙ first.done_so rank word (omega arith) within
 
-  -- an event at one lock: the words and slots of all other locks stay
-  pub shows_step : (words : List ℕ) (homes : List (Maybe (Home E B))) (log : List (Event (Mark E))) → Shows edited start words homes log
-      → (e : Event (Mark E)) → MayFollow log e → (i x : ℕ) → IsApart i (rank_of start (event_lock e))
+module _ (K : WordKind) (law : IsWordKind K) {E B : Type 0} (edited : E → B → B) (start : List (LockId × B)) where
+  -- a word of a lock lies within the table
+  pub within_table : (lock : LockId) (word : ℕ) → IsSome (opened start lock) → word ≤ CPUS → word_at (rank_of start lock) word < word_count (length start)
+  within_table lock word there within = lies_within (rank_of start lock) (length start) word (rank_below start lock there) within
+
+  -- an event at one lock, with a write to one of its words: the words and slots of all other locks stay
+  pub shows_step : (words : List ℕ) (homes : List (Maybe (Home E B))) (log : List (Event (Mark E))) → Shows K edited start words homes log
+      → (e : Event (Mark E)) → MayFollow log e → (word x : ℕ) → word ≤ CPUS
       → (later : List (Maybe (Home E B))) → length later ≡ length start → ((j : ℕ) → j ≢ rank_of start (event_lock e) → get_elem? later j ≡ get_elem? homes j)
-      → ShowsLock edited start (set words i x) later (e ∷ log) (event_lock e)
-      → Shows edited start (set words i x) later (e ∷ log)
-  shows_step words homes log shows e may i x apart later count same here = record {
-    word_length = length-set words i x ∙ shows.word_length;
+      → ShowsLock K edited start (set words (word_at (rank_of start (event_lock e)) word) x) later (e ∷ log) (event_lock e)
+      → Shows K edited start (set words (word_at (rank_of start (event_lock e)) word) x) later (e ∷ log)
+  shows_step words homes log shows e may word x within later count same here = record {
+    word_length = length-set words (word_at (rank_of start (event_lock e)) word) x ∙ shows.word_length;
     home_length = count;
     each = λ lock exists. go lock exists (same_lock lock (event_lock e)) refl;
   }
     where
       go : (lock : LockId) → IsSome (opened start lock) → (b : Bool) → same_lock lock (event_lock e) ≡ b
-          → ShowsLock edited start (set words i x) later (e ∷ log) lock
-      go lock exists true one = subst (λ l. ShowsLock edited start (set words i x) later (e ∷ log) l) (sym (same_lock_true lock (event_lock e) one)) here
+          → ShowsLock K edited start (set words (word_at (rank_of start (event_lock e)) word) x) later (e ∷ log) lock
+      go lock exists true one = subst (λ l. ShowsLock K edited start (set words (word_at (rank_of start (event_lock e)) word) x) later (e ∷ log) l)
+          (sym (same_lock_true lock (event_lock e) one)) here
       go lock exists false other =
           let old = shows.each lock exists in
           let k : ℕ = rank_of start lock in
           let away : k ≢ rank_of start (event_lock e) = λ e'. (
           let one : lock ≡ event_lock e = rank_same start lock (event_lock e) exists e' in
           let yes' : same_lock lock (event_lock e) ≡ true = subst (λ l. same_lock lock l ≡ true) one (same_lock_self lock) in absurd (cc (other, yes'))) in
-          let parted = apart k away in
           record {
             home = old.home;
             at = same k away ∙ old.at;
-            is = elsewhere edited (opened start) lock e log may other (slice_index (set words i x) (next_at k)) (slice_index (set words i x) (serving_at k))
-                (home_block old.home)
-                (reword log lock (slice_index words (next_at k)) (slice_index (set words i x) (next_at k)) (slice_index words (serving_at k))
-                (slice_index (set words i x) (serving_at k)) (home_block old.home)
-                (sym (get_or-set_other words i (next_at k) x 0 parted.0)) (sym (get_or-set_other words i (serving_at k) x 0 parted.1)) old.is);
+            words_are = law.same (draws lock (e ∷ log)) (frees lock (e ∷ log)) (words_of words k)
+                (words_of (set words (word_at (rank_of start (event_lock e)) word) x) k)
+                (λ i small. get_or-set_other words (word_at (rank_of start (event_lock e)) word) (word_at k i) x 0
+                (locks_apart k (rank_of start (event_lock e)) i word away small within))
+                (counts_elsewhere (λ taken given. K.Fit taken given (words_of words k)) e log lock other old.words_are);
+            is = at_home edited (opened start) (e ∷ log) lock (draws lock log % 2 ^ 64) (frees lock log % 2 ^ 64) (home_block old.home)
+                (elsewhere edited (opened start) lock e log may other (draws lock log % 2 ^ 64) (frees lock log % 2 ^ 64) (home_block old.home) old.is);
           }
 
-  -- before the first event all words are 0, and each slot has the opening block
-  pub shows_opening : (homes : List (Home E B)) → homes ≡ map (λ (o : LockId × B). fresh_home o.1) start
-      → Shows edited start (replicate (word_count (length start)) 0) (map some homes) []
-  shows_opening homes are = record {
-    word_length = length-replicate (word_count (length start)) 0;
+  -- before the first event the words are as at the start, and each slot has the opening block
+  pub shows_opening : (words : List ℕ) (homes : List (Home E B)) → AreFirst K.opens (length start) (length start) words
+      → homes ≡ map (λ (o : LockId × B). fresh_home o.1) start
+      → Shows K edited start words (map some homes) []
+  shows_opening words homes first are = record {
+    word_length = first.count;
     home_length = length-map homes some ∙ (ap length are ∙ length-map start (λ (o : LockId × B). fresh_home {E = E} o.1));
     each = λ lock exists.
         let found = opened_there (λ (b : B). some (fresh_home {E = E} b)) start lock exists in
@@ -110,9 +156,7 @@ module _ {E B : Type 0} (edited : E → B → B) (start : List (LockId × B)) wh
         record {
           home = some (fresh_home found.0);
           at = ap (λ l. get_elem? l k) (ap (λ l. map some l) are ∙ map_both start) ∙ found.2;
-          is = reword [] lock 0 (slice_index (replicate (word_count (length start)) 0) (next_at k)) 0
-              (slice_index (replicate (word_count (length start)) 0) (serving_at k)) (Some found.0)
-              (sym (zeros_at (word_count (length start)) (next_at k))) (sym (zeros_at (word_count (length start)) (serving_at k)))
-              (fresh edited (opened start) lock found.0 found.1);
+          words_are = law.begins (words_of words k) (λ i within. first.done_so k i (rank_below start lock exists) within);
+          is = fresh edited (opened start) lock found.0 found.1;
         };
   }

@@ -13,34 +13,40 @@ use Rattle.event_log.specs.declared.ids.LockId.{LockId}
 use Rattle.event_log.specs.declared.events.Event.{Event}
 use Rattle.event_log.specs.declared.events.Event.TheVariants.{Draw, Look, Free}
 use Rattle.event_log.specs.History.{AreOthers, IsLawful}
-use Rattle.event_log.specs.WordsLog.{actor, MayFollow, standing, Outside, Waiting, Inside}
+use Rattle.event_log.specs.WordsLog.{IsLegalWords, actor, draws, frees, standing, Outside, Waiting, Inside}
+use Rattle.event_log.specs.Actions.{Holds, acts_of, gives as given_times, phase, place}
+use Rattle.event_log.proofs.Exclusion.{is_holding, line_at}
+use Rattle.event_log.proofs.Same.{same_lock_self}
+use Rattle.event_log.proofs.Tickets.{gives_acts, legal_acts, phase_acts, ticket_at}
+use Rattle.event_log.proofs.Told.{TicketOf, phase_of}
 use Rattle.event_log.specs.Sections.{block_after}
 use Rattle.layer_traits.specs.declared.edits.Mark.{Mark}
 use Rattle.layer_traits.specs.Protocol.{Rules, StaysAllowed, section}
-use Rattle.layer_traits.specs.WordsProtocol.{MayCome, sections, mark_of}
+use Rattle.layer_traits.specs.WordsProtocol.{MayCome, edit_of, sections, mark_of}
 use Rattle.layer_traits.specs.OneLock.{LockFits, opened}
 use Rattle.table_machine.specs.declared.views.Home.{Home}
 use Rattle.table_machine.specs.declared.views.View.{View}
-use Rattle.table_machine.specs.Layout.{rank_of, next_at, serving_at}
+use Rattle.table_machine.specs.Kinds.{WordKind, IsWordKind, given_on}
+use Rattle.table_machine.specs.Layout.{rank_of, word_at, words_of}
 use Rattle.table_machine.specs.Views.{viewed, mine, Has, IsSince}
 use Rattle.table_machine.specs.Rule.{home_block, ShowsLock, Shows, Kept}
 use Rattle.table_machine.specs.Plays.{Moves, Drew, Looked, Freed, Met, Entered}
 use Rattle.layer_traits.proofs.OneLockLemmas.{standing_own, drew, missed, hit, freed, hit_finds}
 use Rattle.layer_traits.proofs.Seen.{words_legal, sections_allowed, sections-append, others_sections}
+use Rattle.plain_machine.proofs.MachineLemmas.{at_home, serves_exactly}
 use Rattle.table_machine.proofs.Logs.{standing_since, inside_keeps, ends_nil}
 use Rattle.table_machine.proofs.Finding.{rank_below}
 use Rattle.table_machine.proofs.Seeing.{sees_moved, sees_less, sees_new, sees_join, one_event, owns_viewed}
-use Rattle.table_machine.proofs.Showing.{next_apart, serving_apart, next_not_serving, serving_not_next, next_within, serving_within, reword, shows_step}
-use Rattle.table_machine.proofs.Showing.{home_of}
+use Rattle.table_machine.proofs.Showing.{home_of, shows_step, within_table, written}
 
-module _ {E B O : Type 0} (R : Rules E B O) (n : ℕ) (start : List (LockId × B)) where
+module _ (K : WordKind) {E B O : Type 0} (R : Rules E B O) (n : ℕ) (start : List (LockId × B)) where
   -- what the step of one CPU knows of the log when it comes
-  pub record KnownSeat (s : State (Home E B) (View E B)) (kept : Kept R n start s) (id : ℕ) (cpu : CpuId) (seen : List (Event (Mark E))) : Type 0 where
+  pub record KnownSeat (s : State (Home E B) (View E B)) (kept : Kept K R n start s) (id : ℕ) (cpu : CpuId) (seen : List (Event (Mark E))) : Type 0 where
     pub at : get_elem? s.views id ≡ some (mine start cpu seen)
     pub since : IsSince kept.log seen cpu
     pub below : cpu.0 < n
 
-  known_seat : (s : State (Home E B) (View E B)) (kept : Kept R n start s) (id : ℕ) (cpu : CpuId) (seen : List (Event (Mark E)))
+  known_seat : (s : State (Home E B) (View E B)) (kept : Kept K R n start s) (id : ℕ) (cpu : CpuId) (seen : List (Event (Mark E)))
       → get_elem? s.views id ≡ some (mine start cpu seen) → KnownSeat s kept id cpu seen
   known_seat s kept id cpu seen at = record {
     at = at;
@@ -49,10 +55,10 @@ module _ {E B O : Type 0} (R : Rules E B O) (n : ℕ) (start : List (LockId × B
   }
 
   -- an event of this CPU that may come, with words and slots that show it, keeps the rule
-  after_event : (s : State (Home E B) (View E B)) (kept : Kept R n start s) (id : ℕ) (e : Event (Mark E)) (seen : List (Event (Mark E)))
+  after_event : (s : State (Home E B) (View E B)) (kept : Kept K R n start s) (id : ℕ) (e : Event (Mark E)) (seen : List (Event (Mark E)))
       → KnownSeat s kept id (actor e) seen → MayCome (R.allowed (opened start)) kept.log e
-      → (words : List ℕ) (homes : List (Maybe (Home E B))) → Shows R.edited start words homes (e ∷ kept.log)
-      → Kept R n start (record { words = words; homes = homes; views = set s.views id (mine start (actor e) (e ∷ kept.log)) })
+      → (words : List ℕ) (homes : List (Maybe (Home E B))) → Shows K R.edited start words homes (e ∷ kept.log)
+      → Kept K R n start (record { words = words; homes = homes; views = set s.views id (mine start (actor e) (e ∷ kept.log)) })
   after_event s kept id e seen knows may words homes shows = record {
     few = kept.few;
     log = e ∷ kept.log;
@@ -64,7 +70,7 @@ module _ {E B O : Type 0} (R : Rules E B O) (n : ℕ) (start : List (LockId × B
   }
 
   -- and the CPU's view moves to it
-  after_move : (s : State (Home E B) (View E B)) (kept : Kept R n start s) (id : ℕ) (e : Event (Mark E)) (seen : List (Event (Mark E)))
+  after_move : (s : State (Home E B) (View E B)) (kept : Kept K R n start s) (id : ℕ) (e : Event (Mark E)) (seen : List (Event (Mark E)))
       → KnownSeat s kept id (actor e) seen → MayCome (R.allowed (opened start)) kept.log e
       → Moves R (mine start (actor e) seen) (mine start (actor e) (e ∷ kept.log)) e
   after_move s kept id e seen knows may = record {
@@ -77,13 +83,13 @@ module _ {E B O : Type 0} (R : Rules E B O) (n : ℕ) (start : List (LockId × B
     legal = (may, kept.legal);
   }
 
-  pub draws_allowed : (slots id : ℕ) (cpu : CpuId) (seen : List (Event (Mark E))) (held : List (ℕ × Home E B)) (lock : LockId) → IsSome (opened start lock)
-      → standing cpu seen ≡ Outside
-      → Allows (Kept R n start) slots id (mine start cpu seen, held) (next_at (rank_of start lock)) (λ m. (m + 1) % 2 ^ 64)
-      (Drew R (step slots (next_at (rank_of start lock)) 1 0 none) (mine start cpu seen, held))
-  draws_allowed slots id cpu seen held lock exists out s kept count at fits =
+  pub draws_allowed : IsWordKind K → (slots id : ℕ) (cpu : CpuId) (seen : List (Event (Mark E))) (held : List (ℕ × Home E B)) (lock : LockId)
+      → IsSome (opened start lock) → standing cpu seen ≡ Outside
+      → Allows (Kept K R n start) slots id (mine start cpu seen, held) (word_at (rank_of start lock) 0) (λ m. (m + 1) % 2 ^ 64)
+      (Drew R (step slots (word_at (rank_of start lock) 0) 1 0 none) (mine start cpu seen, held))
+  draws_allowed law slots id cpu seen held lock exists out s kept count at fits =
       let k : ℕ = rank_of start lock in
-      let i : ℕ = next_at k in
+      let i : ℕ = word_at k 0 in
       let t : ℕ = slice_index s.words i in
       let x : ℕ = (t + 1) % 2 ^ 64 in
       let e : Event (Mark E) = Draw cpu lock t in
@@ -91,18 +97,22 @@ module _ {E B O : Type 0} (R : Rules E B O) (n : ℕ) (start : List (LockId × B
       let outside : standing cpu kept.log ≡ Outside = standing_since cpu kept.log seen now.since ∙ out in
       let old = kept.shows.each lock exists in
       let few : cpu.0 < CPUS = lt_of_lt_of_le now.below kept.few in
-      let may : MayCome (R.allowed (opened start)) kept.log e = ((few, outside, old.is.next_is), tt) in
-      let within : i < length s.words = subst (λ m. i < m) (sym kept.shows.word_length) (next_within R.edited start lock exists) in
-      let here : ShowsLock R.edited start (set s.words i x) s.homes (e ∷ kept.log) lock = record {
+      let next_is : t ≡ draws lock kept.log % 2 ^ 64 = law.next_is (draws lock kept.log) (frees lock kept.log) (words_of s.words k) old.words_are in
+      let may : MayCome (R.allowed (opened start)) kept.log e = ((few, outside, next_is), tt) in
+      let within : i < length s.words = subst (λ m. i < m) (sym kept.shows.word_length) (within_table K law R.edited start lock 0 exists (omega arith)) in
+      let wrote = written s.words k 0 x (omega arith) within in
+      let here : ShowsLock K R.edited start (set s.words i x) s.homes (e ∷ kept.log) lock = record {
         home = old.home;
         at = old.at;
-        is = reword R.edited start (e ∷ kept.log) lock x (slice_index (set s.words i x) i) (slice_index s.words (serving_at k))
-            (slice_index (set s.words i x) (serving_at k)) (home_block old.home)
-            (sym (get_or-set_same s.words i x 0 within)) (sym (get_or-set_other s.words i (serving_at k) x 0 (next_not_serving k)))
-            (drew R.edited (opened start) lock cpu t kept.log outside t (slice_index s.words (serving_at k)) (home_block old.home) old.is);
+        words_are = subst (λ b. K.Fit (if b then draws lock kept.log + 1 else draws lock kept.log) (frees lock kept.log) (words_of (set s.words i x) k))
+            (sym (same_lock_self lock))
+            (law.took (draws lock kept.log) (frees lock kept.log) (words_of s.words k) (words_of (set s.words i x) k) old.words_are wrote.0 wrote.1);
+        is = at_home R.edited (opened start) (e ∷ kept.log) lock ((draws lock kept.log % 2 ^ 64 + 1) % 2 ^ 64) (frees lock kept.log % 2 ^ 64)
+            (home_block old.home)
+            (drew R.edited (opened start) lock cpu t kept.log outside (draws lock kept.log % 2 ^ 64) (frees lock kept.log % 2 ^ 64) (home_block old.home) old.is);
       } in
-      let shows = shows_step R.edited start s.words s.homes kept.log kept.shows e may.0 i x (next_apart k) s.homes kept.shows.home_length (λ j other. refl) here
-      in (
+      let shows = shows_step K law R.edited start s.words s.homes kept.log kept.shows e may.0 0 x (omega arith) s.homes kept.shows.home_length
+      (λ j other. refl) here in (
         mine start cpu (e ∷ kept.log),
         keeps,
         tt,
@@ -110,104 +120,119 @@ module _ {E B O : Type 0} (R : Rules E B O) (n : ℕ) (start : List (LockId × B
         record { lock = lock; exists = exists; word = refl; moves = after_move s kept id e seen now may; held = refl },
       )
 
-  -- what a look of a CPU that waits may do
-  look_may : (s : State (Home E B) (View E B)) (kept : Kept R n start s) (id : ℕ) (cpu : CpuId) (seen : List (Event (Mark E))) (lock : LockId) (ticket : ℕ)
-      (exists : IsSome (opened start lock))
+  -- what a look of a CPU that waits may do: in the log it reads how often the lock was freed
+  look_may : (s : State (Home E B) (View E B)) (kept : Kept K R n start s) (id : ℕ) (cpu : CpuId) (seen : List (Event (Mark E))) (lock : LockId) (ticket : ℕ)
       → KnownSeat s kept id cpu seen → standing cpu seen ≡ Waiting lock ticket
-      → MayCome (R.allowed (opened start)) kept.log (Look cpu lock ticket (slice_index s.words (serving_at (rank_of start lock))))
-  look_may s kept id cpu seen lock ticket exists now waits =
-      ((standing_since cpu kept.log seen now.since ∙ waits, (kept.shows.each lock exists).is.serving_is), tt)
+      → MayCome (R.allowed (opened start)) kept.log (Look cpu lock ticket (frees lock kept.log % 2 ^ 64))
+  look_may s kept id cpu seen lock ticket now waits = ((standing_since cpu kept.log seen now.since ∙ waits, refl), tt)
+
+  -- the number found tells whether the look hits
+  found_tells : IsWordKind K → (s : State (Home E B) (View E B)) (kept : Kept K R n start s) (id : ℕ) (cpu : CpuId) (seen : List (Event (Mark E)))
+      (lock : LockId) (ticket : ℕ) → IsSome (opened start lock) → KnownSeat s kept id cpu seen → standing cpu seen ≡ Waiting lock ticket
+      → K.serves ticket (slice_index s.words (word_at (rank_of start lock) (K.looks_at ticket))) ≡ (frees lock kept.log % 2 ^ 64 == ticket)
+  found_tells law s kept id cpu seen lock ticket exists now waits =
+      serves_exactly kept.log (words_legal (R.allowed (opened start)) kept.log kept.legal) cpu lock ticket
+      (standing_since cpu kept.log seen now.since ∙ waits) (K.serves ticket (slice_index s.words (word_at (rank_of start lock) (K.looks_at ticket))))
+      (λ spot. law.hits (draws lock kept.log) (frees lock kept.log) (words_of s.words (rank_of start lock)) (kept.shows.each lock exists).words_are
+      ticket spot)
 
   -- a load writes what it found
   loaded : (s : State (Home E B) (View E B)) (i : ℕ) (homes : List (Maybe (Home E B))) (log : List (Event (Mark E))) (lock : LockId)
-      → ShowsLock R.edited start s.words homes log lock → ShowsLock R.edited start (set s.words i (slice_index s.words i)) homes log lock
-  loaded s i homes log lock stands = subst (λ (w : List ℕ). ShowsLock R.edited start w homes log lock) (sym (set-get_or s.words i 0)) stands
+      → ShowsLock K R.edited start s.words homes log lock → ShowsLock K R.edited start (set s.words i (slice_index s.words i)) homes log lock
+  loaded s i homes log lock stands = subst (λ (w : List ℕ). ShowsLock K R.edited start w homes log lock) (sym (set-get_or s.words i 0)) stands
 
   -- what the step leaves, as the call of `load` asks it
   abbrev After : ℕ → Me (Home E B) (View E B) → ℕ → (ℕ → ℕ) → (ℕ → Me (Home E B) (View E B) → Type 0) → State (Home E B) (View E B) → Type 0
   After id me i f told s = (w : View E B) × (a : Act (Home E B)) × Rattle.atomic_table.specs.Table.Valid s.homes me.1 a
-      × Kept R n start (stepped s i (f (slice_index s.words i)) id me.1 w a)
+      × Kept K R n start (stepped s i (f (slice_index s.words i)) id me.1 w a)
       × told (slice_index s.words i) (w, Rattle.atomic_table.specs.Table.carried_after me.1 a)
 
-  look_misses : (s : State (Home E B) (View E B)) (kept : Kept R n start s) (id slots : ℕ) (cpu : CpuId) (seen : List (Event (Mark E))) (lock : LockId)
-      (ticket : ℕ) (exists : IsSome (opened start lock))
-      → KnownSeat s kept id cpu seen → standing cpu seen ≡ Waiting lock ticket → (slice_index s.words (serving_at (rank_of start lock)) == ticket) ≡ false
-      → After id (mine start cpu seen, []) (serving_at (rank_of start lock)) (λ m. m)
-      (Looked R (step slots (serving_at (rank_of start lock)) 0 0 none) (mine start cpu seen, [])) s
-  look_misses s kept id slots cpu seen lock ticket exists now waits other =
+  look_misses : IsWordKind K → (s : State (Home E B) (View E B)) (kept : Kept K R n start s) (id slots : ℕ) (cpu : CpuId) (seen : List (Event (Mark E)))
+      (lock : LockId) (ticket : ℕ) (exists : IsSome (opened start lock))
+      → KnownSeat s kept id cpu seen → standing cpu seen ≡ Waiting lock ticket
+      → K.serves ticket (slice_index s.words (word_at (rank_of start lock) (K.looks_at ticket))) ≡ false
+      → After id (mine start cpu seen, []) (word_at (rank_of start lock) (K.looks_at ticket)) (λ m. m) (Looked K R (mine start cpu seen, [])) s
+  look_misses law s kept id slots cpu seen lock ticket exists now waits other =
       let k : ℕ = rank_of start lock in
-      let i : ℕ = serving_at k in
-      let read : ℕ = slice_index s.words i in
+      let i : ℕ = word_at k (K.looks_at ticket) in
+      let found : ℕ = slice_index s.words i in
+      let read : ℕ = frees lock kept.log % 2 ^ 64 in
       let e : Event (Mark E) = Look cpu lock ticket read in
-      let may : MayCome (R.allowed (opened start)) kept.log e = look_may s kept id cpu seen lock ticket exists now waits in
+      let may : MayCome (R.allowed (opened start)) kept.log e = look_may s kept id cpu seen lock ticket now waits in
+      let misses : (read == ticket) ≡ false = sym (found_tells law s kept id cpu seen lock ticket exists now waits) ∙ other in
       let old = kept.shows.each lock exists in
-      let here : ShowsLock R.edited start s.words s.homes (e ∷ kept.log) lock = record {
+      let here : ShowsLock K R.edited start s.words s.homes (e ∷ kept.log) lock = record {
         home = old.home;
         at = old.at;
-        is = missed R.edited (opened start) lock cpu ticket read kept.log may.0.0 other (slice_index s.words (next_at k)) (slice_index s.words i)
-            (home_block old.home) old.is;
+        words_are = old.words_are;
+        is = missed R.edited (opened start) lock cpu ticket read kept.log may.0.0 misses (draws lock kept.log % 2 ^ 64) read (home_block old.home) old.is;
       } in
-      let shows = shows_step R.edited start s.words s.homes kept.log kept.shows e may.0 i read (serving_apart k) s.homes kept.shows.home_length (λ j away. refl)
-      (loaded s i s.homes (e ∷ kept.log) lock here) in (
+      let shows = shows_step K law R.edited start s.words s.homes kept.log kept.shows e may.0 (K.looks_at ticket) found (law.looks_within ticket) s.homes
+      kept.shows.home_length (λ j away. refl) (loaded s i s.homes (e ∷ kept.log) lock here) in (
         mine start cpu (e ∷ kept.log),
         keeps,
         tt,
-        after_event s kept id e seen now may (set s.words i read) s.homes shows,
+        after_event s kept id e seen now may (set s.words i found) s.homes shows,
         record {
           lock = lock;
           ticket = ticket;
           waits = waits;
+          read = read;
           moves = after_move s kept id e seen now may;
           finds = inl (record {
             other = other;
-            waits = standing_own e kept.log ∙ ap (λ b. if b then Inside lock ticket else Waiting lock ticket) other;
+            waits = standing_own e kept.log ∙ ap (λ b. if b then Inside lock ticket else Waiting lock ticket) misses;
             held = refl;
           });
         },
       )
 
-  look_hits : (s : State (Home E B) (View E B)) (kept : Kept R n start s) (id slots : ℕ) (cpu : CpuId) (seen : List (Event (Mark E))) (lock : LockId)
-      (ticket : ℕ) (exists : IsSome (opened start lock))
-      → KnownSeat s kept id cpu seen → standing cpu seen ≡ Waiting lock ticket → (slice_index s.words (serving_at (rank_of start lock)) == ticket) ≡ true
-      → After id (mine start cpu seen, []) (serving_at (rank_of start lock)) (λ m. m)
-      (Looked R (step slots (serving_at (rank_of start lock)) 0 0 none) (mine start cpu seen, [])) s
-  look_hits s kept id slots cpu seen lock ticket exists now waits same =
+  look_hits : IsWordKind K → (s : State (Home E B) (View E B)) (kept : Kept K R n start s) (id slots : ℕ) (cpu : CpuId) (seen : List (Event (Mark E)))
+      (lock : LockId) (ticket : ℕ) (exists : IsSome (opened start lock))
+      → KnownSeat s kept id cpu seen → standing cpu seen ≡ Waiting lock ticket
+      → K.serves ticket (slice_index s.words (word_at (rank_of start lock) (K.looks_at ticket))) ≡ true
+      → After id (mine start cpu seen, []) (word_at (rank_of start lock) (K.looks_at ticket)) (λ m. m) (Looked K R (mine start cpu seen, [])) s
+  look_hits law s kept id slots cpu seen lock ticket exists now waits served =
       let k : ℕ = rank_of start lock in
-      let i : ℕ = serving_at k in
-      let read : ℕ = slice_index s.words i in
+      let i : ℕ = word_at k (K.looks_at ticket) in
+      let number : ℕ = slice_index s.words i in
+      let next : ℕ = draws lock kept.log % 2 ^ 64 in
+      let read : ℕ = frees lock kept.log % 2 ^ 64 in
       let e : Event (Mark E) = Look cpu lock ticket read in
-      let may : MayCome (R.allowed (opened start)) kept.log e = look_may s kept id cpu seen lock ticket exists now waits in
+      let may : MayCome (R.allowed (opened start)) kept.log e = look_may s kept id cpu seen lock ticket now waits in
+      let same : (read == ticket) ≡ true = sym (found_tells law s kept id cpu seen lock ticket exists now waits) ∙ served in
       let legal : IsLawful (MayCome (R.allowed (opened start))) (e ∷ kept.log) = (may, kept.legal) in
       let old = kept.shows.each lock exists in
       let found = home_of old.home
       (hit_finds R.edited (opened start) lock cpu ticket read kept.log (words_legal (R.allowed (opened start)) (e ∷ kept.log) legal) same
-      (slice_index s.words (next_at k)) (slice_index s.words i) (home_block old.home) old.is) in
+      next read (home_block old.home) old.is) in
       let y : Home E B = found.0 in
       let b : B = found.1 in
       let block_there : home_block old.home ≡ Some b = ap home_block found.2 ∙ found.3 in
       let folds : block_after R.edited (opened start) lock (sections kept.log) ≡ Some b =
-      (subst (λ o. LockFits R.edited (opened start) kept.log lock (slice_index s.words (next_at k)) (slice_index s.words i) o) block_there old.is).home_is.1 in
+      (subst (λ o. LockFits R.edited (opened start) kept.log lock next read o) block_there old.is).home_is.1 in
       let within : k < length s.homes = subst (λ m. k < m) (sym kept.shows.home_length) (rank_below start lock exists) in
       let homes : List (Maybe (Home E B)) = set s.homes k none in
-      let here : ShowsLock R.edited start s.words homes (e ∷ kept.log) lock = record {
+      let here : ShowsLock K R.edited start s.words homes (e ∷ kept.log) lock = record {
         home = none;
         at = set_here s.homes k none within;
-        is = hit R.edited (opened start) lock cpu ticket read kept.log same (slice_index s.words (next_at k)) (slice_index s.words i) (home_block old.home)
-            old.is;
+        words_are = old.words_are;
+        is = hit R.edited (opened start) lock cpu ticket read kept.log same next read (home_block old.home) old.is;
       } in
-      let shows = shows_step R.edited start s.words s.homes kept.log kept.shows e may.0 i read (serving_apart k) homes
+      let shows = shows_step K law R.edited start s.words s.homes kept.log kept.shows e may.0 (K.looks_at ticket) number (law.looks_within ticket) homes
       (length-set s.homes k none ∙ kept.shows.home_length) (λ j away. set_else s.homes k j none away) (loaded s i homes (e ∷ kept.log) lock here) in (
         mine start cpu (e ∷ kept.log),
         takes k y,
         old.at ∙ ap some found.2,
-        after_event s kept id e seen now may (set s.words i read) homes shows,
+        after_event s kept id e seen now may (set s.words i number) homes shows,
         record {
           lock = lock;
           ticket = ticket;
           waits = waits;
+          read = read;
           moves = after_move s kept id e seen now may;
           finds = inr (record {
-            same = same;
+            same = served;
             inside = standing_own e kept.log ∙ ap (λ b. if b then Inside lock ticket else Waiting lock ticket) same;
             home = y;
             block = b;
@@ -218,30 +243,46 @@ module _ {E B O : Type 0} (R : Rules E B O) (n : ℕ) (start : List (LockId × B
         },
       )
 
-  pub looks_allowed : (slots id : ℕ) (cpu : CpuId) (seen : List (Event (Mark E))) (lock : LockId) (ticket : ℕ) → IsSome (opened start lock)
+  pub looks_allowed : IsWordKind K → (slots id : ℕ) (cpu : CpuId) (seen : List (Event (Mark E))) (lock : LockId) (ticket : ℕ) → IsSome (opened start lock)
       → standing cpu seen ≡ Waiting lock ticket
-      → Allows (Kept R n start) slots id (mine start cpu seen, []) (serving_at (rank_of start lock)) (λ m. m)
-      (Looked R (step slots (serving_at (rank_of start lock)) 0 0 none) (mine start cpu seen, []))
-  looks_allowed slots id cpu seen lock ticket exists waits s kept count at fits = go (slice_index s.words (serving_at (rank_of start lock)) == ticket) refl
+      → Allows (Kept K R n start) slots id (mine start cpu seen, []) (word_at (rank_of start lock) (K.looks_at ticket)) (λ m. m)
+      (Looked K R (mine start cpu seen, []))
+  looks_allowed law slots id cpu seen lock ticket exists waits s kept count at fits =
+      go (K.serves ticket (slice_index s.words (word_at (rank_of start lock) (K.looks_at ticket)))) refl
     where
-      go : (b : Bool) → (slice_index s.words (serving_at (rank_of start lock)) == ticket) ≡ b
-          → After id (mine start cpu seen, []) (serving_at (rank_of start lock)) (λ m. m)
-          (Looked R (step slots (serving_at (rank_of start lock)) 0 0 none) (mine start cpu seen, [])) s
-      go true same = look_hits s kept id slots cpu seen lock ticket exists (known_seat s kept id cpu seen at) waits same
-      go false other = look_misses s kept id slots cpu seen lock ticket exists (known_seat s kept id cpu seen at) waits other
+      go : (b : Bool) → K.serves ticket (slice_index s.words (word_at (rank_of start lock) (K.looks_at ticket))) ≡ b
+          → After id (mine start cpu seen, []) (word_at (rank_of start lock) (K.looks_at ticket)) (λ m. m) (Looked K R (mine start cpu seen, [])) s
+      go true same = look_hits law s kept id slots cpu seen lock ticket exists (known_seat s kept id cpu seen at) waits same
+      go false other = look_misses law s kept id slots cpu seen lock ticket exists (known_seat s kept id cpu seen at) waits other
 
-  pub frees_allowed : (slots id : ℕ) (cpu : CpuId) (seen : List (Event (Mark E))) (lock : LockId) (ticket : ℕ) (edit : E) (block : B) (y : Home E B)
+  -- the CPU inside a lock has the ticket that is served
+  served_ticket : (log : List (Event (Mark E))) → IsLegalWords log → (cpu : CpuId) (lock : LockId) (ticket : ℕ) → standing cpu log ≡ Inside lock ticket
+      → ticket ≡ frees lock log % 2 ^ 64
+  served_ticket log legal cpu lock ticket inside =
+      let acts = legal_acts edit_of log legal in
+      let holds : phase cpu (acts_of edit_of log) ≡ Holds lock = phase_acts edit_of cpu log ∙ ap phase_of inside in
+      let served : place cpu (acts_of edit_of log) ≡ given_times lock (acts_of edit_of log) =
+      (line_at lock (acts_of edit_of log) acts).first cpu (ap (is_holding lock) holds ∙ same_lock_self lock) in
+      let has : ticket ≡ place cpu (acts_of edit_of log) % 2 ^ 64 =
+      subst (λ s. TicketOf s (place cpu (acts_of edit_of log))) inside (ticket_at edit_of log legal cpu) in
+      has ∙ ap (λ n. n % 2 ^ 64) (served ∙ gives_acts edit_of lock log)
+
+  -- a CPU that is inside gives the lock on, by a store or by adding 1, whichever the words want
+  pub frees_allowed : IsWordKind K → (slots id : ℕ) (cpu : CpuId) (seen : List (Event (Mark E))) (lock : LockId) (ticket : ℕ) (edit : E) (block : B) (y : Home E B)
       → IsSome (opened start lock)
       → standing cpu seen ≡ Inside lock ticket → y.block ≡ Some block → y.edit ≡ Some edit
       → option_map (R.edited edit) (block_after R.edited (opened start) lock (sections seen)) ≡ Some block
       → StaysAllowed (R.allowed (opened start)) (sections seen) (section cpu lock edit)
-      → Allows (Kept R n start) slots id (mine start cpu seen, (rank_of start lock, y) ∷ []) (serving_at (rank_of start lock)) (λ m. (m + 1) % 2 ^ 64)
-      (Freed R (step slots (serving_at (rank_of start lock)) 1 0 none) (mine start cpu seen, (rank_of start lock, y) ∷ []))
-  frees_allowed slots id cpu seen lock ticket edit block y exists in_lock has_block has_edit is_edited stays s kept count at fits =
+      → (f : ℕ → ℕ) → ((m : ℕ) → f m ≡ given_on (K.stores ticket) m)
+      → Allows (Kept K R n start) slots id (mine start cpu seen, (rank_of start lock, y) ∷ []) (word_at (rank_of start lock) (K.gives_at ticket)) f
+      (λ _. Freed R (mine start cpu seen, (rank_of start lock, y) ∷ []))
+  frees_allowed law slots id cpu seen lock ticket edit block y exists in_lock has_block has_edit is_edited stays f f_is s kept count at fits =
       let k : ℕ = rank_of start lock in
-      let i : ℕ = serving_at k in
-      let read : ℕ = slice_index s.words i in
-      let x : ℕ = (read + 1) % 2 ^ 64 in
+      let word : ℕ = K.gives_at ticket in
+      let i : ℕ = word_at k word in
+      let x : ℕ = f (slice_index s.words i) in
+      let next : ℕ = draws lock kept.log % 2 ^ 64 in
+      let serving : ℕ = frees lock kept.log % 2 ^ 64 in
       let e : Event (Mark E) = Free cpu lock (mark_of edit) in
       let now = known_seat s kept id cpu seen at in
       let more : List (Event (Mark E)) = now.since.more in
@@ -261,19 +302,22 @@ module _ {E B O : Type 0} (R : Rules E B O) (n : ℕ) (start : List (LockId × B
       ap (option_map (R.edited edit)) unchanged ∙ is_edited in
       let old = kept.shows.each lock exists in
       let within : k < length s.homes = subst (λ m. k < m) (sym kept.shows.home_length) (rank_below start lock exists) in
-      let word_within : i < length s.words = subst (λ m. i < m) (sym kept.shows.word_length) (serving_within R.edited start lock exists) in
+      let word_within : i < length s.words = subst (λ m. i < m) (sym kept.shows.word_length)
+      (within_table K law R.edited start lock word exists (law.gives_within ticket)) in
+      let wrote = written s.words k word x (law.gives_within ticket) word_within in
       let homes : List (Maybe (Home E B)) = set s.homes k (some y) in
-      let here : ShowsLock R.edited start (set s.words i x) homes (e ∷ kept.log) lock = record {
+      let here : ShowsLock K R.edited start (set s.words i x) homes (e ∷ kept.log) lock = record {
         home = some y;
         at = set_here s.homes k (some y) within;
-        is = reword R.edited start (e ∷ kept.log) lock (slice_index s.words (next_at k)) (slice_index (set s.words i x) (next_at k)) x
-            (slice_index (set s.words i x) i) y.block
-            (sym (get_or-set_other s.words i (next_at k) x 0 (serving_not_next k))) (sym (get_or-set_same s.words i x 0 word_within))
-            (subst (λ o. LockFits R.edited (opened start) (e ∷ kept.log) lock (slice_index s.words (next_at k)) x o) (sym has_block)
-            (freed R.edited (opened start) lock cpu ticket (mark_of edit) kept.log legal_log inside block block_is (slice_index s.words (next_at k)) read
-            (home_block old.home) old.is));
+        words_are = subst (λ b. K.Fit (draws lock kept.log) (if b then frees lock kept.log + 1 else frees lock kept.log) (words_of (set s.words i x) k))
+            (sym (same_lock_self lock))
+            (law.gave (draws lock kept.log) (frees lock kept.log) (words_of s.words k) (words_of (set s.words i x) k) old.words_are ticket
+            (served_ticket kept.log legal_log cpu lock ticket inside) (wrote.0 ∙ f_is (slice_index s.words i)) wrote.1);
+        is = at_home R.edited (opened start) (e ∷ kept.log) lock next ((serving + 1) % 2 ^ 64) y.block
+            (subst (λ o. LockFits R.edited (opened start) (e ∷ kept.log) lock next ((serving + 1) % 2 ^ 64) o) (sym has_block)
+            (freed R.edited (opened start) lock cpu ticket (mark_of edit) kept.log legal_log inside block block_is next serving (home_block old.home) old.is));
       } in
-      let shows = shows_step R.edited start s.words s.homes kept.log kept.shows e may.0 i x (serving_apart k) homes
+      let shows = shows_step K law R.edited start s.words s.homes kept.log kept.shows e may.0 word x (law.gives_within ticket) homes
       (length-set s.homes k (some y) ∙ kept.shows.home_length) (λ j away. set_else s.homes k j (some y) away) here in (
         mine start cpu (e ∷ kept.log),
         gives,
@@ -300,7 +344,7 @@ module _ {E B O : Type 0} (R : Rules E B O) (n : ℕ) (start : List (LockId × B
 
   -- a load by which a seat takes in what it was told
   pub meets_allowed : (slots id : ℕ) (v : View E B) (held : List (ℕ × Home E B)) → v.start ≡ start
-      → Allows (Kept R n start) slots id (v, held) 0 (λ m. m) (Met R (step slots 0 0 0 none) (v, held))
+      → Allows (Kept K R n start) slots id (v, held) 0 (λ m. m) (Met R (step slots 0 0 0 none) (v, held))
   meets_allowed slots id v held started s kept count at fits =
       let same : set s.words 0 (slice_index s.words 0) ≡ s.words = set-get_or s.words 0 0 in
       let w : View E B = viewed v.start (v.lent ++ v.cpus) kept.log in (
@@ -311,7 +355,7 @@ module _ {E B O : Type 0} (R : Rules E B O) (n : ℕ) (start : List (LockId × B
           few = kept.few;
           log = kept.log;
           legal = kept.legal;
-          shows = subst (λ l. Shows R.edited start l s.homes kept.log) (sym same) kept.shows;
+          shows = subst (λ l. Shows K R.edited start l s.homes kept.log) (sym same) kept.shows;
           sees = sees_moved n s.views kept.log kept.sees id v at [] (λ c away. tt) v.start (v.lent ++ v.cpus) (λ c has. has_append c v.lent v.cpus has);
           rest = kept.rest;
         },
@@ -325,7 +369,7 @@ module _ {E B O : Type 0} (R : Rules E B O) (n : ℕ) (start : List (LockId × B
 
   -- a new seat that acts for nobody
   pub enters : (slots : ℕ) (first : View E B) → first.start ≡ start
-      → Enters (Kept R n start) slots 0 (λ m w. Entered (step slots 0 0 0 none) (first, []) m (w, []))
+      → Enters (Kept K R n start) slots 0 (λ m w. Entered (step slots 0 0 0 none) (first, []) m (w, []))
   enters slots first started s kept count fits =
       let w : View E B = viewed first.start [] [] in (
         w,
@@ -343,7 +387,7 @@ module _ {E B O : Type 0} (R : Rules E B O) (n : ℕ) (start : List (LockId × B
       )
 
   -- notes of what a seat has seen
-  pub notes_split : (id : ℕ) (v : View E B) → Splits (Kept R n start) id v v (viewed v.start [] v.seen)
+  pub notes_split : (id : ℕ) (v : View E B) → Splits (Kept K R n start) id v v (viewed v.start [] v.seen)
   notes_split id v s kept at =
       let fits = kept.sees.fits id v at in
       let s' = sees_less n s.views kept.log kept.sees id v at v fits (λ c o. o) in
@@ -359,7 +403,7 @@ module _ {E B O : Type 0} (R : Rules E B O) (n : ℕ) (start : List (LockId × B
       }
 
   pub notes_join : (id : ℕ) (v : View E B) (other : ℕ) (w : View E B)
-      → Joins (Kept R n start) id v other w (record { start = v.start; cpus = v.cpus; seen = v.seen; told = w.seen; lent = w.cpus }) (viewed [] [] [])
+      → Joins (Kept K R n start) id v other w (record { start = v.start; cpus = v.cpus; seen = v.seen; told = w.seen; lent = w.cpus }) (viewed [] [] [])
   notes_join id v other w s kept at apart there = record {
     few = kept.few;
     log = kept.log;

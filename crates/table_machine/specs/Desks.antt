@@ -53,10 +53,18 @@ Carries start Outside held = held ≡ []
 Carries start (Waiting lock ticket) held = held ≡ []
 Carries start (Inside lock ticket) held = (home : Home _ _) × (held ≡ (rank_of start lock, home) ∷ [])
 
--- the token of a key: it sees the log for this CPU, carries the slot of the lock that the CPU is inside, and what it has seen is legal
-pub record IsKey {E B O : Type 0} (rules : Rules E B O) (cpu : CpuId) (me : Me (Home E B) (View E B)) : Type 0 where
+-- the ticket that a CPU waits with, or is inside with, is this one
+abbrev pub Remembers : ℕ → Standing → Type 0
+Remembers ticket Outside = Unit {0}
+Remembers ticket (Waiting lock own) = ticket ≡ own
+Remembers ticket (Inside lock own) = ticket ≡ own
+
+-- the token of a key: it sees the log for this CPU, carries the slot of the lock that the CPU is inside, and what it has seen is legal;
+-- and the key remembers the CPU's ticket
+pub record IsKey {E B O : Type 0} (rules : Rules E B O) (cpu : CpuId) (ticket : ℕ) (me : Me (Home E B) (View E B)) : Type 0 where
   pub view : me.0 ≡ mine me.0.start cpu me.0.seen
   pub held : Carries me.0.start (standing cpu me.0.seen) me.1
+  pub remembers : Remembers ticket (standing cpu me.0.seen)
   pub legal : IsLawful (MayCome (rules.allowed (opened me.0.start))) me.0.seen
 
 -- a desk of this table whose CPU has no ticket outstanding

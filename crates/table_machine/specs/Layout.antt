@@ -1,28 +1,36 @@
 -- Where the words and the slot of a lock lie in the table.
--- Word 0 is never written. The words of a lock are 8 words, 64 bytes, from each other and from those of every other lock.
-use Rattle.std.specs.Prelude.{◌≡◌, ℕ, suc, ◌+◌, ◌*◌, ◌^◌, ◌<◌, if◌then◌else◌, List, [], ◌∷◌, length, map, slice_index, IsSome}
+-- Word 0 is never written. The words of a lock are 8 words, 64 bytes, from each other and from those of every other lock: a CPU that
+-- waits at one reads a cache line that no other word is on. Each lock has room for `next` and a word for each CPU, whatever its kind uses.
+use Rattle.std.specs.Prelude.{◌≡◌, ℕ, suc, ◌+◌, ◌*◌, ◌^◌, ◌<◌, ◌≤◌, if◌then◌else◌, List, [], ◌∷◌, length, map, slice_index, IsSome}
 use Rattle.event_log.specs.declared.ids.LockId.{LockId}
-use Rattle.event_log.specs.declared.ids.TheConstants.{LOCKS}
+use Rattle.event_log.specs.declared.ids.TheConstants.{CPUS, LOCKS}
 use Rattle.event_log.specs.History.{same_lock}
 use Rattle.event_log.specs.Locks.{lock_number}
 use Rattle.layer_traits.specs.OneLock.{opened}
+use Rattle.table_machine.specs.Kinds.{first_words}
 
 -- the rank of a lock: how many locks stand before it at the opening; as many as there are, where it is missing
 abbrev pub rank_of : {B : Type 0} → List (LockId × B) → LockId → ℕ
 rank_of [] lock = 0
 rank_of (o ∷ rest) lock = if same_lock o.0 lock then 0 else suc (rank_of rest lock)
 
--- the word `next` of the lock at this rank
-abbrev pub next_at : ℕ → ℕ
-next_at rank = 16 * rank + 8
+-- where the words of the lock at this rank lie, by their number: `next` is word 0
+abbrev pub word_at : ℕ → ℕ → ℕ
+word_at rank word = 8 * ((CPUS + 1) * rank + word) + 8
 
--- the word `serving` of the lock at this rank
-abbrev pub serving_at : ℕ → ℕ
-serving_at rank = 16 * rank + 16
+-- the words of the lock at this rank
+abbrev pub words_of : List ℕ → ℕ → ℕ → ℕ
+words_of words rank word = slice_index words (word_at rank word)
 
 -- how many words so many locks have
 abbrev pub word_count : ℕ → ℕ
-word_count locks = 16 * locks + 1
+word_count locks = 8 * ((CPUS + 1) * locks) + 1
+
+-- of so many locks, the words of those below `done` are as at the start, and all words of the others are 0
+pub record AreFirst (opens locks done : ℕ) (words : List ℕ) : Type 0 where
+  pub count : length words ≡ word_count locks
+  pub done_so : (rank word : ℕ) → rank < done → word ≤ CPUS → words_of words rank word ≡ first_words opens word
+  pub zeros : (rank word : ℕ) → done ≤ rank → rank < locks → word ≤ CPUS → words_of words rank word ≡ 0
 
 -- the row tells the rank of each lock of the opening
 abbrev pub TellsRanks : {B : Type 0} → List ℕ → List (LockId × B) → Type 0

@@ -1,3 +1,5 @@
+pub mod Kinds
+pub mod KindLaws
 pub mod Layout
 pub mod Views
 pub mod Rule

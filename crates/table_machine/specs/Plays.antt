@@ -1,5 +1,5 @@
 -- What each atomic step tells the seat that makes it.
-use Rattle.std.specs.Prelude.{◌≡◌, ℕ, ◌==◌, true, false, [], ◌∷◌, ◌++◌, ◌⊎◌, IsSome, Some}
+use Rattle.std.specs.Prelude.{◌≡◌, ℕ, true, false, [], ◌∷◌, ◌++◌, ◌⊎◌, IsSome, Some}
 use Rattle.atomic_table.specs.Table.{Step, Me}
 use Rattle.event_log.specs.declared.ids.LockId.{LockId}
 use Rattle.event_log.specs.declared.events.Event.{Event}
@@ -13,7 +13,8 @@ use Rattle.layer_traits.specs.WordsProtocol.{MayCome, sections, mark_of}
 use Rattle.layer_traits.specs.OneLock.{opened}
 use Rattle.table_machine.specs.declared.views.View.{View}
 use Rattle.table_machine.specs.declared.views.Home.{Home}
-use Rattle.table_machine.specs.Layout.{rank_of, next_at}
+use Rattle.table_machine.specs.Kinds.{WordKind}
+use Rattle.table_machine.specs.Layout.{rank_of, word_at}
 use Rattle.table_machine.specs.Views.{viewed, mine, owner, IsCpu, Fits}
 
 -- events of others, then this one; the whole is legal
@@ -27,20 +28,20 @@ pub record Drew {E B O : Type 0} (rules : Rules E B O) (at : Step (Home E B)) (v
   where
     pub lock : LockId
     pub exists : IsSome (opened v.0.start lock)
-    pub word : at.word ≡ next_at (rank_of v.0.start lock)
+    pub word : at.word ≡ word_at (rank_of v.0.start lock) 0
     pub moves : Moves rules v.0 w.0 (Draw (owner v.0.cpus) lock found)
     pub held : w.1 ≡ v.1
 
--- a look that read another number than its ticket
-pub record Misses {E B : Type 0} (lock : LockId) (ticket : ℕ) (v : Me (Home E B) (View E B)) (found : ℕ) (w : Me (Home E B) (View E B)) : Type 0 where
-  pub other : (found == ticket) ≡ false
+-- a look by whose number the ticket is not served
+pub record Misses (kind : WordKind) {E B : Type 0} (lock : LockId) (ticket : ℕ) (v : Me (Home E B) (View E B)) (found : ℕ) (w : Me (Home E B) (View E B)) : Type 0 where
+  pub other : kind.serves ticket found ≡ false
   pub waits : standing (owner v.0.cpus) w.0.seen ≡ Waiting lock ticket
   pub held : w.1 ≡ v.1
 
--- a look that read its ticket: the block that it took is the fold of the lock's sections
-pub record Hits {E B O : Type 0} (rules : Rules E B O) (lock : LockId) (ticket : ℕ) (v : Me (Home E B) (View E B)) (found : ℕ)
+-- a look by whose number the ticket is served: the block that it took is the fold of the lock's sections
+pub record Hits (kind : WordKind) {E B O : Type 0} (rules : Rules E B O) (lock : LockId) (ticket : ℕ) (v : Me (Home E B) (View E B)) (found : ℕ)
     (w : Me (Home E B) (View E B)) : Type 0 where
-  pub same : (found == ticket) ≡ true
+  pub same : kind.serves ticket found ≡ true
   pub inside : standing (owner v.0.cpus) w.0.seen ≡ Inside lock ticket
   pub home : Home E B
   pub block : B
@@ -48,18 +49,18 @@ pub record Hits {E B O : Type 0} (rules : Rules E B O) (lock : LockId) (ticket :
   pub is : home.block ≡ Some block
   pub folds : block_after rules.edited (opened v.0.start) lock (sections w.0.seen) ≡ Some block
 
--- a Look for the ticket that this CPU waits with; the block is taken exactly where it hits
-pub record Looked {E B O : Type 0} (rules : Rules E B O) (at : Step (Home E B)) (v : Me (Home E B) (View E B)) (found : ℕ) (w : Me (Home E B) (View E B)) : Type
-    0 where
+-- a Look for the ticket that this CPU waits with: in the log it reads how often the lock was freed. The block is taken exactly where
+-- the ticket is served by the number that was found.
+pub record Looked (kind : WordKind) {E B O : Type 0} (rules : Rules E B O) (v : Me (Home E B) (View E B)) (found : ℕ) (w : Me (Home E B) (View E B)) : Type 0 where
   pub lock : LockId
   pub ticket : ℕ
   pub waits : standing (owner v.0.cpus) v.0.seen ≡ Waiting lock ticket
-  pub moves : Moves rules v.0 w.0 (Look (owner v.0.cpus) lock ticket found)
-  pub finds : Misses lock ticket v found w ⊎ Hits rules lock ticket v found w
+  pub read : ℕ
+  pub moves : Moves rules v.0 w.0 (Look (owner v.0.cpus) lock ticket read)
+  pub finds : Misses kind lock ticket v found w ⊎ Hits kind rules lock ticket v found w
 
 -- a Free of the lock that this CPU is inside, with the edit that lies in its slot
-pub record Freed {E B O : Type 0} (rules : Rules E B O) (at : Step (Home E B)) (v : Me (Home E B) (View E B)) (found : ℕ) (w : Me (Home E B) (View E B)) : Type
-    0 where
+pub record Freed {E B O : Type 0} (rules : Rules E B O) (v w : Me (Home E B) (View E B)) : Type 0 where
   pub lock : LockId
   pub ticket : ℕ
   pub inside : standing (owner v.0.cpus) v.0.seen ≡ Inside lock ticket

@@ -1,5 +1,5 @@
 -- The rule of the table: there is one legal log.
-use Rattle.std.specs.Prelude.{◌≡◌, ℕ, ◌≤◌, List, length, slice_index, IsSome, Option, Some, None}
+use Rattle.std.specs.Prelude.{◌≡◌, ℕ, ◌%◌, ◌^◌, ◌≤◌, List, length, IsSome, Option, Some, None}
 use mathlib.Core.Option.{Option as Maybe, none, some}
 use lib.ListN.{get_elem?}
 use Rattle.atomic_table.specs.Table.{State}
@@ -8,14 +8,15 @@ use Rattle.event_log.specs.declared.ids.CpuId.{CpuId}
 use Rattle.event_log.specs.declared.ids.LockId.{LockId}
 use Rattle.event_log.specs.declared.events.Event.{Event}
 use Rattle.event_log.specs.History.{IsLawful, AreOthers}
-use Rattle.event_log.specs.WordsLog.{actor}
+use Rattle.event_log.specs.WordsLog.{actor, draws, frees}
 use Rattle.layer_traits.specs.declared.edits.Mark.{Mark}
 use Rattle.layer_traits.specs.Protocol.{Rules}
 use Rattle.layer_traits.specs.WordsProtocol.{MayCome}
 use Rattle.layer_traits.specs.OneLock.{LockFits, opened}
 use Rattle.table_machine.specs.declared.views.View.{View}
 use Rattle.table_machine.specs.declared.views.Home.{Home}
-use Rattle.table_machine.specs.Layout.{rank_of, next_at, serving_at, word_count}
+use Rattle.table_machine.specs.Kinds.{WordKind}
+use Rattle.table_machine.specs.Layout.{rank_of, word_count, words_of}
 use Rattle.table_machine.specs.Views.{Sees}
 
 -- the block in a slot; none while the slot is out with a seat
@@ -27,26 +28,26 @@ home_block (some home) = home.block
 abbrev pub fresh_home : {E B : Type 0} → B → Home E B
 fresh_home block = record { block = Some block; edit = None }
 
--- the words and the slot of one lock are what the log leaves of them
-pub record ShowsLock {E B : Type 0} (edited : E → B → B) (start : List (LockId × B)) (words : List ℕ) (homes : List (Maybe (Home E B)))
+-- the words and the slot of one lock are what the log leaves of them: the words fit the two counts
+pub record ShowsLock (kind : WordKind) {E B : Type 0} (edited : E → B → B) (start : List (LockId × B)) (words : List ℕ) (homes : List (Maybe (Home E B)))
     (log : List (Event (Mark E))) (lock : LockId) : Type 0 where
   pub home : Maybe (Home E B)
   pub at : get_elem? homes (rank_of start lock) ≡ some home
-  pub is : LockFits edited (opened start) log lock (slice_index words (next_at (rank_of start lock))) (slice_index words (serving_at (rank_of start lock)))
-      (home_block home)
+  pub words_are : kind.Fit (draws lock log) (frees lock log) (words_of words (rank_of start lock))
+  pub is : LockFits edited (opened start) log lock (draws lock log % 2 ^ 64) (frees lock log % 2 ^ 64) (home_block home)
 
 -- all words and slots are the replay of the log
-pub record Shows {E B : Type 0} (edited : E → B → B) (start : List (LockId × B)) (words : List ℕ) (homes : List (Maybe (Home E B)))
+pub record Shows (kind : WordKind) {E B : Type 0} (edited : E → B → B) (start : List (LockId × B)) (words : List ℕ) (homes : List (Maybe (Home E B)))
     (log : List (Event (Mark E))) : Type 0 where
   pub word_length : length words ≡ word_count (length start)
   pub home_length : length homes ≡ length start
-  pub each : (lock : LockId) → IsSome (opened start lock) → ShowsLock edited start words homes log lock
+  pub each : (lock : LockId) → IsSome (opened start lock) → ShowsLock kind edited start words homes log lock
 
 -- there is one legal log of the CPUs of this table: the words and slots are its replay, the views are fronts of it
-pub record Kept {E B O : Type 0} (rules : Rules E B O) (cpu_count : ℕ) (start : List (LockId × B)) (s : State (Home E B) (View E B)) : Type 0 where
+pub record Kept (kind : WordKind) {E B O : Type 0} (rules : Rules E B O) (cpu_count : ℕ) (start : List (LockId × B)) (s : State (Home E B) (View E B)) : Type 0 where
   pub few : cpu_count ≤ CPUS
   pub log : List (Event (Mark E))
   pub legal : IsLawful (MayCome (rules.allowed (opened start))) log
-  pub shows : Shows rules.edited start s.words s.homes log
+  pub shows : Shows kind rules.edited start s.words s.homes log
   pub sees : Sees cpu_count s.views log
   pub rest : (c : CpuId) → cpu_count ≤ c.0 → AreOthers actor c log

@@ -12,13 +12,14 @@ use crate::keys::Key;
 use crate::plays::{Enters, Meets, Tells};
 use crate::rule::Token;
 use crate::shared::Shared;
+use crate::table_words::TableWords;
 use crate::views::Home;
 use atomic_table::Closed;
 use event_log::LockId;
 use layer_traits::Edit;
 use std::alloc::Global;
 
-impl<E: Edit> Shared<E> {
+impl<E: Edit, K: TableWords> Shared<E, K> {
     /// Closes the table and gives each block as the sections left it, in the order of `open`. It
     /// takes the keys of all CPUs, none with a ticket outstanding. There is one legal words log that
     /// begins with the log of each key and holds of each CPU just the events which its key has
@@ -60,7 +61,11 @@ impl<E: Edit> Shared<E> {
         ensures start { seat.new.me.0.start ≡ self.now.start }
         ensures gathered { (desks : List _) → Gathered self.now.start seat.old.me.0 desks → Gathered self.now.start seat.new.me.0 (desks ++ key ∷ []) }
     {
-        let Key { token, cpu: _ } = key;
+        let Key {
+            token,
+            cpu: _,
+            ticket: _,
+        } = key;
         let table = &self.table.shared;
         table.join_seat::<Tells>(seat, token);
         table.load::<Meets<E>>(seat, 0);

@@ -14,6 +14,7 @@ ghost use Rattle.table_machine.specs.Views.{viewed, EndsWith, IsCpu};
 use crate::plays::{Draws, Frees, Looks, Meets, Tells};
 use crate::rule::Token;
 use crate::shared::Shared;
+use crate::table_words::TableWords;
 use crate::views::Home;
 use event_log::{CpuId, LockId};
 use layer_traits::{Edit, Mark};
@@ -28,6 +29,8 @@ use std::marker::Model;
 pub struct Key<E: Edit> {
     pub(crate) token: Token<E>,
     pub(crate) cpu: CpuId,
+    // The ticket that the CPU drew last: it gives the lock on by the word that this tells.
+    pub(crate) ticket: u64,
 }
 
 impl<E: Edit> Model for Key<E> {
@@ -37,7 +40,7 @@ impl<E: Edit> Model for Key<E> {
 
     ghost view = { λ k. record { cpu = k.cpu; table = k.token.table_id; start = k.token.me.0.start; seen = k.token.me.0.seen } };
 
-    ghost invariant = { λ k. IsKey E.rules k.cpu k.token.me };
+    ghost invariant = { λ k. IsKey E.rules k.cpu k.ticket k.token.me };
 }
 
 impl<E: Edit> Key<E> {
@@ -56,7 +59,7 @@ impl<E: Edit> Key<E> {
     }
 
     // Adds 1 to `next` and gives the old value.
-    pub(crate) fn draw(&mut self, shared: &Shared<E>, lock: LockId) -> u64
+    pub(crate) fn draw<K: TableWords>(&mut self, shared: &Shared<E, K>, lock: LockId) -> u64
         requires of { IsOf shared.now self.old }
         requires lock { IsSome (opened self.old.start lock) }
         requires outside { standing self.old.cpu self.old.seen ≡ Outside }
@@ -64,15 +67,20 @@ impl<E: Edit> Key<E> {
         ensures adds { Adds (IsCpu self.old.cpu) actor (Draw self.old.cpu lock result) self.old.seen self.new.seen }
         ensures legal { IsLawful (MayCome (E.rules.allowed (opened self.old.start))) self.new.seen }
     {
-        let word = shared.next_word(lock);
-        shared
-            .table
-            .shared
-            .fetch_add::<Draws<E>>(&mut self.token, word, 1)
+        let word = shared.word(lock, 0);
+        let table = &shared.table.shared;
+        let ticket = table.fetch_add::<Draws<E>>(&mut self.token, word, 1);
+        self.ticket = ticket;
+        ticket
     }
 
-    // Reads `serving`, and takes the block where it is the ticket.
-    pub(crate) fn look(&mut self, shared: &Shared<E>, lock: LockId, ticket: u64) -> Option<E::Block>
+    // Reads the ticket's word, and takes the block where the ticket is served.
+    pub(crate) fn look<K: TableWords>(
+        &mut self,
+        shared: &Shared<E, K>,
+        lock: LockId,
+        ticket: u64,
+    ) -> Option<E::Block>
         requires of { IsOf shared.now self.old }
         requires lock { IsSome (opened self.old.start lock) }
         requires waiting { standing self.old.cpu self.old.seen ≡ Waiting lock ticket }
@@ -84,22 +92,29 @@ impl<E: Edit> Key<E> {
             × (block_after E.rules.edited (opened self.old.start) lock (sections self.new.seen) ≡ Some block)) }
         ensures legal { IsLawful (MayCome (E.rules.allowed (opened self.old.start))) self.new.seen }
     {
-        let word = shared.serving_word(lock);
+        let word = shared.word(lock, K::looks_at(ticket));
         let rank = shared.rank(lock);
-        let found = shared.table.shared.load::<Looks<E>>(&mut self.token, word);
-        if found != ticket {
+        let table = &shared.table.shared;
+        let found = table.load::<Looks<E, K>>(&mut self.token, word);
+        if !K::serves(ticket, found) {
             return None;
         }
         let empty = Home {
             block: None,
             edit: None,
         };
-        let home = shared.table.shared.exchange(&mut self.token, rank, empty);
+        let home = table.exchange(&mut self.token, rank, empty);
         home.block
     }
 
-    // Puts the block into its slot, and adds 1 to `serving`.
-    pub(crate) fn free(&mut self, shared: &Shared<E>, lock: LockId, block: E::Block, edit: E)
+    // Puts the block into its slot, and gives the lock on by the word of the CPU's ticket.
+    pub(crate) fn free<K: TableWords>(
+        &mut self,
+        shared: &Shared<E, K>,
+        lock: LockId,
+        block: E::Block,
+        edit: E,
+    )
         requires of { IsOf shared.now self.old }
         requires lock { IsSome (opened self.old.start lock) }
         requires inside { (ticket : ℕ) × (standing self.old.cpu self.old.seen ≡ Inside lock ticket) }
@@ -109,21 +124,24 @@ impl<E: Edit> Key<E> {
         ensures adds { Adds (IsCpu self.old.cpu) actor (Free self.old.cpu lock (mark_of edit)) self.old.seen self.new.seen }
         ensures legal { IsLawful (MayCome (E.rules.allowed (opened self.old.start))) self.new.seen }
     {
-        let word = shared.serving_word(lock);
+        let word = shared.word(lock, K::gives_at(self.ticket));
         let rank = shared.rank(lock);
+        let table = &shared.table.shared;
         let home = Home {
             block: Some(block),
             edit: Some(edit),
         };
-        let _empty = shared.table.shared.exchange(&mut self.token, rank, home);
-        shared
-            .table
-            .shared
-            .fetch_add::<Frees<E>>(&mut self.token, word, 1);
+        let _empty = table.exchange(&mut self.token, rank, home);
+        match K::stores(self.ticket) {
+            Some(number) => table.store::<Frees<E>>(&mut self.token, word, number),
+            None => {
+                table.fetch_add::<Frees<E>>(&mut self.token, word, 1);
+            }
+        }
     }
 
     // What was seen, in a token that acts for no CPU.
-    pub(crate) fn notes(&mut self, shared: &Shared<E>) -> Token<E>
+    pub(crate) fn notes<K: TableWords>(&mut self, shared: &Shared<E, K>) -> Token<E>
         requires { IsOf shared.now self.old }
         ensures same { self.new ≡ self.old }
         ensures table { result.table_id ≡ self.old.table }
@@ -133,7 +151,7 @@ impl<E: Edit> Key<E> {
     }
 
     // Takes in what the token has seen.
-    pub(crate) fn take_in(&mut self, shared: &Shared<E>, notes: Token<E>)
+    pub(crate) fn take_in<K: TableWords>(&mut self, shared: &Shared<E, K>, notes: Token<E>)
         requires of { IsOf shared.now self.old }
         requires table { notes.table_id ≡ self.old.table }
         requires notes { (notes.me.1 ≡ []) × (notes.me.0.cpus ≡ []) }

@@ -4,7 +4,7 @@ ghost use Rattle.std.specs.Prelude.{◌≡◌, ◌+◌, ◌-◌, ◌<◌, ◌≤
 ghost use Rattle.event_log.specs.declared.ids.LockId.{LockId};
 ghost use Rattle.event_log.specs.declared.ids.TheConstants.{CPUS, LOCKS};
 ghost use Rattle.layer_traits.specs.OneLock.{AreDistinct};
-ghost use Rattle.table_machine.specs.Layout.{word_count, TellsRanks, IsLaidOut};
+ghost use Rattle.table_machine.specs.Layout.{AreFirst, word_count, TellsRanks, IsLaidOut};
 ghost use Rattle.table_machine.specs.Rule.{fresh_home};
 ghost use Rattle.table_machine.specs.Views.{viewed, cpus_from};
 ghost use Rattle.table_machine.specs.Desks.{new_desk, new_desks};
@@ -13,6 +13,7 @@ use crate::keys::Key;
 use crate::plays::Deals;
 use crate::rule::{Opening, Token, Whole};
 use crate::shared::Shared;
+use crate::table_words::TableWords;
 use crate::views::Home;
 use event_log::{CPUS, CpuId, LOCKS, LockId, NoMemory};
 use layer_traits::Edit;
@@ -28,7 +29,7 @@ struct Layout<E: Edit> {
     returned: Vec<(LockId, E::Block)>,
 }
 
-impl<E: Edit> Shared<E> {
+impl<E: Edit, K: TableWords> Shared<E, K> {
     /// A table with these locks and blocks, in which no lock stands twice and which may be none, and
     /// one key for each CPU, from CPU 0 up. `cpus` is at most `CPUS`. Nothing has happened yet: the
     /// log of each key is empty.
@@ -38,7 +39,7 @@ impl<E: Edit> Shared<E> {
         alloc: Global,
         blocks: Vec<(LockId, E::Block)>,
         cpus: u8,
-    ) -> Result<(Shared<E>, Vec<Key<E>>), NoMemory>
+    ) -> Result<(Shared<E, K>, Vec<Key<E>>), NoMemory>
         requires distinct { AreDistinct blocks.items }
         requires cpus { cpus ≤ CPUS }
         ensures start { IfOk result (λ r. r.0.start ≡ blocks.items) }
@@ -88,16 +89,17 @@ impl<E: Edit> Shared<E> {
         Key {
             token,
             cpu: CpuId(cpu),
+            ticket: 0,
         }
     }
 }
 
 // The table, with the seat that acts for all its CPUs.
-fn opened_table<E: Edit>(
+fn opened_table<E: Edit, K: TableWords>(
     alloc: Global,
     blocks: Vec<(LockId, E::Block)>,
     cpus: u8,
-) -> Result<(Shared<E>, Token<E>), AllocError>
+) -> Result<(Shared<E, K>, Token<E>), AllocError>
     requires distinct { AreDistinct blocks.items }
     requires cpus { cpus ≤ CPUS }
     ensures start { IfOk result (λ r. r.0.start ≡ blocks.items) }
@@ -115,20 +117,20 @@ fn opened_table<E: Edit>(
         locks,
         homes,
         returned,
-    } = laid_out(alloc, blocks)?;
-    match Whole::<E>::new(alloc, words.as_slice(), homes, &about) {
+    } = laid_out::<E, K>(alloc, blocks)?;
+    match Whole::<E, K>::new(alloc, words.as_slice(), homes, &about) {
         Ok(made) => Ok(furnished(made, ranks, locks, returned)),
         Err(_) => Err(AllocError),
     }
 }
 
 // The table with the row of ranks beside it, and the room for the blocks that `close` gives.
-fn furnished<E: Edit>(
-    made: (Whole<E>, Token<E>),
+fn furnished<E: Edit, K: TableWords>(
+    made: (Whole<E, K>, Token<E>),
     ranks: Vec<usize>,
     locks: Vec<LockId>,
     blocks: Vec<(LockId, E::Block)>,
-) -> (Shared<E>, Token<E>)
+) -> (Shared<E, K>, Token<E>)
     requires laid { IsLaidOut made.0.shared.key.blocks.value.items made.0.shared.table_id.words made.0.shared.table_id.slots ranks.items locks.items }
     requires empty { blocks.items ≡ [] }
     requires room { length made.0.shared.key.blocks.value.items ≤ vec_capacity blocks }
@@ -148,11 +150,11 @@ fn furnished<E: Edit>(
     (shared, dealer)
 }
 
-fn laid_out<E: Edit>(
+fn laid_out<E: Edit, K: TableWords>(
     alloc: Global,
     blocks: Vec<(LockId, E::Block)>,
 ) -> Result<Layout<E>, AllocError>
-    ensures words { IfOk result (λ r. r.words.items ≡ replicate (word_count (length blocks.items)) 0) }
+    ensures words { IfOk result (λ r. AreFirst K.kind.opens (length blocks.items) (length blocks.items) r.words.items) }
     ensures small { IfOk result (λ r. word_count (length blocks.items) < 2 ^ 64) }
     ensures row { IfOk result (λ r. length r.ranks.items ≡ LOCKS) }
     ensures ranks { IfOk result (λ r. TellsRanks r.ranks.items blocks.items) }
@@ -161,7 +163,7 @@ fn laid_out<E: Edit>(
     ensures none { IfOk result (λ r. r.returned.items ≡ []) }
     ensures room { IfOk result (λ r. length blocks.items ≤ vec_capacity r.returned) }
 {
-    let words = zero_words(alloc, blocks.len())?;
+    let words = first_words::<K>(alloc, blocks.len())?;
     let ranks = ranks_of(alloc, blocks.as_slice())?;
     let returned = Vec::with_capacity(alloc, blocks.len())?;
     let (locks, homes) = parted(alloc, blocks)?;
@@ -174,12 +176,24 @@ fn laid_out<E: Edit>(
     })
 }
 
+// The words of so many locks, as they are at the start.
+fn first_words<K: TableWords>(alloc: Global, locks: usize) -> Result<Vec<u64>, AllocError>
+    ensures words { IfOk result (λ v. AreFirst K.kind.opens locks locks v.items) }
+    ensures small { IfOk result (λ v. word_count locks < 2 ^ 64) }
+{
+    let mut words = zero_words(alloc, locks)?;
+    for rank in 0..locks {
+        words[8 * ((CPUS + 1) * rank + 1) + 8] = K::opens();
+    }
+    Ok(words)
+}
+
 // The words of so many locks, all 0.
 fn zero_words(alloc: Global, locks: usize) -> Result<Vec<u64>, AllocError>
     ensures words { IfOk result (λ v. v.items ≡ replicate (word_count locks) 0) }
     ensures small { IfOk result (λ v. word_count locks < 2 ^ 64) }
 {
-    let Some(count) = locks.checked_mul(16) else {
+    let Some(count) = locks.checked_mul(8 * (CPUS + 1)) else {
         return Err(AllocError);
     };
     let Some(count) = count.checked_add(1) else {

@@ -1,6 +1,7 @@
 //! What each atomic step tells its caller.
 ghost use Rattle.table_machine.specs.Plays.{Drew, Looked, Freed, Met, Entered};
 
+use crate::table_words::TableWords;
 use crate::views::{Home, View};
 use atomic_table::{Join, Play, Split};
 use layer_traits::Edit;
@@ -15,22 +16,23 @@ impl<E: Edit> Play<Home<E, E::Block>, View<E, E::Block>> for Draws<E> {
     ghost then = { Drew E.rules };
 }
 
-/// A load of `serving`.
-pub(crate) struct Looks<E> {
+/// A load of the word at which a waiter looks.
+pub(crate) struct Looks<E, K> {
     edit: PhantomData<E>,
+    words: PhantomData<K>,
 }
 
-impl<E: Edit> Play<Home<E, E::Block>, View<E, E::Block>> for Looks<E> {
-    ghost then = { Looked E.rules };
+impl<E: Edit, K: TableWords> Play<Home<E, E::Block>, View<E, E::Block>> for Looks<E, K> {
+    ghost then = { λ _ v found w. Looked K.kind E.rules v found w };
 }
 
-/// A fetch-and-add on `serving`.
+/// A write of the word by which a lock is given on: a fetch-and-add or a store.
 pub(crate) struct Frees<E> {
     edit: PhantomData<E>,
 }
 
 impl<E: Edit> Play<Home<E, E::Block>, View<E, E::Block>> for Frees<E> {
-    ghost then = { Freed E.rules };
+    ghost then = { λ _ v _ w. Freed E.rules v w };
 }
 
 /// A load that is no event: the seat takes in what it was told.

@@ -1,4 +1,5 @@
 //! The rule that each atomic step keeps.
+use crate::table_words::TableWords;
 use crate::views::{Home, View};
 use atomic_table::{Seat, Shared, Table, TableRule};
 use event_log::LockId;
@@ -17,33 +18,35 @@ pub(crate) struct Opening<B> {
 }
 
 /// There is one legal log: the words and the blocks are its replay, and each view is a front of it.
-pub(crate) struct LogRule<E> {
+pub(crate) struct LogRule<E, K> {
     edit: PhantomData<E>,
+    words: PhantomData<K>,
 }
 
-impl<E: Edit> TableRule<Home<E, E::Block>, View<E, E::Block>, Opening<E::Block>> for LogRule<E> {
+impl<E: Edit, K: TableWords> TableRule<Home<E, E::Block>, View<E, E::Block>, Opening<E::Block>>
+    for LogRule<E, K> {
     ghost use Rattle.std.specs.Prelude.{[]};
     ghost use Rattle.table_machine.specs.Rule.{Kept};
     ghost use Rattle.table_machine.specs.Views.{viewed, cpus_from};
 
-    ghost holds = { λ k. Kept E.rules k.cpus k.blocks.value.items };
+    ghost holds = { λ k. Kept K.kind E.rules k.cpus k.blocks.value.items };
 
     ghost first = { λ k. viewed k.blocks.value.items (cpus_from 0 k.cpus) [] };
 }
 
 pub(crate) type Token<E> = Seat<Home<E, <E as Edit>::Block>, View<E, <E as Edit>::Block>>;
 
-pub(crate) type Core<E> = Shared<
+pub(crate) type Core<E, K> = Shared<
     Home<E, <E as Edit>::Block>,
     View<E, <E as Edit>::Block>,
     Opening<<E as Edit>::Block>,
-    LogRule<E>,
+    LogRule<E, K>,
 >;
 
-pub(crate) type Whole<E> = Table<
+pub(crate) type Whole<E, K> = Table<
     Home<E, <E as Edit>::Block>,
     View<E, <E as Edit>::Block>,
     Opening<<E as Edit>::Block>,
-    LogRule<E>,
+    LogRule<E, K>,
     Global,
 >;

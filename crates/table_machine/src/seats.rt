@@ -11,20 +11,24 @@ ghost use Rattle.table_machine.specs.Views.{EndsWith, IsCpu};
 
 use crate::keys::Key;
 use crate::shared::Shared;
+use crate::table_words::{TableWords, TicketWords, WaiterWords};
 use event_log::{CpuId, LockId};
-use layer_traits::{Edit, Mark, Words};
+use layer_traits::{Edit, GrantWords, Mark, Words};
 use std::marker::Model;
 
 /// A CPU at a table: it may draw, look and free there. Each call lengthens the log that the seat
 /// has seen by what other CPUs did, and then by the call's own event; its answer is the one that a
 /// single thread would get at that point of the log.
 #[derive(Drop)]
-pub struct Seat<'a, E: Edit> {
+pub struct Seat<'a, E: Edit, K: TableWords = TicketWords> {
     key: Key<E>,
-    shared: &'a Shared<E>,
+    shared: &'a Shared<E, K>,
 }
 
-impl<'a, E: Edit> Model for Seat<'a, E> {
+/// A CPU at a table of locks with grant words: it may take, peek and give there.
+pub type GrantSeat<'a, E> = Seat<'a, E, WaiterWords>;
+
+impl<'a, E: Edit, K: TableWords> Model for Seat<'a, E, K> {
     ghost use Rattle.table_machine.specs.Desks.{Desk, IsOf};
 
     ghost Value = { Desk E E.Block };
@@ -34,9 +38,9 @@ impl<'a, E: Edit> Model for Seat<'a, E> {
     ghost invariant = { λ s. IsOf s.shared.now s.key };
 }
 
-impl<E: Edit> Shared<E> {
+impl<E: Edit, K: TableWords> Shared<E, K> {
     /// Takes the seat of the key's CPU. The key is one of this table. Takes no memory.
-    pub fn seat(&self, key: Key<E>) -> Seat<'_, E>
+    pub fn seat(&self, key: Key<E>) -> Seat<'_, E, K>
         requires { IsOf self.now key }
         ensures seat { result ≡ key }
         ensures lawful { IsLawful (MayCome (E.rules.allowed (opened key.start))) key.seen }
@@ -46,10 +50,10 @@ impl<E: Edit> Shared<E> {
     }
 }
 
-impl<'a, E: Edit> Seat<'a, E> {
+impl<'a, E: Edit, K: TableWords> Seat<'a, E, K> {
     /// The table at which the seat stands. The key that the seat gives back may be seated there
     /// again, whatever was done through the seat meanwhile.
-    pub fn table(&self) -> &'a Shared<E>
+    pub fn table(&self) -> &'a Shared<E, K>
         ensures { IsOf result.now self.now }
     {
         self.shared
@@ -64,7 +68,7 @@ impl<'a, E: Edit> Seat<'a, E> {
     }
 }
 
-impl<'a, E: Edit> Words for Seat<'a, E> {
+impl<'a, E: Edit> Words for Seat<'a, E, TicketWords> {
     ghost use Rattle.std.specs.Prelude.{◌≡◌, ℕ};
     ghost use Rattle.event_log.specs.History.{IsLawful};
     ghost use Rattle.layer_traits.specs.WordsProtocol.{MayCome, edit_of};
@@ -106,10 +110,53 @@ impl<'a, E: Edit> Words for Seat<'a, E> {
     ghost legal = { λ s c acts. acts.1 };
 }
 
+impl<'a, E: Edit> GrantWords for Seat<'a, E, WaiterWords> {
+    ghost use Rattle.std.specs.Prelude.{◌≡◌, ℕ};
+    ghost use Rattle.event_log.specs.History.{IsLawful};
+    ghost use Rattle.layer_traits.specs.WordsProtocol.{MayCome, edit_of};
+    ghost use Rattle.layer_traits.specs.OneLock.{opened};
+    ghost use Rattle.plain_machine.specs.GrantsTold.{grants_told, told_comes};
+    ghost use Rattle.table_machine.specs.Desks.{site_of};
+
+    type Edit = E;
+
+    type Mark = Mark<E>;
+
+    ghost edit_in = { edit_of };
+
+    ghost opening = { λ s. opened s.start };
+
+    ghost seen = { λ s. grants_told s.seen };
+
+    ghost ActsFor = { λ s c. (c ≡ s.cpu) × IsLawful (MayCome (E.rules.allowed (opened s.start))) s.seen };
+
+    ghost room = { λ s. 1 };
+
+    ghost site = { λ s. site_of s.table };
+
+    fn mark(edit: E) -> Mark<E> {
+        Mark { edit }
+    }
+
+    fn take(&mut self, _cpu: CpuId, lock: LockId) -> u64 {
+        self.key.draw(self.shared, lock)
+    }
+
+    fn peek(&mut self, _cpu: CpuId, lock: LockId, ticket: u64) -> Option<E::Block> {
+        self.key.look(self.shared, lock, ticket)
+    }
+
+    fn give(&mut self, _cpu: CpuId, lock: LockId, block: E::Block, mark: Mark<E>) {
+        self.key.free(self.shared, lock, block, mark.edit)
+    }
+
+    ghost legal = { λ s c acts. told_comes (E.rules.allowed (opened s.start)) s.seen acts.1 };
+}
+
 /// Brings the second seat's view up to the first's: afterwards the second's log begins with all
 /// that the first has seen, and each still has all that it had seen. It may come at any moment, in
 /// the middle of a section too, and is no event of the log. Takes no memory.
-pub fn meet<E: Edit>(first: &mut Seat<'_, E>, second: &mut Seat<'_, E>)
+pub fn meet<E: Edit, K: TableWords>(first: &mut Seat<'_, E, K>, second: &mut Seat<'_, E, K>)
     requires { second.old.table ≡ first.old.table }
     ensures first { first.new ≡ first.old }
     ensures second { second.new ≡ record second.old { seen = second.new.seen } }

@@ -1,28 +1,34 @@
 //! The table that the seats of all CPUs stand at.
 
-ghost use Rattle.std.specs.Prelude.{◌≡◌, ◌<◌, ◌^◌, IsSome, length};
+ghost use Rattle.std.specs.Prelude.{◌≡◌, ◌<◌, ◌≤◌, ◌^◌, IsSome, length};
+ghost use Rattle.event_log.specs.declared.ids.TheConstants.{CPUS};
 ghost use Rattle.layer_traits.specs.OneLock.{opened};
-ghost use Rattle.table_machine.specs.Layout.{rank_of, next_at, serving_at, word_count};
+ghost use Rattle.table_machine.specs.Layout.{rank_of, word_at, word_count};
 
 use crate::rule::Whole;
-use event_log::LockId;
+use crate::table_words::{TableWords, TicketWords, WaiterWords};
+use event_log::{CPUS, LockId};
 use layer_traits::Edit;
 use std::marker::Model;
 
-/// The words and the blocks of ticket locks, shared by threads. Each lock has two words, `next` and
-/// `serving`, and a slot in which its block lies while no CPU is inside it.
+/// The words and the blocks of locks, shared by threads. Each lock has its words, `next` and those
+/// at which waiters look, and a slot in which its block lies while no CPU is inside it. The locks
+/// are ticket locks, if no other words are named.
 ///
 /// To a contract it is a board: which table it is, the blocks that it opened with, and how many
 /// CPUs it has.
 #[derive(Drop)]
-pub struct Shared<E: Edit> {
-    pub(crate) table: Whole<E>,
+pub struct Shared<E: Edit, K: TableWords = TicketWords> {
+    pub(crate) table: Whole<E, K>,
     pub(crate) ranks: Vec<usize>,
     pub(crate) locks: Vec<LockId>,
     pub(crate) blocks: Vec<(LockId, E::Block)>,
 }
 
-impl<E: Edit> Model for Shared<E> {
+/// The words and the blocks of locks with a grant word for each waiter, shared by threads.
+pub type GrantShared<E> = Shared<E, WaiterWords>;
+
+impl<E: Edit, K: TableWords> Model for Shared<E, K> {
     ghost use Rattle.std.specs.Prelude.{◌≡◌, ◌≤◌, [], length, vec_capacity};
     ghost use Rattle.layer_traits.specs.OneLock.{AreDistinct};
     ghost use Rattle.table_machine.specs.Desks.{Board};
@@ -37,7 +43,7 @@ impl<E: Edit> Model for Shared<E> {
         × AreDistinct s.table.shared.key.blocks.value.items };
 }
 
-impl<E: Edit> Shared<E> {
+impl<E: Edit, K: TableWords> Shared<E, K> {
     #[tactic(auto, using(crate::proofs::Finding::rank_below))]
     // The rank of a lock among those of the opening.
     pub(crate) fn rank(&self, lock: LockId) -> usize
@@ -49,19 +55,12 @@ impl<E: Edit> Shared<E> {
         self.ranks[lock.number()]
     }
 
-    // The word `next` of a lock.
-    pub(crate) fn next_word(&self, lock: LockId) -> usize
-        requires { IsSome (opened self.now.start lock) }
-        ensures { result ≡ next_at (rank_of self.now.start lock) }
+    // Where a word of a lock lies, by its number.
+    pub(crate) fn word(&self, lock: LockId, word: usize) -> usize
+        requires lock { IsSome (opened self.now.start lock) }
+        requires word { word ≤ CPUS }
+        ensures { result ≡ word_at (rank_of self.now.start lock) word }
     {
-        16 * self.rank(lock) + 8
-    }
-
-    // The word `serving` of a lock.
-    pub(crate) fn serving_word(&self, lock: LockId) -> usize
-        requires { IsSome (opened self.now.start lock) }
-        ensures { result ≡ serving_at (rank_of self.now.start lock) }
-    {
-        16 * self.rank(lock) + 16
+        8 * ((CPUS + 1) * self.rank(lock) + word) + 8
     }
 }

@@ -3,13 +3,15 @@
 ghost use Rattle.std.specs.Prelude.{◌≡◌, ◌+◌, ◌%◌, ◌^◌, ◌<◌, [], ◌∷◌, Some, IsSome, IfOk, MatchOption};
 ghost use Rattle.event_log.specs.WordsLog.{standing, Outside, Waiting, Inside};
 ghost use Rattle.event_log.specs.Sections.{block_after};
+ghost use Rattle.event_log.specs.Grants.{grant_standing};
+ghost use Rattle.layer_traits.specs.GrantProtocol.{grant_sections};
 ghost use Rattle.layer_traits.specs.WordsProtocol.{sections};
 ghost use Rattle.table_machine.specs.Desks.{IsOver, new_desk, new_desks};
 ghost use Rattle.table_machine.specs.declared.tests.TheConstants.{LOCK, OTHER};
 
-use crate::{Key, Shared, meet};
+use crate::{GrantShared, Key, Shared, meet};
 use event_log::{BufId, CpuId, LockId, NoMemory};
-use layer_traits::{Edit, Words};
+use layer_traits::{Edit, GrantWords, Words};
 use std::alloc::Global;
 use std::process::Abort;
 use std::test::Fail;
@@ -280,4 +282,90 @@ fn a_refused_allocation_is_no_memory(rt: HostRuntime) {
         }
         Err(error) => assert_eq!(rt; error, NoMemory),
     }
+}
+
+/// Takes a ticket, with which the CPU waits.
+fn takes<W: GrantWords<Edit = AddOne>>(words: &mut W, cpu: CpuId, lock: LockId) -> u64
+    requires cpu { W.ActsFor words.old cpu }
+    requires lock { IsSome (W.opening words.old lock) }
+    requires room { (m : _) → 0 < W.room m }
+    requires outside { grant_standing cpu (W.seen words.old) ≡ Outside }
+    ensures acts { W.ActsFor words.new cpu }
+    ensures lock { IsSome (W.opening words.new lock) }
+    ensures waits { grant_standing cpu (W.seen words.new) ≡ Waiting lock result }
+{
+    words.take(cpu, lock)
+}
+
+/// Peeks with the ticket that was taken.
+fn peeks<W: GrantWords<Edit = AddOne>>(
+    words: &mut W,
+    cpu: CpuId,
+    lock: LockId,
+    ticket: u64,
+) -> Option<u64>
+    requires cpu { W.ActsFor words.old cpu }
+    requires lock { IsSome (W.opening words.old lock) }
+    requires room { (m : _) → 0 < W.room m }
+    requires waiting { grant_standing cpu (W.seen words.old) ≡ Waiting lock ticket }
+    ensures acts { W.ActsFor words.new cpu }
+    ensures lock { IsSome (W.opening words.new lock) }
+    ensures hits { MatchOption result
+        (grant_standing cpu (W.seen words.new) ≡ Waiting lock ticket)
+        (λ block. (grant_standing cpu (W.seen words.new) ≡ Inside lock ticket)
+        × (block_after (λ e n. (n + 1) % 2 ^ 64) (W.opening words.new) lock (grant_sections (W.seen words.new)) ≡ Some block)) }
+{
+    words.peek(cpu, lock, ticket)
+}
+
+/// Adds 1 to the block that a peek gave, and gives the lock on with it.
+fn gives<W: GrantWords<Edit = AddOne>>(
+    words: &mut W,
+    cpu: CpuId,
+    lock: LockId,
+    ticket: u64,
+    found: u64,
+)
+    requires cpu { W.ActsFor words.old cpu }
+    requires lock { IsSome (W.opening words.old lock) }
+    requires room { (m : _) → 0 < W.room m }
+    requires inside { grant_standing cpu (W.seen words.old) ≡ Inside lock ticket }
+    requires found { block_after (λ e n. (n + 1) % 2 ^ 64) (W.opening words.old) lock (grant_sections (W.seen words.old)) ≡ Some found }
+    ensures acts { W.ActsFor words.new cpu }
+    ensures lock { IsSome (W.opening words.new lock) }
+    ensures outside { grant_standing cpu (W.seen words.new) ≡ Outside }
+{
+    let mut block = found;
+    AddOne.apply(&mut block);
+    words.give(cpu, lock, block, W::mark(AddOne));
+}
+
+#[test]
+fn the_second_waits_at_its_own_grant_word(rt: HostRuntime) -> Result<(), Fail> {
+    let blocks = vec![in rt.alloc(); (LOCK, 40), (OTHER, 7)]?;
+    let (shared, mut keys) = GrantShared::open(rt.alloc(), blocks, 2)?;
+    let second = keys.pop().expect(&rt, "the key of the second CPU");
+    let first = keys.pop().expect(&rt, "the key of the first CPU");
+    let mut a = shared.seat(first);
+    let mut b = shared.seat(second);
+    let early = takes(&mut a, A, LOCK);
+    let late = takes(&mut b, B, LOCK);
+    assert_eq!(rt; (early, late), (0, 1));
+    let None = peeks(&mut b, B, LOCK, late) else {
+        panic!(rt; "the second peeked before the first");
+    };
+    let Some(found) = peeks(&mut a, A, LOCK, early) else {
+        panic!(rt; "it was the first's turn");
+    };
+    let None = peeks(&mut b, B, LOCK, late) else {
+        panic!(rt; "the first is inside");
+    };
+    assert_eq!(rt; found, 40);
+    gives(&mut a, A, LOCK, early, found);
+    let Some(found) = peeks(&mut b, B, LOCK, late) else {
+        panic!(rt; "it was the second's turn");
+    };
+    assert_eq!(rt; found, 41);
+    gives(&mut b, B, LOCK, late, found);
+    Ok(())
 }

@@ -1,6 +1,6 @@
 use Rattle.event_log.specs.declared.events.Event.TheVariants.{Look}
 use Rattle.table_machine.proofs.Asking.{seat_adds}
-use Rattle.table_machine.proofs.seats.SeatWords.look.Goals as goal
+use Rattle.table_machine.proofs.seats.SeatTicketWordsWords.look.Goals as goal
 
 pub returns-clause-adds : goal.returns-clause-adds
 returns-clause-adds g c = (

@@ -1,0 +1,65 @@
+-- What the words of a lock are and do, as data: those of a ticket lock, and those of a lock with a grant word for each waiter.
+use Rattle.std.specs.Prelude.{◌≡◌, ◌≢◌, ℕ, ◌+◌, ◌%◌, ◌^◌, ◌<◌, ◌≤◌, ◌==◌, Bool, Option, Some, None, if◌then◌else◌}
+use Rattle.event_log.specs.declared.ids.TheConstants.{CPUS}
+use Rattle.event_log.proofs.GrantWords.{WordFits}
+
+-- The words of a lock are numbered: word 0 is `next`, from which tickets come. What they are worth is said by two true counts.
+pub record WordKind : Type 1 where
+  -- what word 1 holds at the start; every other word holds 0
+  pub opens : ℕ
+  -- the word that a waiter with this ticket reads
+  pub looks_at : ℕ → ℕ
+  -- whether this ticket is served by the number read
+  pub serves : ℕ → ℕ → Bool
+  -- the word by which a holder with this ticket gives the lock on
+  pub gives_at : ℕ → ℕ
+  -- what it stores there; None where it adds 1
+  pub stores : ℕ → Option ℕ
+  -- after so many places taken, and given on so often, the words are these
+  pub Fit : ℕ → ℕ → (ℕ → ℕ) → Type 0
+
+-- the words at the start
+abbrev pub first_words : ℕ → ℕ → ℕ
+first_words opens word = if word == 1 then opens else 0
+
+-- what a word holds after a give
+abbrev pub given_on : Option ℕ → ℕ → ℕ
+given_on None was = (was + 1) % 2 ^ 64
+given_on (Some number) was = number
+
+-- the words do what the counts say
+pub record IsWordKind (kind : WordKind) : Type 0 where
+  pub looks_within : (ticket : ℕ) → kind.looks_at ticket ≤ CPUS
+  pub gives_within : (ticket : ℕ) → kind.gives_at ticket ≤ CPUS
+  pub begins : (w : ℕ → ℕ) → ((i : ℕ) → i ≤ CPUS → w i ≡ first_words kind.opens i) → kind.Fit 0 0 w
+  pub same : (taken given : ℕ) (w v : ℕ → ℕ) → ((i : ℕ) → i ≤ CPUS → v i ≡ w i) → kind.Fit taken given w → kind.Fit taken given v
+  pub next_is : (taken given : ℕ) (w : ℕ → ℕ) → kind.Fit taken given w → w 0 ≡ taken % 2 ^ 64
+  pub took : (taken given : ℕ) (w v : ℕ → ℕ) → kind.Fit taken given w → v 0 ≡ (w 0 + 1) % 2 ^ 64
+      → ((i : ℕ) → i ≤ CPUS → i ≢ 0 → v i ≡ w i) → kind.Fit (taken + 1) given v
+  pub hits : (taken given : ℕ) (w : ℕ → ℕ) → kind.Fit taken given w → (ticket spot : ℕ) → given ≤ spot → spot < given + CPUS → ticket ≡ spot % 2 ^ 64
+      → kind.serves ticket (w (kind.looks_at ticket)) ≡ (given == spot)
+  pub gave : (taken given : ℕ) (w v : ℕ → ℕ) → kind.Fit taken given w → (ticket : ℕ) → ticket ≡ given % 2 ^ 64
+      → v (kind.gives_at ticket) ≡ given_on (kind.stores ticket) (w (kind.gives_at ticket))
+      → ((i : ℕ) → i ≤ CPUS → i ≢ kind.gives_at ticket → v i ≡ w i) → kind.Fit taken (given + 1) v
+
+-- a ticket lock: word 1 is `serving`
+abbrev pub ticket_words : WordKind
+ticket_words = record {
+  opens = 0;
+  looks_at = λ ticket. 1;
+  serves = λ ticket read. read == ticket;
+  gives_at = λ ticket. 1;
+  stores = λ ticket. None;
+  Fit = λ taken given w. (w 0 ≡ taken % 2 ^ 64) × (w 1 ≡ given % 2 ^ 64);
+}
+
+-- grant words behind `next`: that of ticket n is at n modulo CPUS among them, and holds n + 1 once n is served
+abbrev pub grant_words : WordKind
+grant_words = record {
+  opens = 1;
+  looks_at = λ ticket. ticket % CPUS + 1;
+  serves = λ ticket read. read == (ticket + 1) % 2 ^ 64;
+  gives_at = λ ticket. (ticket + 1) % CPUS + 1;
+  stores = λ ticket. Some ((ticket + 2) % 2 ^ 64);
+  Fit = λ taken given w. (w 0 ≡ taken % 2 ^ 64) × ((k : ℕ) → k < CPUS → WordFits k given (w (k + 1)));
+}
