@@ -6,3 +6,4 @@ pub mod LockTurnLemmas
 pub mod CondTurnLemmas
 pub mod OpeningLemmas
 pub mod PlainOpenings
+pub mod QueueTurnLemmas

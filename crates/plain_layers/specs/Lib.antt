@@ -8,5 +8,6 @@ pub mod FifoLaws
 pub mod FifoOwned
 pub mod FifoTallies
 pub mod Naps
+pub mod QueueTurns
 pub mod LockTurns
 pub mod CondTurns

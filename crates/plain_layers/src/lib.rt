@@ -39,6 +39,8 @@ mod lock_turns;
 #[cfg(test)]
 mod openings;
 #[cfg(test)]
+mod queue_tests;
+#[cfg(test)]
 mod sched_tests;
 #[cfg(test)]
 mod sleep_tests;

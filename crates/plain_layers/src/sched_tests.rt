@@ -24,9 +24,9 @@ use std::test::Fail;
 
 /// A nap at buffer 0: its caller sleeps in the one place there, or wakes who sleeps in it.
 #[derive(Clone, Copy)]
-struct Nap {
-    by: Tid,
-    wakes: bool,
+pub(crate) struct Nap {
+    pub(crate) by: Tid,
+    pub(crate) wakes: bool,
 }
 
 impl Edit for Nap {

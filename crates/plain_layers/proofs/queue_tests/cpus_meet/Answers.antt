@@ -1,0 +1,15 @@
+use Rattle.std.proofs.Common.{◌≡◌, false, List, [], ◌∷◌, ◌++◌, if◌then◌else◌, is_err, is_ok, slice_get, ap, None, Result, Ok, Err, subst, sym, ◌∙◌}
+use Rattle.plain_layers.specs.QueueTurns.{buffer_zero}
+use Rattle.plain_layers.proofs.queue_tests.cpus_meet.Goals as goal
+
+one_pushed : {A F X : Type 0} (r : Result A F) (items : List X) (x : X) → is_err r ≡ false → items ≡ (if is_ok r then [] ++ x ∷ [] else []) → items ≡ x ∷ []
+one_pushed (Ok a) items x went is = is
+one_pushed (Err e) items x went is = absurd cc
+
+-- buffer 0 opens with the one block
+pub meet_at_one_queue-requires-clause-free : goal.meet_at_one_queue-requires-clause-free
+meet_at_one_queue-requires-clause-free g c =
+    let old : c.new-blocks.result.items ≡ [] = c.new-blocks.ensures.items in
+    let blocks = one_pushed c.push.result c.push.new.self.items None (sym c.is_err.ensures.value ∙ c.if-is_err.false)
+    (subst (λ l. c.push.new.self.items ≡ (if is_ok c.push.result then l ++ None ∷ [] else l)) old c.push.ensures.items) in
+    c.in_ok-m.ensures.blocks buffer_zero ∙ ap (λ l. slice_get l 0) blocks

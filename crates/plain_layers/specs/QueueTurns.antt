@@ -1,0 +1,19 @@
+-- Who meets at a shared queue in the tests.
+use Rattle.event_log.specs.declared.ids.BufId.{BufId}
+use Rattle.event_log.specs.declared.ids.CpuId.{CpuId}
+use Rattle.event_log.specs.declared.ids.Tid.{Tid}
+
+abbrev pub buffer_zero : BufId
+buffer_zero = record { 0 = 0 }
+
+abbrev pub cpu_zero : CpuId
+cpu_zero = record { 0 = 0 }
+
+abbrev pub cpu_one : CpuId
+cpu_one = record { 0 = 1 }
+
+abbrev pub thread_zero : Tid
+thread_zero = record { 0 = 0 }
+
+abbrev pub thread_one : Tid
+thread_one = record { 0 = 1 }

@@ -1,0 +1,120 @@
+//! Shared queues in one step, run without a scheduler above them: two CPUs at one queue.
+
+ghost use Rattle.std.specs.Prelude.{◌≡◌, ◌≢◌, ◌+◌, ◌<◌, ◌≤◌, [], ◌∷◌, IsSome, None, Some};
+ghost use Rattle.event_log.specs.declared.ids.CpuId.{CpuId};
+ghost use Rattle.event_log.specs.declared.ids.LockId.TheVariants.{Pending};
+ghost use Rattle.event_log.specs.declared.ids.TheConstants.{CPUS};
+ghost use Rattle.layer_traits.specs.Plans.{IsWhole};
+ghost use Rattle.layer_traits.specs.QueueBlocks.{homes_in, inner};
+ghost use Rattle.layer_traits.specs.Queues.{QueueAllowed, StaysCallable, event, kernel, lock_of};
+ghost use Rattle.plain_layers.specs.Naps.{bed};
+ghost use Rattle.plain_layers.specs.QueueTurns.{cpu_one, cpu_zero};
+
+use crate::PlainQueues;
+use crate::kernel::PlainKernel;
+use crate::sched_tests::Nap;
+use event_log::{BufId, CpuId, NoMemory, Tid};
+use layer_traits::{Moves, QueueAnswer, QueueCall, QueueLayer};
+use std::alloc::Global;
+use std::process::Abort;
+use std::test::Fail;
+use thread_blocks::ThreadQueue;
+
+/// Does a call in one poll, on a whole machine whose holder acts for every CPU: the call is all that
+/// is new.
+fn at_once<E: Moves, Q: QueueLayer<E>>(
+    part: &mut Q,
+    m: &mut Q::Machine,
+    call: &QueueCall<E>,
+) -> QueueAnswer<E::Out>
+    requires whole { IsWhole Q.IsStepwise }
+    requires all { (c : CpuId) → c.0 < CPUS → Q.ActsFor m.old c }
+    requires fits { Q.Fits part.old m.old }
+    requires idle { Q.under_way part.old ≡ None }
+    requires lock { IsSome (Q.opening m.old (lock_of call.now)) }
+    requires room { 0 < Q.room m.old }
+    requires call { StaysCallable (QueueAllowed (kernel E.rules E.moves (Q.opening m.old))) (Q.seen m.old) (event (Q.cpu_of part.old) call.now) }
+    ensures all { (c : CpuId) → c.0 < CPUS → Q.ActsFor m.new c }
+    ensures fits { Q.Fits part.new m.new }
+    ensures idle { Q.under_way part.new ≡ None }
+    ensures cpu { Q.cpu_of part.new ≡ Q.cpu_of part.old }
+    ensures opening { Q.opening m.new ≡ Q.opening m.old }
+    ensures room { Q.room m.old ≤ Q.room m.new + 1 }
+    ensures seen { Q.seen m.new ≡ event (Q.cpu_of part.old) call.now ∷ Q.seen m.old }
+    ensures others { (p : Q) → Q.cpu_of p ≢ Q.cpu_of part.old → Q.Fits p m.old → Q.Fits p m.new }
+{
+    part.poll(m, call).unwrap()
+}
+
+/// Whether these are the threads that were taken: this one alone.
+fn is_taken(answer: QueueAnswer<(bool, Option<Tid>)>, t: Tid) -> bool {
+    let QueueAnswer::Taken(mut list) = answer else {
+        return false;
+    };
+    let mut queue = ThreadQueue::new();
+    list.drain_into(&mut queue);
+    queue.len() == 1 && queue.front() == Some(t)
+}
+
+/// Thread 1 goes to sleep on the first CPU, and the second wakes it, which has it in hand then. It
+/// pushes the thread into the first CPU's queue, and the first CPU takes it from there: each call is
+/// over in its own poll.
+fn meet_at_one_queue<Q: QueueLayer<Nap>>(
+    rt: &impl Abort,
+    first: &mut Q,
+    second: &mut Q,
+    m: &mut Q::Machine,
+)
+    requires whole { IsWhole Q.IsStepwise }
+    requires all { (c : CpuId) → c.0 < CPUS → Q.ActsFor m.old c }
+    requires first { Q.Fits first.old m.old }
+    requires second { Q.Fits second.old m.old }
+    requires first_idle { Q.under_way first.old ≡ None }
+    requires second_idle { Q.under_way second.old ≡ None }
+    requires first_is { Q.cpu_of first.old ≡ cpu_zero }
+    requires second_is { Q.cpu_of second.old ≡ cpu_one }
+    requires apart { Q.cpu_of first.old ≢ Q.cpu_of second.old }
+    requires others { Q.cpu_of second.old ≢ Q.cpu_of first.old }
+    requires homes { homes_in (Q.opening m.old) ≡ cpu_one ∷ cpu_zero ∷ [] }
+    requires free { inner (Q.opening m.old) bed ≡ Some None }
+    requires queue { IsSome (Q.opening m.old (Pending cpu_zero)) }
+    requires seen { Q.seen m.old ≡ [] }
+    requires room { 4 ≤ Q.room m.old }
+{
+    let sleep = Nap {
+        by: Tid(1),
+        wakes: false,
+    };
+    let wake = Nap {
+        by: Tid(0),
+        wakes: true,
+    };
+    let slept = at_once(first, m, &QueueCall::OnBuffer(BufId(0), sleep));
+    assert!(rt; matches!(slept, QueueAnswer::Answer((true, None))));
+    let woke = at_once(second, m, &QueueCall::OnBuffer(BufId(0), wake));
+    assert!(rt; matches!(woke, QueueAnswer::Answer((false, Some(Tid(1))))));
+    let pushed = at_once(second, m, &QueueCall::Push(CpuId(0), Tid(1)));
+    assert!(rt; matches!(pushed, QueueAnswer::Done));
+    let taken = at_once(first, m, &QueueCall::TakeAll(CpuId(0)));
+    assert!(rt; is_taken(taken, Tid(1)));
+}
+
+/// Two CPUs at the queue of the first, on a machine of lists.
+fn cpus_meet(rt: &impl Abort, alloc: Global) -> Result<(), NoMemory> {
+    let homes = [CpuId(1), CpuId(0)];
+    let mut blocks = Vec::new(alloc);
+    if blocks.push(None).is_err() {
+        return Err(NoMemory);
+    }
+    let mut m = PlainKernel::open(alloc, blocks, 2, &homes, 4)?;
+    let mut first: PlainQueues<Nap> = PlainQueues::part(CpuId(0), &homes, 1);
+    let mut second: PlainQueues<Nap> = PlainQueues::part(CpuId(1), &homes, 1);
+    meet_at_one_queue(rt, &mut first, &mut second, &mut m);
+    Ok(())
+}
+
+#[test]
+fn two_cpus_meet_at_one_queue(rt: HostRuntime) -> Result<(), Fail> {
+    cpus_meet(&rt, rt.alloc())?;
+    Ok(())
+}
