@@ -240,9 +240,9 @@ module _ (s : Shown) (told : ToldByTable s) (setup : Setup) (is : IsSetupFor set
 pub quiet_still : (s : Shown) → ToldByTable s → MovesAgree s → IsReachedByTable s → IsQuiet s → IsStill s
 quiet_still s told agree reached quiet = record {
   stuck = stuck;
-  refused = λ setup is p u live e b m within next allowed.
+  refused = λ setup is p u live e asks b m within of next allowed.
       let has = told.buffers setup is b.0 within in
-      (stuck setup is).effects p u live e b m next has.buffer has.there (rw (← has.told.capacity, ← has.told.items) allowed);
+      (stuck setup is).effects p u live e asks b m of next has.buffer has.there (rw (← has.told.capacity, ← has.told.items) allowed);
   unowned = λ setup is b within.
       let has = told.buffers setup is b within in has.told.owner ∙ ((stuck setup is).unowned (buffer_at b) has.buffer has.there).0;
   awake = λ setup is b within.

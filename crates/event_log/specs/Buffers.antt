@@ -1,10 +1,10 @@
--- What first-in first-out buffers hold, and what one send or receive does to one of them.
+-- What first-in first-out buffers hold, and what one send, receive or close does to one of them.
 -- Capacities are a list by buffer number; contents are a list by buffer number of lists of messages, front first.
-use Rattle.std.specs.Prelude.{◌≡◌, ℕ, ◌<◌, ◌≤◌, List, [], ◌∷◌, ◌++◌, length, map, drop, Some, slice_get, slice_index_or}
+use Rattle.std.specs.Prelude.{◌≡◌, ℕ, ◌<◌, Bool, true, false, ◌≤◌, List, [], ◌∷◌, ◌++◌, length, map, drop, Some, slice_get, slice_index_or}
 use Rattle.event_log.specs.declared.ids.TheConstants.{CAPACITY}
 use Rattle.event_log.specs.declared.entries.Kind.{Kind}
-use Rattle.event_log.specs.declared.entries.Kind.TheVariants.{Send, Recv}
-use Rattle.event_log.specs.Messages.{Message}
+use Rattle.event_log.specs.declared.entries.Kind.TheVariants.{Send, Recv, Close, SendClosed, RecvClosed}
+use Rattle.event_log.specs.Messages.{Message, no_message}
 
 -- a buffer holds from one message to CAPACITY
 abbrev pub IsCapacity : ℕ → Type 0
@@ -18,12 +18,19 @@ items_of contents b = slice_index_or contents b []
 abbrev pub empty_buffers : List ℕ → List (List Message)
 empty_buffers caps = map (λ _. []) caps
 
--- a send wants room; a receive of a message wants it to be the first
-abbrev pub IsAllowedEffect : Kind → ℕ → List Message → Message → Type 0
-IsAllowedEffect Send capacity items message = length items < capacity
-IsAllowedEffect Recv capacity items message = slice_get items 0 ≡ Some message
+-- On a buffer that is closed or not: a send wants it open, with room; a receive of a message wants that message first, closed or not.
+-- A close may always come. A send that answers closed wants it closed; a receive that answers closed wants it closed and empty.
+abbrev pub IsAllowedEffect : Kind → Bool → ℕ → List Message → Message → Type 0
+IsAllowedEffect Send closed capacity items message = (closed ≡ false) × (length items < capacity)
+IsAllowedEffect Recv closed capacity items message = slice_get items 0 ≡ Some message
+IsAllowedEffect Close closed capacity items message = message ≡ no_message
+IsAllowedEffect SendClosed closed capacity items message = closed ≡ true
+IsAllowedEffect RecvClosed closed capacity items message = (closed ≡ true) × (items ≡ []) × (message ≡ no_message)
 
--- a send puts the message behind the others; a receive takes the first away
+-- a send puts the message behind the others; a receive takes the first away; each other effect leaves the items
 abbrev pub after_effect : Kind → List Message → Message → List Message
 after_effect Send items message = items ++ message ∷ []
 after_effect Recv items message = drop 1 items
+after_effect Close items message = items
+after_effect SendClosed items message = items
+after_effect RecvClosed items message = items

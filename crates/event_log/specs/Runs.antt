@@ -1,31 +1,56 @@
--- Runs of the machine whose sends and receives are single steps on first-in first-out buffers.
-use Rattle.std.specs.Prelude.{◌≡◌, ℕ, ◌<◌, Bool, true, false, ◌&&◌, ◌==◌, List, [], ◌∷◌, ◌++◌, length, count_by, slice_index, slice_set}
+-- Runs of the machine whose sends, receives and closes are single steps on first-in first-out buffers.
+use Rattle.std.specs.Prelude.{◌≡◌, ℕ, ◌<◌, Bool, true, false, ◌&&◌, ◌==◌, List, [], ◌∷◌, ◌++◌, length, nat_lt, count_by, slice_index, slice_set}
 use Rattle.event_log.specs.declared.entries.Kind.{Kind}
-use Rattle.event_log.specs.declared.entries.Kind.TheVariants.{Send, Recv}
+use Rattle.event_log.specs.declared.entries.Kind.TheVariants.{Send, Recv, Close, SendClosed, RecvClosed}
 use Rattle.event_log.specs.declared.entries.Entry.{Entry}
 use Rattle.event_log.specs.Messages.{Message}
 use Rattle.event_log.specs.Buffers.{items_of, empty_buffers, IsAllowedEffect, after_effect}
 
--- whether two kinds are the same
+-- what an effect is counted with: a send that found its buffer closed is a send, and a receive that did is a receive
+pub data Group : Type 0 where
+  Sends : Group
+  Receives : Group
+  Closes : Group
+
+abbrev pub group_of : Kind → Group
+group_of Send = Sends
+group_of SendClosed = Sends
+group_of Recv = Receives
+group_of RecvClosed = Receives
+group_of Close = Closes
+
+abbrev pub same_group : Group → Group → Bool
+same_group Sends Sends = true
+same_group Receives Receives = true
+same_group Closes Closes = true
+same_group Sends Receives = false
+same_group Sends Closes = false
+same_group Receives Sends = false
+same_group Receives Closes = false
+same_group Closes Sends = false
+same_group Closes Receives = false
+
+-- whether effects of two kinds are counted together
 abbrev pub kind_eq : Kind → Kind → Bool
-kind_eq Send Send = true
-kind_eq Recv Recv = true
-kind_eq Send Recv = false
-kind_eq Recv Send = false
+kind_eq a b = same_group (group_of a) (group_of b)
 
 -- how many of the entries are of buffer b
 abbrev pub count_of : List Entry → ℕ → ℕ
 count_of entries b = count_by (λ e. e.buffer.0 == b) entries
 
--- how many of the entries are of buffer b and of this kind
+-- how many of the entries are of buffer b and are counted with this kind
 abbrev pub count_of_kind : List Entry → ℕ → Kind → ℕ
 count_of_kind entries b kind = count_by (λ e. (e.buffer.0 == b) && kind_eq e.kind kind) entries
 
+-- whether the entries have closed buffer b
+abbrev pub is_closed : List Entry → ℕ → Bool
+is_closed entries b = nat_lt 0 (count_of_kind entries b Close)
+
 -- behind the earlier entries, with these contents, e may come: its effect is allowed, its op is the
--- number of earlier entries of its buffer, its pos the number of those of its buffer and kind
+-- number of earlier entries of its buffer, its pos the number of those of its buffer that are counted with it
 pub record IsNext (caps : List ℕ) (earlier : List Entry) (contents : List (List Message)) (e : Entry) : Type 0 where
   pub known : e.buffer.0 < length caps
-  pub allowed : IsAllowedEffect e.kind (slice_index caps e.buffer.0) (items_of contents e.buffer.0) e.value
+  pub allowed : IsAllowedEffect e.kind (is_closed earlier e.buffer.0) (slice_index caps e.buffer.0) (items_of contents e.buffer.0) e.value
   pub op : e.op ≡ count_of earlier e.buffer.0
   pub pos : e.pos ≡ count_of_kind earlier e.buffer.0 e.kind
 

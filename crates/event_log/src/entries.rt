@@ -1,32 +1,40 @@
-//! What a send or a receive that took effect leaves behind.
+//! What a send, a receive or a close that took effect leaves behind.
 
 use crate::ids::{BufId, CpuId, Tid};
 use crate::messages::Msg;
 
-/// Which of the two message calls took effect.
+/// Which call took effect, and whether it found its buffer closed.
 #[derive(Clone, Copy, Debug, PartialEq, Eq)]
 pub enum Kind {
     /// A message was put at the end of the buffer.
     Send,
     /// The first message was taken from the buffer.
     Recv,
+    /// The buffer was closed; it may have been closed before.
+    Close,
+    /// A send found the buffer closed, and put nothing.
+    SendClosed,
+    /// A receive found the buffer closed and empty, and took nothing.
+    RecvClosed,
 }
 
-/// One send or receive that took effect: what it did to its buffer, who did it, and its numbers.
+/// One send, receive or close that took effect: what it did to its buffer, who did it, and its numbers.
 #[derive(Clone, Copy, Debug, PartialEq, Eq)]
 pub struct Entry {
     /// The CPU on which the call ran.
     pub cpu: CpuId,
     /// The thread that called.
     pub thread: Tid,
-    /// Whether a message was put or taken.
+    /// What was done to the buffer.
     pub kind: Kind,
     /// The buffer.
     pub buffer: BufId,
-    /// The message.
+    /// The message that was put, taken or offered; 0 of a close, and of a receive that found the
+    /// buffer closed.
     pub value: Msg,
-    /// How many effects, of both kinds together, the buffer had before this one.
+    /// How many effects, of all kinds together, the buffer had before this one.
     pub op: u64,
-    /// How many effects of this kind the buffer had before this one.
+    /// How many effects of this kind the buffer had before this one, where all sends count
+    /// together, and all receives, whether or not they found the buffer closed.
     pub pos: u64,
 }

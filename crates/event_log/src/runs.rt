@@ -1,5 +1,5 @@
-//! What holds of every run of the machine whose sends and receives are single steps on first-in
-//! first-out buffers: laws, with nothing to run.
+//! What holds of every run of the machine whose sends, receives and closes are single steps on
+//! first-in first-out buffers: laws, with nothing to run.
 
 ghost use Rattle.std.specs.Prelude.{◌≡◌, ◌<◌, ◌++◌, ◌∷◌, ◌↔◌, ℕ, [], List, length, take, slice_get, Some};
 ghost use Rattle.event_log.specs.Messages.{Message};

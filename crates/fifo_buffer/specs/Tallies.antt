@@ -1,6 +1,7 @@
 -- What a buffer's block tells of its effects; so each effect may come after those before it.
 use Rattle.std.proofs.Common.{◌≡◌, ℕ, zero, suc, ◌+◌, ◌<◌, ◌%◌, ◌^◌, Bool, true, false, ◌&&◌, ◌||◌, ◌==◌, List, [], ◌∷◌}
 use Rattle.std.proofs.Common.{◌++◌, length, drop, Option, Some, None, option_map, option_to_list, slice_get, slice_index}
+use Rattle.std.specs.Prelude.{nat_lt}
 use Rattle.std.proofs.Common.{slice_set, if◌then◌else◌, refl, ap, sym, ◌∙◌, subst, arith, length-append}
 use Rattle.std.proofs.lemmas.Bool.{and_parts, and_right, eq-eqb, eqb-false, ltb-true, ne_eqb, or_parts}
 use Rattle.std.proofs.lemmas.List.{get_or-set_other, get_or-set_same, length-map, length-set}
@@ -8,7 +9,7 @@ use Rattle.std.proofs.lemmas.List.Sums.{sum_by-cons}
 use Rattle.std.proofs.lemmas.Option.{get_or_from_slice_get, slice_get_within}
 use Rattle.event_log.specs.declared.entries.Entry.{Entry}
 use Rattle.event_log.specs.declared.entries.Kind.{Kind}
-use Rattle.event_log.specs.declared.entries.Kind.TheVariants.{Send, Recv}
+use Rattle.event_log.specs.declared.entries.Kind.TheVariants.{Send, Recv, Close}
 use Rattle.event_log.specs.declared.ids.BufId.{BufId}
 use Rattle.event_log.specs.declared.ids.CpuId.{CpuId}
 use Rattle.event_log.specs.declared.ids.LockId.{LockId}
@@ -18,7 +19,7 @@ use Rattle.event_log.specs.Buffers.{after_effect, empty_buffers, items_of}
 use Rattle.event_log.specs.History.{IsLawful, same_lock}
 use Rattle.event_log.proofs.Same.{same_lock_self, same_lock_true}
 use Rattle.event_log.specs.Messages.{Message}
-use Rattle.event_log.specs.Runs.{count_of, count_of_kind, kind_eq}
+use Rattle.event_log.specs.Runs.{count_of, count_of_kind, is_closed, kind_eq}
 use Rattle.event_log.proofs.RunLemmas.{count_cons, counts_here, items_none, kind_cons, kinds_here}
 use Rattle.layer_traits.specs.declared.buffer_edits.BufferEdit.{BufferEdit}
 use Rattle.layer_traits.specs.declared.buffer_edits.BufferEdit.TheVariants.{Enter, TryPut, TryTake}
@@ -57,12 +58,13 @@ IsNumbered position n [] = Unit {0}
 IsNumbered position n (t ∷ queue) = (position t ≡ n % 2 ^ 64) × IsNumbered position (n + 1) queue
 
 -- a buffer's block tells its effects: the items are what they leave, the counters their numbers, and the threads in line have the next
--- positions
+-- positions; no effect has closed it
 pub record Tally (caps : List ℕ) (b : ℕ) (es : List Entry) (position : Side → Tid → ℕ) (x : BufferState) : Type 0 where
   pub known : b < length caps
   pub wide : length (contents_of caps es) ≡ length caps
   pub items : items_of (contents_of caps es) b ≡ x.items
   pub capacity : slice_index caps b ≡ x.capacity
+  pub closed : is_closed es b ≡ false
   pub effects : x.effects ≡ count_of es b % 2 ^ 64
   pub places : (side : Side) → places_of side x ≡ (count_of_kind es b (kind_on side) + length (line_of side x)) % 2 ^ 64
   pub numbered : (side : Side) → IsNumbered (position side) (count_of_kind es b (kind_on side)) (line_of side x)
@@ -95,6 +97,7 @@ module _ (caps : List ℕ) (b : ℕ) (es : List Entry) where
     wide = tally.wide;
     items = tally.items;
     capacity = tally.capacity;
+    closed = tally.closed;
     effects = tally.effects;
     places = tally.places;
     numbered = λ side. numbered_same (p side) (q side) (count_of_kind es b (kind_on side)) (line_of side x) (same side) (tally.numbered side);
@@ -103,17 +106,17 @@ module _ (caps : List ℕ) (b : ℕ) (es : List Entry) where
       let other : (e.buffer.0 == b) ≡ false = apart e refl in
       let count : count_of (e ∷ es) b ≡ count_of es b
       = count_cons e es b ∙ ap (λ (v : Bool). (if v then 1 else 0) + count_of es b) other ∙ omega arith in
-      let kinds : (side : Side) → count_of_kind (e ∷ es) b (kind_on side) ≡ count_of_kind es b (kind_on side)
-      = λ side. kind_cons e es b (kind_on side) ∙ ap
-      (λ (v : Bool). (if v && kind_eq e.kind (kind_on side) then 1 else 0) + count_of_kind es b (kind_on side)) other ∙ omega arith in
+      let kinds : (kind : Kind) → count_of_kind (e ∷ es) b kind ≡ count_of_kind es b kind
+      = λ kind. kind_cons e es b kind ∙ ap (λ (v : Bool). (if v && kind_eq e.kind kind then 1 else 0) + count_of_kind es b kind) other ∙ omega arith in
       record {
         known = tally.known;
         wide = length-set (contents_of caps es) e.buffer.0 _ ∙ tally.wide;
         items = get_or-set_other (contents_of caps es) e.buffer.0 b _ [] (λ at. eqb-false e.buffer.0 b other (sym at)) ∙ tally.items;
         capacity = tally.capacity;
+        closed = ap (nat_lt 0) (kinds Close) ∙ tally.closed;
         effects = tally.effects ∙ ap (λ n. n % 2 ^ 64) (sym count);
-        places = λ side. tally.places side ∙ ap (λ n. (n + length (line_of side x)) % 2 ^ 64) (sym (kinds side));
-        numbered = λ side. subst (λ n. IsNumbered (q side) n (line_of side x)) (sym (kinds side))
+        places = λ side. tally.places side ∙ ap (λ n. (n + length (line_of side x)) % 2 ^ 64) (sym (kinds (kind_on side)));
+        numbered = λ side. subst (λ n. IsNumbered (q side) n (line_of side x)) (sym (kinds (kind_on side)))
             (numbered_same (p side) (q side) (count_of_kind es b (kind_on side)) (line_of side x) (same side) (tally.numbered side));
       }
 
@@ -126,6 +129,7 @@ module _ (caps : List ℕ) (b : ℕ) (es : List Entry) where
     wide = tally.wide;
     items = tally.items;
     capacity = tally.capacity;
+    closed = tally.closed;
     effects = tally.effects;
     places = λ side. places_in_line side;
     numbered = λ side. numbers side;
@@ -151,6 +155,7 @@ module _ (caps : List ℕ) (b : ℕ) (es : List Entry) where
     wide = tally.wide;
     items = tally.items;
     capacity = tally.capacity;
+    closed = tally.closed;
     effects = tally.effects;
     places = λ side. places_in_line side;
     numbered = λ side. numbers side;
@@ -191,7 +196,7 @@ module _ (caps : List ℕ) (b : ℕ) (es : List Entry) where
       let room : length x.items < x.capacity = ltb-true (length x.items) x.capacity both.1 in
       rw here (record {
         known = tally.known;
-        allowed = rw (tally.items, tally.capacity) room;
+        allowed = (tally.closed, rw (tally.items, tally.capacity) room);
         op = tally.effects;
         pos = first_number (p Senders) (count_of_kind es b Send) u x.send_line both.0 (tally.numbered Senders);
       })
@@ -219,6 +224,7 @@ module _ (caps : List ℕ) (b : ℕ) (es : List Entry) where
         ∙ ap (λ k. after_effect k (items_of (contents_of caps es) e.buffer.0) e.value) sends
         ∙ ap (λ i. items_of (contents_of caps es) i ++ e.value ∷ []) here ∙ ap (λ l. l ++ e.value ∷ []) tally.items ∙ ap (λ w. x.items ++ w ∷ []) value;
     capacity = tally.capacity;
+    closed = ap (nat_lt 0) none_closed ∙ tally.closed;
     effects = one_more x.effects (count_of es b) tally.effects ∙ ap (λ n. n % 2 ^ 64) (sym (counts_here e es b here));
     places = λ side. places_now side;
     numbered = λ side. numbers side;
@@ -229,6 +235,9 @@ module _ (caps : List ℕ) (b : ℕ) (es : List Entry) where
 
       wide : length (contents_of caps es) ≡ length caps
       wide = tally.wide
+
+      none_closed : count_of_kind (e ∷ es) b Close ≡ count_of_kind es b Close
+      none_closed = kinds_here e es b Close here ∙ ap (λ k. (if kind_eq k Close then 1 else 0) + count_of_kind es b Close) sends ∙ omega arith
 
       sent : count_of_kind (e ∷ es) b Send ≡ count_of_kind es b Send + 1
       sent = kinds_here e es b Send here ∙ ap (λ k. (if kind_eq k Send then 1 else 0) + count_of_kind es b Send) sends ∙ omega arith
@@ -259,6 +268,7 @@ module _ (caps : List ℕ) (b : ℕ) (es : List Entry) where
         ∙ ap (λ k. after_effect k (items_of (contents_of caps es) e.buffer.0) e.value) takes
         ∙ ap (λ i. drop 1 (items_of (contents_of caps es) i)) here ∙ ap (λ l. drop 1 l) tally.items ∙ drop_one x.items;
     capacity = tally.capacity;
+    closed = ap (nat_lt 0) none_closed ∙ tally.closed;
     effects = one_more x.effects (count_of es b) tally.effects ∙ ap (λ n. n % 2 ^ 64) (sym (counts_here e es b here));
     places = λ side. places_now side;
     numbered = λ side. numbers side;
@@ -269,6 +279,9 @@ module _ (caps : List ℕ) (b : ℕ) (es : List Entry) where
 
       wide : length (contents_of caps es) ≡ length caps
       wide = tally.wide
+
+      none_closed : count_of_kind (e ∷ es) b Close ≡ count_of_kind es b Close
+      none_closed = kinds_here e es b Close here ∙ ap (λ k. (if kind_eq k Close then 1 else 0) + count_of_kind es b Close) takes ∙ omega arith
 
       received : count_of_kind (e ∷ es) b Recv ≡ count_of_kind es b Recv + 1
       received = kinds_here e es b Recv here ∙ ap (λ k. (if kind_eq k Recv then 1 else 0) + count_of_kind es b Recv) takes ∙ omega arith
@@ -372,6 +385,7 @@ module _ (caps : List ℕ) (b : ℕ) (es : List Entry) where
         wide = tally.wide;
         items = tally.items;
         capacity = tally.capacity;
+        closed = tally.closed;
         effects = tally.effects;
         places = tally.places;
         numbered = λ to. numbered_apart (p to) (q to) (count_of_kind es b (kind_on to)) u (line_of to lock.above) (nowhere to) (others to) (tally.numbered to);
@@ -536,6 +550,7 @@ start_tallied caps b (Some n) lock is at p =
       wide = length-map caps (λ (m : ℕ). no_items);
       items = items_none caps b.0;
       capacity = get_or_from_slice_get caps b.0 n 0 is;
+      closed = refl;
       effects = refl;
       places = λ side. start_places side;
       numbered = λ side. start_numbers side;

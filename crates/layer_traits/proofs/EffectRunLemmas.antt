@@ -3,7 +3,10 @@ use Rattle.std.proofs.Common.{◌≡◌, ℕ, ◌+◌, ◌<◌, ◌%◌, ◌^◌
 use Rattle.std.proofs.Common.{refl, ap, sym, ◌∙◌, subst, arith, count_by, add_comm}
 use Rattle.std.proofs.lemmas.List.{reverse-append}
 use Rattle.std.proofs.lemmas.List.Sums.{count_by-le-length, sum_by-cons, sum_by_push}
+use Rattle.std.specs.Prelude.{nat_lt, slice_index}
 use Rattle.event_log.specs.declared.entries.Entry.{Entry}
+use Rattle.event_log.specs.declared.entries.Kind.TheVariants.{Close}
+use Rattle.event_log.specs.Buffers.{IsAllowedEffect, items_of}
 use Rattle.event_log.specs.Runs.{IsNext, IsRun, after_entry, count_of, count_of_kind, kind_eq}
 use Rattle.event_log.proofs.RunLemmas.{run_more, run_none}
 use Rattle.layer_traits.specs.BufferEffects.{contents_of}
@@ -34,7 +37,8 @@ effects_are_run caps (e ∷ es) lawful few =
     let fewer : length es < 2 ^ 64 = omega (arith, few) in
     let next : IsNext caps (reverse es) (contents_of caps es) e = record {
       known = lawful.0.known;
-      allowed = lawful.0.allowed;
+      allowed = subst (λ closed. IsAllowedEffect e.kind closed (slice_index caps e.buffer.0) (items_of (contents_of caps es) e.buffer.0) e.value)
+          (ap (nat_lt 0) (sym (count_reversed (λ (x : Entry). (x.buffer.0 == e.buffer.0) && kind_eq x.kind Close) es))) lawful.0.allowed;
       op = counted_exactly (λ (x : Entry). x.buffer.0 == e.buffer.0) es e.op fewer lawful.0.op;
       pos = counted_exactly (λ (x : Entry). (x.buffer.0 == e.buffer.0) && kind_eq x.kind e.kind) es e.pos fewer lawful.0.pos;
     } in

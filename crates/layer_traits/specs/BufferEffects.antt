@@ -12,7 +12,7 @@ use Rattle.event_log.specs.declared.ids.Tid.{Tid}
 use Rattle.event_log.specs.Buffers.{IsAllowedEffect, empty_buffers, items_of}
 use Rattle.event_log.specs.History.{same_lock}
 use Rattle.event_log.specs.Messages.{Message}
-use Rattle.event_log.specs.Runs.{after_entry, count_of, count_of_kind}
+use Rattle.event_log.specs.Runs.{after_entry, count_of, count_of_kind, is_closed}
 use Rattle.layer_traits.specs.declared.locked.QEdit.TheVariants.{Acquire, Inside, Release}
 use Rattle.layer_traits.specs.declared.locked.Side.{Side}
 use Rattle.layer_traits.specs.declared.locked.Side.TheVariants.{Receivers, Senders}
@@ -90,10 +90,10 @@ contents_of caps [] = empty_buffers caps
 contents_of caps (e ∷ past) = after_entry (contents_of caps past) e
 
 -- an effect may come after these: its buffer is there and allows it, its op is the number of earlier effects on that buffer, and its
--- pos the number of those of its kind
+-- pos the number of those that are counted with its kind
 pub record MayTakeEffect (caps : List ℕ) (past : List Entry) (e : Entry) : Type 0 where
   pub known : e.buffer.0 < length caps
-  pub allowed : IsAllowedEffect e.kind (slice_index caps e.buffer.0) (items_of (contents_of caps past) e.buffer.0) e.value
+  pub allowed : IsAllowedEffect e.kind (is_closed past e.buffer.0) (slice_index caps e.buffer.0) (items_of (contents_of caps past) e.buffer.0) e.value
   pub op : e.op ≡ count_of past e.buffer.0 % 2 ^ 64
   pub pos : e.pos ≡ count_of_kind past e.buffer.0 e.kind % 2 ^ 64
 

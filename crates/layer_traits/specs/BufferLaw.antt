@@ -10,6 +10,7 @@ use Rattle.event_log.specs.declared.ids.CpuId.{CpuId}
 use Rattle.event_log.specs.declared.ids.Tid.{Tid}
 use Rattle.event_log.specs.declared.ids.TheConstants.{THREADS}
 use Rattle.event_log.specs.Buffers.{IsAllowedEffect, items_of}
+use Rattle.event_log.specs.Runs.{is_closed}
 use Rattle.event_log.specs.History.{AreForeign}
 use Rattle.event_log.specs.Messages.{Message}
 use Rattle.layer_traits.specs.declared.locked.QEdit.TheVariants.{Acquire, Inside, Release}
@@ -197,9 +198,9 @@ pub record RunsOn {A : Type 0} (t : Tid) (own left : Threads) (answer : Option A
 
 -- why a machine that does a whole call in one poll answers nothing: the buffer allows the call no effect
 abbrev pub IsRefused : Call → List ℕ → List Entry → Type 0
-IsRefused (Send b m) caps past = IsAllowedEffect kind.Send (slice_index caps b.0) (items_of (contents_of caps past) b.0) m → ⊥
+IsRefused (Send b m) caps past = IsAllowedEffect kind.Send (is_closed past b.0) (slice_index caps b.0) (items_of (contents_of caps past) b.0) m → ⊥
 IsRefused (Recv b) caps past =
-    (m : Message) → IsAllowedEffect kind.Recv (slice_index caps b.0) (items_of (contents_of caps past) b.0) m → ⊥
+    (m : Message) → IsAllowedEffect kind.Recv (is_closed past b.0) (slice_index caps b.0) (items_of (contents_of caps past) b.0) m → ⊥
 
 -- a CPU's own state: that of its conditions, and the talk of each thread
 pub record Buffering : Type 0 where

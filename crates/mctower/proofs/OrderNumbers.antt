@@ -1,5 +1,6 @@
 -- The order of a system's traces has a spelling: there are few entries, and their numbers are in range.
-use Rattle.std.proofs.Common.{◌≡◌, ℕ, zero, suc, ◌+◌, ◌<◌, ◌≤◌, List, [], ◌∷◌, ◌++◌, length, set, get_or, Some, refl, sym, ap, ◌∙◌, subst, arith, inl, inr}
+use Rattle.std.proofs.Common.{◌≡◌, ℕ, zero, suc, ◌+◌, ◌<◌, ◌≤◌, ◌^◌, Bool, List, [], ◌∷◌, ◌++◌, length, set, get_or, Some, refl, sym, ap, ◌∙◌}
+use Rattle.std.proofs.Common.{subst, arith, inl, inr}
 use Rattle.std.specs.Prelude.{slice_get, ◌==◌, ◌&&◌}
 use Rattle.std.specs.List.{AllByRecursion, sum_by}
 use Rattle.std.proofs.lemmas.List.{length-set, length_push}
@@ -8,9 +9,11 @@ use Rattle.std.proofs.lemmas.Option.{slice_get_within, get_or_from_slice_get}
 use Rattle.event_log.specs.declared.entries.Entry.{Entry}
 use Rattle.event_log.specs.Runs.{kind_eq, IsNext, IsRunFrom, after_entry}
 use Rattle.event_log.specs.Traces.{IsInterleaving}
-use Rattle.event_log.specs.Buffers.{items_of, empty_buffers, after_effect}
+use Rattle.event_log.specs.Buffers.{IsAllowedEffect, items_of, empty_buffers, after_effect}
 use Rattle.event_log.specs.declared.entries.Kind.{Kind}
-use Rattle.event_log.specs.declared.entries.Kind.TheVariants.{Send, Recv}
+use Rattle.event_log.specs.declared.entries.Kind.TheVariants.{Send, Recv, Close, SendClosed, RecvClosed}
+use Rattle.event_log.specs.Messages.{Message}
+use Rattle.tracer.specs.TraceText.{IsValueOf}
 use Rattle.mctower.proofs.ListLemmas.{get_set}
 
 -- where all traces are used up, they hold nothing together
@@ -45,17 +48,27 @@ order_all P traces (e ∷ order) each keeps =
           keeps.3,
     )
 
--- the numbers of a run's entries are below any number that is not below its length
+-- the message of an allowed effect is one of its kind
+value_allowed : (kind : Kind) (closed : Bool) (capacity : ℕ) (items : List Message) (value : Message) → IsAllowedEffect kind closed capacity items value
+    → value < 2 ^ 64 → IsValueOf kind value
+value_allowed Send closed capacity items value allowed small = small
+value_allowed Recv closed capacity items value allowed small = small
+value_allowed Close closed capacity items value allowed small = allowed
+value_allowed SendClosed closed capacity items value allowed small = small
+value_allowed RecvClosed closed capacity items value allowed small = allowed.2
+
+-- the numbers of a run's entries are below any number that is not below its length, and their messages are of their kinds
 pub run_numbers : (n : ℕ) (caps : List ℕ) (earlier : List Entry) (contents : List (List ℕ)) (es : List Entry) (left : List (List ℕ))
     → length earlier + length es ≤ n → IsRunFrom caps earlier contents es left
-    → AllByRecursion (λ e. (e.buffer.0 < length caps) × (e.op < n) × (e.pos < n)) es
+    → AllByRecursion (λ e. (e.buffer.0 < length caps) × (e.op < n) × (e.pos < n) × (e.value < 2 ^ 64 → IsValueOf e.kind e.value)) es
 run_numbers n caps earlier contents [] left few run = tt
 run_numbers n caps earlier contents (e ∷ es) left few run =
     let is : IsNext caps earlier contents e = run.0 in
     let op : e.op ≤ length earlier = omega (arith, is.op, count_by-le-length (λ (x : Entry). x.buffer.0 == e.buffer.0) earlier) in
     let pos : e.pos ≤ length earlier = omega (arith, is.pos, count_by-le-length (λ (x : Entry). (x.buffer.0 == e.buffer.0) && kind_eq x.kind e.kind) earlier) in
     let fits : length (earlier ++ e ∷ []) + length es ≤ n = rw length_push (omega arith) in
-    ((is.known, omega arith, omega arith), run_numbers n caps (earlier ++ e ∷ []) (after_entry contents e) es left fits run.1)
+    ((is.known, omega arith, omega arith, value_allowed e.kind _ _ _ e.value is.allowed), run_numbers n caps (earlier ++ e ∷ [])
+    (after_entry contents e) es left fits run.1)
 
 -- what holds of the values of a run's entries holds of what the buffers hold
 push_all : (P : ℕ → Type 0) (xs : List ℕ) (x : ℕ) → AllByRecursion P xs → P x → AllByRecursion P (xs ++ x ∷ [])
@@ -66,6 +79,9 @@ effect_all : (P : ℕ → Type 0) (kind : Kind) (items : List ℕ) (value : ℕ)
 effect_all P Send items value all here = push_all P items value all here
 effect_all P Recv [] value all here = tt
 effect_all P Recv (x ∷ items) value all here = all.1
+effect_all P Close items value all here = all
+effect_all P SendClosed items value all here = all
+effect_all P RecvClosed items value all here = all
 
 items_all : (P : ℕ → Type 0) (contents : List (List ℕ)) (b : ℕ) → AllByRecursion (λ items. AllByRecursion P items) contents
     → AllByRecursion P (items_of contents b)

@@ -15,7 +15,7 @@ use Rattle.boot.specs.Plan.{BootPlan, IsPlan}
 use Rattle.tracer.specs.declared.gathering.GatherError.{GatherError}
 use Rattle.tracer.specs.declared.gathering.GatherError.TheVariants as gathering
 use Rattle.tracer.specs.Gather.{IsOrder, TakesFirstReady, HasNoOrder}
-use Rattle.tracer.specs.TraceText.{IsSpellable, IsEntryOf, spelling}
+use Rattle.tracer.specs.TraceText.{IsSpellable, IsEntryOf, IsValueOf, spelling}
 use Rattle.tracer.specs.Sinks.{Outs}
 use Rattle.tracer.proofs.OrderLemmas.{runs_have_order, run_alike}
 use Rattle.layer_traits.specs.Places.{home_of}
@@ -64,11 +64,11 @@ limit_at plan s k p of at =
     replicated plan.cpus k plan.trace p.limit (ap (λ l. slice_get l k) (sym of.limits) ∙ get_mapped (λ (x : CpuShown). x.limit) s.cpus k p at)
 
 in_range : (buffers : ℕ) (es : List Entry) → AllByRecursion (λ e. (e.cpu.0 < CPUS) × (e.thread.0 < THREADS)) es
-    → AllByRecursion (λ e. (e.buffer.0 < buffers) × (e.op < ENTRIES) × (e.pos < ENTRIES)) es
+    → AllByRecursion (λ e. (e.buffer.0 < buffers) × (e.op < ENTRIES) × (e.pos < ENTRIES) × (e.value < 2 ^ 64 → IsValueOf e.kind e.value)) es
     → AllByRecursion (λ e. e.value < 2 ^ 64) es → AllByRecursion (IsEntryOf buffers) es
 in_range buffers [] own numbers values = tt
 in_range buffers (e ∷ es) own numbers values = (
-  record { cpu = own.0.0; thread = own.0.1; buffer = numbers.0.0; value = values.0; op = numbers.0.1; pos = numbers.0.2 },
+  record { cpu = own.0.0; thread = own.0.1; buffer = numbers.0.0; value = numbers.0.3 values.0; op = numbers.0.1; pos = numbers.0.2 },
   in_range buffers es own.1 numbers.1 values.1,
 )
 
@@ -100,7 +100,8 @@ has_spelling plan s order within of fits stay keeps run values left =
     let here : k < CPUS = (let lt = slice_get_within s.cpus k at_cpu.0 at_cpu.1 in let cpus = of.cpus in let most = within.most_cpus in omega arith) in
     own_range s.homes k threads here trace
     (subst (λ (l : List Entry). AllByRecursion (IsOfHome s.homes (record { 0 = k })) l) at_cpu.2 (stay k at_cpu.0 at_cpu.1))) keeps in
-    let numbers : AllByRecursion (λ (e : Entry). (e.buffer.0 < length plan.caps) × (e.op < ENTRIES) × (e.pos < ENTRIES)) order =
+    let numbers : AllByRecursion (λ (e : Entry). (e.buffer.0 < length plan.caps) × (e.op < ENTRIES) × (e.pos < ENTRIES)
+    × (e.value < 2 ^ 64 → IsValueOf e.kind e.value)) order =
     run_numbers ENTRIES plan.caps [] (empty_buffers plan.caps) order s.contents (omega arith) run in
     record {
       some_buffer = within.caps.some;

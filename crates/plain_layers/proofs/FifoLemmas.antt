@@ -377,7 +377,8 @@ module _ (opening : LockId → Option (QueueBlock PlainLocked)) (c : CpuId) (b :
           by_room : (y : Bool) → allows Senders x ≡ y → (told_if y m Senders x).effect ≡ None → IsRefused (Send at m) (caps_in (inner opening)) es
           by_room true allowed nothing = absurd (cc nothing)
           by_room false full nothing = λ room.
-              let here = subst (λ k. length (items_of (contents_of (caps_in (inner opening)) es) k) < slice_index (caps_in (inner opening)) k) (sym is) room in
+              let here = subst (λ k. length (items_of (contents_of (caps_in (inner opening)) es) k) < slice_index (caps_in (inner opening)) k)
+              (sym is) room.1 in
               let low : length x.items < x.capacity = subst₂ (λ (l : List Message) (n : ℕ). length l < n) tally.items tally.capacity here in
               let yes : allows Senders x ≡ true = lt-ltb (length x.items) x.capacity low in
               absurd (cc (yes, full))

@@ -1,6 +1,7 @@
 -- What a buffer tells of its effects; so each effect may come after those before it.
 use Rattle.std.proofs.Common.{◌≡◌, ℕ, ◌+◌, ◌<◌, ◌%◌, ◌^◌, Bool, true, false, ◌&&◌, ◌==◌, List, [], ◌∷◌, ◌++◌, length, drop, Option, Some, None}
 use Rattle.std.proofs.Common.{option_map, option_to_list, slice_get, slice_index, slice_set, if◌then◌else◌, refl, ap, sym, ◌∙◌, subst, arith}
+use Rattle.std.specs.Prelude.{nat_lt}
 use Rattle.std.proofs.lemmas.Bool.{eqb-false, eqb-true, ltb-true, ne_eqb}
 use Rattle.std.proofs.lemmas.List.{get_or-set_other, get_or-set_same, length-map, length-set}
 use Rattle.std.proofs.lemmas.Option.{get_or_from_slice_get, slice_get_within}
@@ -15,7 +16,7 @@ use Rattle.event_log.specs.declared.ids.Tid.{Tid}
 use Rattle.event_log.specs.Buffers.{after_effect, items_of}
 use Rattle.event_log.specs.History.{IsLawful}
 use Rattle.event_log.specs.Messages.{Message}
-use Rattle.event_log.specs.Runs.{count_of, count_of_kind, kind_eq}
+use Rattle.event_log.specs.Runs.{count_of, count_of_kind, is_closed, kind_eq}
 use Rattle.event_log.specs.Sections.{Section}
 use Rattle.event_log.proofs.RunLemmas.{count_cons, counts_here, items_none, kind_cons, kinds_here}
 use Rattle.layer_traits.specs.declared.calls.Effect.{Effect}
@@ -30,12 +31,13 @@ use Rattle.plain_layers.specs.declared.attempts.Tried.{Tried}
 use Rattle.plain_layers.specs.Attempts.{PlainState, allows, attempted, attempts, done, effect_at, told, waits, wakes}
 use Rattle.plain_layers.specs.Fifos.{PlainLocked, effect_by, entries_in, entry_at, fresh_buffer, fresh_buffers, locked_after}
 
--- a buffer tells its effects: the items are what they leave, and the counters their numbers
+-- a buffer tells its effects: the items are what they leave, and the counters their numbers; none has closed it
 pub record Tally (caps : List ℕ) (b : ℕ) (es : List Entry) (x : PlainState) : Type 0 where
   pub known : b < length caps
   pub wide : length (contents_of caps es) ≡ length caps
   pub items : items_of (contents_of caps es) b ≡ x.items
   pub capacity : slice_index caps b ≡ x.capacity
+  pub closed : is_closed es b ≡ false
   pub effects : x.effects ≡ count_of es b % 2 ^ 64
   pub sends : x.sends ≡ count_of_kind es b kind.Send % 2 ^ 64
   pub receives : x.receives ≡ count_of_kind es b kind.Recv % 2 ^ 64
@@ -53,6 +55,7 @@ module _ (caps : List ℕ) (b : ℕ) (es : List Entry) where
         wide = length-set (contents_of caps es) e.buffer.0 _ ∙ tally.wide;
         items = get_or-set_other (contents_of caps es) e.buffer.0 b _ [] (λ at. eqb-false e.buffer.0 b other (sym at)) ∙ tally.items;
         capacity = tally.capacity;
+        closed = ap (nat_lt 0) (kinds kind.Close) ∙ tally.closed;
         effects = tally.effects ∙ ap (λ n. n % 2 ^ 64) (sym count);
         sends = tally.sends ∙ ap (λ n. n % 2 ^ 64) (sym (kinds kind.Send));
         receives = tally.receives ∙ ap (λ n. n % 2 ^ 64) (sym (kinds kind.Recv));
@@ -65,6 +68,7 @@ module _ (caps : List ℕ) (b : ℕ) (es : List Entry) where
     wide = tally.wide;
     items = tally.items;
     capacity = tally.capacity;
+    closed = tally.closed;
     effects = tally.effects;
     sends = tally.sends;
     receives = tally.receives;
@@ -74,6 +78,7 @@ module _ (caps : List ℕ) (b : ℕ) (es : List Entry) where
     wide = tally.wide;
     items = tally.items;
     capacity = tally.capacity;
+    closed = tally.closed;
     effects = tally.effects;
     sends = tally.sends;
     receives = tally.receives;
@@ -84,7 +89,7 @@ module _ (caps : List ℕ) (b : ℕ) (es : List Entry) where
       → MayTakeEffect caps es (entry_of c t at (effect_at m side x))
   may c t at here m Senders x allowed tally =
       let room : length x.items < x.capacity = ltb-true (length x.items) x.capacity allowed in
-      rw here (record { known = tally.known; allowed = rw (tally.items, tally.capacity) room; op = tally.effects; pos = tally.sends })
+      rw here (record { known = tally.known; allowed = (tally.closed, rw (tally.items, tally.capacity) room); op = tally.effects; pos = tally.sends })
   may c t at here m Receivers x allowed tally =
       let some : 0 < length x.items = ltb-true 0 (length x.items) allowed in
       rw here (record {
@@ -106,6 +111,7 @@ module _ (caps : List ℕ) (b : ℕ) (es : List Entry) where
         ∙ ap (λ k. after_effect k (items_of (contents_of caps es) e.buffer.0) e.value) sends
         ∙ ap (λ i. items_of (contents_of caps es) i ++ e.value ∷ []) here ∙ ap (λ l. l ++ e.value ∷ []) tally.items ∙ ap (λ w. x.items ++ w ∷ []) value;
     capacity = tally.capacity;
+    closed = ap (nat_lt 0) none_closed ∙ tally.closed;
     effects = one_more x.effects (count_of es b) tally.effects ∙ ap (λ n. n % 2 ^ 64) (sym (counts_here e es b here));
     sends = one_more x.sends (count_of_kind es b kind.Send) tally.sends ∙ ap (λ n. n % 2 ^ 64) (sym sent);
     receives = tally.receives ∙ ap (λ n. n % 2 ^ 64) (sym received);
@@ -116,6 +122,10 @@ module _ (caps : List ℕ) (b : ℕ) (es : List Entry) where
 
       wide : length (contents_of caps es) ≡ length caps
       wide = tally.wide
+
+      none_closed : count_of_kind (e ∷ es) b kind.Close ≡ count_of_kind es b kind.Close
+      none_closed = kinds_here e es b kind.Close here ∙ ap (λ k. (if kind_eq k kind.Close then 1 else 0) + count_of_kind es b kind.Close) sends
+          ∙ omega arith
 
       sent : count_of_kind (e ∷ es) b kind.Send ≡ count_of_kind es b kind.Send + 1
       sent = kinds_here e es b kind.Send here ∙ ap (λ k. (if kind_eq k kind.Send then 1 else 0) + count_of_kind es b kind.Send) sends ∙ omega arith
@@ -130,6 +140,7 @@ module _ (caps : List ℕ) (b : ℕ) (es : List Entry) where
         ∙ ap (λ k. after_effect k (items_of (contents_of caps es) e.buffer.0) e.value) takes
         ∙ ap (λ i. drop 1 (items_of (contents_of caps es) i)) here ∙ ap (λ l. drop 1 l) tally.items ∙ drop_one x.items;
     capacity = tally.capacity;
+    closed = ap (nat_lt 0) none_closed ∙ tally.closed;
     effects = one_more x.effects (count_of es b) tally.effects ∙ ap (λ n. n % 2 ^ 64) (sym (counts_here e es b here));
     sends = tally.sends ∙ ap (λ n. n % 2 ^ 64) (sym sent);
     receives = one_more x.receives (count_of_kind es b kind.Recv) tally.receives ∙ ap (λ n. n % 2 ^ 64) (sym received);
@@ -140,6 +151,10 @@ module _ (caps : List ℕ) (b : ℕ) (es : List Entry) where
 
       wide : length (contents_of caps es) ≡ length caps
       wide = tally.wide
+
+      none_closed : count_of_kind (e ∷ es) b kind.Close ≡ count_of_kind es b kind.Close
+      none_closed = kinds_here e es b kind.Close here ∙ ap (λ k. (if kind_eq k kind.Close then 1 else 0) + count_of_kind es b kind.Close) takes
+          ∙ omega arith
 
       received : count_of_kind (e ∷ es) b kind.Recv ≡ count_of_kind es b kind.Recv + 1
       received = kinds_here e es b kind.Recv here ∙ ap (λ k. (if kind_eq k kind.Recv then 1 else 0) + count_of_kind es b kind.Recv) takes ∙ omega arith
@@ -193,6 +208,7 @@ start_told caps b (Some n) state is at =
       wide = length-map caps (λ (m : ℕ). no_items);
       items = items_none caps b.0;
       capacity = get_or_from_slice_get caps b.0 n 0 is;
+      closed = refl;
       effects = refl;
       sends = refl;
       receives = refl;

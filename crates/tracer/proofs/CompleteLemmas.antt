@@ -11,9 +11,14 @@ use Rattle.event_log.specs.Buffers.{items_of, empty_buffers, after_effect, IsCap
 use Rattle.event_log.specs.Runs.{after_entry, IsRunFrom, IsRun}
 use Rattle.tracer.specs.declared.next_lines.NextLine.TheVariants as wants
 use Rattle.tracer.specs.declared.verdicts.Verdict.TheVariants.{Yes}
-use Rattle.tracer.specs.TraceText.{line_of, head_pieces, count_pieces, cap_pieces, entry_pieces, left_pieces, end_pieces, numbered, lines_of, spelling}
+use Rattle.tracer.specs.TraceText.{line_of, version_word, head_pieces, count_pieces, cap_pieces, entry_pieces, left_pieces, end_pieces}
+use Rattle.tracer.specs.TraceText.{numbered, lines_of, spelling}
 use Rattle.tracer.specs.TraceText.{IsEntryOf, IsSpellable, IsTraceText, AreSmall}
 use Rattle.tracer.specs.Judging.{Progress, opening, step, lines_in, verdict_from, verdict_of}
+use Rattle.tracer.specs.declared.versions.Version.{Version}
+use Rattle.tracer.specs.declared.versions.Version.TheVariants.{One, Two}
+use Rattle.tracer.specs.Versions.{covers, version_from, version_of}
+use Rattle.tracer.proofs.VersionLemmas.{covers_itself, covers_next, version_more}
 use Rattle.tracer.proofs.SplitLemmas.{IsLine, line_read}
 use Rattle.tracer.proofs.KnownLemmas.{known_fresh_from}
 use Rattle.tracer.proofs.EntryLemmas.{progress, behind_e}
@@ -24,8 +29,9 @@ use Rattle.tracer.proofs.OpeningLemmas.{step_head, step_end, count_is_line_of, s
 end_is_line : IsLine end_pieces
 end_is_line = record { spaces = ((refl, (refl, (refl, tt))), tt); feeds = ((refl, (refl, (refl, tt))), tt) }
 
-complete_end : (s : Progress) (n : ℕ) → s.at ≡ wants.End → verdict_from s n (lines_in (flat_map line_of (end_pieces ∷ []))) ≡ Yes
-complete_end s n at = line_read s (record s { at = wants.Done }) n (codes "end") [] [] end_is_line (step_end s at)
+complete_end : (s : Progress) (n : ℕ) → s.at ≡ wants.End → covers s.lowest s.version ≡ true
+    → verdict_from s n (lines_in (flat_map line_of (end_pieces ∷ []))) ≡ Yes
+complete_end s n at low = line_read s (record s { at = wants.Done }) n (codes "end") [] [] end_is_line (step_end s at low)
 
 -- what is left of a buffer, and of those behind it
 first_of : (contents : List (List Message)) (b : ℕ) (x : List ℕ) (xs : List (List ℕ)) → drop b contents ≡ x ∷ xs → items_of contents b ≡ x
@@ -36,85 +42,98 @@ first_of contents b x xs e =
 behind_first : (contents : List (List Message)) (b : ℕ) (x : List ℕ) (xs : List (List ℕ)) → drop b contents ≡ x ∷ xs → drop (b + 1) contents ≡ xs
 behind_first contents b x xs e = sym (drop-drop 1 b contents) ∙ ap (λ (t : List (List ℕ)). drop 1 t) e
 
-complete_left : (caps : List ℕ) (earlier : List Entry) (contents : List (List Message)) (s : Progress) (b n : ℕ) (x : List ℕ) (xs : List (List ℕ))
+complete_left : (v : Version) (caps : List ℕ) (earlier : List Entry) (contents : List (List Message)) (s : Progress) (b n : ℕ) (x : List ℕ) (xs : List (List ℕ))
     → length contents ≡ length caps → length caps ≤ BUFFERS → b < length caps → drop b contents ≡ x ∷ xs → AllByRecursion AreSmall (x ∷ xs)
-    → step s (join_with_byte 32 (left_pieces b (items_of contents b))) ≡ Ok (progress (behind_left b caps) caps earlier contents)
+    → covers (version_of earlier) v ≡ true
+    → step s (join_with_byte 32 (left_pieces b (items_of contents b))) ≡ Ok (progress v (behind_left b caps) caps earlier contents)
     → verdict_from s n (lines_in (flat_map line_of (numbered left_pieces b (x ∷ xs) ++ end_pieces ∷ []))) ≡ Yes
-complete_left caps earlier contents s b n x [] long few inside rest small taken =
+complete_left v caps earlier contents s b n x [] long few inside rest small low taken =
     let here = first_of contents b x [] rest in
     let last : (b + 1 ≡ length caps) = omega (arith, ap length rest, length-drop b contents) in
     let stops : nat_lt (b + 1) (length caps) ≡ false = le-ltb (b + 1) (length caps) (omega arith) in
-    let next : step s (join_with_byte 32 (left_pieces b x)) ≡ Ok (progress wants.End caps earlier contents) =
-    subst (λ (t : List ℕ). step s (join_with_byte 32 (left_pieces b t)) ≡ Ok (progress wants.End caps earlier contents)) here (taken ∙ rw stops refl) in
+    let next : step s (join_with_byte 32 (left_pieces b x)) ≡ Ok (progress v wants.End caps earlier contents) =
+    subst (λ (t : List ℕ). step s (join_with_byte 32 (left_pieces b t)) ≡ Ok (progress v wants.End caps earlier contents)) here (taken ∙ rw stops refl) in
     let fits : b < 2 ^ 64 = omega arith in
-    line_read s (progress wants.End caps earlier contents) n (codes "left") _ (flat_map line_of (end_pieces ∷ [])) (left_is_line b x fits small.0) next
-    ∙ complete_end (progress wants.End caps earlier contents) (n + 1) refl
-complete_left caps earlier contents s b n x (y ∷ ys) long few inside rest small taken =
+    line_read s (progress v wants.End caps earlier contents) n (codes "left") _ (flat_map line_of (end_pieces ∷ [])) (left_is_line b x fits small.0) next
+    ∙ complete_end (progress v wants.End caps earlier contents) (n + 1) refl low
+complete_left v caps earlier contents s b n x (y ∷ ys) long few inside rest small low taken =
     let here = first_of contents b x (y ∷ ys) rest in
     let more : (b + 1 < length caps) = omega (arith, ap length rest, length-drop b contents) in
     let goes : nat_lt (b + 1) (length caps) ≡ true = lt-ltb (b + 1) (length caps) more in
-    let s' = progress (wants.Contents (b + 1)) caps earlier contents in
+    let s' = progress v (wants.Contents (b + 1)) caps earlier contents in
     let next : step s (join_with_byte 32 (left_pieces b x)) ≡ Ok s' =
     subst (λ (t : List ℕ). step s (join_with_byte 32 (left_pieces b t)) ≡ Ok s') here (taken ∙ rw goes refl) in
     let behind = behind_first contents b x (y ∷ ys) rest in
     let fits : b < 2 ^ 64 = omega arith in
     let following : AreSmall (items_of contents (b + 1)) = subst AreSmall (sym (first_of contents (b + 1) y ys behind)) small.1.0 in
     line_read s s' n (codes "left") _ (flat_map line_of (numbered left_pieces (b + 1) (y ∷ ys) ++ end_pieces ∷ [])) (left_is_line b x fits small.0) next
-    ∙ complete_left caps earlier contents s' (b + 1) (n + 1) y ys long few more behind small.1 (step_left (b + 1) caps earlier contents more few following)
+    ∙ complete_left v caps earlier contents s' (b + 1) (n + 1) y ys long few more behind small.1 low (step_left v
+    (b + 1) caps earlier contents more few following)
 
 -- the entries
-complete_first : (caps : List ℕ) (earlier : List Entry) (contents left : List (List Message)) (n : ℕ) → contents ≡ left → length contents ≡ length caps
-    → 1 ≤ length caps → length caps ≤ BUFFERS → AllByRecursion AreSmall left
-    → verdict_from (progress wants.Entries caps earlier contents) n (lines_in (flat_map line_of (numbered left_pieces 0 left ++ end_pieces ∷ []))) ≡ Yes
-complete_first caps earlier contents [] n same long some few small = absurd (omega (arith, ap length same))
-complete_first caps earlier contents (x ∷ xs) n same long some few small =
+complete_first : (v : Version) (caps : List ℕ) (earlier : List Entry) (contents left : List (List Message)) (n : ℕ) → contents ≡ left
+    → length contents ≡ length caps
+    → 1 ≤ length caps → length caps ≤ BUFFERS → AllByRecursion AreSmall left → v ≡ version_of earlier
+    → verdict_from (progress v wants.Entries caps earlier contents) n (lines_in (flat_map line_of (numbered left_pieces 0 left ++ end_pieces ∷ []))) ≡ Yes
+complete_first v caps earlier contents [] n same long some few small lowest = absurd (omega (arith, ap length same))
+complete_first v caps earlier contents (x ∷ xs) n same long some few small lowest =
     let inside : 0 < length caps = omega arith in
     let first : AreSmall (items_of contents 0) = subst AreSmall (sym (first_of contents 0 x xs same)) small.0 in
-    complete_left caps earlier contents (progress wants.Entries caps earlier contents) 0 n x xs long few inside same small
-    (step_first_left caps earlier contents inside first)
+    let low : covers (version_of earlier) v ≡ true = rw lowest (covers_itself (version_of earlier)) in
+    complete_left v caps earlier contents (progress v wants.Entries caps earlier contents) 0 n x xs long few inside same small low
+    (step_first_left v caps earlier contents inside first)
 
-pub complete_entries : (caps : List ℕ) (earlier : List Entry) (contents : List (List Message)) (es : List Entry) (left : List (List Message)) (n : ℕ)
+pub complete_entries : (v : Version) (caps : List ℕ) (earlier : List Entry) (contents : List (List Message)) (es : List Entry) (left : List (List Message))
+    (n : ℕ)
     → IsRunFrom caps earlier contents es left → AllByRecursion (IsEntryOf (length caps)) es → length earlier + length es ≤ ENTRIES
-    → length contents ≡ length caps → 1 ≤ length caps → length caps ≤ BUFFERS → AllByRecursion AreSmall left
-    → verdict_from (progress wants.Entries caps earlier contents) n
+    → length contents ≡ length caps → 1 ≤ length caps → length caps ≤ BUFFERS → AllByRecursion AreSmall left → v ≡ version_from (version_of earlier) es
+    → verdict_from (progress v wants.Entries caps earlier contents) n
     (lines_in (flat_map line_of (map entry_pieces es ++ (numbered left_pieces 0 left ++ end_pieces ∷ [])))) ≡ Yes
-complete_entries caps earlier contents [] left n run each room long some few small = complete_first caps earlier contents left n run long some few small
-complete_entries caps earlier contents (e ∷ es) left n run each room long some few small =
+complete_entries v caps earlier contents [] left n run each room long some few small lowest =
+    complete_first v caps earlier contents left n run long some few small lowest
+complete_entries v caps earlier contents (e ∷ es) left n run each room long some few small lowest =
     let here : length earlier < ENTRIES = omega arith in
     let after = after_entry contents e in
     let after_long : length after ≡ length caps = length-set contents e.buffer.0 (after_effect e.kind (items_of contents e.buffer.0) e.value) ∙ long in
     let less : length (earlier ++ e ∷ []) + length es ≤ ENTRIES = omega (arith, length_push earlier e) in
-    line_read (progress wants.Entries caps earlier contents) (progress wants.Entries caps (earlier ++ e ∷ []) after) n (codes "e") (behind_e e)
+    let high = rw (← lowest) at (covers_next (version_of earlier) e es) in
+    let onwards : v ≡ version_from (version_of (earlier ++ e ∷ [])) es = lowest ∙ ap (λ (u : Version). version_from u es) (sym (version_more earlier e)) in
+    line_read (progress v wants.Entries caps earlier contents) (progress v wants.Entries caps (earlier ++ e ∷ []) after) n (codes "e") (behind_e e)
     (flat_map line_of (map entry_pieces es ++ (numbered left_pieces 0 left ++ end_pieces ∷ []))) (entry_is_line (length caps) e few each.0)
-    (step_entry caps earlier contents e few here long each.0 run.0)
-    ∙ complete_entries caps (earlier ++ e ∷ []) after es left (n + 1) run.1 each.1 less after_long some few small
+    (step_entry v caps earlier contents e few here long each.0 high run.0)
+    ∙ complete_entries v caps (earlier ++ e ∷ []) after es left (n + 1) run.1 each.1 less after_long some few small onwards
 
 -- the capacities
-complete_caps : (count : ℕ) (caps more : List ℕ) (tail : List (List (List ℕ))) (n : ℕ) → 0 < length more → length caps + length more ≡ count → count ≤ BUFFERS
-    → AllByRecursion IsCapacity more → ((m : ℕ) → verdict_from (opened wants.Entries (caps ++ more)) m (lines_in (flat_map line_of tail)) ≡ Yes)
-    → verdict_from (opened (wants.Capacities count) caps) n (lines_in (flat_map line_of (numbered cap_pieces (length caps) more ++ tail))) ≡ Yes
-complete_caps count caps [] tail n some all few small behind = absurd (let z : 0 < 0 = some in omega arith)
-complete_caps count caps (k ∷ []) tail n some all few small behind =
+complete_caps : (v : Version) (count : ℕ) (caps more : List ℕ) (tail : List (List (List ℕ))) (n : ℕ) → 0 < length more → length caps + length more ≡ count
+    → count ≤ BUFFERS
+    → AllByRecursion IsCapacity more → ((m : ℕ) → verdict_from (opened v wants.Entries (caps ++ more)) m (lines_in (flat_map line_of tail)) ≡ Yes)
+    → verdict_from (opened v (wants.Capacities count) caps) n (lines_in (flat_map line_of (numbered cap_pieces (length caps) more ++ tail))) ≡ Yes
+complete_caps v count caps [] tail n some all few small behind = absurd (let z : 0 < 0 = some in omega arith)
+complete_caps v count caps (k ∷ []) tail n some all few small behind =
     let stops : nat_lt (length caps + 1) count ≡ false = le-ltb (length caps + 1) count (omega arith) in
-    let next = step_cap count caps k small.0 (omega arith) ∙ rw stops refl in
-    line_read (opened (wants.Capacities count) caps) (opened wants.Entries (caps ++ k ∷ [])) n (codes "cap") _ (flat_map line_of tail)
+    let next = step_cap v count caps k small.0 (omega arith) ∙ rw stops refl in
+    line_read (opened v (wants.Capacities count) caps) (opened v wants.Entries (caps ++ k ∷ [])) n (codes "cap") _ (flat_map line_of tail)
     (cap_is_line (length caps) k (omega arith) small.0) next ∙ behind (n + 1)
-complete_caps count caps (k ∷ j ∷ ks) tail n some all few small behind =
+complete_caps v count caps (k ∷ j ∷ ks) tail n some all few small behind =
     let goes : nat_lt (length caps + 1) count ≡ true = lt-ltb (length caps + 1) count (omega arith) in
-    let next = step_cap count caps k small.0 (omega arith) ∙ rw goes refl in
+    let next = step_cap v count caps k small.0 (omega arith) ∙ rw goes refl in
     let longer : length (caps ++ k ∷ []) ≡ length caps + 1 = length_push caps k in
-    let rest : (m : ℕ) → verdict_from (opened wants.Entries ((caps ++ k ∷ []) ++ (j ∷ ks))) m (lines_in (flat_map line_of tail)) ≡ Yes =
+    let rest : (m : ℕ) → verdict_from (opened v wants.Entries ((caps ++ k ∷ []) ++ (j ∷ ks))) m (lines_in (flat_map line_of tail)) ≡ Yes =
     λ m. rw append_assoc (behind m) in
     let others : 0 < length (j ∷ ks) = omega arith in
     let counted : length (caps ++ k ∷ []) + length (j ∷ ks) ≡ count = omega arith in
-    line_read (opened (wants.Capacities count) caps) (opened (wants.Capacities count) (caps ++ k ∷ [])) n (codes "cap")
+    line_read (opened v (wants.Capacities count) caps) (opened v (wants.Capacities count) (caps ++ k ∷ [])) n (codes "cap")
     _ (flat_map line_of (numbered cap_pieces (length caps + 1) (j ∷ ks) ++ tail)) (cap_is_line (length caps) k (omega arith) small.0) next
-    ∙ subst (λ (b : ℕ). verdict_from (opened (wants.Capacities count) (caps ++ k ∷ [])) (n + 1)
+    ∙ subst (λ (b : ℕ). verdict_from (opened v (wants.Capacities count) (caps ++ k ∷ [])) (n + 1)
     (lines_in (flat_map line_of (numbered cap_pieces b (j ∷ ks) ++ tail))) ≡ Yes) longer
-    (complete_caps count (caps ++ k ∷ []) (j ∷ ks) tail (n + 1) others counted few small.1 rest)
+    (complete_caps v count (caps ++ k ∷ []) (j ∷ ks) tail (n + 1) others counted few small.1 rest)
 
-head_is_line : IsLine head_pieces
-head_is_line = record {
+head_is_line : (v : Version) → IsLine (head_pieces v)
+head_is_line One = record {
+  spaces = ((refl, (refl, (refl, (refl, (refl, (refl, (refl, (refl, (refl, (refl, (refl, (refl, (refl, tt))))))))))))), ((refl, tt), tt));
+  feeds = ((refl, (refl, (refl, (refl, (refl, (refl, (refl, (refl, (refl, (refl, (refl, (refl, (refl, tt))))))))))))), ((refl, tt), tt));
+}
+head_is_line Two = record {
   spaces = ((refl, (refl, (refl, (refl, (refl, (refl, (refl, (refl, (refl, (refl, (refl, (refl, (refl, tt))))))))))))), ((refl, tt), tt));
   feeds = ((refl, (refl, (refl, (refl, (refl, (refl, (refl, (refl, (refl, (refl, (refl, (refl, (refl, tt))))))))))))), ((refl, tt), tt));
 }
@@ -123,21 +142,23 @@ complete_lines : (caps : List ℕ) (es : List Entry) (left : List (List Message)
     → verdict_from opening 1 (lines_in (spelling caps es left)) ≡ Yes
 unfolding spelling lines_of
 complete_lines caps es left fits run =
+    let v = version_of es in
+    let opens : Progress = record opening { at = wants.Count; version = v } in
     let tail = map entry_pieces es ++ (numbered left_pieces 0 left ++ end_pieces ∷ []) in
     let long : length (empty_buffers caps) ≡ length caps = length-map caps (λ (k : ℕ). []) in
     let room : length {A = Entry} [] + length es ≤ ENTRIES = (let h = fits.few_entries in omega arith) in
-    let entries : (m : ℕ) → verdict_from (opened wants.Entries caps) m (lines_in (flat_map line_of tail)) ≡ Yes = λ m.
+    let entries : (m : ℕ) → verdict_from (opened v wants.Entries caps) m (lines_in (flat_map line_of tail)) ≡ Yes = λ m.
     subst (λ (s : Progress). verdict_from s m (lines_in (flat_map line_of tail)) ≡ Yes)
-    (ap (λ buffers. record { at = wants.Entries; buffers = buffers; entries = 0 }) (known_fresh_from 0 caps caps))
-    (complete_entries caps [] (empty_buffers caps) es left m run fits.entries room long fits.some_buffer fits.few_buffers fits.values) in
+    (ap (λ buffers. record { at = wants.Entries; version = v; lowest = One; buffers = buffers; entries = 0 }) (known_fresh_from 0 caps caps))
+    (complete_entries v caps [] (empty_buffers caps) es left m run fits.entries room long fits.some_buffer fits.few_buffers fits.values refl) in
     let some : 0 < length caps = (let h = fits.some_buffer in omega arith) in
     let none : 0 + length caps ≡ length caps = omega arith in
-    line_read opening (record opening { at = wants.Count }) 1 (codes "mctower-trace") (codes "1" ∷ [])
-    (line_of (count_pieces (length caps)) ++ flat_map line_of (numbered cap_pieces 0 caps ++ tail)) head_is_line (step_head opening refl)
-    ∙ line_read (record opening { at = wants.Count }) (opened (wants.Capacities (length caps)) []) (1 + 1) (codes "buffers")
+    line_read opening opens 1 (codes "mctower-trace") (version_word v ∷ [])
+    (line_of (count_pieces (length caps)) ++ flat_map line_of (numbered cap_pieces 0 caps ++ tail)) (head_is_line v) (step_head v opening refl)
+    ∙ line_read opens (opened v (wants.Capacities (length caps)) []) (1 + 1) (codes "buffers")
     _ (flat_map line_of (numbered cap_pieces 0 caps ++ tail)) (count_is_line_of (length caps) fits.few_buffers)
-    (step_count (length caps) (record opening { at = wants.Count }) refl fits.some_buffer fits.few_buffers)
-    ∙ complete_caps (length caps) [] caps tail (1 + 1 + 1) some none fits.few_buffers fits.capacities entries
+    (step_count (length caps) opens refl fits.some_buffer fits.few_buffers)
+    ∙ complete_caps v (length caps) [] caps tail (1 + 1 + 1) some none fits.few_buffers fits.capacities entries
 
 pub complete : (text caps : List ℕ) (es : List Entry) (left : List (List Message)) → IsTraceText text caps es left → IsRun caps es left → verdict_of text ≡ Yes
 unfolding verdict_of

@@ -1,31 +1,42 @@
 -- Each line of a trace text is taken where it may stand, and a line that is taken is spelled so.
-use Rattle.std.proofs.Common.{◌-◌, ◌≡◌, ℕ, ◌<◌, ◌≤◌, ◌^◌, Bool, true, false, cond, List, [], ◌∷◌, length, Result, Ok, Err, refl, ap, subst, lit<, arith}
+use Rattle.std.proofs.Common.{◌-◌, ◌≡◌, ℕ, ◌<◌, ◌≤◌, ◌^◌, Bool, true, false, cond, List, [], ◌∷◌, length, Result, Ok, Err, refl, sym, ap}
+use Rattle.std.proofs.Common.{subst, lit<, arith}
 use Rattle.std.specs.Prelude.{decimal, codes}
 use Rattle.std.specs.Str.{bytes_eq}
 use Rattle.std.proofs.lemmas.Slice.Eq.{bytes_eq-Decides}
 use Rattle.event_log.specs.declared.ids.TheConstants.{CPUS, THREADS, BUFFERS, ENTRIES}
 use Rattle.event_log.specs.declared.entries.Kind.{Kind}
-use Rattle.event_log.specs.declared.entries.Kind.TheVariants.{Send, Recv}
+use Rattle.event_log.specs.declared.entries.Kind.TheVariants.{Send, Recv, Close, SendClosed, RecvClosed}
 use Rattle.event_log.specs.declared.entries.Entry.{Entry}
+use Rattle.event_log.specs.Messages.{Message, no_message}
 use Rattle.event_log.specs.Digits.{is_number}
 use Rattle.event_log.specs.Reading.{◌>>=◌}
 use Rattle.event_log.proofs.DigitsLemmas.{number_to-decimal}
 use Rattle.tracer.specs.declared.verdicts.Reason.{Reason}
 use Rattle.tracer.specs.declared.verdicts.Reason.TheVariants.{Spelling}
 use Rattle.tracer.specs.declared.next_lines.NextLine.{NextLine}
-use Rattle.tracer.specs.TraceText.{kind_word}
-use Rattle.tracer.specs.Judging.{Digits, Progress, wanted, piece_at, digits_at, ended, in_range, kind_in, entry_digits, entry_in}
-use Rattle.tracer.proofs.ReadLemmas.{bind_ok, same_ok, in_range_taken, decimal_is_number}
+use Rattle.tracer.specs.declared.versions.Version.{Version}
+use Rattle.tracer.specs.Versions.{covers, version_of_kind, version_of}
+use Rattle.tracer.specs.TraceText.{kind_word, value_piece, IsValueOf}
+use Rattle.tracer.specs.Judging.{Digits, Progress, wanted, piece_at, digits_at, ended, in_range, kind_in, spells_value, value_in, is_of_version}
+use Rattle.tracer.specs.Judging.{entry_digits, entry_in}
+use Rattle.tracer.proofs.ReadLemmas.{bind_ok, fine, same_ok, in_range_taken, decimal_is_number}
 use Rattle.tracer.proofs.KnownLemmas.{known_from}
 
--- behind the earlier entries
-abbrev pub progress : NextLine → List ℕ → List Entry → List (List ℕ) → Progress
-progress at caps earlier contents = record { at = at; buffers = known_from earlier contents 0 caps; entries = length earlier }
+-- behind the earlier entries, in a text of this version
+abbrev pub progress : Version → NextLine → List ℕ → List Entry → List (List ℕ) → Progress
+progress v at caps earlier contents = record {
+  at = at;
+  version = v;
+  lowest = version_of earlier;
+  buffers = known_from earlier contents 0 caps;
+  entries = length earlier;
+}
 
 -- ---- an entry
 
 abbrev pub behind_e : Entry → List (List ℕ)
-behind_e e = decimal e.cpu.0 ∷ decimal e.thread.0 ∷ kind_word e.kind ∷ decimal e.buffer.0 ∷ decimal e.value ∷ decimal e.op ∷ decimal e.pos ∷ []
+behind_e e = decimal e.cpu.0 ∷ decimal e.thread.0 ∷ kind_word e.kind ∷ decimal e.buffer.0 ∷ value_piece e.kind e.value ∷ decimal e.op ∷ decimal e.pos ∷ []
 
 abbrev pub digits_in : Entry → Digits
 digits_in e = record {
@@ -33,7 +44,7 @@ digits_in e = record {
   thread = decimal e.thread.0;
   kind = e.kind;
   buffer = decimal e.buffer.0;
-  value = decimal e.value;
+  value = value_piece e.kind e.value;
   op = decimal e.op;
   pos = decimal e.pos;
 }
@@ -41,17 +52,72 @@ digits_in e = record {
 kind_again : (kind : Kind) → kind_in (kind_word kind) ≡ Ok kind
 kind_again Send = refl
 kind_again Recv = refl
+kind_again Close = refl
+kind_again SendClosed = refl
+kind_again RecvClosed = refl
 
-kind_cases : (word : List ℕ) (sends receives : Bool) (kind : Kind) → bytes_eq word (codes "send") ≡ sends → bytes_eq word (codes "recv") ≡ receives
-    → cond sends (Ok Send) (cond receives (Ok Recv) (Err Spelling)) ≡ Ok kind → word ≡ kind_word kind
-kind_cases word true receives kind s r e = let same : Send ≡ kind = cc in
-    subst (λ (k : Kind). word ≡ kind_word k) same ((bytes_eq-Decides word (codes "send")).0 s)
-kind_cases word false true kind s r e = let same : Recv ≡ kind = cc in
-    subst (λ (k : Kind). word ≡ kind_word k) same ((bytes_eq-Decides word (codes "recv")).0 r)
-kind_cases word false false kind s r e = absurd (cc)
+-- one word of a choice of words
+word_or : (word : List ℕ) (is : Bool) (here kind : Kind) (others : Result Kind Reason) → bytes_eq word (kind_word here) ≡ is
+    → (others ≡ Ok kind → word ≡ kind_word kind) → cond is (Ok here) others ≡ Ok kind → word ≡ kind_word kind
+word_or word true here kind others is behind e =
+    let same : here ≡ kind = same_ok here kind e in
+    subst (λ (k : Kind). word ≡ kind_word k) same ((bytes_eq-Decides word (kind_word here)).0 is)
+word_or word false here kind others is behind e = behind e
+
+no_word : (word : List ℕ) (kind : Kind) → Err Spelling ≡ Ok kind → word ≡ kind_word kind
+no_word word kind e = absurd (cc)
 
 kind_taken : (word : List ℕ) (kind : Kind) → kind_in word ≡ Ok kind → word ≡ kind_word kind
-kind_taken word kind e = kind_cases word (bytes_eq word (codes "send")) (bytes_eq word (codes "recv")) kind refl refl e
+kind_taken word kind e =
+    word_or word (bytes_eq word (codes "send")) Send kind _ refl
+    (word_or word (bytes_eq word (codes "recv")) Recv kind _ refl
+    (word_or word (bytes_eq word (codes "close")) Close kind _ refl
+    (word_or word (bytes_eq word (codes "sendc")) SendClosed kind _ refl
+    (word_or word (bytes_eq word (codes "recvc")) RecvClosed kind _ refl (no_word word kind))))) e
+
+-- ---- the message of an entry
+
+-- what it says that the message of an entry was taken
+pub record ValueTaken (kind : Kind) (piece : List ℕ) (value : Message) : Type 0 where
+  pub spelled : piece ≡ value_piece kind value
+  pub fits : IsValueOf kind value
+
+number_taken : (piece : List ℕ) (value : Message) → in_range 18446744073709551615 piece ≡ Ok value → (piece ≡ decimal value) × (value < 2 ^ 64)
+number_taken piece value e =
+    let range = in_range_taken 18446744073709551615 piece value (lit< tt) e in
+    (range.spelled, (let h = range.within in omega arith))
+
+dash_taken : (piece : List ℕ) (value : Message) → bytes_eq piece (codes "-") ≡ true → fine no_message ≡ Ok value
+    → (piece ≡ codes "-") × (value ≡ no_message)
+dash_taken piece value dash e = ((bytes_eq-Decides piece (codes "-")).0 dash, sym (same_ok no_message value e))
+
+value_taken : (kind : Kind) (piece : List ℕ) (value : Message) → spells_value kind piece ≡ true → value_in kind piece ≡ Ok value → ValueTaken kind piece value
+value_taken Send piece value spells e = let taken = number_taken piece value e in record { spelled = taken.0; fits = taken.1 }
+value_taken Recv piece value spells e = let taken = number_taken piece value e in record { spelled = taken.0; fits = taken.1 }
+value_taken Close piece value spells e = let taken = dash_taken piece value spells e in record { spelled = taken.0; fits = taken.1 }
+value_taken SendClosed piece value spells e = let taken = number_taken piece value e in record { spelled = taken.0; fits = taken.1 }
+value_taken RecvClosed piece value spells e = let taken = dash_taken piece value spells e in record { spelled = taken.0; fits = taken.1 }
+
+value_again : (kind : Kind) (value : Message) → IsValueOf kind value → value_in kind (value_piece kind value) ≡ Ok value
+value_again Send value fits = rw (number_to-decimal 18446744073709551615 value fits (omega arith)) refl
+value_again Recv value fits = rw (number_to-decimal 18446744073709551615 value fits (omega arith)) refl
+value_again Close value fits = ap Ok (sym fits)
+value_again SendClosed value fits = rw (number_to-decimal 18446744073709551615 value fits (omega arith)) refl
+value_again RecvClosed value fits = ap Ok (sym fits)
+
+spells_again : (kind : Kind) (value : Message) → IsValueOf kind value → spells_value kind (value_piece kind value) ≡ true
+spells_again Send value fits = decimal_is_number value fits
+spells_again Recv value fits = decimal_is_number value fits
+spells_again Close value fits = refl
+spells_again SendClosed value fits = decimal_is_number value fits
+spells_again RecvClosed value fits = refl
+
+-- the entry's line is one of this version
+pub of_version_again : (v : Version) (e : Entry) → covers v (version_of_kind e.kind) ≡ true → IsValueOf e.kind e.value
+    → is_of_version v (digits_in e) ≡ true
+of_version_again v e high fits = rw (high, spells_again e.kind e.value fits) refl
+
+-- ---- the pieces of an entry
 
 abbrev spelled_as : List ℕ → List ℕ → Kind → List ℕ → List ℕ → List ℕ → List ℕ → Digits
 spelled_as cpu thread kind buffer value op pos = record { cpu = cpu; thread = thread; kind = kind; buffer = buffer; value = value; op = op; pos = pos }
@@ -94,65 +160,62 @@ entry_5 cpu thread kind buffer value (p ∷ ps) d e = entry_6 cpu thread kind bu
     (digits_then p ps (λ op. digits_at op.1 >>= λ pos. ended pos.1 >>= λ _. Ok (spelled_as cpu thread kind buffer value op.0 pos.0)) d e)
 
 entry_4 : (cpu : List ℕ) (thread : List ℕ) (kind : Kind) (buffer : List ℕ) (ps : List (List ℕ)) (d : Digits)
-    → (digits_at ps >>= λ value. digits_at value.1 >>= λ op. digits_at op.1 >>= λ pos. ended pos.1 >>= λ _.
+    → (piece_at ps >>= λ value. digits_at value.1 >>= λ op. digits_at op.1 >>= λ pos. ended pos.1 >>= λ _.
     Ok (spelled_as cpu thread kind buffer value.0 op.0 pos.0)) ≡ Ok d → cpu ∷ thread ∷ kind_word kind ∷ buffer ∷ ps ≡ shape_of d
 entry_4 cpu thread kind buffer [] d e = absurd (cc)
-entry_4 cpu thread kind buffer (p ∷ ps) d e = entry_5 cpu thread kind buffer p ps d
-    (digits_then p ps (λ value. digits_at value.1 >>= λ op. digits_at op.1 >>= λ pos. ended pos.1 >>= λ _.
-    Ok (spelled_as cpu thread kind buffer value.0 op.0 pos.0)) d e)
+entry_4 cpu thread kind buffer (p ∷ ps) d e = entry_5 cpu thread kind buffer p ps d e
 
 entry_3 : (cpu : List ℕ) (thread : List ℕ) (kind : Kind) (ps : List (List ℕ)) (d : Digits)
-    → (digits_at ps >>= λ buffer. digits_at buffer.1 >>= λ value. digits_at value.1 >>= λ op. digits_at op.1 >>= λ pos. ended pos.1 >>= λ _.
+    → (digits_at ps >>= λ buffer. piece_at buffer.1 >>= λ value. digits_at value.1 >>= λ op. digits_at op.1 >>= λ pos. ended pos.1 >>= λ _.
     Ok (spelled_as cpu thread kind buffer.0 value.0 op.0 pos.0)) ≡ Ok d → cpu ∷ thread ∷ kind_word kind ∷ ps ≡ shape_of d
 entry_3 cpu thread kind [] d e = absurd (cc)
 entry_3 cpu thread kind (p ∷ ps) d e =
     entry_4 cpu thread kind p ps d
-    (digits_then p ps (λ buffer. digits_at buffer.1 >>= λ value. digits_at value.1 >>= λ op. digits_at op.1 >>= λ pos. ended pos.1 >>= λ _.
+    (digits_then p ps (λ buffer. piece_at buffer.1 >>= λ value. digits_at value.1 >>= λ op. digits_at op.1 >>= λ pos. ended pos.1 >>= λ _.
     Ok (spelled_as cpu thread kind buffer.0 value.0 op.0 pos.0)) d e)
 
 entry_2 : (cpu : List ℕ) (thread : List ℕ) (ps : List (List ℕ)) (d : Digits)
-    → (piece_at ps >>= λ word. kind_in word.0 >>= λ kind. digits_at word.1 >>= λ buffer. digits_at buffer.1 >>= λ value. digits_at value.1 >>= λ op.
+    → (piece_at ps >>= λ word. kind_in word.0 >>= λ kind. digits_at word.1 >>= λ buffer. piece_at buffer.1 >>= λ value. digits_at value.1 >>= λ op.
     digits_at op.1 >>= λ pos. ended pos.1 >>= λ _. Ok (spelled_as cpu thread kind buffer.0 value.0 op.0 pos.0)) ≡ Ok d → cpu ∷ thread ∷ ps ≡ shape_of d
 entry_2 cpu thread [] d e = absurd (cc)
 entry_2 cpu thread (p ∷ ps) d e =
-    let read = bind_ok (kind_in p) (λ kind. digits_at ps >>= λ buffer. digits_at buffer.1 >>= λ value. digits_at value.1 >>= λ op. digits_at op.1 >>= λ pos.
+    let read = bind_ok (kind_in p) (λ kind. digits_at ps >>= λ buffer. piece_at buffer.1 >>= λ value. digits_at value.1 >>= λ op. digits_at op.1 >>= λ pos.
     ended pos.1 >>= λ _. Ok (spelled_as cpu thread kind buffer.0 value.0 op.0 pos.0)) d e in
     rw (kind_taken p read.0 read.1) (entry_3 cpu thread read.0 ps d read.2)
 
 entry_1 : (cpu : List ℕ) (ps : List (List ℕ)) (d : Digits)
-    → (digits_at ps >>= λ thread. piece_at thread.1 >>= λ word. kind_in word.0 >>= λ kind. digits_at word.1 >>= λ buffer. digits_at buffer.1 >>= λ value.
+    → (digits_at ps >>= λ thread. piece_at thread.1 >>= λ word. kind_in word.0 >>= λ kind. digits_at word.1 >>= λ buffer. piece_at buffer.1 >>= λ value.
     digits_at value.1 >>= λ op. digits_at op.1 >>= λ pos. ended pos.1 >>= λ _. Ok (spelled_as cpu thread.0 kind buffer.0 value.0 op.0 pos.0)) ≡ Ok d
     → cpu ∷ ps ≡ shape_of d
 entry_1 cpu [] d e = absurd (cc)
 entry_1 cpu (p ∷ ps) d e =
     entry_2 cpu p ps d (digits_then p ps (λ thread. piece_at thread.1 >>= λ word. kind_in word.0 >>= λ kind. digits_at word.1 >>= λ buffer.
-    digits_at buffer.1 >>= λ value. digits_at value.1 >>= λ op. digits_at op.1 >>= λ pos. ended pos.1 >>= λ _.
+    piece_at buffer.1 >>= λ value. digits_at value.1 >>= λ op. digits_at op.1 >>= λ pos. ended pos.1 >>= λ _.
     Ok (spelled_as cpu thread.0 kind buffer.0 value.0 op.0 pos.0)) d e)
 
 entry_0 : (ps : List (List ℕ)) (d : Digits)
     → (digits_at ps >>= λ cpu. digits_at cpu.1 >>= λ thread. piece_at thread.1 >>= λ word. kind_in word.0 >>= λ kind. digits_at word.1 >>= λ buffer.
-    digits_at buffer.1 >>= λ value. digits_at value.1 >>= λ op. digits_at op.1 >>= λ pos. ended pos.1 >>= λ _.
+    piece_at buffer.1 >>= λ value. digits_at value.1 >>= λ op. digits_at op.1 >>= λ pos. ended pos.1 >>= λ _.
     Ok (spelled_as cpu.0 thread.0 kind buffer.0 value.0 op.0 pos.0)) ≡ Ok d → ps ≡ shape_of d
 entry_0 [] d e = absurd (cc)
 entry_0 (p ∷ ps) d e = entry_1 p ps d
     (digits_then p ps (λ cpu. digits_at cpu.1 >>= λ thread. piece_at thread.1 >>= λ word. kind_in word.0 >>= λ kind. digits_at word.1 >>= λ buffer.
-    digits_at buffer.1 >>= λ value. digits_at value.1 >>= λ op. digits_at op.1 >>= λ pos. ended pos.1 >>= λ _.
+    piece_at buffer.1 >>= λ value. digits_at value.1 >>= λ op. digits_at op.1 >>= λ pos. ended pos.1 >>= λ _.
     Ok (spelled_as cpu.0 thread.0 kind buffer.0 value.0 op.0 pos.0)) d e)
 
 pub entry_digits_taken : (pieces : List (List ℕ)) (d : Digits) → entry_digits pieces ≡ Ok d → pieces ≡ shape_of d
 unfolding entry_digits
 entry_digits_taken pieces d e = entry_0 pieces d e
 
-pub entry_digits_again : (e : Entry) → e.cpu.0 < 2 ^ 64 → e.thread.0 < 2 ^ 64 → e.buffer.0 < 2 ^ 64 → e.value < 2 ^ 64 → e.op < 2 ^ 64 → e.pos < 2 ^ 64
+pub entry_digits_again : (e : Entry) → e.cpu.0 < 2 ^ 64 → e.thread.0 < 2 ^ 64 → e.buffer.0 < 2 ^ 64 → e.op < 2 ^ 64 → e.pos < 2 ^ 64
     → entry_digits (behind_e e) ≡ Ok (digits_in e)
 unfolding entry_digits
-entry_digits_again e cpu thread buffer value op pos =
+entry_digits_again e cpu thread buffer op pos =
     rw (
       decimal_is_number e.cpu.0 cpu,
       decimal_is_number e.thread.0 thread,
       kind_again e.kind,
       decimal_is_number e.buffer.0 buffer,
-      decimal_is_number e.value value,
       decimal_is_number e.op op,
       decimal_is_number e.pos pos,
     ) refl
@@ -162,16 +225,16 @@ pub record IsSmall (digits : Digits) (e : Entry) : Type 0 where
   pub spelled : digits ≡ digits_in e
   pub cpu : e.cpu.0 ≤ CPUS - 1
   pub thread : e.thread.0 ≤ THREADS - 1
-  pub value : e.value ≤ 18446744073709551615
+  pub value : IsValueOf e.kind e.value
   pub op : e.op ≤ ENTRIES - 1
   pub pos : e.pos ≤ ENTRIES - 1
 
-pub entry_in_taken : (digits : Digits) (e : Entry) → entry_in digits ≡ Ok e → IsSmall digits e
+pub entry_in_taken : (digits : Digits) (e : Entry) → spells_value digits.kind digits.value ≡ true → entry_in digits ≡ Ok e → IsSmall digits e
 unfolding entry_in
-entry_in_taken digits e taken =
+entry_in_taken digits e spells taken =
     let a0 = bind_ok (in_range (CPUS - 1) digits.cpu)
     (λ cpu. in_range (THREADS - 1) digits.thread >>= λ thread. in_range (BUFFERS - 1) digits.buffer >>= λ buffer.
-    in_range 18446744073709551615 digits.value >>= λ value. in_range (ENTRIES - 1) digits.op >>= λ op. in_range (ENTRIES - 1) digits.pos >>= λ pos.
+    value_in digits.kind digits.value >>= λ value. in_range (ENTRIES - 1) digits.op >>= λ op. in_range (ENTRIES - 1) digits.pos >>= λ pos.
     Ok (record {
       cpu = record { 0 = cpu };
       thread = record { 0 = thread };
@@ -182,7 +245,7 @@ entry_in_taken digits e taken =
       pos = pos;
     })) e taken in
     let a1 = bind_ok (in_range (THREADS - 1) digits.thread)
-    (λ thread. in_range (BUFFERS - 1) digits.buffer >>= λ buffer. in_range 18446744073709551615 digits.value >>= λ value.
+    (λ thread. in_range (BUFFERS - 1) digits.buffer >>= λ buffer. value_in digits.kind digits.value >>= λ value.
     in_range (ENTRIES - 1) digits.op >>= λ op. in_range (ENTRIES - 1) digits.pos >>= λ pos.
     Ok (record {
       cpu = record { 0 = a0.0 };
@@ -194,7 +257,7 @@ entry_in_taken digits e taken =
       pos = pos;
     })) e a0.2 in
     let a2 = bind_ok (in_range (BUFFERS - 1) digits.buffer)
-    (λ buffer. in_range 18446744073709551615 digits.value >>= λ value. in_range (ENTRIES - 1) digits.op >>= λ op.
+    (λ buffer. value_in digits.kind digits.value >>= λ value. in_range (ENTRIES - 1) digits.op >>= λ op.
     in_range (ENTRIES - 1) digits.pos >>= λ pos.
     Ok (record {
       cpu = record { 0 = a0.0 };
@@ -205,7 +268,7 @@ entry_in_taken digits e taken =
       op = op;
       pos = pos;
     })) e a1.2 in
-    let a3 = bind_ok (in_range 18446744073709551615 digits.value)
+    let a3 = bind_ok (value_in digits.kind digits.value)
     (λ value. in_range (ENTRIES - 1) digits.op >>= λ op. in_range (ENTRIES - 1) digits.pos >>= λ pos.
     Ok (record {
       cpu = record { 0 = a0.0 };
@@ -240,7 +303,7 @@ entry_in_taken digits e taken =
     let r0 = in_range_taken (CPUS - 1) digits.cpu a0.0 (lit< tt) a0.1 in
     let r1 = in_range_taken (THREADS - 1) digits.thread a1.0 (lit< tt) a1.1 in
     let r2 = in_range_taken (BUFFERS - 1) digits.buffer a2.0 (lit< tt) a2.1 in
-    let r3 = in_range_taken 18446744073709551615 digits.value a3.0 (lit< tt) a3.1 in
+    let r3 = value_taken digits.kind digits.value a3.0 spells a3.1 in
     let r4 = in_range_taken (ENTRIES - 1) digits.op a4.0 (lit< tt) a4.1 in
     let r5 = in_range_taken (ENTRIES - 1) digits.pos a5.0 (lit< tt) a5.1 in
     let made : Entry = record {
@@ -253,11 +316,11 @@ entry_in_taken digits e taken =
       pos = a5.0;
     } in
     let shape : digits ≡ digits_in made = six digits.cpu digits.thread digits.buffer digits.value digits.op digits.pos (decimal a0.0) (decimal a1.0)
-    (decimal a2.0) (decimal a3.0) (decimal a4.0) (decimal a5.0) digits.kind r0.spelled r1.spelled r2.spelled r3.spelled r4.spelled r5.spelled in
+    (decimal a2.0) (value_piece digits.kind a3.0) (decimal a4.0) (decimal a5.0) digits.kind r0.spelled r1.spelled r2.spelled r3.spelled r4.spelled r5.spelled in
     subst (λ (x : Entry). IsSmall digits x) (same_ok made e a5.2)
-    (record { spelled = shape; cpu = r0.within; thread = r1.within; value = r3.within; op = r4.within; pos = r5.within })
+    (record { spelled = shape; cpu = r0.within; thread = r1.within; value = r3.fits; op = r4.within; pos = r5.within })
 
-pub entry_in_again : (e : Entry) → e.cpu.0 ≤ CPUS - 1 → e.thread.0 ≤ THREADS - 1 → e.buffer.0 ≤ BUFFERS - 1 → e.value ≤ 18446744073709551615
+pub entry_in_again : (e : Entry) → e.cpu.0 ≤ CPUS - 1 → e.thread.0 ≤ THREADS - 1 → e.buffer.0 ≤ BUFFERS - 1 → IsValueOf e.kind e.value
     → e.op ≤ ENTRIES - 1 → e.pos ≤ ENTRIES - 1 → entry_in (digits_in e) ≡ Ok e
 unfolding entry_in
 entry_in_again e cpu thread buffer value op pos =
@@ -265,7 +328,7 @@ entry_in_again e cpu thread buffer value op pos =
       number_to-decimal (CPUS - 1) e.cpu.0 (omega arith) cpu,
       number_to-decimal (THREADS - 1) e.thread.0 (omega arith) thread,
       number_to-decimal (BUFFERS - 1) e.buffer.0 (omega arith) buffer,
-      number_to-decimal 18446744073709551615 e.value (omega arith) value,
+      value_again e.kind e.value value,
       number_to-decimal (ENTRIES - 1) e.op (omega arith) op,
       number_to-decimal (ENTRIES - 1) e.pos (omega arith) pos,
     ) refl

@@ -1,20 +1,20 @@
 -- What the judge knows of the buffers is what the earlier entries and the contents say.
-use Rattle.std.proofs.Common.{◌≡◌, ◌≢◌, ℕ, zero, suc, ◌+◌, ◌<◌, ◌==◌, ◌&&◌, Bool, true, false, cond, List, [], ◌∷◌, ◌++◌, length, get_or, set, map, drop}
+use Rattle.std.proofs.Common.{◌≡◌, ◌≢◌, ℕ, zero, suc, ◌+◌, ◌<◌, ◌==◌, Bool, true, false, cond, List, [], ◌∷◌, ◌++◌, length, get_or, set, map, drop}
 use Rattle.std.proofs.Common.{Option, Some, None, Ok, refl, sym, ap, ◌∙◌, eq-eqb, ne_eqb, eqb-true, ltb-true, lt-ltb, add-zero, inl, inr, arith}
 use Rattle.std.specs.Prelude.{slice_get, slice_set, nat_lt}
 use Rattle.std.proofs.lemmas.Bool.{cases_eq}
-use Rattle.std.proofs.lemmas.List.{get_or-set_same, get_or-set_other, length-set, same_lists}
+use Rattle.std.proofs.lemmas.List.{get_or-set_same, get_or-set_other, length-set, nil_from_length, same_lists}
 use Rattle.std.proofs.lemmas.Option.{slice_get-get_or, slice_get_within}
-use Rattle.event_log.specs.Messages.{Message}
+use Rattle.event_log.specs.Messages.{Message, no_message}
 use Rattle.event_log.specs.declared.entries.Kind.{Kind}
-use Rattle.event_log.specs.declared.entries.Kind.TheVariants.{Send, Recv}
+use Rattle.event_log.specs.declared.entries.Kind.TheVariants.{Send, Recv, Close, SendClosed, RecvClosed}
 use Rattle.event_log.specs.declared.entries.Entry.{Entry}
 use Rattle.event_log.specs.Buffers.{items_of, empty_buffers, IsAllowedEffect, after_effect}
-use Rattle.event_log.specs.Runs.{kind_eq, count_of, count_of_kind, IsNext, after_entry}
+use Rattle.event_log.specs.Runs.{kind_eq, group_of, count_of, count_of_kind, IsNext, after_entry}
 use Rattle.event_log.specs.Reading.{◌>>=◌}
 use Rattle.event_log.proofs.RunLemmas.{count_more, count_kind_more}
-use Rattle.tracer.specs.declared.verdicts.Reason.TheVariants.{Op, Pos, Full, WrongValue}
-use Rattle.tracer.specs.Judging.{Seen, fresh, wanted, or_range, next_pos, take_first, effect_of, entry_on, entry_among}
+use Rattle.tracer.specs.declared.verdicts.Reason.TheVariants.{Op, Pos, Full, WrongValue, CloseState, NotEmpty}
+use Rattle.tracer.specs.Judging.{Seen, fresh, wanted, or_range, was_closed, next_pos, bumped, counted, take_first, effect_of, entry_on, entry_among}
 use Rattle.tracer.proofs.ReadLemmas.{bind_ok, wanted_ok, same_ok}
 
 -- what is known of buffer b, behind the earlier entries
@@ -25,6 +25,7 @@ seen_of earlier contents b capacity = record {
   ops = count_of earlier b;
   sends = count_of_kind earlier b Send;
   recvs = count_of_kind earlier b Recv;
+  closes = count_of_kind earlier b Close;
 }
 
 -- what is known of the buffers from b on
@@ -59,18 +60,13 @@ slice_get-known earlier contents caps i lt =
 
 -- ---- the numbers behind one entry more
 
-abbrev bumped : Bool → ℕ → ℕ
-bumped counts n = n + cond counts 1 0
+bumped_by : (counts : Bool) (n : ℕ) → n + cond counts 1 0 ≡ bumped counts n
+bumped_by true n = refl
+bumped_by false n = add-zero n
 
 -- a buffer after an effect on it
 abbrev after_seen : Kind → Message → Seen → Seen
-after_seen kind value seen = record {
-  capacity = seen.capacity;
-  items = after_effect kind seen.items value;
-  ops = seen.ops + 1;
-  sends = bumped (kind_eq kind Send) seen.sends;
-  recvs = bumped (kind_eq kind Recv) seen.recvs;
-}
+after_seen kind value seen = counted (group_of kind) (after_effect kind seen.items value) seen
 
 seen_here : (earlier : List Entry) (contents : List (List Message)) (e : Entry) (capacity : ℕ) → e.buffer.0 < length contents
     → seen_of (earlier ++ e ∷ []) (after_entry contents e) e.buffer.0 capacity ≡ after_seen e.kind e.value (seen_of earlier contents e.buffer.0 capacity)
@@ -79,11 +75,9 @@ seen_here earlier contents e capacity lt =
     let items : items_of (after_entry contents e) e.buffer.0 ≡ after_effect e.kind (items_of contents e.buffer.0) e.value =
     get_or-set_same contents e.buffer.0 (after_effect e.kind (items_of contents e.buffer.0) e.value) [] lt in
     let ops : count_of (earlier ++ e ∷ []) e.buffer.0 ≡ count_of earlier e.buffer.0 + 1 = count_more earlier e e.buffer.0 ∙ rw same refl in
-    let sends : count_of_kind (earlier ++ e ∷ []) e.buffer.0 Send ≡ bumped (kind_eq e.kind Send) (count_of_kind earlier e.buffer.0 Send) =
-    count_kind_more earlier e e.buffer.0 Send ∙ rw same refl in
-    let recvs : count_of_kind (earlier ++ e ∷ []) e.buffer.0 Recv ≡ bumped (kind_eq e.kind Recv) (count_of_kind earlier e.buffer.0 Recv) =
-    count_kind_more earlier e e.buffer.0 Recv ∙ rw same refl in
-    rw (items, ops, sends, recvs) refl
+    let of_kind : (kind : Kind) → count_of_kind (earlier ++ e ∷ []) e.buffer.0 kind ≡ bumped (kind_eq e.kind kind) (count_of_kind earlier e.buffer.0 kind) =
+    λ kind. count_kind_more earlier e e.buffer.0 kind ∙ rw same (bumped_by (kind_eq e.kind kind) (count_of_kind earlier e.buffer.0 kind)) in
+    rw (items, ops, of_kind Send, of_kind Recv, of_kind Close) refl
 
 seen_elsewhere : (earlier : List Entry) (contents : List (List Message)) (e : Entry) (b capacity : ℕ) → b ≢ e.buffer.0
     → seen_of (earlier ++ e ∷ []) (after_entry contents e) b capacity ≡ seen_of earlier contents b capacity
@@ -92,11 +86,9 @@ seen_elsewhere earlier contents e b capacity other =
     let items : items_of (after_entry contents e) b ≡ items_of contents b =
     get_or-set_other contents e.buffer.0 b (after_effect e.kind (items_of contents e.buffer.0) e.value) [] other in
     let ops : count_of (earlier ++ e ∷ []) b ≡ count_of earlier b = count_more earlier e b ∙ rw (apart, add-zero (count_of earlier b)) refl in
-    let sends : count_of_kind (earlier ++ e ∷ []) b Send ≡ count_of_kind earlier b Send = count_kind_more earlier e b Send
-    ∙ rw (apart, add-zero (count_of_kind earlier b Send)) refl in
-    let recvs : count_of_kind (earlier ++ e ∷ []) b Recv ≡ count_of_kind earlier b Recv = count_kind_more earlier e b Recv
-    ∙ rw (apart, add-zero (count_of_kind earlier b Recv)) refl in
-    rw (items, ops, sends, recvs) refl
+    let of_kind : (kind : Kind) → count_of_kind (earlier ++ e ∷ []) b kind ≡ count_of_kind earlier b kind = λ kind. count_kind_more earlier e b kind
+    ∙ rw (apart, add-zero (count_of_kind earlier b kind)) refl in
+    rw (items, ops, of_kind Send, of_kind Recv, of_kind Close) refl
 
 -- the buffers after an entry
 known_after : (caps : List ℕ) (earlier : List Entry) (contents : List (List Message)) (e : Entry) → length contents ≡ length caps → e.buffer.0 < length caps
@@ -122,39 +114,62 @@ known_after caps earlier contents e long known =
 
 -- ---- an effect
 
-take_again : (value : Message) (items : List Message) (seen : Seen) → slice_get items 0 ≡ Some value
-    → take_first value items seen ≡ Ok (record seen { items = drop 1 items; ops = seen.ops + 1; recvs = seen.recvs + 1 })
-take_again value [] seen first = absurd (cc)
-take_again value (x ∷ xs) seen first =
+take_again : (value : Message) (items : List Message) → slice_get items 0 ≡ Some value → take_first value items ≡ Ok (drop 1 items)
+take_again value [] first = absurd (cc)
+take_again value (x ∷ xs) first =
     let same : x ≡ value = cc in
     rw (eq-eqb x value same) refl
 
-take_taken : (value : Message) (items : List Message) (seen after : Seen) → take_first value items seen ≡ Ok after
-    → (slice_get items 0 ≡ Some value) × (after ≡ record seen { items = drop 1 items; ops = seen.ops + 1; recvs = seen.recvs + 1 })
-take_taken value [] seen after e = absurd (cc)
-take_taken value (x ∷ xs) seen after e =
-    let test = wanted_ok (x == value) WrongValue (Ok (record seen { items = xs; ops = seen.ops + 1; recvs = seen.recvs + 1 })) after e in
-    (ap Some (eqb-true x value test.0), sym (same_ok _ after test.1))
+take_taken : (value : Message) (items after : List Message) → take_first value items ≡ Ok after → (slice_get items 0 ≡ Some value) × (after ≡ drop 1 items)
+take_taken value [] after e = absurd (cc)
+take_taken value (x ∷ xs) after e =
+    let test = wanted_ok (x == value) WrongValue (Ok xs) after e in
+    (ap Some (eqb-true x value test.0), sym (same_ok xs after test.1))
 
-effect_again : (kind : Kind) (value : Message) (seen : Seen) → IsAllowedEffect kind seen.capacity seen.items value
-    → effect_of kind value seen ≡ Ok (after_seen kind value seen)
-effect_again Send value seen room = rw (lt-ltb (length seen.items) seen.capacity room, add-zero seen.recvs) refl
-effect_again Recv value seen first = take_again value seen.items seen first ∙ rw (add-zero seen.sends) refl
+effect_again : (kind : Kind) (value : Message) (closed : Bool) (capacity : ℕ) (items : List Message) → IsAllowedEffect kind closed capacity items value
+    → effect_of kind value closed capacity items ≡ Ok (after_effect kind items value)
+effect_again Send value closed capacity items may = rw (may.0, lt-ltb (length items) capacity may.1) refl
+effect_again Recv value closed capacity items may = take_again value items may
+effect_again Close value closed capacity items may = refl
+effect_again SendClosed value closed capacity items may = rw may refl
+effect_again RecvClosed value closed capacity items may = rw (may.0, may.1) refl
 
-effect_taken : (kind : Kind) (value : Message) (seen after : Seen) → effect_of kind value seen ≡ Ok after
-    → IsAllowedEffect kind seen.capacity seen.items value × (after ≡ after_seen kind value seen)
-effect_taken Send value seen after e =
-    let test = wanted_ok (nat_lt (length seen.items) seen.capacity) Full
-    (Ok (record seen { items = seen.items ++ value ∷ []; ops = seen.ops + 1; sends = seen.sends + 1 })) after e in
-    (ltb-true (length seen.items) seen.capacity test.0, sym (same_ok _ after test.1) ∙ rw (add-zero seen.recvs) refl)
-effect_taken Recv value seen after e =
-    let taken = take_taken value seen.items seen after e in
-    (taken.0, taken.1 ∙ rw (add-zero seen.sends) refl)
+-- an effect that has no message has no other
+abbrev pub HasNone : Kind → Message → Type 0
+HasNone Send value = Unit {0}
+HasNone Recv value = Unit {0}
+HasNone Close value = value ≡ no_message
+HasNone SendClosed value = Unit {0}
+HasNone RecvClosed value = value ≡ no_message
+
+put_taken : (value : Message) (closed : Bool) (capacity : ℕ) (items after : List Message) → effect_of Send value closed capacity items ≡ Ok after
+    → IsAllowedEffect Send closed capacity items value × (after ≡ items ++ value ∷ [])
+put_taken value true capacity items after e = absurd (cc)
+put_taken value false capacity items after e =
+    let test = wanted_ok (nat_lt (length items) capacity) Full (Ok (items ++ value ∷ [])) after e in
+    ((refl, ltb-true (length items) capacity test.0), sym (same_ok (items ++ value ∷ []) after test.1))
+
+effect_taken : (kind : Kind) (value : Message) (closed : Bool) (capacity : ℕ) (items after : List Message) → HasNone kind value
+    → effect_of kind value closed capacity items ≡ Ok after
+    → IsAllowedEffect kind closed capacity items value × (after ≡ after_effect kind items value)
+effect_taken Send value closed capacity items after none e = put_taken value closed capacity items after e
+effect_taken Recv value closed capacity items after none e = take_taken value items after e
+effect_taken Close value closed capacity items after none e = (none, sym (same_ok items after e))
+effect_taken SendClosed value closed capacity items after none e =
+    let test = wanted_ok closed CloseState (Ok items) after e in
+    (test.0, sym (same_ok items after test.1))
+effect_taken RecvClosed value closed capacity items after none e =
+    let shut = wanted_ok closed CloseState (wanted (length items == 0) NotEmpty (Ok items)) after e in
+    let test = wanted_ok (length items == 0) NotEmpty (Ok items) after shut.1 in
+    ((shut.0, nil_from_length items (eqb-true (length items) 0 test.0), none), sym (same_ok items after test.1))
 
 pos_of : (earlier : List Entry) (contents : List (List Message)) (b capacity : ℕ) (kind : Kind)
-    → next_pos kind (seen_of earlier contents b capacity) ≡ count_of_kind earlier b kind
+    → next_pos (group_of kind) (seen_of earlier contents b capacity) ≡ count_of_kind earlier b kind
 pos_of earlier contents b capacity Send = refl
 pos_of earlier contents b capacity Recv = refl
+pos_of earlier contents b capacity Close = refl
+pos_of earlier contents b capacity SendClosed = refl
+pos_of earlier contents b capacity RecvClosed = refl
 
 -- an entry that may come is taken
 pub among_again : (caps : List ℕ) (earlier : List Entry) (contents : List (List Message)) (e : Entry) → length contents ≡ length caps
@@ -163,9 +178,9 @@ unfolding entry_among entry_on
 among_again caps earlier contents e long next =
     let seen = seen_of earlier contents e.buffer.0 (get_or caps e.buffer.0 0) in
     let op : (e.op == seen.ops) ≡ true = eq-eqb e.op seen.ops next.op in
-    let pos : (e.pos == next_pos e.kind seen) ≡ true =
-    eq-eqb e.pos (next_pos e.kind seen) (next.pos ∙ sym (pos_of earlier contents e.buffer.0 (get_or caps e.buffer.0 0) e.kind)) in
-    let effect = effect_again e.kind e.value seen next.allowed in
+    let pos : (e.pos == next_pos (group_of e.kind) seen) ≡ true =
+    eq-eqb e.pos (next_pos (group_of e.kind) seen) (next.pos ∙ sym (pos_of earlier contents e.buffer.0 (get_or caps e.buffer.0 0) e.kind)) in
+    let effect = effect_again e.kind e.value (was_closed seen) seen.capacity seen.items next.allowed in
     rw (slice_get-known earlier contents caps e.buffer.0 next.known, op, pos, effect) (ap Ok (known_after caps earlier contents e long next.known))
 
 some_range : {A : Type 0} (found : Option A) (x : A) → or_range found ≡ Ok x → found ≡ Some x
@@ -177,10 +192,10 @@ same_some x y e = cc
 
 -- an entry that is taken may come
 pub among_taken : (caps : List ℕ) (earlier : List Entry) (contents : List (List Message)) (e : Entry) (after : List Seen) → length contents ≡ length caps
-    → entry_among e (known_from earlier contents 0 caps) ≡ Ok after → IsNext caps earlier contents e
+    → HasNone e.kind e.value → entry_among e (known_from earlier contents 0 caps) ≡ Ok after → IsNext caps earlier contents e
     × (after ≡ known_from (earlier ++ e ∷ []) (after_entry contents e) 0 caps)
 unfolding entry_among entry_on
-among_taken caps earlier contents e after long taken =
+among_taken caps earlier contents e after long none taken =
     let found = bind_ok (or_range (slice_get (known_from earlier contents 0 caps) e.buffer.0))
     (λ seen. entry_on e seen >>= λ next. Ok (slice_set (known_from earlier contents 0 caps) e.buffer.0 next)) after taken in
     let at = some_range (slice_get (known_from earlier contents 0 caps) e.buffer.0) found.0 found.1 in
@@ -190,16 +205,22 @@ among_taken caps earlier contents e after long taken =
     let same : found.0 ≡ seen = same_some found.0 seen (sym at ∙ slice_get-known earlier contents caps e.buffer.0 inside) in
     let stepped = bind_ok (entry_on e found.0) (λ next. Ok (slice_set (known_from earlier contents 0 caps) e.buffer.0 next)) after found.2 in
     let read : entry_on e seen ≡ Ok stepped.0 = ap (entry_on e) (sym same) ∙ stepped.1 in
-    let op = wanted_ok (e.op == seen.ops) Op (wanted (e.pos == next_pos e.kind seen) Pos (effect_of e.kind e.value seen)) stepped.0 read in
-    let pos = wanted_ok (e.pos == next_pos e.kind seen) Pos (effect_of e.kind e.value seen) stepped.0 op.1 in
-    let effect = effect_taken e.kind e.value seen stepped.0 pos.1 in (
+    let group = group_of e.kind in
+    let effects = effect_of e.kind e.value (was_closed seen) seen.capacity seen.items in
+    let done = effects >>= λ items. Ok (counted group items seen) in
+    let op = wanted_ok (e.op == seen.ops) Op (wanted (e.pos == next_pos group seen) Pos done) stepped.0 read in
+    let pos = wanted_ok (e.pos == next_pos group seen) Pos done stepped.0 op.1 in
+    let items = bind_ok effects (λ items. Ok (counted group items seen)) stepped.0 pos.1 in
+    let effect = effect_taken e.kind e.value (was_closed seen) seen.capacity seen.items items.0 none items.1 in
+    let now : stepped.0 ≡ after_seen e.kind e.value seen = sym (same_ok (counted group items.0 seen) stepped.0 items.2)
+    ∙ ap (λ (l : List Message). counted group l seen) effect.1 in (
       record {
         known = inside;
         allowed = effect.0;
         op = eqb-true e.op seen.ops op.0;
-        pos = eqb-true e.pos (next_pos e.kind seen) pos.0 ∙ pos_of earlier contents e.buffer.0 (get_or caps e.buffer.0 0) e.kind;
+        pos = eqb-true e.pos (next_pos group seen) pos.0 ∙ pos_of earlier contents e.buffer.0 (get_or caps e.buffer.0 0) e.kind;
       },
-      sym (same_ok _ after stepped.2) ∙ ap (λ (next : Seen). slice_set (known_from earlier contents 0 caps) e.buffer.0 next) effect.1
+      sym (same_ok _ after stepped.2) ∙ ap (λ (next : Seen). slice_set (known_from earlier contents 0 caps) e.buffer.0 next) now
           ∙ known_after caps earlier contents e long inside,
     )
 

@@ -8,6 +8,7 @@ pub mod TallyLemmas
 pub mod VerdictLemmas
 pub mod SplitLemmas
 pub mod ReadLemmas
+pub mod VersionLemmas
 pub mod KnownLemmas
 pub mod EntryLemmas
 pub mod StepLemmas

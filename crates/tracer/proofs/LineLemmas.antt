@@ -11,6 +11,7 @@ use Rattle.std.specs.List.{flat_map, join_with_byte}
 use Rattle.tracer.specs.declared.writing.Piece.{Piece}
 use Rattle.tracer.specs.Pieces.{text_of, spaced}
 use Rattle.event_log.specs.declared.entries.Entry.{Entry}
+use Rattle.tracer.specs.Versions.{version_of}
 use Rattle.tracer.specs.TraceText.{line_of, numbered, head_pieces, count_pieces, cap_pieces, entry_pieces, left_pieces, end_pieces, spelling, lines_of}
 
 -- pieces with a space between each two: the first, and each other behind a space
@@ -89,7 +90,7 @@ numbered_failed line xs i d failed old mid new lt front e here =
 
 -- the text of a trace in the parts in which it is written
 pub spelling_parts : {V : Type 0} (items : V → List ℕ) (caps : List ℕ) (es : List Entry) (left : List V)
-    → spelling caps es (map items left) ≡ line_of head_pieces
+    → spelling caps es (map items left) ≡ line_of (head_pieces (version_of es))
     ++ (line_of (count_pieces (length caps))
     ++ (flat_map line_of (numbered cap_pieces 0 caps)
     ++ (flat_map (λ e. line_of (entry_pieces e)) es ++ (flat_map line_of (numbered (λ b v. left_pieces b (items v)) 0 left) ++ line_of end_pieces))))
@@ -107,4 +108,4 @@ spelling_parts items caps es left =
     ≡ flat_map line_of (numbered cap_pieces 0 caps)
     ++ (flat_map (λ e. line_of (entry_pieces e)) es ++ (flat_map line_of (numbered (λ b v. left_pieces b (items v)) 0 left) ++ line_of end_pieces)) =
     flat_map-append line_of (numbered cap_pieces 0 caps) _ ∙ ap (λ (t : List ℕ). flat_map line_of (numbered cap_pieces 0 caps) ++ t) middle in
-    ap (λ (t : List ℕ). line_of head_pieces ++ (line_of (count_pieces (length caps)) ++ t)) front
+    ap (λ (t : List ℕ). line_of (head_pieces (version_of es)) ++ (line_of (count_pieces (length caps)) ++ t)) front

@@ -1,5 +1,6 @@
 -- The lines before the entries, and the last line: each is taken where it may stand, and what is taken is spelled so.
-use Rattle.std.proofs.Common.{◌≡◌, ℕ, ◌+◌, ◌<◌, ◌≤◌, ◌^◌, cond, List, [], ◌∷◌, ◌++◌, length, map, Ok, refl, sym, ap, ◌∙◌, lt-ltb, ltb-true, lit<, arith}
+use Rattle.std.proofs.Common.{◌≡◌, ℕ, ◌+◌, ◌<◌, ◌≤◌, ◌^◌, Bool, true, false, cond, List, [], ◌∷◌, ◌++◌, length, map, Ok, Err, refl, sym, ap, subst, ◌∙◌}
+use Rattle.std.proofs.Common.{lt-ltb, ltb-true, lit<, arith}
 use Rattle.std.specs.Prelude.{decimal, codes, nat_lt}
 use Rattle.std.specs.Str.{bytes_eq}
 use Rattle.std.specs.List.{join_with_byte}
@@ -9,32 +10,64 @@ use Rattle.event_log.specs.Buffers.{IsCapacity}
 use Rattle.event_log.specs.declared.ids.TheConstants.{BUFFERS, CAPACITY}
 use Rattle.event_log.specs.Reading.{◌>>=◌}
 use Rattle.event_log.proofs.DigitsLemmas.{number_to-decimal}
-use Rattle.tracer.specs.declared.verdicts.Reason.TheVariants.{Spelling, Range}
+use Rattle.tracer.specs.declared.verdicts.Reason.TheVariants.{Spelling, Range, OfVersion}
 use Rattle.tracer.specs.declared.next_lines.NextLine.{NextLine}
 use Rattle.tracer.specs.declared.next_lines.NextLine.TheVariants as wants
-use Rattle.tracer.specs.TraceText.{cap_pieces, count_pieces}
+use Rattle.tracer.specs.declared.versions.Version.{Version}
+use Rattle.tracer.specs.declared.versions.Version.TheVariants.{One, Two}
+use Rattle.tracer.specs.Versions.{covers}
+use Rattle.tracer.specs.TraceText.{head_pieces, cap_pieces, count_pieces}
 use Rattle.tracer.specs.Judging.{Progress, fresh, wanted, piece_at, word_at, digits_at, ended, in_range, is_value, count_digits, count_line, capacity_digits}
-use Rattle.tracer.specs.Judging.{capacity_line, whole_line, step}
+use Rattle.tracer.specs.Judging.{capacity_line, version_in, head_line, end_line, step}
 use Rattle.tracer.proofs.SplitLemmas.{IsLine, decimal_lacks, pieces_again}
-use Rattle.tracer.proofs.ReadLemmas.{bind_ok, wanted_ok, same_ok, piece_taken, word_taken, digits_taken, ended_taken, IsInRange, in_range_taken, is_value_taken}
+use Rattle.tracer.proofs.ReadLemmas.{bind_ok, wanted_ok, fine, same_ok, piece_taken, word_taken, digits_taken, ended_taken}
+use Rattle.tracer.proofs.ReadLemmas.{IsInRange, in_range_taken, is_value_taken}
 use Rattle.tracer.proofs.ReadLemmas.{decimal_is_number, is_value_again}
 
--- ---- lines of one spelling
+-- ---- the head and the last line
 
-pub whole_taken : (want : List ℕ) (next : NextLine) (line : List ℕ) (s after : Progress) → whole_line want next line s ≡ Ok after
-    → (line ≡ want) × (after ≡ record s { at = next })
-unfolding whole_line
-whole_taken want next line s after taken =
-    let test = wanted_ok (bytes_eq line want) Spelling (Ok (record s { at = next })) after taken in
-    ((bytes_eq-Decides line want).0 test.0, sym (same_ok (record s { at = next }) after test.1))
+second_taken : (line : List ℕ) (second : Bool) (v : Version) → bytes_eq line (codes "mctower-trace 2") ≡ second
+    → cond second (fine Two) (Err Spelling) ≡ Ok v → line ≡ join_with_byte 32 (head_pieces v)
+second_taken line true v is e =
+    let same : Two ≡ v = cc in
+    subst (λ (u : Version). line ≡ join_with_byte 32 (head_pieces u)) same ((bytes_eq-Decides line (codes "mctower-trace 2")).0 is)
+second_taken line false v is e = absurd (cc)
 
-pub step_head : (s : Progress) → s.at ≡ wants.Head → step s (codes "mctower-trace 1") ≡ Ok (record s { at = wants.Count })
-unfolding step whole_line
-step_head s at = rw at refl
+version_taken : (line : List ℕ) (first : Bool) (v : Version) → bytes_eq line (codes "mctower-trace 1") ≡ first
+    → cond first (fine One) (cond (bytes_eq line (codes "mctower-trace 2")) (Ok Two) (Err Spelling)) ≡ Ok v
+    → line ≡ join_with_byte 32 (head_pieces v)
+version_taken line true v is e =
+    let same : One ≡ v = cc in
+    subst (λ (u : Version). line ≡ join_with_byte 32 (head_pieces u)) same ((bytes_eq-Decides line (codes "mctower-trace 1")).0 is)
+version_taken line false v is e = second_taken line (bytes_eq line (codes "mctower-trace 2")) v refl e
 
-pub step_end : (s : Progress) → s.at ≡ wants.End → step s (codes "end") ≡ Ok (record s { at = wants.Done })
-unfolding step whole_line
-step_end s at = rw at refl
+-- a head that is taken names its version
+pub head_taken : (line : List ℕ) (s after : Progress) → head_line line s ≡ Ok after
+    → (v : Version) × (line ≡ join_with_byte 32 (head_pieces v)) × (after ≡ record s { at = wants.Count; version = v })
+unfolding head_line
+head_taken line s after taken =
+    let read = bind_ok (version_in line) (λ v. Ok (record s { at = wants.Count; version = v })) after taken in
+    (read.0, version_taken line (bytes_eq line (codes "mctower-trace 1")) read.0 refl read.1, sym (same_ok _ after read.2))
+
+pub step_head : (v : Version) (s : Progress) → s.at ≡ wants.Head
+    → step s (join_with_byte 32 (head_pieces v)) ≡ Ok (record s { at = wants.Count; version = v })
+unfolding step head_line
+step_head One s at = rw at refl
+step_head Two s at = rw at refl
+
+-- the last line is taken where no lower version can spell the text
+pub end_taken : (line : List ℕ) (s after : Progress) → end_line line s ≡ Ok after
+    → (line ≡ codes "end") × (covers s.lowest s.version ≡ true) × (after ≡ record s { at = wants.Done })
+unfolding end_line
+end_taken line s after taken =
+    let test = wanted_ok (bytes_eq line (codes "end")) Spelling (wanted (covers s.lowest s.version) OfVersion (Ok
+    (record s { at = wants.Done }))) after taken in
+    let low = wanted_ok (covers s.lowest s.version) OfVersion (Ok (record s { at = wants.Done })) after test.1 in
+    ((bytes_eq-Decides line (codes "end")).0 test.0, low.0, sym (same_ok (record s { at = wants.Done }) after low.1))
+
+pub step_end : (s : Progress) → s.at ≡ wants.End → covers s.lowest s.version ≡ true → step s (codes "end") ≡ Ok (record s { at = wants.Done })
+unfolding step end_line
+step_end s at low = rw (at, low) refl
 
 -- ---- the number of buffers
 
@@ -102,9 +135,9 @@ step_count n s at some few =
 
 -- ---- a capacity
 
--- before the first entry, with these capacities known
-abbrev pub opened : NextLine → List ℕ → Progress
-opened at caps = record { at = at; buffers = map fresh caps; entries = 0 }
+-- before the first entry of a text of this version, with these capacities known
+abbrev pub opened : Version → NextLine → List ℕ → Progress
+opened v at caps = record { at = at; version = v; lowest = One; buffers = map fresh caps; entries = 0 }
 
 -- which line comes behind a capacity
 abbrev pub behind_cap : ℕ → ℕ → NextLine
@@ -114,10 +147,10 @@ capacity_digits_again : (b capacity : ℕ) → b < 2 ^ 64 → capacity < 2 ^ 64 
 unfolding capacity_digits
 capacity_digits_again b capacity fits small = rw (is_value_again b fits, decimal_is_number capacity small) refl
 
-pub capacity_line_again : (at : NextLine) (count : ℕ) (caps : List ℕ) (capacity : ℕ) → IsCapacity capacity → length caps ≤ BUFFERS
-    → capacity_line count (cap_pieces (length caps) capacity) (opened at caps) ≡ Ok (opened (behind_cap (length caps + 1) count) (caps ++ capacity ∷ []))
+pub capacity_line_again : (v : Version) (at : NextLine) (count : ℕ) (caps : List ℕ) (capacity : ℕ) → IsCapacity capacity → length caps ≤ BUFFERS
+    → capacity_line count (cap_pieces (length caps) capacity) (opened v at caps) ≡ Ok (opened v (behind_cap (length caps + 1) count) (caps ++ capacity ∷ []))
 unfolding capacity_line
-capacity_line_again at count caps capacity small few =
+capacity_line_again v at count caps capacity small few =
     let below : capacity < 2 ^ 64 = (let h = small.1 in omega arith) in
     let some : 0 < capacity = (let h = small.0 in omega arith) in
     rw (
@@ -148,27 +181,28 @@ capacity_digits_taken b ps digits taken =
     (ended_taken capacity.0.1 last.0 last.1) (same_ok capacity.0.0 digits last.2)
 
 -- what it says that a capacity was taken
-pub record CapacityTaken (count : ℕ) (caps : List ℕ) (ps : List (List ℕ)) (after : Progress) (capacity : ℕ) : Type 0 where
+pub record CapacityTaken (v : Version) (count : ℕ) (caps : List ℕ) (ps : List (List ℕ)) (after : Progress) (capacity : ℕ) : Type 0 where
   pub spelled : ps ≡ cap_pieces (length caps) capacity
   pub small : IsCapacity capacity
-  pub is : after ≡ opened (behind_cap (length caps + 1) count) (caps ++ capacity ∷ [])
+  pub is : after ≡ opened v (behind_cap (length caps + 1) count) (caps ++ capacity ∷ [])
 
-capacity_found : (count : ℕ) (caps : List ℕ) (ps : List (List ℕ)) (digits : List ℕ) (capacity : ℕ) (after : Progress)
+capacity_found : (v : Version) (count : ℕ) (caps : List ℕ) (ps : List (List ℕ)) (digits : List ℕ) (capacity : ℕ) (after : Progress)
     → ps ≡ codes "cap" ∷ decimal (length (map fresh caps)) ∷ digits ∷ [] → IsInRange CAPACITY digits capacity → 0 < capacity
-    → record { at = behind_cap (length (map fresh caps) + 1) count; buffers = map fresh caps ++ fresh capacity ∷ []; entries = 0 } ≡ after
-    → CapacityTaken count caps ps after capacity
-capacity_found count caps ps digits capacity after shape range some is = record {
+    → record { at = behind_cap (length (map fresh caps) + 1) count; version = v; lowest = One; buffers = map fresh caps ++ fresh capacity ∷ [];
+    entries = 0 } ≡ after
+    → CapacityTaken v count caps ps after capacity
+capacity_found v count caps ps digits capacity after shape range some is = record {
   spelled = shape ∙ rw (length-map caps fresh, range.spelled) refl;
   small = (omega arith, range.within);
   is = sym is ∙ rw (length-map caps fresh, map_push fresh caps capacity) refl;
 }
 
-pub capacity_line_taken : (at : NextLine) (count : ℕ) (caps : List ℕ) (ps : List (List ℕ)) (after : Progress)
-    → capacity_line count ps (opened at caps) ≡ Ok after
-    → (capacity : ℕ) × CapacityTaken count caps ps after capacity
+pub capacity_line_taken : (v : Version) (at : NextLine) (count : ℕ) (caps : List ℕ) (ps : List (List ℕ)) (after : Progress)
+    → capacity_line count ps (opened v at caps) ≡ Ok after
+    → (capacity : ℕ) × CapacityTaken v count caps ps after capacity
 unfolding capacity_line
-capacity_line_taken at count caps ps after taken =
-    let s = opened at caps in
+capacity_line_taken v at count caps ps after taken =
+    let s = opened v at caps in
     let digits = bind_ok (capacity_digits (length s.buffers) ps)
     (λ digits. in_range CAPACITY digits >>= λ capacity. wanted (nat_lt 0 capacity) Range
     (Ok (record s { at = behind_cap (length s.buffers + 1) count; buffers = s.buffers ++ fresh capacity ∷ [] }))) after taken in
@@ -178,7 +212,7 @@ capacity_line_taken at count caps ps after taken =
     let some = wanted_ok (nat_lt 0 capacity.0) Range
     (Ok (record s { at = behind_cap (length s.buffers + 1) count; buffers = s.buffers ++ fresh capacity.0 ∷ [] })) after capacity.2 in (
       capacity.0,
-      capacity_found count caps ps digits.0 capacity.0 after (capacity_digits_taken (length s.buffers) ps digits.0 digits.1)
+      capacity_found v count caps ps digits.0 capacity.0 after (capacity_digits_taken (length s.buffers) ps digits.0 digits.1)
           (in_range_taken CAPACITY digits.0 capacity.0 (lit< tt) capacity.1) (ltb-true 0 capacity.0 some.0) (same_ok _ after some.1),
     )
 
@@ -191,12 +225,12 @@ cap_is_line b capacity few small =
       feeds = ((refl, (refl, (refl, tt))), (decimal_lacks 10 b (lit< tt) fits, (decimal_lacks 10 capacity (lit< tt) below, tt)));
     }
 
-pub step_cap : (count : ℕ) (caps : List ℕ) (capacity : ℕ) → IsCapacity capacity → length caps ≤ BUFFERS
-    → step (opened (wants.Capacities count) caps) (join_with_byte 32 (cap_pieces (length caps) capacity))
-    ≡ Ok (opened (behind_cap (length caps + 1) count) (caps ++ capacity ∷ []))
+pub step_cap : (v : Version) (count : ℕ) (caps : List ℕ) (capacity : ℕ) → IsCapacity capacity → length caps ≤ BUFFERS
+    → step (opened v (wants.Capacities count) caps) (join_with_byte 32 (cap_pieces (length caps) capacity))
+    ≡ Ok (opened v (behind_cap (length caps + 1) count) (caps ++ capacity ∷ []))
 unfolding step
-step_cap count caps capacity small few =
-    let s = opened (wants.Capacities count) caps in
+step_cap v count caps capacity small few =
+    let s = opened v (wants.Capacities count) caps in
     ap (λ (ps : List (List ℕ)). capacity_line count ps s)
     (pieces_again (codes "cap") (decimal (length caps) ∷ decimal capacity ∷ []) (cap_is_line (length caps) capacity few small))
-    ∙ capacity_line_again (wants.Capacities count) count caps capacity small few
+    ∙ capacity_line_again v (wants.Capacities count) count caps capacity small few

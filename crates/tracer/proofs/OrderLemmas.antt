@@ -7,12 +7,13 @@ use Rattle.std.proofs.lemmas.Bool.{cases_eq, cases_lt}
 use Rattle.std.proofs.lemmas.Bool.Decides.{nat_tests}
 use Rattle.std.proofs.lemmas.Option.{get_or_from_slice_get, slice_get-get_or}
 use Rattle.std.proofs.lemmas.List.{get_or_past}
-use Rattle.std.specs.Prelude.{slice_get, slice_index}
+use Rattle.std.specs.Prelude.{nat_lt, slice_get, slice_index}
 use Rattle.event_log.specs.Messages.{Message}
 use Rattle.event_log.specs.declared.entries.Entry.{Entry}
 use Rattle.event_log.specs.declared.entries.Kind.{Kind}
+use Rattle.event_log.specs.declared.entries.Kind.TheVariants.{Close}
 use Rattle.event_log.specs.Buffers.{items_of, IsAllowedEffect, after_effect, empty_buffers}
-use Rattle.event_log.specs.Runs.{count_of, count_of_kind, kind_eq, IsNext, IsRunFrom, after_entry}
+use Rattle.event_log.specs.Runs.{count_of, count_of_kind, is_closed, kind_eq, IsNext, IsRunFrom, after_entry}
 use Rattle.event_log.specs.Traces.{IsInterleaving, HasOpOrderFrom}
 use Rattle.event_log.proofs.RunLemmas.{op_order_from, count_more, count_kind_more}
 use Rattle.tracer.specs.Gather.{RunsHaveOrder, OrdersRunAlike}
@@ -41,6 +42,10 @@ count_more_other earlier e b differ = grind (arith, nat_tests, count_more earlie
 kind_more_other : (earlier : List Entry) (e : Entry) (b : ℕ) (kind : Kind) → e.buffer.0 ≢ b
     → count_of_kind (earlier ++ e ∷ []) b kind ≡ count_of_kind earlier b kind
 kind_more_other earlier e b kind differ = grind (arith, nat_tests, count_kind_more earlier e b kind)
+
+-- an entry of another buffer closes none of this one
+closed_more_other : (earlier : List Entry) (e : Entry) (b : ℕ) → e.buffer.0 ≢ b → is_closed (earlier ++ e ∷ []) b ≡ is_closed earlier b
+closed_more_other earlier e b differ = ap (nat_lt 0) (kind_more_other earlier e b Close differ)
 
 -- an entry whose op number has gone by is never taken
 stuck : (earlier : List Entry) (traces : List (List Entry)) (order : List Entry) (k : ℕ) (e : Entry) (rest : List Entry) → IsInterleaving traces order
@@ -89,7 +94,8 @@ next_like : (caps : List ℕ) (a b : List Entry) (contents : List (List Message)
     → IsNext caps b contents e
 next_like caps a b contents e s n = record {
   known = n.known;
-  allowed = n.allowed;
+  allowed = subst (λ closed. IsAllowedEffect e.kind closed (slice_index caps e.buffer.0) (items_of contents e.buffer.0) e.value)
+      (ap (nat_lt 0) (s.same (λ x. eqb x.buffer.0 e.buffer.0 && kind_eq x.kind Close))) n.allowed;
   op = n.op ∙ s.same (λ x. eqb x.buffer.0 e.buffer.0);
   pos = n.pos ∙ s.same (λ x. eqb x.buffer.0 e.buffer.0 && kind_eq x.kind e.kind);
 }
@@ -109,8 +115,10 @@ next_before : (caps : List ℕ) (earlier : List Entry) (contents : List (List Me
     → IsNext caps (earlier ++ f ∷ []) (after_entry contents f) e → IsNext caps earlier contents e
 next_before caps earlier contents e f differ n = record {
   known = n.known;
-  allowed = subst (λ items. IsAllowedEffect e.kind (slice_index caps e.buffer.0) items e.value) (items_other contents f e.buffer.0 (λ same. differ (sym same)))
-      n.allowed;
+  allowed = subst (λ closed. IsAllowedEffect e.kind closed (slice_index caps e.buffer.0) (items_of contents e.buffer.0) e.value)
+      (closed_more_other earlier f e.buffer.0 differ)
+      (subst (λ items. IsAllowedEffect e.kind (is_closed (earlier ++ f ∷ []) e.buffer.0) (slice_index caps e.buffer.0) items e.value)
+      (items_other contents f e.buffer.0 (λ same. differ (sym same))) n.allowed);
   op = n.op ∙ count_more_other earlier f e.buffer.0 differ;
   pos = n.pos ∙ kind_more_other earlier f e.buffer.0 e.kind differ;
 }
@@ -119,8 +127,10 @@ next_behind : (caps : List ℕ) (earlier : List Entry) (contents : List (List Me
     → IsNext caps (earlier ++ f ∷ []) (after_entry contents f) e
 next_behind caps earlier contents e f differ n = record {
   known = n.known;
-  allowed = subst (λ items. IsAllowedEffect e.kind (slice_index caps e.buffer.0) items e.value)
-      (sym (items_other contents f e.buffer.0 (λ same. differ (sym same)))) n.allowed;
+  allowed = subst (λ closed. IsAllowedEffect e.kind closed (slice_index caps e.buffer.0) (items_of (after_entry contents f) e.buffer.0) e.value)
+      (sym (closed_more_other earlier f e.buffer.0 differ))
+      (subst (λ items. IsAllowedEffect e.kind (is_closed earlier e.buffer.0) (slice_index caps e.buffer.0) items e.value)
+      (sym (items_other contents f e.buffer.0 (λ same. differ (sym same)))) n.allowed);
   op = n.op ∙ sym (count_more_other earlier f e.buffer.0 differ);
   pos = n.pos ∙ sym (kind_more_other earlier f e.buffer.0 e.kind differ);
 }

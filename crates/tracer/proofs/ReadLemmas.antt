@@ -20,7 +20,7 @@ pub wanted_ok : {A : Type 0} (test : Bool) (reason : Reason) (next : Result A Re
 wanted_ok true reason next y e = (refl, e)
 wanted_ok false reason next y e = absurd (cc)
 
-abbrev fine : {A : Type 0} → A → Result A Reason
+abbrev pub fine : {A : Type 0} → A → Result A Reason
 fine x = Ok x
 
 pub same_ok : {A : Type 0} (x y : A) → fine x ≡ fine y → x ≡ y

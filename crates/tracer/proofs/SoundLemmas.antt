@@ -1,7 +1,7 @@
 -- A text that gets yes is the trace text of a run, and of where it ends.
-use Rattle.std.proofs.Common.{◌≡◌, inl, inr, ℕ, ◌+◌, ◌<◌, ◌≤◌, ◌^◌, ◌==◌, ◌&&◌, Bool, true, false, cond, List, [], ◌∷◌, ◌++◌, length, drop, map, Result, Ok}
+use Rattle.std.proofs.Common.{◌≡◌, inl, inr, ℕ, ◌+◌, ◌<◌, ◌≤◌, ◌==◌, ◌&&◌, Bool, true, false, cond, List, [], ◌∷◌, ◌++◌, length, drop, map, Result, Ok}
 use Rattle.std.proofs.Common.{Err, refl, sym, ap, subst, ◌∙◌, append_assoc, eqb-true, ltb-true, ltb-false, arith}
-use Rattle.std.specs.Prelude.{codes, nat_lt}
+use Rattle.std.specs.Prelude.{nat_lt}
 use Rattle.std.specs.List.{AllByRecursion, flat_map, join_with_byte}
 use Rattle.std.proofs.lemmas.List.{append-nil, length_push, length-set, length-map, drop_more, drop_all, nil_from_length}
 use Rattle.std.proofs.lemmas.List.Concat.{flat_map-append}
@@ -15,15 +15,20 @@ use Rattle.tracer.specs.declared.next_lines.NextLine.TheVariants as wants
 use Rattle.tracer.specs.declared.verdicts.Reason.{Reason}
 use Rattle.tracer.specs.declared.verdicts.Verdict.{Verdict}
 use Rattle.tracer.specs.declared.verdicts.Verdict.TheVariants.{Yes, No}
+use Rattle.tracer.specs.declared.versions.Version.{Version}
+use Rattle.tracer.specs.declared.versions.Version.TheVariants.{One}
+use Rattle.tracer.specs.Versions.{covers, version_of_entry, version_from, version_of}
 use Rattle.tracer.specs.TraceText.{line_of, head_pieces, count_pieces, cap_pieces, entry_pieces, left_pieces, end_pieces, numbered, lines_of, spelling}
 use Rattle.tracer.specs.TraceText.{IsEntryOf, IsSpellable, AreSmall}
 use Rattle.tracer.specs.Verdicts.{IsTraceOfRun}
-use Rattle.tracer.specs.Judging.{Progress, opening, step, after_line, pieces_of, lines_in, verdict_from, verdict_of, whole_line, count_line, capacity_line}
+use Rattle.tracer.specs.Judging.{Progress, opening, step, after_line, pieces_of, lines_in, verdict_from, verdict_of, head_line}
+use Rattle.tracer.specs.Judging.{end_line, count_line, capacity_line}
 use Rattle.tracer.specs.Judging.{entries_line, left_line}
 use Rattle.tracer.proofs.KnownLemmas.{known_fresh_from}
 use Rattle.tracer.proofs.EntryLemmas.{progress}
 use Rattle.tracer.proofs.StepLemmas.{left_line_taken, entries_taken}
-use Rattle.tracer.proofs.OpeningLemmas.{whole_taken, count_line_taken, opened, behind_cap, capacity_line_taken}
+use Rattle.tracer.proofs.VersionLemmas.{covers_first_one, covers_same, covers_both, version_more}
+use Rattle.tracer.proofs.OpeningLemmas.{head_taken, end_taken, count_line_taken, opened, behind_cap, capacity_line_taken}
 
 -- ---- one line
 
@@ -44,87 +49,96 @@ done_test true true n reason e = refl
 done_test true false n reason e = absurd (cc)
 done_test false empty n reason e = absurd (cc)
 
-done_end : (buffers : _) (entries n : ℕ) (lines : List (List ℕ)) → verdict_from (record { at = wants.Done; buffers = buffers; entries = entries }) n lines ≡ Yes
+done_end : (v low : Version) (buffers : _) (entries n : ℕ) (lines : List (List ℕ))
+    → verdict_from (record { at = wants.Done; version = v; lowest = low; buffers = buffers; entries = entries }) n lines ≡ Yes
     → join_with_byte 10 lines ≡ []
 unfolding step
-done_end buffers entries n [] e = absurd (cc)
-done_end buffers entries n (rest ∷ []) e = nil_from_length rest (eqb-true (length rest) 0 (done_test true (length rest == 0) n _ e))
-done_end buffers entries n (line ∷ next ∷ more) e = absurd (cc)
+done_end v low buffers entries n [] e = absurd (cc)
+done_end v low buffers entries n (rest ∷ []) e = nil_from_length rest (eqb-true (length rest) 0 (done_test true (length rest == 0) n _ e))
+done_end v low buffers entries n (line ∷ next ∷ more) e = absurd (cc)
 
-sound_end : (buffers : _) (entries n : ℕ) (lines : List (List ℕ)) → verdict_from (record { at = wants.End; buffers = buffers; entries = entries }) n lines ≡ Yes
-    → join_with_byte 10 lines ≡ flat_map line_of (end_pieces ∷ [])
+sound_end : (v low : Version) (buffers : _) (entries n : ℕ) (lines : List (List ℕ))
+    → verdict_from (record { at = wants.End; version = v; lowest = low; buffers = buffers; entries = entries }) n lines ≡ Yes
+    → (join_with_byte 10 lines ≡ flat_map line_of (end_pieces ∷ [])) × (covers low v ≡ true)
 unfolding step
-sound_end buffers entries n [] e = absurd (cc)
-sound_end buffers entries n (rest ∷ []) e = absurd (cc)
-sound_end buffers entries n (line ∷ next ∷ more) e =
-    let s : Progress = record { at = wants.End; buffers = buffers; entries = entries } in
-    let go = went (whole_line (codes "end") wants.Done line s) n (λ after. verdict_from after (n + 1) (next ∷ more)) e in
-    let word = whole_taken (codes "end") wants.Done line s go.0 go.1 in
-    let rest = done_end buffers entries (n + 1) (next ∷ more) (subst (λ (a : Progress). verdict_from a (n + 1) (next ∷ more) ≡ Yes) word.1 go.2) in
-    rw (word.0, rest) refl
+sound_end v low buffers entries n [] e = absurd (cc)
+sound_end v low buffers entries n (rest ∷ []) e = absurd (cc)
+sound_end v low buffers entries n (line ∷ next ∷ more) e =
+    let s : Progress = record { at = wants.End; version = v; lowest = low; buffers = buffers; entries = entries } in
+    let go = went (end_line line s) n (λ after. verdict_from after (n + 1) (next ∷ more)) e in
+    let word = end_taken line s go.0 go.1 in
+    let rest = done_end v low buffers entries (n + 1) (next ∷ more) (subst (λ (a : Progress). verdict_from a (n + 1) (next ∷ more) ≡ Yes) word.2 go.2) in
+    (rw (word.0, rest) refl, word.1)
 
 -- ---- what is left
 
-abbrev LeftText : ℕ → List (List ℕ) → List (List ℕ) → Type 0
-LeftText b contents lines = (join_with_byte 10 lines ≡ flat_map line_of (numbered left_pieces b (drop b contents) ++ end_pieces ∷ []))
-    × AllByRecursion AreSmall (drop b contents)
+-- the lines are what is left from buffer b on, and the end of a text of a version that is no higher than the entries want
+abbrev LeftText : Version → Version → ℕ → List (List ℕ) → List (List ℕ) → Type 0
+LeftText v low b contents lines = (join_with_byte 10 lines ≡ flat_map line_of (numbered left_pieces b (drop b contents) ++ end_pieces ∷ []))
+    × AllByRecursion AreSmall (drop b contents) × (covers low v ≡ true)
 
-behind_cases : (b : ℕ) (caps : List ℕ) (earlier : List Entry) (contents : List (List Message)) (n : ℕ) (lines : List (List ℕ)) (more : Bool)
+behind_cases : (v : Version) (b : ℕ) (caps : List ℕ) (earlier : List Entry) (contents : List (List Message)) (n : ℕ) (lines : List (List ℕ)) (more : Bool)
     → nat_lt (b + 1) (length caps) ≡ more → length contents ≡ length caps
-    → (b + 1 < length caps → verdict_from (progress (wants.Contents (b + 1)) caps earlier contents) n lines ≡ Yes → LeftText (b + 1) contents lines)
-    → verdict_from (progress (cond more (wants.Contents (b + 1)) wants.End) caps earlier contents) n lines ≡ Yes → LeftText (b + 1) contents lines
-behind_cases b caps earlier contents n lines true is long again e = again (ltb-true (b + 1) (length caps) is) e
-behind_cases b caps earlier contents n lines false is long again e =
+    → (b + 1 < length caps → verdict_from (progress v (wants.Contents (b + 1)) caps earlier contents) n lines ≡ Yes
+    → LeftText v (version_of earlier) (b + 1) contents lines)
+    → verdict_from (progress v (cond more (wants.Contents (b + 1)) wants.End) caps earlier contents) n lines ≡ Yes
+    → LeftText v (version_of earlier) (b + 1) contents lines
+behind_cases v b caps earlier contents n lines true is long again e = again (ltb-true (b + 1) (length caps) is) e
+behind_cases v b caps earlier contents n lines false is long again e =
     let past : length contents ≤ b + 1 = (let h = ltb-false (b + 1) (length caps) is in omega arith) in
-    rw (drop_all (b + 1) contents past) (sound_end _ _ n lines e, tt)
+    let last = sound_end v (version_of earlier) _ _ n lines e in
+    rw (drop_all (b + 1) contents past) (last.0, tt, last.1)
 
 -- a line of what is left of buffer b, and the lines behind it
-left_text : (b : ℕ) (contents : List (List Message)) (line : List ℕ) (ps : List (List ℕ)) (next : List ℕ) (more : List (List ℕ)) → pieces_of line ≡ ps
-    → b < length contents → ps ≡ left_pieces b (items_of contents b) → AreSmall (items_of contents b) → LeftText (b + 1) contents (next ∷ more)
-    → LeftText b contents (line ∷ next ∷ more)
-left_text b contents line ps next more is inside spelled small behind =
+left_text : (v low : Version) (b : ℕ) (contents : List (List Message)) (line : List ℕ) (ps : List (List ℕ)) (next : List ℕ) (more : List (List ℕ))
+    → pieces_of line ≡ ps
+    → b < length contents → ps ≡ left_pieces b (items_of contents b) → AreSmall (items_of contents b) → LeftText v low (b + 1) contents (next ∷ more)
+    → LeftText v low b contents (line ∷ next ∷ more)
+left_text v low b contents line ps next more is inside spelled small behind =
     let cut : drop b contents ≡ items_of contents b ∷ drop (b + 1) contents = drop_more contents b [] inside in
     let text : line ++ 10 ∷ join_with_byte 10 (next ∷ more) ≡ line_of (left_pieces b (items_of contents b))
     ++ flat_map line_of (numbered left_pieces (b + 1) (drop (b + 1) contents) ++ end_pieces ∷ []) =
     line_spelled line (left_pieces b (items_of contents b)) (join_with_byte 10 (next ∷ more)) (is ∙ spelled)
     ∙ ap (λ (t : List ℕ). line_of (left_pieces b (items_of contents b)) ++ t) behind.0 in
     subst (λ (all : List (List ℕ)). (line ++ 10 ∷ join_with_byte 10 (next ∷ more) ≡ flat_map line_of (numbered left_pieces b all ++ end_pieces ∷ []))
-    × AllByRecursion AreSmall all) (sym cut) (text, (small, behind.1))
+    × AllByRecursion AreSmall all × (covers low v ≡ true)) (sym cut) (text, (small, behind.1), behind.2)
 
-sound_left : (b : ℕ) (caps : List ℕ) (earlier : List Entry) (contents : List (List Message)) (n : ℕ) (lines : List (List ℕ)) → length contents ≡ length caps
-    → verdict_from (progress (wants.Contents b) caps earlier contents) n lines ≡ Yes → LeftText b contents lines
+sound_left : (v : Version) (b : ℕ) (caps : List ℕ) (earlier : List Entry) (contents : List (List Message)) (n : ℕ) (lines : List (List ℕ))
+    → length contents ≡ length caps
+    → verdict_from (progress v (wants.Contents b) caps earlier contents) n lines ≡ Yes → LeftText v (version_of earlier) b contents lines
 unfolding step
-sound_left b caps earlier contents n [] long e = absurd (cc)
-sound_left b caps earlier contents n (rest ∷ []) long e = absurd (cc)
-sound_left b caps earlier contents n (line ∷ next ∷ more) long e =
-    let s = progress (wants.Contents b) caps earlier contents in
+sound_left v b caps earlier contents n [] long e = absurd (cc)
+sound_left v b caps earlier contents n (rest ∷ []) long e = absurd (cc)
+sound_left v b caps earlier contents n (line ∷ next ∷ more) long e =
+    let s = progress v (wants.Contents b) caps earlier contents in
     let go = went (left_line b (pieces_of line) s) n (λ after. verdict_from after (n + 1) (next ∷ more)) e in
-    let taken = left_line_taken (wants.Contents b) b caps earlier contents (pieces_of line) go.0 go.1 in
-    let behind = behind_cases b caps earlier contents (n + 1) (next ∷ more) (nat_lt (b + 1) (length caps)) refl long
-    (λ _ again. sound_left (b + 1) caps earlier contents (n + 1) (next ∷ more) long again)
+    let taken = left_line_taken v (wants.Contents b) b caps earlier contents (pieces_of line) go.0 go.1 in
+    let behind = behind_cases v b caps earlier contents (n + 1) (next ∷ more) (nat_lt (b + 1) (length caps)) refl long
+    (λ _ again. sound_left v (b + 1) caps earlier contents (n + 1) (next ∷ more) long again)
     (subst (λ (a : Progress). verdict_from a (n + 1) (next ∷ more) ≡ Yes) taken.is go.2) in
-    left_text b contents line (pieces_of line) next more refl (let h = taken.known in omega arith) taken.spelled taken.small behind
+    left_text v (version_of earlier) b contents line (pieces_of line) next more refl (let h = taken.known in omega arith) taken.spelled taken.small behind
 
 -- ---- the entries
 
 -- what it says that the lines behind the capacities get yes
-pub record Judged (caps : List ℕ) (earlier : List Entry) (contents : List (List Message)) (lines : List (List ℕ)) (es : List Entry)
+pub record Judged (v : Version) (caps : List ℕ) (earlier : List Entry) (contents : List (List Message)) (lines : List (List ℕ)) (es : List Entry)
     (left : List (List Message)) : Type 0 where
   pub run : IsRunFrom caps earlier contents es left
   pub small : AllByRecursion (IsEntryOf (length caps)) es
   pub few : length earlier + length es ≤ ENTRIES
   pub each : length left ≡ length caps
   pub values : AllByRecursion AreSmall left
+  pub lowest : v ≡ version_from (version_of earlier) es
   pub text : join_with_byte 10 lines ≡ flat_map line_of (map entry_pieces es ++ (numbered left_pieces 0 left ++ end_pieces ∷ []))
 
-abbrev IsJudged : List ℕ → List Entry → List (List ℕ) → List (List ℕ) → Type 0
-IsJudged caps earlier contents lines = (es : List Entry) × (left : List (List Message)) × Judged caps earlier contents lines es left
+abbrev IsJudged : Version → List ℕ → List Entry → List (List ℕ) → List (List ℕ) → Type 0
+IsJudged v caps earlier contents lines = (es : List Entry) × (left : List (List Message)) × Judged v caps earlier contents lines es left
 
 -- an entry, and the lines behind it
-judged_more : (caps : List ℕ) (earlier : List Entry) (contents : List (List Message)) (line next : List ℕ) (more : List (List ℕ)) (e : Entry)
+judged_more : (v : Version) (caps : List ℕ) (earlier : List Entry) (contents : List (List Message)) (line next : List ℕ) (more : List (List ℕ)) (e : Entry)
     → pieces_of line ≡ entry_pieces e → IsEntryOf (length caps) e → IsNext caps earlier contents e
-    → IsJudged caps (earlier ++ e ∷ []) (after_entry contents e) (next ∷ more) → IsJudged caps earlier contents (line ∷ next ∷ more)
-judged_more caps earlier contents line next more e spelled small can behind =
+    → IsJudged v caps (earlier ++ e ∷ []) (after_entry contents e) (next ∷ more) → IsJudged v caps earlier contents (line ∷ next ∷ more)
+judged_more v caps earlier contents line next more e spelled small can behind =
     let rest = behind.2 in (
       e ∷ behind.0,
       behind.1,
@@ -134,60 +148,76 @@ judged_more caps earlier contents line next more e spelled small can behind =
         few = (let h = rest.few in omega (arith, length_push earlier e));
         each = rest.each;
         values = rest.values;
+        lowest = rest.lowest ∙ ap (λ (u : Version). version_from u behind.0) (version_more earlier e);
         text = line_spelled line (entry_pieces e) (join_with_byte 10 (next ∷ more)) spelled ∙ ap (λ (t : List ℕ). line_of (entry_pieces e) ++ t) rest.text;
       },
     )
 
-judged_left : (caps : List ℕ) (earlier : List Entry) (contents : List (List Message)) (lines : List (List ℕ)) → length earlier ≤ ENTRIES
-    → length contents ≡ length caps → LeftText 0 contents lines → IsJudged caps earlier contents lines
-judged_left caps earlier contents lines few long left =
-    ([], contents, record { run = refl; small = tt; few = omega arith; each = long; values = left.1; text = left.0 })
+judged_left : (v : Version) (caps : List ℕ) (earlier : List Entry) (contents : List (List Message)) (lines : List (List ℕ)) → length earlier ≤ ENTRIES
+    → length contents ≡ length caps → covers v (version_of earlier) ≡ true → LeftText v (version_of earlier) 0 contents lines
+    → IsJudged v caps earlier contents lines
+judged_left v caps earlier contents lines few long high left = (
+  [],
+  contents,
+  record {
+    run = refl;
+    small = tt;
+    few = omega arith;
+    each = long;
+    values = left.1;
+    lowest = covers_same v (version_of earlier) high left.2;
+    text = left.0;
+  },
+)
 
-sound_entries : (caps : List ℕ) (earlier : List Entry) (contents : List (List Message)) (n : ℕ) (lines : List (List ℕ)) → length earlier ≤ ENTRIES
-    → length contents ≡ length caps → verdict_from (progress wants.Entries caps earlier contents) n lines ≡ Yes → IsJudged caps earlier contents lines
+sound_entries : (v : Version) (caps : List ℕ) (earlier : List Entry) (contents : List (List Message)) (n : ℕ) (lines : List (List ℕ)) → length earlier ≤ ENTRIES
+    → length contents ≡ length caps → covers v (version_of earlier) ≡ true → verdict_from (progress v wants.Entries caps earlier contents) n lines ≡ Yes
+    → IsJudged v caps earlier contents lines
 unfolding step
-sound_entries caps earlier contents n [] few long e = absurd (cc)
-sound_entries caps earlier contents n (rest ∷ []) few long e = absurd (cc)
-sound_entries caps earlier contents n (line ∷ next ∷ more) few long e =
-    let s = progress wants.Entries caps earlier contents in
+sound_entries v caps earlier contents n [] few long high e = absurd (cc)
+sound_entries v caps earlier contents n (rest ∷ []) few long high e = absurd (cc)
+sound_entries v caps earlier contents n (line ∷ next ∷ more) few long high e =
+    let s = progress v wants.Entries caps earlier contents in
     let go = went (entries_line (pieces_of line) s) n (λ after. verdict_from after (n + 1) (next ∷ more)) e in
-    elim (entries_taken caps earlier contents (pieces_of line) go.0 long go.1) [
+    elim (entries_taken v caps earlier contents (pieces_of line) go.0 long go.1) [
       | inl entry ↦
-          judged_more caps earlier contents line next more entry.0 entry.1 entry.2 entry.3
-          (sound_entries caps (earlier ++ entry.0 ∷ []) (after_entry contents entry.0) (n + 1) (next ∷ more)
-          (let room = entry.4 in omega (arith, length_push earlier entry.0)) (length-set contents entry.0.buffer.0 _ ∙ long)
-          (subst (λ (a : Progress). verdict_from a (n + 1) (next ∷ more) ≡ Yes) entry.5 go.2))
+          judged_more v caps earlier contents line next more entry.0 entry.1 entry.2 entry.4
+          (sound_entries v caps (earlier ++ entry.0 ∷ []) (after_entry contents entry.0) (n + 1) (next ∷ more)
+          (let room = entry.5 in omega (arith, length_push earlier entry.0)) (length-set contents entry.0.buffer.0 _ ∙ long)
+          (rw (version_more earlier entry.0) (covers_both v (version_of earlier) (version_of_entry entry.0) high entry.3))
+          (subst (λ (a : Progress). verdict_from a (n + 1) (next ∷ more) ≡ Yes) entry.6 go.2))
       | inr left ↦
-          judged_left caps earlier contents (line ∷ next ∷ more) few long
-          (left_text 0 contents line (pieces_of line) next more refl (let h = left.known in omega arith) left.spelled left.small
-          (behind_cases 0 caps earlier contents (n + 1) (next ∷ more) (nat_lt (0 + 1) (length caps)) refl long
-          (λ _ again. sound_left (0 + 1) caps earlier contents (n + 1) (next ∷ more) long again)
+          judged_left v caps earlier contents (line ∷ next ∷ more) few long high
+          (left_text v (version_of earlier) 0 contents line (pieces_of line) next more refl (let h = left.known in omega arith) left.spelled left.small
+          (behind_cases v 0 caps earlier contents (n + 1) (next ∷ more) (nat_lt (0 + 1) (length caps)) refl long
+          (λ _ again. sound_left v (0 + 1) caps earlier contents (n + 1) (next ∷ more) long again)
           (subst (λ (a : Progress). verdict_from a (n + 1) (next ∷ more) ≡ Yes) left.is go.2)))
     ]
 
 -- ---- the capacities
 
 -- what it says that the lines from a capacity on get yes
-pub record CapsJudged (count : ℕ) (caps : List ℕ) (lines : List (List ℕ)) (more : List ℕ) (m : ℕ) (rest : List (List ℕ)) : Type 0 where
+pub record CapsJudged (v : Version) (count : ℕ) (caps : List ℕ) (lines : List (List ℕ)) (more : List ℕ) (m : ℕ) (rest : List (List ℕ)) : Type 0 where
   pub counted : length caps + length more ≡ count
   pub small : AllByRecursion IsCapacity more
-  pub judged : verdict_from (opened wants.Entries (caps ++ more)) m rest ≡ Yes
+  pub judged : verdict_from (opened v wants.Entries (caps ++ more)) m rest ≡ Yes
   pub text : join_with_byte 10 lines ≡ flat_map line_of (numbered cap_pieces (length caps) more) ++ join_with_byte 10 rest
 
-abbrev AreCaps : ℕ → List ℕ → List (List ℕ) → Type 0
-AreCaps count caps lines = (more : List ℕ) × (m : ℕ) × (rest : List (List ℕ)) × CapsJudged count caps lines more m rest
+abbrev AreCaps : Version → ℕ → List ℕ → List (List ℕ) → Type 0
+AreCaps v count caps lines = (more : List ℕ) × (m : ℕ) × (rest : List (List ℕ)) × CapsJudged v count caps lines more m rest
 
-caps_cases : (count : ℕ) (caps : List ℕ) (n : ℕ) (lines : List (List ℕ)) (goes : Bool) → nat_lt (length caps) count ≡ goes → length caps ≤ count
-    → (length caps < count → verdict_from (opened (wants.Capacities count) caps) n lines ≡ Yes → AreCaps count caps lines)
-    → verdict_from (opened (cond goes (wants.Capacities count) wants.Entries) caps) n lines ≡ Yes → AreCaps count caps lines
-caps_cases count caps n lines true is le again e = again (ltb-true (length caps) count is) e
-caps_cases count caps n lines false is le again e =
+caps_cases : (v : Version) (count : ℕ) (caps : List ℕ) (n : ℕ) (lines : List (List ℕ)) (goes : Bool) → nat_lt (length caps) count ≡ goes → length caps ≤ count
+    → (length caps < count → verdict_from (opened v (wants.Capacities count) caps) n lines ≡ Yes → AreCaps v count caps lines)
+    → verdict_from (opened v (cond goes (wants.Capacities count) wants.Entries) caps) n lines ≡ Yes → AreCaps v count caps lines
+caps_cases v count caps n lines true is le again e = again (ltb-true (length caps) count is) e
+caps_cases v count caps n lines false is le again e =
     let past = ltb-false (length caps) count is in
     ([], n, lines, record { counted = omega arith; small = tt; judged = rw (append-nil caps) e; text = refl })
 
-caps_more : (count : ℕ) (caps : List ℕ) (line next : List ℕ) (more : List (List ℕ)) (k : ℕ) → pieces_of line ≡ cap_pieces (length caps) k → IsCapacity k
-    → AreCaps count (caps ++ k ∷ []) (next ∷ more) → AreCaps count caps (line ∷ next ∷ more)
-caps_more count caps line next more k spelled small behind =
+caps_more : (v : Version) (count : ℕ) (caps : List ℕ) (line next : List ℕ) (more : List (List ℕ)) (k : ℕ) → pieces_of line ≡ cap_pieces (length caps) k
+    → IsCapacity k
+    → AreCaps v count (caps ++ k ∷ []) (next ∷ more) → AreCaps v count caps (line ∷ next ∷ more)
+caps_more v count caps line next more k spelled small behind =
     let rest = behind.3 in
     let others = behind.0 in
     let longer : length (caps ++ k ∷ []) ≡ length caps + 1 = length_push caps k in (
@@ -206,36 +236,37 @@ caps_more count caps line next more k spelled small behind =
       },
     )
 
-sound_caps : (count : ℕ) (caps : List ℕ) (n : ℕ) (lines : List (List ℕ)) → length caps < count
-    → verdict_from (opened (wants.Capacities count) caps) n lines ≡ Yes → AreCaps count caps lines
+sound_caps : (v : Version) (count : ℕ) (caps : List ℕ) (n : ℕ) (lines : List (List ℕ)) → length caps < count
+    → verdict_from (opened v (wants.Capacities count) caps) n lines ≡ Yes → AreCaps v count caps lines
 unfolding step
-sound_caps count caps n [] lt e = absurd (cc)
-sound_caps count caps n (rest ∷ []) lt e = absurd (cc)
-sound_caps count caps n (line ∷ next ∷ more) lt e =
-    let s = opened (wants.Capacities count) caps in
+sound_caps v count caps n [] lt e = absurd (cc)
+sound_caps v count caps n (rest ∷ []) lt e = absurd (cc)
+sound_caps v count caps n (line ∷ next ∷ more) lt e =
+    let s = opened v (wants.Capacities count) caps in
     let go = went (capacity_line count (pieces_of line) s) n (λ after. verdict_from after (n + 1) (next ∷ more)) e in
-    let taken = capacity_line_taken (wants.Capacities count) count caps (pieces_of line) go.0 go.1 in
+    let taken = capacity_line_taken v (wants.Capacities count) count caps (pieces_of line) go.0 go.1 in
     let k = taken.0 in
     let longer : length (caps ++ k ∷ []) ≡ length caps + 1 = length_push caps k in
-    let judged : verdict_from (opened (behind_cap (length (caps ++ k ∷ [])) count) (caps ++ k ∷ [])) (n + 1) (next ∷ more) ≡ Yes =
+    let judged : verdict_from (opened v (behind_cap (length (caps ++ k ∷ [])) count) (caps ++ k ∷ [])) (n + 1) (next ∷ more) ≡ Yes =
     rw longer (subst (λ (a : Progress). verdict_from a (n + 1) (next ∷ more) ≡ Yes) taken.1.is go.2) in
-    caps_more count caps line next more k taken.1.spelled taken.1.small
-    (caps_cases count (caps ++ k ∷ []) (n + 1) (next ∷ more) (nat_lt (length (caps ++ k ∷ [])) count) refl (omega arith)
-    (λ less again. sound_caps count (caps ++ k ∷ []) (n + 1) (next ∷ more) less again) judged)
+    caps_more v count caps line next more k taken.1.spelled taken.1.small
+    (caps_cases v count (caps ++ k ∷ []) (n + 1) (next ∷ more) (nat_lt (length (caps ++ k ∷ [])) count) refl (omega arith)
+    (λ less again. sound_caps v count (caps ++ k ∷ []) (n + 1) (next ∷ more) less again) judged)
 
 -- ---- the whole text
 
 -- what it says that the lines from the number of buffers on get yes
-abbrev IsTail : List ℕ → Type 0
-IsTail text = (caps : List ℕ) × (es : List Entry) × (left : List (List Message)) × IsSpellable caps es left × IsRun caps es left
+abbrev IsTail : Version → List ℕ → Type 0
+IsTail v text = (caps : List ℕ) × (es : List Entry) × (left : List (List Message)) × IsSpellable caps es left × IsRun caps es left × (v ≡ version_of es)
     × (text ≡ line_of (count_pieces (length caps)) ++ flat_map line_of
     (numbered cap_pieces 0 caps ++ (map entry_pieces es ++ (numbered left_pieces 0 left ++ end_pieces ∷ []))))
 
-tail_of : (line next : List ℕ) (more : List (List ℕ)) (n : ℕ) (caps : List ℕ) (rest : List (List ℕ)) (es : List Entry) (left : List (List Message))
+tail_of : (v : Version) (line next : List ℕ) (more : List (List ℕ)) (n : ℕ) (caps : List ℕ) (rest : List (List ℕ)) (es : List Entry) (left : List
+    (List Message))
     → pieces_of line ≡ count_pieces n → 1 ≤ n → n ≤ BUFFERS → length caps ≡ n → AllByRecursion IsCapacity caps
     → join_with_byte 10 (next ∷ more) ≡ flat_map line_of (numbered cap_pieces 0 caps) ++ join_with_byte 10 rest
-    → Judged caps [] (empty_buffers caps) rest es left → IsTail (join_with_byte 10 (line ∷ next ∷ more))
-tail_of line next more n caps rest es left spelled some few counted small text judged = (
+    → Judged v caps [] (empty_buffers caps) rest es left → IsTail v (join_with_byte 10 (line ∷ next ∷ more))
+tail_of v line next more n caps rest es left spelled some few counted small text judged = (
   caps,
   es,
   left,
@@ -249,44 +280,53 @@ tail_of line next more n caps rest es left spelled some few counted small text j
     values = judged.values;
   },
   judged.run,
+  judged.lowest,
   line_spelled line (count_pieces n) (join_with_byte 10 (next ∷ more)) spelled
       ∙ rw (counted, text, judged.text) (ap (λ (t : List ℕ). line_of (count_pieces n) ++ t) (sym (flat_map-append line_of (numbered cap_pieces 0 caps) _))),
 )
 
-sound_count : (n : ℕ) (lines : List (List ℕ)) → verdict_from (record opening { at = wants.Count }) n lines ≡ Yes → IsTail (join_with_byte 10 lines)
+sound_count : (v : Version) (n : ℕ) (lines : List (List ℕ)) → verdict_from (record opening { at = wants.Count; version = v }) n lines ≡ Yes
+    → IsTail v (join_with_byte 10 lines)
 unfolding step
-sound_count n [] e = absurd (cc)
-sound_count n (rest ∷ []) e = absurd (cc)
-sound_count n (line ∷ next ∷ more) e =
-    let s : Progress = record opening { at = wants.Count } in
+sound_count v n [] e = absurd (cc)
+sound_count v n (rest ∷ []) e = absurd (cc)
+sound_count v n (line ∷ next ∷ more) e =
+    let s : Progress = record opening { at = wants.Count; version = v } in
     let go = went (count_line (pieces_of line) s) n (λ after. verdict_from after (n + 1) (next ∷ more)) e in
     let taken = count_line_taken (pieces_of line) s go.0 go.1 in
     let count = taken.0 in
-    let judged : verdict_from (opened (wants.Capacities count) []) (n + 1) (next ∷ more) ≡ Yes =
+    let judged : verdict_from (opened v (wants.Capacities count) []) (n + 1) (next ∷ more) ≡ Yes =
     subst (λ (a : Progress). verdict_from a (n + 1) (next ∷ more) ≡ Yes) taken.1.is go.2 in
     let some : 0 < count = (let h = taken.1.some in omega arith) in
-    let all = sound_caps count [] (n + 1) (next ∷ more) some judged in
+    let all = sound_caps v count [] (n + 1) (next ∷ more) some judged in
     let caps = all.0 in
     let long : length (empty_buffers caps) ≡ length caps = length-map caps (λ (k : ℕ). []) in
-    let opens : opened wants.Entries caps ≡ progress wants.Entries caps [] (empty_buffers caps) =
-    ap (λ buffers. record { at = wants.Entries; buffers = buffers; entries = 0 }) (sym (known_fresh_from 0 caps caps)) in
-    let entries = sound_entries caps [] (empty_buffers caps) all.1 all.2 (omega arith) long
+    let opens : opened v wants.Entries caps ≡ progress v wants.Entries caps [] (empty_buffers caps) =
+    ap (λ buffers. record { at = wants.Entries; version = v; lowest = One; buffers = buffers; entries = 0 }) (sym (known_fresh_from 0 caps caps)) in
+    let entries = sound_entries v caps [] (empty_buffers caps) all.1 all.2 (omega arith) long (covers_first_one v)
     (subst (λ (a : Progress). verdict_from a all.1 all.2 ≡ Yes) opens all.3.judged) in
-    tail_of line next more count caps all.2 entries.0 entries.1 taken.1.spelled taken.1.some taken.1.few (let h = all.3.counted in omega arith) all.3.small
+    tail_of v line next more count caps all.2 entries.0 entries.1 taken.1.spelled taken.1.some taken.1.few (let h = all.3.counted in omega arith) all.3.small
     all.3.text entries.2
 
-head_text : (line rest body : List ℕ) → line ≡ codes "mctower-trace 1" → rest ≡ body → line ++ 10 ∷ rest ≡ line_of head_pieces ++ body
-head_text line rest body e1 e2 = rw (e1, e2) refl
+head_text : (v : Version) (es : List Entry) (line rest body : List ℕ) → line ≡ join_with_byte 32 (head_pieces v) → v ≡ version_of es → rest ≡ body
+    → line ++ 10 ∷ rest ≡ line_of (head_pieces (version_of es)) ++ body
+head_text v es line rest body e1 e2 e3 =
+    rw (e1, e3, ← e2) (sym (append_assoc (join_with_byte 32 (head_pieces v)) (10 ∷ []) body))
 
 sound_lines : (n : ℕ) (lines : List (List ℕ)) → verdict_from opening n lines ≡ Yes → IsTraceOfRun (join_with_byte 10 lines)
 unfolding step spelling lines_of
 sound_lines n [] e = absurd (cc)
 sound_lines n (rest ∷ []) e = absurd (cc)
 sound_lines n (line ∷ next ∷ more) e =
-    let go = went (whole_line (codes "mctower-trace 1") wants.Count line opening) n (λ after. verdict_from after (n + 1) (next ∷ more)) e in
-    let word = whole_taken (codes "mctower-trace 1") wants.Count line opening go.0 go.1 in
-    let tail = sound_count (n + 1) (next ∷ more) (subst (λ (a : Progress). verdict_from a (n + 1) (next ∷ more) ≡ Yes) word.1 go.2) in
-    (tail.0, tail.1, tail.2, record { spellable = tail.3; spelled = head_text line (join_with_byte 10 (next ∷ more)) _ word.0 tail.5 }, tail.4)
+    let go = went (head_line line opening) n (λ after. verdict_from after (n + 1) (next ∷ more)) e in
+    let head = head_taken line opening go.0 go.1 in
+    let tail = sound_count head.0 (n + 1) (next ∷ more) (subst (λ (a : Progress). verdict_from a (n + 1) (next ∷ more) ≡ Yes) head.2 go.2) in (
+      tail.0,
+      tail.1,
+      tail.2,
+      record { spellable = tail.3; spelled = head_text head.0 tail.1 line (join_with_byte 10 (next ∷ more)) _ head.1 tail.5 tail.6 },
+      tail.4,
+    )
 
 pub sound : (text : List ℕ) → verdict_of text ≡ Yes → IsTraceOfRun text
 unfolding verdict_of

@@ -1,6 +1,6 @@
 -- Each line behind the capacities is taken where it may stand, and a line that is taken is spelled so.
-use Rattle.std.proofs.Common.{◌-◌, ◌≡◌, ℕ, ◌+◌, ◌<◌, ◌≤◌, ◌^◌, ◌&&◌, Bool, true, false, cond, List, [], ◌∷◌, ◌++◌, length, get_or, map, Option, Some, None, Ok}
-use Rattle.std.proofs.Common.{refl, sym, ap, ◌∙◌, eqb-true, inl, inr, ◌⊎◌, lt-ltb, ltb-true, lit<, arith}
+use Rattle.std.proofs.Common.{◌-◌, ◌≡◌, ℕ, ◌+◌, ◌<◌, ◌≤◌, ◌^◌, Bool, true, false, cond, List, [], ◌∷◌, ◌++◌, length, get_or, map, Option, Some, None, Ok}
+use Rattle.std.proofs.Common.{refl, sym, ap, ◌∙◌, inl, inr, ◌⊎◌, lt-ltb, ltb-true, lit<, arith}
 use Rattle.std.specs.Prelude.{decimal, codes, nat_lt, slice_get}
 use Rattle.std.specs.Str.{bytes_eq}
 use Rattle.std.specs.List.{AllByRecursion, list_all, join_with_byte}
@@ -9,7 +9,7 @@ use Rattle.std.proofs.lemmas.Slice.Eq.{bytes_eq-Decides}
 use Rattle.event_log.specs.Messages.{Message}
 use Rattle.event_log.specs.declared.ids.TheConstants.{CPUS, THREADS, BUFFERS, ENTRIES}
 use Rattle.event_log.specs.declared.entries.Kind.{Kind}
-use Rattle.event_log.specs.declared.entries.Kind.TheVariants.{Send, Recv}
+use Rattle.event_log.specs.declared.entries.Kind.TheVariants.{Send, Recv, Close, SendClosed, RecvClosed}
 use Rattle.event_log.specs.declared.entries.Entry.{Entry}
 use Rattle.event_log.specs.Buffers.{items_of}
 use Rattle.event_log.specs.Runs.{IsNext, after_entry}
@@ -19,25 +19,50 @@ use Rattle.event_log.proofs.DigitsLemmas.{number_to-decimal, number_to-Some}
 use Rattle.tracer.specs.declared.verdicts.Reason.TheVariants.{Spelling, Range, Left}
 use Rattle.tracer.specs.declared.next_lines.NextLine.{NextLine}
 use Rattle.tracer.specs.declared.next_lines.NextLine.TheVariants as wants
-use Rattle.tracer.specs.TraceText.{kind_word, entry_pieces, left_pieces, IsEntryOf, AreSmall}
-use Rattle.tracer.specs.Judging.{Digits, Seen, Progress, wanted, piece_at, word_at, is_just, is_value, is_within, are_values, is_left, entry_digits, entry_in}
+use Rattle.tracer.specs.TraceText.{kind_word, value_piece, entry_pieces, left_pieces, IsValueOf, IsEntryOf, AreSmall}
+use Rattle.tracer.specs.declared.versions.Version.{Version}
+use Rattle.tracer.specs.Versions.{covers, both, version_of_kind, version_of_entry, version_of}
+use Rattle.tracer.specs.Judging.{Digits, Seen, Progress, wanted, piece_at, word_at, is_value, is_within, are_values, is_left, is_of_version}
+use Rattle.tracer.specs.Judging.{spells_value, entry_digits, entry_in}
 use Rattle.tracer.specs.Judging.{entry_among, entry_line, left_digits, left_line, entries_line, step}
 use Rattle.tracer.proofs.SplitLemmas.{Lacks, IsLine, decimal_lacks, pieces_again}
 use Rattle.tracer.proofs.ReadLemmas.{bind_ok, wanted_ok, same_ok, piece_taken, word_taken, is_just_taken, is_value_taken, decimal_is_number, is_value_again}
-use Rattle.tracer.proofs.KnownLemmas.{same_some, seen_of, known_from, length-known_from, slice_get-known, among_again, among_taken}
+use Rattle.tracer.proofs.VersionLemmas.{version_more}
+use Rattle.tracer.proofs.KnownLemmas.{HasNone, same_some, seen_of, known_from, length-known_from, slice_get-known, among_again, among_taken}
 use Rattle.std.proofs.lemmas.Option.{slice_get_within}
 use Rattle.std.proofs.lemmas.Bool.{and_parts}
-use Rattle.tracer.proofs.EntryLemmas.{progress, behind_e, shape_of, IsSmall, entry_digits_taken, entry_digits_again, entry_in_taken, entry_in_again}
+use Rattle.tracer.proofs.EntryLemmas.{progress, behind_e, shape_of, IsSmall, of_version_again, entry_digits_taken}
+use Rattle.tracer.proofs.EntryLemmas.{entry_digits_again, entry_in_taken, entry_in_again}
 
 -- ---- an entry
 
 kind_spaces : (kind : Kind) → Lacks 32 (kind_word kind)
 kind_spaces Send = (refl, (refl, (refl, (refl, tt))))
 kind_spaces Recv = (refl, (refl, (refl, (refl, tt))))
+kind_spaces Close = (refl, (refl, (refl, (refl, (refl, tt)))))
+kind_spaces SendClosed = (refl, (refl, (refl, (refl, (refl, tt)))))
+kind_spaces RecvClosed = (refl, (refl, (refl, (refl, (refl, tt)))))
 
 kind_feeds : (kind : Kind) → Lacks 10 (kind_word kind)
 kind_feeds Send = (refl, (refl, (refl, (refl, tt))))
 kind_feeds Recv = (refl, (refl, (refl, (refl, tt))))
+kind_feeds Close = (refl, (refl, (refl, (refl, (refl, tt)))))
+kind_feeds SendClosed = (refl, (refl, (refl, (refl, (refl, tt)))))
+kind_feeds RecvClosed = (refl, (refl, (refl, (refl, (refl, tt)))))
+
+value_spaces : (kind : Kind) (value : Message) → IsValueOf kind value → Lacks 32 (value_piece kind value)
+value_spaces Send value fits = decimal_lacks 32 value (lit< tt) fits
+value_spaces Recv value fits = decimal_lacks 32 value (lit< tt) fits
+value_spaces Close value fits = (refl, tt)
+value_spaces SendClosed value fits = decimal_lacks 32 value (lit< tt) fits
+value_spaces RecvClosed value fits = (refl, tt)
+
+value_feeds : (kind : Kind) (value : Message) → IsValueOf kind value → Lacks 10 (value_piece kind value)
+value_feeds Send value fits = decimal_lacks 10 value (lit< tt) fits
+value_feeds Recv value fits = decimal_lacks 10 value (lit< tt) fits
+value_feeds Close value fits = (refl, tt)
+value_feeds SendClosed value fits = decimal_lacks 10 value (lit< tt) fits
+value_feeds RecvClosed value fits = (refl, tt)
 
 pub entry_is_line : (n : ℕ) (e : Entry) → n ≤ BUFFERS → IsEntryOf n e → IsLine (entry_pieces e)
 entry_is_line n e few small =
@@ -57,7 +82,7 @@ entry_is_line n e few small =
               kind_spaces e.kind,
               (
                 decimal_lacks 32 e.buffer.0 (lit< tt) buffer,
-                (decimal_lacks 32 e.value (lit< tt) small.value, (decimal_lacks 32 e.op (lit< tt) op, (decimal_lacks 32 e.pos (lit< tt) pos, tt))),
+                (value_spaces e.kind e.value small.value, (decimal_lacks 32 e.op (lit< tt) op, (decimal_lacks 32 e.pos (lit< tt) pos, tt))),
               ),
             ),
           ),
@@ -73,7 +98,7 @@ entry_is_line n e few small =
               kind_feeds e.kind,
               (
                 decimal_lacks 10 e.buffer.0 (lit< tt) buffer,
-                (decimal_lacks 10 e.value (lit< tt) small.value, (decimal_lacks 10 e.op (lit< tt) op, (decimal_lacks 10 e.pos (lit< tt) pos, tt))),
+                (value_feeds e.kind e.value small.value, (decimal_lacks 10 e.op (lit< tt) op, (decimal_lacks 10 e.pos (lit< tt) pos, tt))),
               ),
             ),
           ),
@@ -81,87 +106,109 @@ entry_is_line n e few small =
       );
     }
 
-entry_line_again : (at : NextLine) (caps : List ℕ) (earlier : List Entry) (contents : List (List Message)) (e : Entry) → length caps ≤ BUFFERS
-    → length earlier < ENTRIES → length contents ≡ length caps → IsEntryOf (length caps) e → IsNext caps earlier contents e
-    → entry_line (behind_e e) (progress at caps earlier contents) ≡ Ok (progress at caps (earlier ++ e ∷ []) (after_entry contents e))
+entry_line_again : (v : Version) (at : NextLine) (caps : List ℕ) (earlier : List Entry) (contents : List (List Message)) (e : Entry) → length caps ≤ BUFFERS
+    → length earlier < ENTRIES → length contents ≡ length caps → IsEntryOf (length caps) e → covers v (version_of_entry e) ≡ true
+    → IsNext caps earlier contents e
+    → entry_line (behind_e e) (progress v at caps earlier contents) ≡ Ok (progress v at caps (earlier ++ e ∷ []) (after_entry contents e))
 unfolding entry_line
-entry_line_again at caps earlier contents e few room long small next =
+entry_line_again v at caps earlier contents e few room long small high next =
     let cpu : e.cpu.0 ≤ CPUS - 1 = (let h = small.cpu in omega arith) in
     let thread : e.thread.0 ≤ THREADS - 1 = (let h = small.thread in omega arith) in
     let buffer : e.buffer.0 ≤ BUFFERS - 1 = (let h = small.buffer in omega arith) in
-    let value : e.value ≤ 18446744073709551615 = (let h = small.value in omega arith) in
     let op : e.op ≤ ENTRIES - 1 = (let h = small.op in omega arith) in
     let pos : e.pos ≤ ENTRIES - 1 = (let h = small.pos in omega arith) in
-    let digits = entry_digits_again e (omega arith) (omega arith) (omega arith) (omega arith) (omega arith) (omega arith) in
+    let digits = entry_digits_again e (omega arith) (omega arith) (omega arith) (omega arith) (omega arith) in
     rw (
       digits,
-      entry_in_again e cpu thread buffer value op pos,
+      of_version_again v e high small.value,
+      entry_in_again e cpu thread buffer small.value op pos,
       lt-ltb (length earlier) ENTRIES room,
       among_again caps earlier contents e long next,
       length_push earlier e,
+      version_more earlier e,
     ) refl
 
 entries_e : (ps : List (List ℕ)) (s : Progress) → entries_line (codes "e" ∷ ps) s ≡ entry_line ps s
 unfolding entries_line
 entries_e ps s = refl
 
-pub step_entry : (caps : List ℕ) (earlier : List Entry) (contents : List (List Message)) (e : Entry) → length caps ≤ BUFFERS → length earlier < ENTRIES
-    → length contents ≡ length caps → IsEntryOf (length caps) e → IsNext caps earlier contents e
-    → step (progress wants.Entries caps earlier contents) (join_with_byte 32 (entry_pieces e))
-    ≡ Ok (progress wants.Entries caps (earlier ++ e ∷ []) (after_entry contents e))
+pub step_entry : (v : Version) (caps : List ℕ) (earlier : List Entry) (contents : List (List Message)) (e : Entry) → length caps ≤ BUFFERS
+    → length earlier < ENTRIES
+    → length contents ≡ length caps → IsEntryOf (length caps) e → covers v (version_of_entry e) ≡ true → IsNext caps earlier contents e
+    → step (progress v wants.Entries caps earlier contents) (join_with_byte 32 (entry_pieces e))
+    ≡ Ok (progress v wants.Entries caps (earlier ++ e ∷ []) (after_entry contents e))
 unfolding step
-step_entry caps earlier contents e few room long small next =
-    let s = progress wants.Entries caps earlier contents in
+step_entry v caps earlier contents e few room long small high next =
+    let s = progress v wants.Entries caps earlier contents in
     ap (λ (ps : List (List ℕ)). entries_line ps s) (pieces_again (codes "e") (behind_e e) (entry_is_line (length caps) e few small)) ∙ entries_e (behind_e e) s
-    ∙ entry_line_again wants.Entries caps earlier contents e few room long small next
+    ∙ entry_line_again v wants.Entries caps earlier contents e few room long small high next
 
 -- what it says that an entry was taken
-pub record EntryTaken (at : NextLine) (caps : List ℕ) (earlier : List Entry) (contents : List (List Message)) (ps : List (List ℕ)) (after : Progress)
+pub record EntryTaken (v : Version) (at : NextLine) (caps : List ℕ) (earlier : List Entry) (contents : List (List Message)) (ps : List (List ℕ))
+    (after : Progress)
     (e : Entry) : Type 0 where
   pub spelled : ps ≡ behind_e e
   pub small : IsEntryOf (length caps) e
+  pub high : covers v (version_of_entry e) ≡ true
   pub next : IsNext caps earlier contents e
   pub room : length earlier < ENTRIES
-  pub is : after ≡ progress at caps (earlier ++ e ∷ []) (after_entry contents e)
+  pub is : after ≡ progress v at caps (earlier ++ e ∷ []) (after_entry contents e)
 
-entry_found : (at : NextLine) (caps : List ℕ) (earlier : List Entry) (contents : List (List Message)) (ps : List (List ℕ)) (digits : Digits) (e : Entry)
-    (buffers : List Seen) (after : Progress) → length contents ≡ length caps → ps ≡ shape_of digits → IsSmall digits e → length earlier < ENTRIES
-    → entry_among e (known_from earlier contents 0 caps) ≡ Ok buffers → record { at = at; buffers = buffers; entries = length earlier + 1 } ≡ after
-    → EntryTaken at caps earlier contents ps after e
-entry_found at caps earlier contents ps digits e buffers after long shape small room among is =
-    let taken = among_taken caps earlier contents e buffers long among in
+-- an effect without a message has none
+none_of : (kind : Kind) (value : Message) → IsValueOf kind value → HasNone kind value
+none_of Send value fits = tt
+none_of Recv value fits = tt
+none_of Close value fits = fits
+none_of SendClosed value fits = tt
+none_of RecvClosed value fits = fits
+
+entry_found : (v : Version) (at : NextLine) (caps : List ℕ) (earlier : List Entry) (contents : List (List Message)) (ps : List (List ℕ)) (digits : Digits)
+    (e : Entry)
+    (buffers : List Seen) (after : Progress) → length contents ≡ length caps → ps ≡ shape_of digits → IsSmall digits e
+    → covers v (version_of_kind digits.kind) ≡ true → length earlier < ENTRIES
+    → entry_among e (known_from earlier contents 0 caps) ≡ Ok buffers
+    → record { at = at; version = v; lowest = both (version_of earlier) (version_of_entry e); buffers = buffers; entries = length earlier + 1 } ≡ after
+    → EntryTaken v at caps earlier contents ps after e
+entry_found v at caps earlier contents ps digits e buffers after long shape small high room among is =
+    let taken = among_taken caps earlier contents e buffers long (none_of e.kind e.value small.value) among in
     record {
       spelled = shape ∙ ap shape_of small.spelled;
       small = record {
         cpu = (let h = small.cpu in omega arith);
         thread = (let h = small.thread in omega arith);
         buffer = taken.0.known;
-        value = (let h = small.value in omega arith);
+        value = small.value;
         op = (let h = small.op in omega arith);
         pos = (let h = small.pos in omega arith);
       };
+      high = ap (λ (d : Digits). covers v (version_of_kind d.kind)) (sym small.spelled) ∙ high;
       next = taken.0;
       room = room;
-      is = sym is ∙ rw (taken.1, length_push earlier e) refl;
+      is = sym is ∙ rw (taken.1, length_push earlier e, version_more earlier e) refl;
     }
 
-entry_line_taken : (at : NextLine) (caps : List ℕ) (earlier : List Entry) (contents : List (List Message)) (ps : List (List ℕ)) (after : Progress)
-    → length contents ≡ length caps → entry_line ps (progress at caps earlier contents) ≡ Ok after
-    → (e : Entry) × EntryTaken at caps earlier contents ps after e
+entry_line_taken : (v : Version) (at : NextLine) (caps : List ℕ) (earlier : List Entry) (contents : List (List Message)) (ps : List (List ℕ))
+    (after : Progress)
+    → length contents ≡ length caps → entry_line ps (progress v at caps earlier contents) ≡ Ok after
+    → (e : Entry) × EntryTaken v at caps earlier contents ps after e
 unfolding entry_line
-entry_line_taken at caps earlier contents ps after long taken =
-    let s = progress at caps earlier contents in
-    let digits = bind_ok (entry_digits ps) (λ digits. entry_in digits >>= λ e.
+entry_line_taken v at caps earlier contents ps after long taken =
+    let s = progress v at caps earlier contents in
+    let digits = bind_ok (entry_digits ps) (λ digits. wanted (is_of_version v digits) Spelling (entry_in digits) >>= λ e.
     wanted (nat_lt (length earlier) ENTRIES) Range (entry_among e s.buffers) >>= λ buffers.
-    Ok (record s { buffers = buffers; entries = length earlier + 1 })) after taken in
-    let entry = bind_ok (entry_in digits.0) (λ e. wanted (nat_lt (length earlier) ENTRIES) Range (entry_among e s.buffers) >>= λ buffers.
-    Ok (record s { buffers = buffers; entries = length earlier + 1 })) after digits.2 in
+    Ok (record s { lowest = both (version_of earlier) (version_of_entry e); buffers = buffers; entries = length earlier + 1 })) after taken in
+    let entry = bind_ok (wanted (is_of_version v digits.0) Spelling (entry_in digits.0)) (λ e.
+    wanted (nat_lt (length earlier) ENTRIES) Range (entry_among e s.buffers) >>= λ buffers.
+    Ok (record s { lowest = both (version_of earlier) (version_of_entry e); buffers = buffers; entries = length earlier + 1 })) after digits.2 in
+    let spells = wanted_ok (is_of_version v digits.0) Spelling (entry_in digits.0) entry.0 entry.1 in
+    let parts = and_parts (covers v (version_of_kind digits.0.kind)) (spells_value digits.0.kind digits.0.value) spells.0 in
     let among = bind_ok (wanted (nat_lt (length earlier) ENTRIES) Range (entry_among entry.0 s.buffers))
-    (λ buffers. Ok (record s { buffers = buffers; entries = length earlier + 1 })) after entry.2 in
+    (λ buffers. Ok (record s { lowest = both (version_of earlier) (version_of_entry entry.0); buffers = buffers; entries = length earlier + 1 })) after
+    entry.2 in
     let room = wanted_ok (nat_lt (length earlier) ENTRIES) Range (entry_among entry.0 s.buffers) among.0 among.1 in (
       entry.0,
-      entry_found at caps earlier contents ps digits.0 entry.0 among.0 after long (entry_digits_taken ps digits.0 digits.1)
-          (entry_in_taken digits.0 entry.0 entry.1) (ltb-true (length earlier) ENTRIES room.0) room.1 (same_ok _ after among.2),
+      entry_found v at caps earlier contents ps digits.0 entry.0 among.0 after long (entry_digits_taken ps digits.0 digits.1)
+          (entry_in_taken digits.0 entry.0 parts.1 spells.1) parts.0 (ltb-true (length earlier) ENTRIES room.0) room.1 (same_ok _ after among.2),
     )
 
 -- ---- what is left
@@ -186,11 +233,12 @@ left_digits_again b items lt small = rw (is_value_again b lt, numbers_again item
 abbrev pub behind_left : ℕ → List ℕ → NextLine
 behind_left b caps = cond (nat_lt (b + 1) (length caps)) (wants.Contents (b + 1)) wants.End
 
-pub left_line_again : (at : NextLine) (b : ℕ) (caps : List ℕ) (earlier : List Entry) (contents : List (List Message)) → b < length caps → b < 2 ^ 64
-    → AreSmall (items_of contents b) → left_line b (left_pieces b (items_of contents b)) (progress at caps earlier contents)
-    ≡ Ok (progress (behind_left b caps) caps earlier contents)
+pub left_line_again : (v : Version) (at : NextLine) (b : ℕ) (caps : List ℕ) (earlier : List Entry) (contents : List (List Message)) → b < length caps
+    → b < 2 ^ 64
+    → AreSmall (items_of contents b) → left_line b (left_pieces b (items_of contents b)) (progress v at caps earlier contents)
+    ≡ Ok (progress v (behind_left b caps) caps earlier contents)
 unfolding left_line
-left_line_again at b caps earlier contents lt fits small =
+left_line_again v at b caps earlier contents lt fits small =
     rw (
       left_digits_again b (items_of contents b) fits small,
       within_again (items_of contents b) small,
@@ -228,25 +276,29 @@ left_digits_taken b ps values taken =
     (is_value_taken number.0.0 b value.0) (same_ok number.0.1 values rest.1)
 
 -- what it says that what is left of buffer b was taken
-pub record LeftTaken (b : ℕ) (caps : List ℕ) (earlier : List Entry) (contents : List (List Message)) (ps : List (List ℕ)) (after : Progress) : Type 0 where
+pub record LeftTaken (v : Version) (b : ℕ) (caps : List ℕ) (earlier : List Entry) (contents : List (List Message)) (ps : List (List ℕ))
+    (after : Progress) : Type 0 where
   pub known : b < length caps
   pub spelled : ps ≡ left_pieces b (items_of contents b)
   pub small : AreSmall (items_of contents b)
-  pub is : after ≡ progress (behind_left b caps) caps earlier contents
+  pub is : after ≡ progress v (behind_left b caps) caps earlier contents
 
 holds_of : (values : List (List ℕ)) (found : Option Seen) → is_left values found ≡ true
     → (seen : Seen) × (found ≡ Some seen) × (are_values values seen.items ≡ true)
 holds_of values None e = absurd (cc)
 holds_of values (Some seen) e = (seen, refl, e)
 
-left_found : (at : NextLine) (b : ℕ) (caps : List ℕ) (earlier : List Entry) (contents : List (List Message)) (ps values : List (List ℕ)) (after : Progress)
+left_found : (v : Version) (at : NextLine) (b : ℕ) (caps : List ℕ) (earlier : List Entry) (contents : List (List Message)) (ps values : List (List ℕ))
+    (after : Progress)
     (seen : Seen) → ps ≡ codes "left" ∷ decimal b ∷ values → slice_get (known_from earlier contents 0 caps) b ≡ Some seen → are_values values seen.items ≡ true
     → record {
       at = cond (nat_lt (b + 1) (length (known_from earlier contents 0 caps))) (wants.Contents (b + 1)) wants.End;
+      version = v;
+      lowest = version_of earlier;
       buffers = known_from earlier contents 0 caps;
       entries = length earlier;
-    } ≡ after → LeftTaken b caps earlier contents ps after
-left_found at b caps earlier contents ps values after seen shape found holds is =
+    } ≡ after → LeftTaken v b caps earlier contents ps after
+left_found v at b caps earlier contents ps values after seen shape found holds is =
     let inside : b < length caps = omega (arith, slice_get_within (known_from earlier contents 0 caps) b seen found, length-known_from earlier contents 0 caps)
     in
     let same : seen ≡ seen_of earlier contents b (get_or caps b 0) = same_some seen _ (sym found ∙ slice_get-known earlier contents caps b inside) in
@@ -259,18 +311,19 @@ left_found at b caps earlier contents ps values after seen shape found holds is 
       is = sym is ∙ rw (length-known_from earlier contents 0 caps) refl;
     }
 
-pub left_line_taken : (at : NextLine) (b : ℕ) (caps : List ℕ) (earlier : List Entry) (contents : List (List Message)) (ps : List (List ℕ)) (after : Progress)
-    → left_line b ps (progress at caps earlier contents) ≡ Ok after → LeftTaken b caps earlier contents ps after
+pub left_line_taken : (v : Version) (at : NextLine) (b : ℕ) (caps : List ℕ) (earlier : List Entry) (contents : List (List Message)) (ps : List (List ℕ))
+    (after : Progress)
+    → left_line b ps (progress v at caps earlier contents) ≡ Ok after → LeftTaken v b caps earlier contents ps after
 unfolding left_line
-left_line_taken at b caps earlier contents ps after taken =
-    let s = progress at caps earlier contents in
+left_line_taken v at b caps earlier contents ps after taken =
+    let s = progress v at caps earlier contents in
     let next : Progress = record s { at = cond (nat_lt (b + 1) (length s.buffers)) (wants.Contents (b + 1)) wants.End } in
     let digits = bind_ok (left_digits b ps)
     (λ values. wanted (list_all is_within values) Range (wanted (is_left values (slice_get s.buffers b)) Left (Ok next))) after taken in
     let range = wanted_ok (list_all is_within digits.0) Range (wanted (is_left digits.0 (slice_get s.buffers b)) Left (Ok next)) after digits.2 in
     let left = wanted_ok (is_left digits.0 (slice_get s.buffers b)) Left (Ok next) after range.1 in
     let holds = holds_of digits.0 (slice_get s.buffers b) left.0 in
-    left_found at b caps earlier contents ps digits.0 after holds.0 (left_digits_taken b ps digits.0 digits.1) holds.1 holds.2 (same_ok next after left.1)
+    left_found v at b caps earlier contents ps digits.0 after holds.0 (left_digits_taken b ps digits.0 digits.1) holds.1 holds.2 (same_ok next after left.1)
 
 items_spaces : (items : List Message) → AreSmall items → AllByRecursion (Lacks 32) (map decimal items)
 items_spaces [] small = tt
@@ -291,46 +344,49 @@ unfolding entries_line
 entries_left ps s = refl
 
 -- what is left of the first buffer, behind the entries
-pub step_first_left : (caps : List ℕ) (earlier : List Entry) (contents : List (List Message)) → 0 < length caps → AreSmall (items_of contents 0)
-    → step (progress wants.Entries caps earlier contents) (join_with_byte 32 (left_pieces 0 (items_of contents 0)))
-    ≡ Ok (progress (behind_left 0 caps) caps earlier contents)
+pub step_first_left : (v : Version) (caps : List ℕ) (earlier : List Entry) (contents : List (List Message)) → 0 < length caps → AreSmall (items_of contents 0)
+    → step (progress v wants.Entries caps earlier contents) (join_with_byte 32 (left_pieces 0 (items_of contents 0)))
+    ≡ Ok (progress v (behind_left 0 caps) caps earlier contents)
 unfolding step
-step_first_left caps earlier contents lt small =
-    let s = progress wants.Entries caps earlier contents in
+step_first_left v caps earlier contents lt small =
+    let s = progress v wants.Entries caps earlier contents in
     ap (λ (ps : List (List ℕ)). entries_line ps s)
     (pieces_again (codes "left") (decimal 0 ∷ map decimal (items_of contents 0)) (left_is_line 0 (items_of contents 0) (lit< tt) small))
-    ∙ entries_left (decimal 0 ∷ map decimal (items_of contents 0)) s ∙ left_line_again wants.Entries 0 caps earlier contents lt (lit< tt) small
+    ∙ entries_left (decimal 0 ∷ map decimal (items_of contents 0)) s ∙ left_line_again v wants.Entries 0 caps earlier contents lt (lit< tt) small
 
-pub step_left : (b : ℕ) (caps : List ℕ) (earlier : List Entry) (contents : List (List Message)) → b < length caps → length caps ≤ BUFFERS
-    → AreSmall (items_of contents b) → step (progress (wants.Contents b) caps earlier contents) (join_with_byte 32 (left_pieces b (items_of contents b)))
-    ≡ Ok (progress (behind_left b caps) caps earlier contents)
+pub step_left : (v : Version) (b : ℕ) (caps : List ℕ) (earlier : List Entry) (contents : List (List Message)) → b < length caps → length caps ≤ BUFFERS
+    → AreSmall (items_of contents b) → step (progress v (wants.Contents b) caps earlier contents) (join_with_byte 32 (left_pieces b (items_of contents b)))
+    ≡ Ok (progress v (behind_left b caps) caps earlier contents)
 unfolding step
-step_left b caps earlier contents lt few small =
-    let s = progress (wants.Contents b) caps earlier contents in
+step_left v b caps earlier contents lt few small =
+    let s = progress v (wants.Contents b) caps earlier contents in
     let fits : b < 2 ^ 64 = omega arith in
     ap (λ (ps : List (List ℕ)). left_line b ps s)
     (pieces_again (codes "left") (decimal b ∷ map decimal (items_of contents b)) (left_is_line b (items_of contents b) fits small))
-    ∙ left_line_again (wants.Contents b) b caps earlier contents lt fits small
+    ∙ left_line_again v (wants.Contents b) b caps earlier contents lt fits small
 
 same_pieces : (p w : List ℕ) (ps qs : List (List ℕ)) → p ≡ w → ps ≡ qs → p ∷ ps ≡ w ∷ qs
 same_pieces p w ps qs e1 e2 = rw (e1, e2) refl
 
-entries_cases : (caps : List ℕ) (earlier : List Entry) (contents : List (List Message)) (p : List ℕ) (ps : List (List ℕ)) (after : Progress)
+entries_cases : (v : Version) (caps : List ℕ) (earlier : List Entry) (contents : List (List Message)) (p : List ℕ) (ps : List (List ℕ)) (after : Progress)
     → length contents ≡ length caps → (first : Bool) → bytes_eq p (codes "e") ≡ first
-    → cond first (entry_line ps (progress wants.Entries caps earlier contents)) (left_line 0 (p ∷ ps) (progress wants.Entries caps earlier contents)) ≡ Ok after
-    → ((e : Entry) × (p ∷ ps ≡ entry_pieces e) × IsEntryOf (length caps) e × IsNext caps earlier contents e × (length earlier < ENTRIES)
-    × (after ≡ progress wants.Entries caps (earlier ++ e ∷ []) (after_entry contents e))) ⊎ LeftTaken 0 caps earlier contents (p ∷ ps) after
-entries_cases caps earlier contents p ps after long true first taken =
-    let found = entry_line_taken wants.Entries caps earlier contents ps after long taken in
+    → cond first (entry_line ps (progress v wants.Entries caps earlier contents)) (left_line 0 (p ∷ ps)
+    (progress v wants.Entries caps earlier contents)) ≡ Ok after
+    → ((e : Entry) × (p ∷ ps ≡ entry_pieces e) × IsEntryOf (length caps) e × (covers v (version_of_entry e) ≡ true)
+    × IsNext caps earlier contents e × (length earlier < ENTRIES)
+    × (after ≡ progress v wants.Entries caps (earlier ++ e ∷ []) (after_entry contents e))) ⊎ LeftTaken v 0 caps earlier contents (p ∷ ps) after
+entries_cases v caps earlier contents p ps after long true first taken =
+    let found = entry_line_taken v wants.Entries caps earlier contents ps after long taken in
     let word : p ≡ codes "e" = (bytes_eq-Decides p (codes "e")).0 first in
-    inl (found.0, same_pieces p (codes "e") ps (behind_e found.0) word found.1.spelled, found.1.small, found.1.next, found.1.room, found.1.is)
-entries_cases caps earlier contents p ps after long false first taken = inr (left_line_taken wants.Entries 0 caps earlier contents (p ∷ ps) after taken)
+    inl (found.0, same_pieces p (codes "e") ps (behind_e found.0) word found.1.spelled, found.1.small, found.1.high, found.1.next, found.1.room, found.1.is)
+entries_cases v caps earlier contents p ps after long false first taken = inr (left_line_taken v wants.Entries 0 caps earlier contents (p ∷ ps) after taken)
 
 -- a line behind the entries is an entry, or what is left of the first buffer
-pub entries_taken : (caps : List ℕ) (earlier : List Entry) (contents : List (List Message)) (ps : List (List ℕ)) (after : Progress)
-    → length contents ≡ length caps → entries_line ps (progress wants.Entries caps earlier contents) ≡ Ok after
-    → ((e : Entry) × (ps ≡ entry_pieces e) × IsEntryOf (length caps) e × IsNext caps earlier contents e × (length earlier < ENTRIES)
-    × (after ≡ progress wants.Entries caps (earlier ++ e ∷ []) (after_entry contents e))) ⊎ LeftTaken 0 caps earlier contents ps after
+pub entries_taken : (v : Version) (caps : List ℕ) (earlier : List Entry) (contents : List (List Message)) (ps : List (List ℕ)) (after : Progress)
+    → length contents ≡ length caps → entries_line ps (progress v wants.Entries caps earlier contents) ≡ Ok after
+    → ((e : Entry) × (ps ≡ entry_pieces e) × IsEntryOf (length caps) e × (covers v (version_of_entry e) ≡ true)
+    × IsNext caps earlier contents e × (length earlier < ENTRIES)
+    × (after ≡ progress v wants.Entries caps (earlier ++ e ∷ []) (after_entry contents e))) ⊎ LeftTaken v 0 caps earlier contents ps after
 unfolding entries_line
-entries_taken caps earlier contents [] after long taken = absurd (cc)
-entries_taken caps earlier contents (p ∷ ps) after long taken = entries_cases caps earlier contents p ps after long (bytes_eq p (codes "e")) refl taken
+entries_taken v caps earlier contents [] after long taken = absurd (cc)
+entries_taken v caps earlier contents (p ∷ ps) after long taken = entries_cases v caps earlier contents p ps after long (bytes_eq p (codes "e")) refl taken

@@ -3,19 +3,23 @@ use Rattle.std.specs.Prelude.{◌-◌, ◌≡◌, ℕ, ◌+◌, Bool, true, fals
 use Rattle.std.specs.Prelude.{Ok, Err, slice_get, slice_set, if◌then◌else◌}
 use Rattle.std.specs.List.{list_all, slice_split}
 use Rattle.std.specs.Str.{bytes_eq}
-use Rattle.event_log.specs.Messages.{Message}
+use Rattle.event_log.specs.Messages.{Message, no_message}
 use Rattle.event_log.specs.declared.ids.TheConstants.{CPUS, THREADS, BUFFERS, CAPACITY, ENTRIES}
 use Rattle.event_log.specs.declared.entries.Kind.{Kind}
-use Rattle.event_log.specs.declared.entries.Kind.TheVariants.{Send, Recv}
+use Rattle.event_log.specs.declared.entries.Kind.TheVariants.{Send, Recv, Close, SendClosed, RecvClosed}
 use Rattle.event_log.specs.declared.entries.Entry.{Entry}
+use Rattle.event_log.specs.Runs.{Group, Sends, Receives, Closes, group_of, same_group}
 use Rattle.event_log.specs.Digits.{is_number, number_to}
 use Rattle.event_log.specs.Reading.{◌>>=◌}
 use Rattle.tracer.specs.declared.verdicts.Reason.{Reason}
-use Rattle.tracer.specs.declared.verdicts.Reason.TheVariants.{Spelling, Range, Op, Pos, Full, EmptyTake, WrongValue, Left}
+use Rattle.tracer.specs.declared.verdicts.Reason.TheVariants.{Spelling, Range, Op, Pos, Full, EmptyTake, WrongValue, Left, OfVersion, CloseState, NotEmpty}
 use Rattle.tracer.specs.declared.verdicts.Verdict.{Verdict}
 use Rattle.tracer.specs.declared.verdicts.Verdict.TheVariants.{Yes, No}
 use Rattle.tracer.specs.declared.next_lines.NextLine.{NextLine}
 use Rattle.tracer.specs.declared.next_lines.NextLine.TheVariants as wants
+use Rattle.tracer.specs.declared.versions.Version.{Version}
+use Rattle.tracer.specs.declared.versions.Version.TheVariants.{One, Two}
+use Rattle.tracer.specs.Versions.{covers, both, version_of_kind, version_of_entry}
 
 -- what a function returned, seen by view, is what reading gives
 abbrev pub Gives : {X Y : Type 0} → (X → Y) → Result X Reason → Result Y Reason → Type 0
@@ -75,42 +79,71 @@ pub record Seen : Type 0 where
   pub ops : ℕ
   pub sends : ℕ
   pub recvs : ℕ
+  pub closes : ℕ
 
 -- a buffer that had no effect
 abbrev pub fresh : ℕ → Seen
-fresh capacity = record { capacity = capacity; items = []; ops = 0; sends = 0; recvs = 0 }
+fresh capacity = record { capacity = capacity; items = []; ops = 0; sends = 0; recvs = 0; closes = 0 }
 
--- where the text stands: which line may come, the buffers, and how many entries there were
+-- where the text stands: which line may come, the version of the head, the lowest version that can spell the entries so far, the buffers,
+-- and how many entries there were
 pub record Progress : Type 0 where
   pub at : NextLine
+  pub version : Version
+  pub lowest : Version
   pub buffers : List Seen
   pub entries : ℕ
 
 abbrev pub opening : Progress
-opening = record { at = wants.Head; buffers = []; entries = 0 }
+opening = record { at = wants.Head; version = One; lowest = One; buffers = []; entries = 0 }
 
--- the pos that an effect of this kind must have
-abbrev pub next_pos : Kind → Seen → ℕ
-next_pos Send seen = seen.sends
-next_pos Recv seen = seen.recvs
+-- whether the buffer was closed
+abbrev pub was_closed : Seen → Bool
+was_closed seen = nat_lt 0 seen.closes
+
+-- the pos that an effect of this group must have
+abbrev pub next_pos : Group → Seen → ℕ
+next_pos Sends seen = seen.sends
+next_pos Receives seen = seen.recvs
+next_pos Closes seen = seen.closes
+
+-- one more, where it counts
+abbrev pub bumped : Bool → ℕ → ℕ
+bumped counts n = if counts then n + 1 else n
+
+-- a buffer behind an effect of this group that leaves these items
+abbrev pub counted : Group → List Message → Seen → Seen
+counted group items seen = record {
+  capacity = seen.capacity;
+  items = items;
+  ops = seen.ops + 1;
+  sends = bumped (same_group group Sends) seen.sends;
+  recvs = bumped (same_group group Receives) seen.recvs;
+  closes = bumped (same_group group Closes) seen.closes;
+}
 
 -- a send wants room
-abbrev pub put_in : Message → Seen → Result Seen Reason
-put_in value seen = wanted (nat_lt (length seen.items) seen.capacity) Full
-    (Ok (record seen { items = seen.items ++ value ∷ []; ops = seen.ops + 1; sends = seen.sends + 1 }))
+abbrev pub put_in : Message → ℕ → List Message → Result (List Message) Reason
+put_in value capacity items = wanted (nat_lt (length items) capacity) Full (Ok (items ++ value ∷ []))
 
 -- a receive wants its value as the first item
-abbrev pub take_first : Message → List Message → Seen → Result Seen Reason
-take_first value [] seen = Err EmptyTake
-take_first value (first ∷ rest) seen = wanted (first == value) WrongValue (Ok (record seen { items = rest; ops = seen.ops + 1; recvs = seen.recvs + 1 }))
+abbrev pub take_first : Message → List Message → Result (List Message) Reason
+take_first value [] = Err EmptyTake
+take_first value (first ∷ rest) = wanted (first == value) WrongValue (Ok rest)
 
-abbrev pub effect_of : Kind → Message → Seen → Result Seen Reason
-effect_of Send value seen = put_in value seen
-effect_of Recv value seen = take_first value seen.items seen
+-- the items that an effect leaves, of a buffer that is closed or not
+abbrev pub effect_of : Kind → Message → Bool → ℕ → List Message → Result (List Message) Reason
+effect_of Send value closed capacity items = if closed then Err CloseState else put_in value capacity items
+effect_of Recv value closed capacity items = take_first value items
+effect_of Close value closed capacity items = Ok items
+effect_of SendClosed value closed capacity items = wanted closed CloseState (Ok items)
+effect_of RecvClosed value closed capacity items = wanted closed CloseState (wanted (length items == 0) NotEmpty (Ok items))
 
 -- the buffer after an entry
 unfoldable pub entry_on : Entry → Seen → Result Seen Reason
-entry_on e seen = wanted (e.op == seen.ops) Op (wanted (e.pos == next_pos e.kind seen) Pos (effect_of e.kind e.value seen))
+entry_on e seen = wanted (e.op == seen.ops) Op
+    (wanted (e.pos == next_pos (group_of e.kind) seen) Pos
+    (effect_of e.kind e.value (was_closed seen) seen.capacity seen.items >>= λ items. Ok (counted (group_of e.kind) items seen)))
 
 -- ---- the lines
 
@@ -125,27 +158,55 @@ pub record Digits : Type 0 where
   pub pos : List ℕ
 
 abbrev pub kind_in : List ℕ → Result Kind Reason
-kind_in word = if bytes_eq word (codes "send") then Ok Send else (if bytes_eq word (codes "recv") then Ok Recv else Err Spelling)
+kind_in word = if bytes_eq word (codes "send")
+    then Ok Send
+    else (if bytes_eq word (codes "recv")
+    then Ok Recv
+    else (if bytes_eq word (codes "close")
+    then Ok Close
+    else (if bytes_eq word (codes "sendc")
+    then Ok SendClosed
+    else (if bytes_eq word (codes "recvc") then Ok RecvClosed else Err Spelling))))
 
--- an entry, spelled, with numbers of any size
+-- whether effects of this kind have a message
+abbrev pub has_message : Kind → Bool
+has_message Send = true
+has_message Recv = true
+has_message Close = false
+has_message SendClosed = true
+has_message RecvClosed = false
+
+-- whether the piece spells a message of an effect of this kind, of any size
+abbrev pub spells_value : Kind → List ℕ → Bool
+spells_value kind piece = if has_message kind then is_number piece else bytes_eq piece (codes "-")
+
+-- the message that it spells
+abbrev pub value_in : Kind → List ℕ → Result Message Reason
+value_in kind piece = if has_message kind then in_range 18446744073709551615 piece else Ok no_message
+
+-- an entry, spelled, with numbers of any size, and any piece for its message
 unfoldable pub entry_digits : List (List ℕ) → Result Digits Reason
 entry_digits pieces = digits_at pieces
     >>= λ cpu. digits_at cpu.1
     >>= λ thread. piece_at thread.1
     >>= λ word. kind_in word.0
     >>= λ kind. digits_at word.1
-    >>= λ buffer. digits_at buffer.1
+    >>= λ buffer. piece_at buffer.1
     >>= λ value. digits_at value.1
     >>= λ op. digits_at op.1
     >>= λ pos. ended pos.1
     >>= λ _. Ok (record { cpu = cpu.0; thread = thread.0; kind = kind; buffer = buffer.0; value = value.0; op = op.0; pos = pos.0 })
+
+-- whether a text of this version may have such an entry, and its message is spelled as its kind wants
+abbrev pub is_of_version : Version → Digits → Bool
+is_of_version v digits = covers v (version_of_kind digits.kind) && spells_value digits.kind digits.value
 
 -- its numbers, where each is in its range
 unfoldable pub entry_in : Digits → Result Entry Reason
 entry_in digits = in_range (CPUS - 1) digits.cpu
     >>= λ cpu. in_range (THREADS - 1) digits.thread
     >>= λ thread. in_range (BUFFERS - 1) digits.buffer
-    >>= λ buffer. in_range 18446744073709551615 digits.value
+    >>= λ buffer. value_in digits.kind digits.value
     >>= λ value. in_range (ENTRIES - 1) digits.op
     >>= λ op. in_range (ENTRIES - 1) digits.pos
     >>= λ pos. Ok (record {
@@ -166,9 +227,9 @@ entry_among e buffers = or_range (slice_get buffers e.buffer.0)
 
 unfoldable pub entry_line : List (List ℕ) → Progress → Result Progress Reason
 entry_line pieces s = entry_digits pieces
-    >>= λ digits. entry_in digits
+    >>= λ digits. wanted (is_of_version s.version digits) Spelling (entry_in digits)
     >>= λ e. wanted (nat_lt s.entries ENTRIES) Range (entry_among e s.buffers)
-    >>= λ buffers. Ok (record s { buffers = buffers; entries = s.entries + 1 })
+    >>= λ buffers. Ok (record s { lowest = both s.lowest (version_of_entry e); buffers = buffers; entries = s.entries + 1 })
 
 -- the digits of the number of buffers
 unfoldable pub count_digits : List (List ℕ) → Result (List ℕ) Reason
@@ -230,17 +291,27 @@ left_line b pieces s = left_digits b pieces
 unfoldable pub entries_line : List (List ℕ) → Progress → Result Progress Reason
 entries_line pieces s = piece_at pieces >>= λ p. if bytes_eq p.0 (codes "e") then entry_line p.1 s else left_line 0 pieces s
 
-unfoldable pub whole_line : List ℕ → NextLine → List ℕ → Progress → Result Progress Reason
-whole_line want next line s = wanted (bytes_eq line want) Spelling (Ok (record s { at = next }))
+-- the version that the head names
+abbrev pub version_in : List ℕ → Result Version Reason
+version_in line = if bytes_eq line (codes "mctower-trace 1")
+    then Ok One
+    else (if bytes_eq line (codes "mctower-trace 2") then Ok Two else Err Spelling)
+
+unfoldable pub head_line : List ℕ → Progress → Result Progress Reason
+head_line line s = version_in line >>= λ v. Ok (record s { at = wants.Count; version = v })
+
+-- the last line, where no lower version than the head's can spell the text
+unfoldable pub end_line : List ℕ → Progress → Result Progress Reason
+end_line line s = wanted (bytes_eq line (codes "end")) Spelling (wanted (covers s.lowest s.version) OfVersion (Ok (record s { at = wants.Done })))
 
 -- a line after which the text may go on, or the first reason against it
 abbrev pub line_at : NextLine → Progress → List ℕ → Result Progress Reason
-line_at wants.Head s line = whole_line (codes "mctower-trace 1") wants.Count line s
+line_at wants.Head s line = head_line line s
 line_at wants.Count s line = count_line (pieces_of line) s
 line_at (wants.Capacities count) s line = capacity_line count (pieces_of line) s
 line_at wants.Entries s line = entries_line (pieces_of line) s
 line_at (wants.Contents b) s line = left_line b (pieces_of line) s
-line_at wants.End s line = whole_line (codes "end") wants.Done line s
+line_at wants.End s line = end_line line s
 line_at wants.Done s line = Err Spelling
 
 unfoldable pub step : Progress → List ℕ → Result Progress Reason

@@ -6,7 +6,7 @@ use Rattle.tracer.specs.declared.judge.Judge.{Judge}
 use Rattle.tracer.specs.Judging.{Seen, Progress}
 
 abbrev pub seen_in : Tally → Seen
-seen_in t = record { capacity = t.capacity; items = t.items.items; ops = t.ops; sends = t.sends; recvs = t.recvs }
+seen_in t = record { capacity = t.capacity; items = t.items.items; ops = t.ops; sends = t.sends; recvs = t.recvs; closes = t.closes }
 
 -- what the step gives is there now; where it gives a reason, that is the answer
 abbrev pub StepsTo : {X : Type 0} → Result X Reason → Result (Unit {0}) Reason → X → Type 0
@@ -15,4 +15,10 @@ StepsTo read (Err reason) now = read ≡ Err reason
 
 -- how far a judge has come
 abbrev pub progress_of : Judge → Progress
-progress_of judge = record { at = judge.at; buffers = map seen_in judge.buffers.items; entries = judge.entries }
+progress_of judge = record {
+  at = judge.at;
+  version = judge.version;
+  lowest = judge.lowest;
+  buffers = map seen_in judge.buffers.items;
+  entries = judge.entries;
+}

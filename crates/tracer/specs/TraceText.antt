@@ -2,20 +2,27 @@
 -- The capacities are a list by buffer number; what is left is a list by buffer number of the buffer's items, front first.
 use Rattle.std.specs.Prelude.{◌≡◌, ℕ, ◌+◌, ◌<◌, ◌≤◌, ◌^◌, List, [], ◌∷◌, ◌++◌, length, map, codes, decimal, flat_map}
 use Rattle.std.specs.List.{AllByRecursion, join_with_byte}
-use Rattle.event_log.specs.Messages.{Message}
+use Rattle.event_log.specs.Messages.{Message, no_message}
 use Rattle.event_log.specs.Buffers.{IsCapacity}
-use Rattle.event_log.specs.declared.ids.TheConstants.{CPUS, THREADS, BUFFERS, CAPACITY, ENTRIES}
+use Rattle.event_log.specs.declared.ids.TheConstants.{CPUS, THREADS, BUFFERS, ENTRIES}
 use Rattle.event_log.specs.declared.entries.Kind.{Kind}
-use Rattle.event_log.specs.declared.entries.Kind.TheVariants.{Send, Recv}
+use Rattle.event_log.specs.declared.entries.Kind.TheVariants.{Send, Recv, Close, SendClosed, RecvClosed}
 use Rattle.event_log.specs.declared.entries.Entry.{Entry}
+use Rattle.tracer.specs.declared.versions.Version.{Version}
+use Rattle.tracer.specs.declared.versions.Version.TheVariants.{One, Two}
+use Rattle.tracer.specs.Versions.{version_of}
 
 -- a line: its pieces with one space between each two, and a line feed
 abbrev pub line_of : List (List ℕ) → List ℕ
 line_of pieces = join_with_byte 32 pieces ++ 10 ∷ []
 
 -- the head line names the format and its version
-abbrev pub head_pieces : List (List ℕ)
-head_pieces = codes "mctower-trace" ∷ codes "1" ∷ []
+abbrev pub version_word : Version → List ℕ
+version_word One = codes "1"
+version_word Two = codes "2"
+
+abbrev pub head_pieces : Version → List (List ℕ)
+head_pieces v = codes "mctower-trace" ∷ version_word v ∷ []
 
 -- how many buffers there are
 abbrev pub count_pieces : ℕ → List (List ℕ)
@@ -28,10 +35,22 @@ cap_pieces b capacity = codes "cap" ∷ decimal b ∷ decimal capacity ∷ []
 abbrev pub kind_word : Kind → List ℕ
 kind_word Send = codes "send"
 kind_word Recv = codes "recv"
+kind_word Close = codes "close"
+kind_word SendClosed = codes "sendc"
+kind_word RecvClosed = codes "recvc"
+
+-- the message of an effect that has one, and a dash for one that has none
+abbrev pub value_piece : Kind → Message → List ℕ
+value_piece Send value = decimal value
+value_piece Recv value = decimal value
+value_piece Close value = codes "-"
+value_piece SendClosed value = decimal value
+value_piece RecvClosed value = codes "-"
 
 -- an entry
 abbrev pub entry_pieces : Entry → List (List ℕ)
-entry_pieces e = codes "e" ∷ decimal e.cpu.0 ∷ decimal e.thread.0 ∷ kind_word e.kind ∷ decimal e.buffer.0 ∷ decimal e.value ∷ decimal e.op ∷ decimal e.pos ∷ []
+entry_pieces e = codes "e" ∷ decimal e.cpu.0 ∷ decimal e.thread.0 ∷ kind_word e.kind ∷ decimal e.buffer.0 ∷ value_piece e.kind e.value ∷ decimal e.op
+    ∷ decimal e.pos ∷ []
 
 -- what is left in a buffer, front first
 abbrev pub left_pieces : ℕ → List Message → List (List ℕ)
@@ -45,9 +64,9 @@ abbrev pub numbered : {X : Type 0} → (ℕ → X → List (List ℕ)) → ℕ �
 numbered line b [] = []
 numbered line b (x ∷ xs) = line b x ∷ numbered line (b + 1) xs
 
--- all lines of a trace, each as its pieces
+-- all lines of a trace, each as its pieces; the head has the lowest version that can spell the entries
 unfoldable pub lines_of : List ℕ → List Entry → List (List Message) → List (List (List ℕ))
-lines_of caps es left = head_pieces ∷ count_pieces
+lines_of caps es left = head_pieces (version_of es) ∷ count_pieces
     (length caps) ∷ (numbered cap_pieces 0 caps ++ (map entry_pieces es ++ (numbered left_pieces 0 left ++ end_pieces ∷ [])))
 
 -- the one spelling
@@ -58,12 +77,20 @@ spelling caps es left = flat_map line_of (lines_of caps es left)
 abbrev pub AreSmall : List Message → Type 0
 AreSmall items = AllByRecursion (λ v. v < 2 ^ 64) items
 
+-- the message of an effect that has one has 64 bits; one that has none has no other
+abbrev pub IsValueOf : Kind → Message → Type 0
+IsValueOf Send value = value < 2 ^ 64
+IsValueOf Recv value = value < 2 ^ 64
+IsValueOf Close value = value ≡ no_message
+IsValueOf SendClosed value = value < 2 ^ 64
+IsValueOf RecvClosed value = value ≡ no_message
+
 -- the numbers of an entry are in range, where there are n buffers
 pub record IsEntryOf (n : ℕ) (e : Entry) : Type 0 where
   pub cpu : e.cpu.0 < CPUS
   pub thread : e.thread.0 < THREADS
   pub buffer : e.buffer.0 < n
-  pub value : e.value < 2 ^ 64
+  pub value : IsValueOf e.kind e.value
   pub op : e.op < ENTRIES
   pub pos : e.pos < ENTRIES
 

@@ -26,6 +26,9 @@ fn with_line(alloc: Global, text: &[u8], at: usize, lines: &[u8]) -> Result<Vec<
     Ok(out)
 }
 
+const CLOSED: &[u8; 163] =
+    b"mctower-trace 2\nbuffers 1\ncap 0 1\ne 0 0 send 0 7 0 0\ne 0 0 close 0 - 1 0\ne 0 0 sendc 0 7 2 1\ne 0 0 recv 0 7 3 0\ne 0 0 recvc 0 - 4 1\ne 0 0 close 0 - 5 1\nleft 0\nend\n";
+
 #[test]
 fn the_three_texts(rt: HostRuntime) -> Result<(), Fail> {
     assert_eq!(rt; check(TAKES), Verdict::No(6, Reason::EmptyTake));
@@ -81,8 +84,10 @@ fn changes_of_one_text(rt: HostRuntime) -> Result<(), Fail> {
 
 /// Each change of one line of the text of one send: what stands there instead, and the line and the
 /// first reason of the answer.
-const LINES: [(usize, &str, usize, Reason); 54] = [
-    (1, "mctower-trace 2\n", 1, Reason::Spelling),
+const LINES: [(usize, &str, usize, Reason); 56] = [
+    (1, "mctower-trace 2\n", 6, Reason::OfVersion),
+    (1, "mctower-trace 3\n", 1, Reason::Spelling),
+    (4, "e 0 0 close 0 - 0 0\n", 4, Reason::Spelling),
     (1, " mctower-trace 1\n", 1, Reason::Spelling),
     (1, "", 1, Reason::Spelling),
     (2, "buffers\n", 2, Reason::Spelling),
@@ -152,6 +157,51 @@ fn the_first_reason_against_the_first_bad_line_counts(rt: HostRuntime) -> Result
     Ok(())
 }
 
+/// Each change of one line of the text with closes: what stands there instead, and the line and the
+/// first reason of the answer.
+const CLOSED_LINES: [(usize, &str, usize, Reason); 20] = [
+    (1, "mctower-trace 1\n", 5, Reason::Spelling),
+    (4, "e 0 0 send 0 - 0 0\n", 4, Reason::Spelling),
+    (
+        4,
+        "e 0 0 close 0 - 0 0\ne 0 0 send 0 7 1 0\n",
+        5,
+        Reason::CloseState,
+    ),
+    (4, "e 0 0 sendc 0 7 0 0\n", 4, Reason::CloseState),
+    (4, "e 0 0 recvc 0 - 0 0\n", 4, Reason::CloseState),
+    (5, "e 0 0 close 0 0 1 0\n", 5, Reason::Spelling),
+    (5, "e 0 0 close 0 -- 1 0\n", 5, Reason::Spelling),
+    (5, "e 0 0 close 0 - 0 0\n", 5, Reason::Op),
+    (5, "e 0 0 close 0 - 1 1\n", 5, Reason::Pos),
+    (5, "e 0 0 close 1 - 1 0\n", 5, Reason::Range),
+    (6, "e 0 0 sendc 0 - 2 1\n", 6, Reason::Spelling),
+    (
+        6,
+        "e 0 0 sendc 0 18446744073709551616 2 1\n",
+        6,
+        Reason::Range,
+    ),
+    (6, "e 0 0 sendc 0 7 2 0\n", 6, Reason::Pos),
+    (6, "e 0 0 send 0 7 2 1\n", 6, Reason::CloseState),
+    (6, "e 0 0 recvc 0 - 2 0\n", 6, Reason::NotEmpty),
+    (8, "e 0 0 recvc 0 7 4 1\n", 8, Reason::Spelling),
+    (8, "e 0 0 recvc 0 - 4 0\n", 8, Reason::Pos),
+    (8, "e 0 0 recv 0 7 4 1\n", 8, Reason::EmptyTake),
+    (9, "e 0 0 closed 0 - 5 1\n", 9, Reason::Spelling),
+    (11, "end", 11, Reason::Spelling),
+];
+
+#[test]
+fn closes_are_read_in_the_second_version(rt: HostRuntime) -> Result<(), Fail> {
+    assert_eq!(rt; check(CLOSED), Verdict::Yes);
+    for (at, lines, line, reason) in CLOSED_LINES {
+        let text = with_line(rt.alloc(), CLOSED, at, lines.as_bytes())?;
+        assert_eq!(rt; check(&text), Verdict::No(line, reason), "{lines}");
+    }
+    Ok(())
+}
+
 /// The text of 524,288 entries of buffer 0, of `more` behind them, and of nothing left.
 fn with_most_entries(alloc: Global, more: &str) -> Result<String, Fail> {
     let mut text = String::from_str(alloc, "mctower-trace 1\nbuffers 2\ncap 0 1\ncap 1 1\n")?;
@@ -182,7 +232,7 @@ fn check_needs_no_refused_allocation(rt: HostRuntime) {
 
 #[test]
 fn reasons_print_with_their_numbers(rt: HostRuntime) -> Result<(), Fail> {
-    let reasons: [(Reason, &str); 8] = [
+    let reasons: [(Reason, &str); 11] = [
         (Reason::Spelling, "Spelling(30)"),
         (Reason::Range, "Range(31)"),
         (Reason::Op, "Op(32)"),
@@ -191,6 +241,9 @@ fn reasons_print_with_their_numbers(rt: HostRuntime) -> Result<(), Fail> {
         (Reason::EmptyTake, "EmptyTake(35)"),
         (Reason::WrongValue, "WrongValue(36)"),
         (Reason::Left, "Left(37)"),
+        (Reason::OfVersion, "Version(38)"),
+        (Reason::CloseState, "CloseState(39)"),
+        (Reason::NotEmpty, "NotEmpty(40)"),
     ];
     for (reason, text) in reasons {
         assert_eq!(rt; reason.name(), text);

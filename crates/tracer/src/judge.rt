@@ -1,25 +1,47 @@
 //! The judge of a trace text.
 
-ghost use Rattle.std.specs.Prelude.{◌≡◌, ◌+◌, ◌≤◌, ◌<◌, ◌==◌, ◌&&◌, ℕ, length, map, codes, nat_lt, slice_get, true};
+ghost use Rattle.std.specs.Prelude.{◌≡◌, ◌+◌, ◌≤◌, ◌<◌, ◌==◌, ◌&&◌, ℕ, length, map, nat_lt, slice_get, true};
 ghost use Rattle.event_log.specs.declared.ids.TheConstants.{BUFFERS};
-ghost use Rattle.tracer.specs.Judging.{opening, whole_line, count_line, capacity_line, entry_line, entries_line, left_line, is_left, step, is_done};
+ghost use Rattle.tracer.specs.Judging.{opening, version_in, head_line, end_line, count_line, capacity_line, entry_line, entries_line};
+ghost use Rattle.tracer.specs.Judging.{left_line, is_left, step, is_done};
 ghost use Rattle.tracer.specs.Lines.{left_of};
-ghost use Rattle.tracer.specs.declared.next_lines.NextLine.TheVariants.{Count as TheCount, Capacities as WantsCapacities, Done as NoLine};
+ghost use Rattle.tracer.specs.declared.next_lines.NextLine.TheVariants.{Capacities as WantsCapacities};
 
 use crate::entering::enter_among;
-use crate::lines::{capacity_digits, count_digits, entry_digits, entry_in, left_digits};
+use crate::lines::{
+    capacity_digits, count_digits, entry_digits, entry_in, is_of_version, left_digits,
+};
 use crate::next_lines::NextLine;
 use crate::pieces::{Pieces, are_within, in_range, piece};
 use crate::tally::Tally;
 use crate::verdicts::Reason;
+use crate::versions::Version;
 use arrayvec::ArrayVec;
 use event_log::{BUFFERS, CAPACITY, ENTRIES};
 
-/// The judge of a text, as far as it has come: which line may come, what is known of the buffers,
-/// and how many entries there were.
+/// The version that the head names.
+///
+/// Errors: `Spelling` where it is no head.
+fn version_in(line: &[u8]) -> Result<Version, Reason>
+    ensures { result ≡ version_in line.now }
+{
+    if line == b"mctower-trace 1".as_slice() {
+        return Ok(Version::One);
+    }
+    if line == b"mctower-trace 2".as_slice() {
+        return Ok(Version::Two);
+    }
+    Err(Reason::Spelling)
+}
+
+/// The judge of a text, as far as it has come: which line may come, the version of the head, the
+/// lowest version that can spell the entries so far, what is known of the buffers, and how many
+/// entries there were.
 #[derive(Drop)]
 pub struct Judge {
     at: NextLine,
+    version: Version,
+    lowest: Version,
     buffers: ArrayVec<Tally, BUFFERS>,
     entries: u64,
     ghost room: { (count : ℕ) → at ≡ WantsCapacities count → (length buffers.items < count) × (count ≤ BUFFERS) },
@@ -34,6 +56,8 @@ impl Judge {
     {
         Judge {
             at: NextLine::Head,
+            version: Version::One,
+            lowest: Version::One,
             buffers: ArrayVec::new(),
             entries: 0,
         }
@@ -64,25 +88,26 @@ impl Judge {
         }
     }
 
-    /// A line of this one spelling, behind which the count may come.
-    #[tactic(auto, unfolding(crate::specs::Judging::whole_line))]
+    /// The head, behind which the count may come.
+    #[tactic(auto, unfolding(crate::specs::Judging::head_line))]
     fn head(&mut self, line: &[u8]) -> Result<(), Reason>
-        ensures { StepsTo (whole_line (codes "mctower-trace 1") TheCount line.now (progress_of self.old)) result (progress_of self.new) }
+        ensures { StepsTo (head_line line.now (progress_of self.old)) result (progress_of self.new) }
     {
-        if line != b"mctower-trace 1".as_slice() {
-            return Err(Reason::Spelling);
-        }
+        self.version = version_in(line)?;
         self.at = NextLine::Count;
         Ok(())
     }
 
     /// The last line.
-    #[tactic(auto, unfolding(crate::specs::Judging::whole_line))]
+    #[tactic(auto, unfolding(crate::specs::Judging::end_line))]
     fn end(&mut self, line: &[u8]) -> Result<(), Reason>
-        ensures { StepsTo (whole_line (codes "end") NoLine line.now (progress_of self.old)) result (progress_of self.new) }
+        ensures { StepsTo (end_line line.now (progress_of self.old)) result (progress_of self.new) }
     {
         if line != b"end".as_slice() {
             return Err(Reason::Spelling);
+        }
+        if !self.lowest.covers(self.version) {
+            return Err(Reason::OfVersion);
         }
         self.at = NextLine::Done;
         Ok(())
@@ -127,11 +152,15 @@ impl Judge {
         ensures { StepsTo (entry_line (left_of pieces.entry) (progress_of self.old)) result (progress_of self.new) }
     {
         let digits = entry_digits(pieces)?;
+        if !is_of_version(self.version, digits) {
+            return Err(Reason::Spelling);
+        }
         let entry = entry_in(digits)?;
         if self.entries >= ENTRIES as u64 {
             return Err(Reason::Range);
         }
         enter_among(self.buffers.as_mut_slice(), entry)?;
+        self.lowest = self.lowest.both(Version::of_kind(entry.kind));
         self.entries += 1;
         Ok(())
     }

@@ -2,6 +2,7 @@
 #![tactic(auto)]
 
 mod checking;
+mod effects;
 mod entering;
 mod gathering;
 mod judge;
@@ -12,6 +13,7 @@ mod pieces;
 mod sinks;
 mod tally;
 mod verdicts;
+mod versions;
 mod writing;
 
 pub use checking::check;

@@ -2,14 +2,16 @@
 
 ghost use Rattle.std.specs.Prelude.{◌≡◌, ◌≤◌, ◌<◌, IfOk, codes};
 ghost use Rattle.event_log.specs.declared.ids.TheConstants.{ENTRIES};
-ghost use Rattle.tracer.specs.Judging.{Gives, kind_in, entry_digits, entry_in, capacity_digits, left_digits, count_digits};
+ghost use Rattle.tracer.specs.Judging.{Gives, kind_in, has_message, value_in, is_of_version, entry_digits, entry_in};
+ghost use Rattle.tracer.specs.Judging.{capacity_digits, left_digits, count_digits};
 ghost use Rattle.tracer.specs.Lines.{left_of, digits_of};
 
 use crate::pieces::{Pieces, are_numbers, digits, ended, in_range, is_value, piece, word};
 use crate::verdicts::Reason;
-use event_log::{BUFFERS, BufId, CPUS, CpuId, ENTRIES, Entry, Kind, THREADS, Tid};
+use crate::versions::Version;
+use event_log::{BUFFERS, BufId, CPUS, CpuId, ENTRIES, Entry, Kind, Msg, THREADS, Tid, is_number};
 
-/// The digits of an entry, of any size.
+/// The digits of an entry, of any size, and the piece of its message.
 #[derive(Clone, Copy)]
 pub struct EntryDigits<'a> {
     pub cpu: &'a [u8],
@@ -31,7 +33,52 @@ fn kind_in(word: &[u8]) -> Result<Kind, Reason>
     if word == b"recv".as_slice() {
         return Ok(Kind::Recv);
     }
+    if word == b"close".as_slice() {
+        return Ok(Kind::Close);
+    }
+    if word == b"sendc".as_slice() {
+        return Ok(Kind::SendClosed);
+    }
+    if word == b"recvc".as_slice() {
+        return Ok(Kind::RecvClosed);
+    }
     Err(Reason::Spelling)
+}
+
+/// Whether effects of this kind have a message.
+fn has_message(kind: Kind) -> bool
+    ensures { result ≡ has_message kind }
+{
+    match kind {
+        Kind::Send | Kind::Recv | Kind::SendClosed => true,
+        Kind::Close | Kind::RecvClosed => false,
+    }
+}
+
+/// Whether a text of this version may have such an entry, and its message is spelled as its kind
+/// wants: a dash where there is none.
+pub fn is_of_version(version: Version, digits: EntryDigits<'_>) -> bool
+    ensures { result ≡ is_of_version version (digits_of digits.entry) }
+{
+    if !version.covers(Version::of_kind(digits.kind)) {
+        return false;
+    }
+    if has_message(digits.kind) {
+        is_number(digits.value)
+    } else {
+        digits.value == b"-".as_slice()
+    }
+}
+
+/// The message that the piece spells, 0 where effects of this kind have none.
+fn value_in(kind: Kind, piece: &[u8]) -> Result<Msg, Reason>
+    ensures { result ≡ value_in kind piece.now }
+{
+    if has_message(kind) {
+        in_range(u64::MAX, piece)
+    } else {
+        Ok(0)
+    }
 }
 
 /// The digits of the entry that the pieces behind its first word spell.
@@ -45,7 +92,7 @@ pub fn entry_digits(pieces: Pieces<'_>) -> Result<EntryDigits<'_>, Reason>
     let (word, rest) = piece(rest)?;
     let kind = kind_in(word)?;
     let (buffer, rest) = digits(rest)?;
-    let (value, rest) = digits(rest)?;
+    let (value, rest) = piece(rest)?;
     let (op, rest) = digits(rest)?;
     let (pos, rest) = digits(rest)?;
     ended(rest)?;
@@ -71,7 +118,7 @@ pub fn entry_in(digits: EntryDigits<'_>) -> Result<Entry, Reason>
     let cpu = in_range(CPUS as u64 - 1, digits.cpu)?;
     let thread = in_range(THREADS as u64 - 1, digits.thread)?;
     let buffer = in_range(BUFFERS as u64 - 1, digits.buffer)?;
-    let value = in_range(u64::MAX, digits.value)?;
+    let value = value_in(digits.kind, digits.value)?;
     let op = in_range(ENTRIES as u64 - 1, digits.op)?;
     let pos = in_range(ENTRIES as u64 - 1, digits.pos)?;
     Ok(Entry {

@@ -19,19 +19,37 @@ fn pick(seed: &mut u64, bound: u64) -> u64
     (*seed >> 33) % bound
 }
 
-/// How many of the entries are of buffer `b`, and of them of this kind.
+/// The call that an effect is one of: a send, a receive or a close.
+fn call_of(kind: Kind) -> u8 {
+    match kind {
+        Kind::Send | Kind::SendClosed => 0,
+        Kind::Recv | Kind::RecvClosed => 1,
+        Kind::Close => 2,
+    }
+}
+
+/// How many of the entries are of buffer `b` and of this kind.
+fn of_kind(entries: &[Entry], b: u8, kind: Kind) -> u64 {
+    let found = entries
+        .iter()
+        .filter(|e| e.buffer.0 == b && e.kind == kind)
+        .count();
+    found as u64
+}
+
+/// How many of the entries are of buffer `b`, and of them of the same call as this kind.
 fn counts(entries: &[Entry], b: u8, kind: Kind) -> (u64, u64) {
     let ops = entries.iter().filter(|e| e.buffer.0 == b).count();
     let pos = entries
         .iter()
-        .filter(|e| e.buffer.0 == b && e.kind == kind)
+        .filter(|e| e.buffer.0 == b && call_of(e.kind) == call_of(kind))
         .count();
     (ops as u64, pos as u64)
 }
 
 /// What buffer `b` holds after a run: all that was sent, without as many as were received.
 fn held(alloc: Global, entries: &[Entry], b: u8) -> Result<Vec<u64>, Fail> {
-    let (_, taken) = counts(entries, b, Kind::Recv);
+    let taken = of_kind(entries, b, Kind::Recv);
     let mut items = Vec::new(alloc);
     for (i, e) in entries
         .iter()
@@ -63,7 +81,12 @@ fn against(
     if e.pos != pos {
         return Ok(Some(Reason::Pos));
     }
+    let closed = of_kind(earlier, e.buffer.0, Kind::Close) > 0;
     Ok(match (e.kind, items.first()) {
+        (Kind::Send, _) if closed => Some(Reason::CloseState),
+        (Kind::SendClosed | Kind::RecvClosed, _) if !closed => Some(Reason::CloseState),
+        (Kind::RecvClosed, Some(_)) => Some(Reason::NotEmpty),
+        (Kind::Close | Kind::SendClosed | Kind::RecvClosed, _) => None,
         (Kind::Send, _) if items.len() as u64 >= *capacity => Some(Reason::Full),
         (Kind::Send, _) => None,
         (Kind::Recv, None) => Some(Reason::EmptyTake),
@@ -72,15 +95,24 @@ fn against(
     })
 }
 
-/// The verdict by the rules, one line after the other.
+/// Whether only the second version of the text has this kind.
+fn is_new(kind: Kind) -> bool {
+    !matches!(kind, Kind::Send | Kind::Recv)
+}
+
+/// The verdict by the rules on a text of this version, one line after the other.
 fn slow_judge(
     alloc: Global,
+    version: u64,
     caps: &[u64],
     entries: &[Entry],
     left: &[Vec<u64>],
 ) -> Result<Verdict, Fail> {
     let first = caps.len().wrapping_add(3);
     for (k, e) in entries.iter().enumerate() {
+        if version == 1 && is_new(e.kind) {
+            return Ok(Verdict::No(first.wrapping_add(k), Reason::Spelling));
+        }
         if let Some(reason) = against(alloc, caps, &entries[..k], *e)? {
             return Ok(Verdict::No(first.wrapping_add(k), reason));
         }
@@ -91,17 +123,23 @@ fn slow_judge(
             return Ok(Verdict::No(line, Reason::Left));
         }
     }
+    if version == 2 && !entries.iter().any(|e| is_new(e.kind)) {
+        let line = first.wrapping_add(entries.len()).wrapping_add(left.len());
+        return Ok(Verdict::No(line, Reason::OfVersion));
+    }
     Ok(Verdict::Yes)
 }
 
-/// The text of these capacities, entries and contents.
+/// The text of this version of these capacities, entries and contents.
 fn spelled(
     alloc: Global,
+    version: u64,
     caps: &[u64],
     entries: &[Entry],
     left: &[Vec<u64>],
 ) -> Result<String, Fail> {
-    let mut text = String::from_str(alloc, "mctower-trace 1\n")?;
+    let mut text = String::from_str(alloc, "mctower-trace ")?;
+    write!(text, "{version}\n")?;
     write!(text, "buffers {}\n", caps.len())?;
     for (b, capacity) in caps.iter().enumerate() {
         write!(text, "cap {b} {capacity}\n")?;
@@ -110,9 +148,16 @@ fn spelled(
         let kind = match e.kind {
             Kind::Send => "send",
             Kind::Recv => "recv",
+            Kind::Close => "close",
+            Kind::SendClosed => "sendc",
+            Kind::RecvClosed => "recvc",
         };
-        write!(text, "e {} {} {kind} ", e.cpu.0, e.thread.0)?;
-        write!(text, "{} {} {} {}\n", e.buffer.0, e.value, e.op, e.pos)?;
+        write!(text, "e {} {} {kind} {} ", e.cpu.0, e.thread.0, e.buffer.0)?;
+        match e.kind {
+            Kind::Close | Kind::RecvClosed => text.push_str("-")?,
+            _ => write!(text, "{}", e.value)?,
+        }
+        write!(text, " {} {}\n", e.op, e.pos)?;
     }
     for (b, items) in left.iter().enumerate() {
         write!(text, "left {b}")?;
@@ -128,10 +173,15 @@ fn spelled(
 /// An entry that mostly may come behind earlier ones.
 fn some_entry(alloc: Global, seed: &mut u64, earlier: &[Entry]) -> Result<Entry, Fail> {
     let b = pick(seed, 2) as u8;
-    let kind = if pick(seed, 2) == 0 {
-        Kind::Send
-    } else {
-        Kind::Recv
+    let closed = of_kind(earlier, b, Kind::Close) > 0;
+    let kind = match pick(seed, 24) {
+        0..=2 => Kind::Close,
+        3 => Kind::SendClosed,
+        4 => Kind::RecvClosed,
+        5..=14 if closed => Kind::SendClosed,
+        5..=14 => Kind::Send,
+        _ if closed && held(alloc, earlier, b)?.is_empty() => Kind::RecvClosed,
+        _ => Kind::Recv,
     };
     let (ops, pos) = counts(earlier, b, kind);
     let items = held(alloc, earlier, b)?;
@@ -154,7 +204,8 @@ fn some_entry(alloc: Global, seed: &mut u64, earlier: &[Entry]) -> Result<Entry,
 fn check_agrees_with_a_slow_judge(rt: HostRuntime) -> Result<(), Fail> {
     let mut seed = 1;
     let mut yes = 0u32;
-    for _ in 0..600 {
+    let mut yes_of_two = 0u32;
+    for _ in 0..1_500 {
         let caps = [1 + pick(&mut seed, 3), 1 + pick(&mut seed, 3)];
         let mut entries = Vec::new(rt.alloc());
         for _ in 0..pick(&mut seed, 8) {
@@ -169,13 +220,23 @@ fn check_agrees_with_a_slow_judge(rt: HostRuntime) -> Result<(), Fail> {
             }
             left.push(items)?;
         }
-        let text = spelled(rt.alloc(), &caps, &entries, &left)?;
-        let verdict = slow_judge(rt.alloc(), &caps, &entries, &left)?;
+        let new = entries.iter().any(|e| is_new(e.kind));
+        let version = match pick(&mut seed, 8) {
+            0 => 1 + pick(&mut seed, 2),
+            _ if new => 2,
+            _ => 1,
+        };
+        let text = spelled(rt.alloc(), version, &caps, &entries, &left)?;
+        let verdict = slow_judge(rt.alloc(), version, &caps, &entries, &left)?;
         assert_eq!(rt; check(text.as_bytes()), verdict, "{text}");
         if verdict == Verdict::Yes {
             yes = yes.wrapping_add(1);
+            if version == 2 {
+                yes_of_two = yes_of_two.wrapping_add(1);
+            }
         }
     }
     assert!(rt; yes > 50);
+    assert!(rt; yes_of_two > 20);
     Ok(())
 }

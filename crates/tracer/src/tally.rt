@@ -2,9 +2,11 @@
 
 ghost use Rattle.std.specs.Prelude.{◌≡◌, ◌+◌, ◌≤◌, ◌<◌};
 ghost use Rattle.event_log.specs.declared.ids.TheConstants.{CAPACITY, ENTRIES};
-ghost use Rattle.tracer.specs.Judging.{fresh, put_in, take_first, entry_on, are_values};
+ghost use Rattle.event_log.specs.Runs.{group_of};
+ghost use Rattle.tracer.specs.Judging.{fresh, was_closed, next_pos, counted, entry_on, are_values};
 ghost use Rattle.tracer.specs.Lines.{left_of};
 
+use crate::effects::act;
 use crate::pieces::{Pieces, are_values};
 use crate::verdicts::Reason;
 use arrayvec::ArrayVec;
@@ -18,6 +20,7 @@ pub struct Tally {
     ops: u64,
     sends: u64,
     recvs: u64,
+    closes: u64,
     ghost small: { capacity ≤ CAPACITY },
 }
 
@@ -35,43 +38,39 @@ impl Tally {
             ops: 0,
             sends: 0,
             recvs: 0,
+            closes: 0,
         }
     }
 
-    /// Puts `value` behind the items.
-    ///
-    /// Errors: `Full` where the buffer holds as many items as its capacity; then nothing changed.
-    fn put(&mut self, value: Msg) -> Result<(), Reason>
-        requires { (self.old.ops < ENTRIES) × (self.old.sends < ENTRIES) }
-        ensures { StepsTo (put_in value (seen_in self.old)) result (seen_in self.new) }
+    /// Whether it was closed.
+    fn is_closed(&self) -> bool
+        ensures { result ≡ was_closed (seen_in self.now) }
     {
-        if self.items.len() >= self.capacity {
-            return Err(Reason::Full);
-        }
-        self.items.push(value);
-        self.ops += 1;
-        self.sends += 1;
-        Ok(())
+        self.closes > 0
     }
 
-    /// Takes the first item, which must be `value`.
-    ///
-    /// Errors: `EmptyTake` where there is none, `WrongValue` where it is another; then nothing
-    /// changed.
-    fn take(&mut self, value: Msg) -> Result<(), Reason>
-        requires { (self.old.ops < ENTRIES) × (self.old.recvs < ENTRIES) }
-        ensures { StepsTo (take_first value (seen_in self.old).items (seen_in self.old)) result (seen_in self.new) }
+    /// How many effects it had that are counted with this kind.
+    fn pos(&self, kind: Kind) -> u64
+        ensures { result ≡ next_pos (group_of kind) (seen_in self.now) }
     {
-        if self.items.is_empty() {
-            return Err(Reason::EmptyTake);
+        match kind {
+            Kind::Send | Kind::SendClosed => self.sends,
+            Kind::Recv | Kind::RecvClosed => self.recvs,
+            Kind::Close => self.closes,
         }
-        if self.items[0] != value {
-            return Err(Reason::WrongValue);
-        }
-        self.items.remove(0);
+    }
+
+    /// Counts an effect of this kind.
+    fn count(&mut self, kind: Kind)
+        requires { (self.old.ops < ENTRIES) × (next_pos (group_of kind) (seen_in self.old) < ENTRIES) }
+        ensures { seen_in self.new ≡ counted (group_of kind) (seen_in self.old).items (seen_in self.old) }
+    {
         self.ops += 1;
-        self.recvs += 1;
-        Ok(())
+        match kind {
+            Kind::Send | Kind::SendClosed => self.sends += 1,
+            Kind::Recv | Kind::RecvClosed => self.recvs += 1,
+            Kind::Close => self.closes += 1,
+        }
     }
 
     /// Does the effect of an entry whose numbers are in range.
@@ -85,20 +84,19 @@ impl Tally {
         if entry.op != self.ops {
             return Err(Reason::Op);
         }
-        match entry.kind {
-            Kind::Send => {
-                if entry.pos != self.sends {
-                    return Err(Reason::Pos);
-                }
-                self.put(entry.value)
-            }
-            Kind::Recv => {
-                if entry.pos != self.recvs {
-                    return Err(Reason::Pos);
-                }
-                self.take(entry.value)
-            }
+        if entry.pos != self.pos(entry.kind) {
+            return Err(Reason::Pos);
         }
+        let closed = self.is_closed();
+        act(
+            &mut self.items,
+            self.capacity,
+            closed,
+            entry.kind,
+            entry.value,
+        )?;
+        self.count(entry.kind);
+        Ok(())
     }
 
     /// Whether the pieces spell the items.

@@ -17,7 +17,7 @@ pub enum Reason {
     Range,
     /// The op is not the number of entries of that buffer before it.
     Op,
-    /// The pos is not the number of entries of that buffer and kind before it.
+    /// The pos is not the number of entries of that buffer before it that are counted with its kind.
     Pos,
     /// A send where the buffer holds as many items as its capacity.
     Full,
@@ -27,6 +27,12 @@ pub enum Reason {
     WrongValue,
     /// The values of a `left` line are not the items of the buffer.
     Left,
+    /// The text ends well, but a lower version than the head's can spell it.
+    OfVersion,
+    /// A send on a closed buffer, or a call that found an open buffer closed.
+    CloseState,
+    /// A receive that found its buffer closed where items are left.
+    NotEmpty,
 }
 
 impl Reason {
@@ -43,6 +49,9 @@ impl Reason {
             Reason::EmptyTake => "EmptyTake(35)",
             Reason::WrongValue => "WrongValue(36)",
             Reason::Left => "Left(37)",
+            Reason::OfVersion => "Version(38)",
+            Reason::CloseState => "CloseState(39)",
+            Reason::NotEmpty => "NotEmpty(40)",
         }
     }
 }

@@ -2,10 +2,11 @@
 
 ghost use Rattle.std.specs.Prelude.{◌≡◌, ◌++◌, ◌∷◌, [], length, map, is_err, false, decimal, flat_map, codes};
 ghost use Rattle.tracer.specs.Sinks.{WentOut, has_failed};
-ghost use Rattle.tracer.specs.TraceText.{IsSpellable, spelling, line_of, entry_pieces, cap_pieces, left_pieces, numbered, kind_word};
+ghost use Rattle.tracer.specs.TraceText.{IsSpellable, spelling, line_of, head_pieces, entry_pieces, cap_pieces, left_pieces, numbered, kind_word, value_piece};
 ghost use Rattle.tracer.specs.Pieces.{text_of, spaced};
 
 use crate::sinks::{Sink, WriteFault};
+use crate::versions::{Version, version_of};
 use arrayvec::ArrayVec;
 use event_log::{CAPACITY, Entry, Kind, Msg};
 use itoa::Buffer;
@@ -84,6 +85,15 @@ fn put_line<W: Write>(
     sink.put(b"\n")
 }
 
+/// The head line.
+fn put_head<W: Write>(sink: &mut Sink<W>, version: Version) -> Result<(), WriteFault>
+    requires { has_failed sink.old ≡ false }
+    ensures failed { is_err result ≡ has_failed sink.new }
+    ensures out { WentOut W.contents sink.old sink.new (line_of (head_pieces version)) }
+{
+    put_line(sink, b"mctower-trace", &[Piece::Word(version.word())], &[])
+}
+
 /// The capacity lines.
 fn put_caps<W: Write>(sink: &mut Sink<W>, caps: &[u8]) -> Result<(), WriteFault>
     requires { has_failed sink.old ≡ false }
@@ -97,23 +107,43 @@ fn put_caps<W: Write>(sink: &mut Sink<W>, caps: &[u8]) -> Result<(), WriteFault>
     Ok(())
 }
 
+/// The word of a kind.
+fn word_of(kind: Kind) -> &'static [u8]
+    ensures { result.now ≡ kind_word kind }
+{
+    match kind {
+        Kind::Send => b"send",
+        Kind::Recv => b"recv",
+        Kind::Close => b"close",
+        Kind::SendClosed => b"sendc",
+        Kind::RecvClosed => b"recvc",
+    }
+}
+
+/// The message of an effect of this kind: a dash where it has none.
+fn value_of(kind: Kind, value: Msg) -> Piece
+    ensures { text_of result ≡ value_piece kind value }
+{
+    match kind {
+        Kind::Send | Kind::Recv | Kind::SendClosed => Piece::Number(value),
+        Kind::Close | Kind::RecvClosed => Piece::Word(b"-"),
+    }
+}
+
 /// The line of an entry.
 fn put_entry<W: Write>(sink: &mut Sink<W>, entry: Entry) -> Result<(), WriteFault>
     requires { has_failed sink.old ≡ false }
     ensures failed { is_err result ≡ has_failed sink.new }
     ensures out { WentOut W.contents sink.old sink.new (line_of (entry_pieces entry)) }
 {
-    let kind: &'static [u8] = match entry.kind {
-        Kind::Send => b"send",
-        Kind::Recv => b"recv",
-    };
     let pieces = [
         Piece::Number(u64::from(entry.cpu.0)),
         Piece::Number(u64::from(entry.thread.0)),
-        Piece::Word(kind),
+        Piece::Word(word_of(entry.kind)),
         Piece::Number(u64::from(entry.buffer.0)),
+        value_of(entry.kind, entry.value),
     ];
-    put_line(sink, b"e", &pieces, &[entry.value, entry.op, entry.pos])
+    put_line(sink, b"e", &pieces, &[entry.op, entry.pos])
 }
 
 /// The lines of the entries.
@@ -144,11 +174,12 @@ fn put_left<W: Write>(
 }
 
 /// Writes the text of a trace: the capacities, the entries in their order, and what is left in
-/// each buffer, front first. By as many writes as the writer needs; it takes no memory.
+/// each buffer, front first. The text is of the lowest version that can spell the entries. By as
+/// many writes as the writer needs; it takes no memory.
 ///
 /// The sink must not have failed, and there must be such a text: 1 to `BUFFERS` buffers of capacity
-/// 1 to `CAPACITY`, at most `ENTRIES` entries whose numbers are in range, and what is left of each
-/// buffer.
+/// 1 to `CAPACITY`, at most `ENTRIES` entries whose numbers are in range, with the message 0 where
+/// an effect has none, and what is left of each buffer.
 ///
 /// Errors: `WriteFault` exactly where the sink failed in this call; then a beginning of the text is
 /// out.
@@ -163,7 +194,7 @@ pub fn write_trace<W: Write>(
     ensures failed { is_err result ≡ has_failed sink.new }
     ensures out { WentOut W.contents sink.old sink.new (spelling caps.now entries.now (map (λ v. v.items) left.now)) }
 {
-    put_line(sink, b"mctower-trace", &[Piece::Word(b"1")], &[])?;
+    put_head(sink, version_of(entries))?;
     put_line(sink, b"buffers", &[], &[caps.len() as u64])?;
     put_caps(sink, caps)?;
     put_entries(sink, entries)?;

@@ -54,14 +54,6 @@ fn one_send(sink: &mut Sink<&mut Narrow>) -> bool
     write_trace(sink, &[1], &[entry], &[items]).is_ok()
 }
 
-fn writer_with(alloc: Global, room: usize, piece: usize) -> Narrow {
-    Narrow {
-        out: Vec::new(alloc),
-        room,
-        piece,
-    }
-}
-
 #[test]
 fn a_writer_that_fails_anywhere(rt: HostRuntime) {
     for room in 0..67 {
@@ -74,6 +66,40 @@ fn a_writer_that_fails_anywhere(rt: HostRuntime) {
             assert_eq!(rt; writer.out.as_slice(), &ROW[..room]);
         }
     }
+}
+
+fn writer_with(alloc: Global, room: usize, piece: usize) -> Narrow {
+    Narrow {
+        out: Vec::new(alloc),
+        room,
+        piece,
+    }
+}
+
+/// The trace of one close of the one buffer.
+fn one_close(sink: &mut Sink<&mut Narrow>) -> bool
+    requires { has_failed sink.old ≡ false }
+{
+    let entry = Entry {
+        cpu: CpuId(1),
+        thread: Tid(1),
+        kind: Kind::Close,
+        buffer: BufId(0),
+        value: 0,
+        op: 0,
+        pos: 0,
+    };
+    write_trace(sink, &[1], &[entry], &[ArrayVec::new()]).is_ok()
+}
+
+#[test]
+fn a_close_is_written_in_the_second_version(rt: HostRuntime) {
+    let mut writer = writer_with(rt.alloc(), 200, 7);
+    let answer = one_close(&mut Sink::new(&mut writer));
+    assert!(rt; answer);
+    let text =
+        b"mctower-trace 2\nbuffers 1\ncap 0 1\ne 1 1 close 0 - 0 0\nleft 0\nend\n";
+    assert_eq!(rt; writer.out.as_slice(), text.as_slice());
 }
 
 #[test]

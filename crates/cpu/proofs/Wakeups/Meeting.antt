@@ -82,7 +82,7 @@ premises_are_met = record {
         effect = SendKind;
         of_call = refl;
         message = 7;
-        allowed = omega arith;
+        allowed = (refl, omega arith);
         empty_line = refl;
       },
     ),

@@ -8,7 +8,7 @@ use Rattle.event_log.specs.declared.ids.BufId.{BufId}
 use Rattle.event_log.specs.declared.ids.LockId.TheVariants.{Buffer as AtBuffer}
 use Rattle.event_log.specs.declared.ids.TheConstants.{THREADS}
 use Rattle.event_log.specs.declared.entries.Kind.{Kind}
-use Rattle.event_log.specs.declared.entries.Kind.TheVariants.{Send as SendKind, Recv as RecvKind}
+use Rattle.event_log.specs.declared.entries.Kind.TheVariants.{Send as SendKind, Recv as RecvKind, Close as CloseKind, SendClosed, RecvClosed}
 use Rattle.event_log.specs.declared.entries.Entry.{Entry}
 use Rattle.event_log.specs.Messages.{Message, no_message}
 use Rattle.event_log.specs.Sections.{sections_in}
@@ -114,13 +114,19 @@ module _ (setup : Setup) (room : ℕ) (s : Whole) (c : CpuId) (p : Private) (t :
     block = block;
   }
 
-  is_send : (e : Kind) → asks_of e ≡ Sends → SendKind ≡ e
-  is_send SendKind is = refl
-  is_send RecvKind is = absurd (cc is)
+  is_send : (k : Buffer) (e : Kind) (m : Message) → asks_of e ≡ Some Sends → Allows k e m → SendKind ≡ e
+  is_send k SendKind m is allowed = refl
+  is_send k SendClosed m is allowed = absurd (cc allowed)
+  is_send k RecvKind m is allowed = absurd (cc is)
+  is_send k RecvClosed m is allowed = absurd (cc is)
+  is_send k CloseKind m is allowed = absurd (cc is)
 
-  is_receive : (e : Kind) → asks_of e ≡ Receives → RecvKind ≡ e
-  is_receive RecvKind is = refl
-  is_receive SendKind is = absurd (cc is)
+  is_receive : (k : Buffer) (e : Kind) (m : Message) → asks_of e ≡ Some Receives → Allows k e m → RecvKind ≡ e
+  is_receive k RecvKind m is allowed = refl
+  is_receive k RecvClosed m is allowed = absurd (cc allowed.0)
+  is_receive k SendKind m is allowed = absurd (cc is)
+  is_receive k SendClosed m is allowed = absurd (cc is)
+  is_receive k CloseKind m is allowed = absurd (cc is)
 
   -- after so many steps the call has returned, with an entry of this kind; one step before it was under way
   abbrev IsBack : ℕ → Kind → BufId → Type 0
@@ -155,7 +161,7 @@ module _ (setup : Setup) (room : ℕ) (s : Whole) (c : CpuId) (p : Private) (t :
   first_after line can empty_now on = ap (λ l. is_first t (l ++ t ∷ []) && can) empty_now ∙ and_from _ can (same_tid_self t) on
 
   pub returns : (asks : Asks) (b : BufId) (k : Buffer) (e : Kind) (m : Message) → IsCallOn asks b (stands_at setup p t) → s.taken + 21 ≤ s.room
-      → block_at setup (AtBuffer b) s.log ≡ Some (OfBuffer k) → k.busy ≡ None → asks_of e ≡ asks → Allows k e m → line_of (side_of asks) k ≡ []
+      → block_at setup (AtBuffer b) s.log ≡ Some (OfBuffer k) → k.busy ≡ None → asks_of e ≡ Some asks → Allows k e m → line_of (side_of asks) k ≡ []
       → IsBack (steps_to_return setup c asks k) e b
   returns Sends b k e m at_call space block free kind allowed line =
       let begin = begins_as Sends b (stands_at setup p t) refl at_call in
@@ -168,7 +174,7 @@ module _ (setup : Setup) (room : ℕ) (s : Whole) (c : CpuId) (p : Private) (t :
       let left = ap (λ l. rest (l ++ t ∷ [])) line in
       by_woken e b (due_receiver (put begin.0 (entered t Senders (record k { busy = Some t })))) (other_waiter Sends k)
       (woken_is (front_stands_in k.receive_line k.waiting_receivers) _ (front k.receive_line) (some_now k.items begin.0))
-      (λ away is. told (if away then 21 else 18) e b _ (refl, is_send e kind, refl)
+      (λ away is. told (if away then 21 else 18) e b _ (refl, is_send k e m kind allowed, refl)
       (ending_sends setup c t small s 9 _ (record call { position = k.send_positions; effect = Some k.effects }) _ away is left none done))
   returns Receives b k e m at_call space block free kind allowed line =
       let begin = begins_as Receives b (stands_at setup p t) refl at_call in
@@ -183,7 +189,7 @@ module _ (setup : Setup) (room : ℕ) (s : Whole) (c : CpuId) (p : Private) (t :
       by_woken e b (due_sender (taken (entered t Receivers (record k { busy = Some t })))) (other_waiter Receives k)
       (woken_is (front_stands_in k.send_line k.waiting_senders) _ (front k.send_line)
       (room_now k.items k.capacity (holds_no_more setup (sections_in s.log) b k block) some))
-      (λ away is. told (if away then 21 else 18) e b _ (refl, is_receive e kind, refl)
+      (λ away is. told (if away then 21 else 18) e b _ (refl, is_receive k e m kind allowed, refl)
       (ending_receives setup c t small s 9 _
       (record call { position = k.receive_positions; message = first_item k.items; effect = Some k.effects }) _ away is left none done))
 

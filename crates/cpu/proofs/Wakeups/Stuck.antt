@@ -66,7 +66,7 @@ wait_count b u k g turn x pair Senders = pair.senders
 wait_count b u k g turn x pair Receivers = pair.receivers
 
 lost_on : (k : Buffer) → NoWakeUpIsLost k → k.busy ≡ None → (asks : Asks) (t : Tid) (m : Message) → first (line_of (side_of asks) k) ≡ Some t
-    → is_in t (waiting_of (side_of asks) k) ≡ true → (e : Kind) → asks_of e ≡ asks → Allows k e m → ⊥
+    → is_in t (waiting_of (side_of asks) k) ≡ true → (e : Kind) → asks_of e ≡ Some asks → Allows k e m → ⊥
 lost_on k kept free Sends t m front there e is allowed = kept.senders free t m front there e is allowed
 lost_on k kept free Receives t m front there e is allowed = kept.receivers free t m front there e is allowed
 
@@ -285,7 +285,7 @@ module _ (setup : Setup) (s : Whole) (homes : HomesExist setup) (kept : Kept set
           let says = subst (Says _ (thread_at p u).guest) is (kept.fine (home_of setup u) p live.here u).says again.0 in
           (call, is, record { unfinished = says.0; next = says.1; refused = refused call again.1 again.2 })
         where
-          refused : (call : Call) → call.buffer ≡ wait.0 → side_of call.asks ≡ wait.1 → (k : Buffer) (m : Message) (e : Kind) → asks_of e ≡ call.asks
+          refused : (call : Call) → call.buffer ≡ wait.0 → side_of call.asks ≡ wait.1 → (k : Buffer) (m : Message) (e : Kind) → asks_of e ≡ Some call.asks
               → block_at setup (AtBuffer call.buffer) s.log ≡ Some (OfBuffer k) → Allows k e m → ⊥
           refused call same_buffer same_side k m e asks block allowed =
               let mine : turn setup u (sections_in s.log) ≡ In call.buffer (Waiting (side_of call.asks)) =
@@ -297,7 +297,7 @@ module _ (setup : Setup) (s : Whole) (homes : HomesExist setup) (kept : Kept set
               let front = front_of u (line_of (side_of call.asks) k) (omega (arith, one, counts)) in
               first_waits call k m e asks block allowed front.0 front.1
             where
-              first_waits : (call : Call) (k : Buffer) (m : Message) (e : Kind) → asks_of e ≡ call.asks
+              first_waits : (call : Call) (k : Buffer) (m : Message) (e : Kind) → asks_of e ≡ Some call.asks
                   → block_at setup (AtBuffer call.buffer) s.log ≡ Some (OfBuffer k)
                   → Allows k e m → (t : Tid) → first (line_of (side_of call.asks) k) ≡ Some t → ⊥
               first_waits call k m e asks block allowed t front =
@@ -325,10 +325,10 @@ module _ (setup : Setup) (s : Whole) (homes : HomesExist setup) (kept : Kept set
   stuck = record {
     unowned = λ b k block. (unowned b k block, no_sleepers b k block);
     threads = stuck_call;
-    effects = λ p u live e b m next k block allowed.
+    effects = λ p u live e asks b m is next k block allowed.
         let call = stuck_call p u live in
-        let same = same_effect (stands_at setup p u) (thread_at p u).guest (asks_of e) call.0.asks b call.0.buffer m call.0.message next call.2.next in
-        call.2.refused k m e same.0 (subst (λ d. block_at setup (AtBuffer d) s.log ≡ Some (OfBuffer k)) same.1 block) allowed;
+        let same = same_effect (stands_at setup p u) (thread_at p u).guest asks call.0.asks b call.0.buffer m call.0.message next call.2.next in
+        call.2.refused k m e (is ∙ ap Some same.0) (subst (λ d. block_at setup (AtBuffer d) s.log ≡ Some (OfBuffer k)) same.1 block) allowed;
   }
 
 pub quiet_is_stuck : QuietIsStuck

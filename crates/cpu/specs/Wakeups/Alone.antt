@@ -39,7 +39,7 @@ pub record IsReady (setup : Setup) (c : CpuId) (s : Whole) (p : Private) (t : Ti
   pub is : block_at setup (AtBuffer buffer) s.log ≡ Some (OfBuffer block)
   pub unowned : block.busy ≡ None
   pub effect : Kind
-  pub of_call : asks_of effect ≡ asks
+  pub of_call : asks_of effect ≡ Some asks
   pub message : Message
   pub allowed : Allows block effect message
   pub empty_line : line_of (side_of asks) block ≡ []

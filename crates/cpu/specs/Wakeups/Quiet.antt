@@ -52,7 +52,7 @@ IsNextEffect Exit s asks d m = ⊥
 pub record IsStuckCall (setup : Setup) (s : Whole) (p : Private) (u : Tid) (call : Call) : Type 0 where
   pub unfinished : call.effect ≡ None
   pub next : IsNextEffect (stands_at setup p u) (thread_at p u).guest call.asks call.buffer call.message
-  pub refused : (k : Buffer) (m : Message) (e : Kind) → asks_of e ≡ call.asks
+  pub refused : (k : Buffer) (m : Message) (e : Kind) → asks_of e ≡ Some call.asks
       → block_at setup (AtBuffer call.buffer) s.log ≡ Some (OfBuffer k) → Allows k e m → ⊥
 
 -- a thread that has not ended, at home on a CPU with this private state
@@ -65,8 +65,8 @@ pub record IsLive (setup : Setup) (s : Whole) (p : Private) (u : Tid) : Type 0 w
 pub record IsStuck (setup : Setup) (s : Whole) : Type 0 where
   pub unowned : (b : BufId) (k : Buffer) → block_at setup (AtBuffer b) s.log ≡ Some (OfBuffer k) → (k.busy ≡ None) × (k.sleepers ≡ [])
   pub threads : (p : Private) (u : Tid) → IsLive setup s p u → (call : Call) × ((thread_at p u).call ≡ Some call) × IsStuckCall setup s p u call
-  pub effects : (p : Private) (u : Tid) → IsLive setup s p u → (e : Kind) (b : BufId) (m : Message)
-      → IsNextEffect (stands_at setup p u) (thread_at p u).guest (asks_of e) b m
+  pub effects : (p : Private) (u : Tid) → IsLive setup s p u → (e : Kind) (asks : Asks) (b : BufId) (m : Message)
+      → asks_of e ≡ Some asks → IsNextEffect (stands_at setup p u) (thread_at p u).guest asks b m
       → (k : Buffer) → block_at setup (AtBuffer b) s.log ≡ Some (OfBuffer k) → Allows k e m → ⊥
 
 -- a quiet state that a system reaches is stuck

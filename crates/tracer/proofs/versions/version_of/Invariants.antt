@@ -1,0 +1,7 @@
+use Rattle.std.proofs.Common.{◌≡◌, drop}
+use Rattle.tracer.specs.declared.versions.Version.TheVariants.{One}
+use Rattle.tracer.specs.Versions.{version_from}
+use Rattle.tracer.proofs.versions.version_of.Given as goal
+
+abbrev pub invariant-loop-entry : goal.invariant-loop-entry
+invariant-loop-entry l = record { goes_on : version_from l.version (drop l.entry-index l.entries) ≡ version_from One l.fn.entries }
