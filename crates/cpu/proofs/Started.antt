@@ -79,7 +79,7 @@ states_new (Some g ∷ guests) new zero = ap (λ (x : Guest). x.thread) (new 0 g
 states_new (guest ∷ guests) new (suc k) = states_new guests (λ j g at. new (suc j) g at) k
 
 -- a CPU at boot is the table's
-private_boots : (setup : Setup) (homes : List CpuId) (buffers : ℕ) (c : CpuId) (guests : List (Option Guest)) → setup.homes ≡ homes
+pub private_boots : (setup : Setup) (homes : List CpuId) (buffers : ℕ) (c : CpuId) (guests : List (Option Guest)) → setup.homes ≡ homes
     → AreGuests homes buffers c guests
     → private (buffering_at_start homes c) guests [] ≡ at_boot setup c
 private_boots setup homes buffers c guests same are =

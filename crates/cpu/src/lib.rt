@@ -16,7 +16,7 @@ pub use laws::{
     runs_of_three, runs_of_two, stand_in_one_place, systems_keep_order, systems_lose_no_wake_up,
     tables_agree, workers_lose_no_wake_up,
 };
-pub use systems::{BadCpu, System};
+pub use systems::{BadCpu, System, guests_of, homes_of};
 
 #[cfg(test)]
 mod tests;

@@ -11,6 +11,7 @@ use crate::cpus::Cpu;
 use arrayvec::ArrayVec;
 use event_log::{BufId, CAPACITY, CpuId, Entry, Msg, Tid};
 use layer_traits::{Owned, Place, Reason, Step};
+pub use plans::{guests_of, homes_of};
 use std::marker::Model;
 use thiserror::Error;
 

@@ -5,3 +5,7 @@ pub mod Lasting
 pub mod OneOrder
 pub mod ClosedLog
 pub mod Reporting
+pub mod Seated
+pub mod Desks
+pub mod Told
+pub mod Crossing

@@ -5,3 +5,4 @@ pub mod Reports
 pub mod Laws
 pub mod Lawful
 pub mod Closing
+pub mod Seating

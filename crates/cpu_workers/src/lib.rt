@@ -4,6 +4,10 @@
 
 mod gates;
 mod laws;
+mod report;
+mod run;
+mod seating;
+mod seats;
 mod starting;
 mod stops;
 mod turns;
@@ -11,10 +15,14 @@ mod worker;
 
 pub use gates::{Gate, Go, OpenGate};
 pub use laws::{reports_are_lawful, stops_are_true, workers_lose_no_wake_up};
+pub use report::Report;
+pub use run::run_workers;
 pub use starting::{Came, WorkerError, work_all};
 pub use stops::Stop;
 pub use turns::{Did, work};
 pub use worker::Worker;
 
+#[cfg(test)]
+mod run_tests;
 #[cfg(test)]
 mod tests;

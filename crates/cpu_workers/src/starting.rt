@@ -2,11 +2,13 @@
 
 ghost use Rattle.std.specs.Prelude.{◌≡◌, ◌≤◌, [], All, IfOk, MatchOption, length, vec_capacity};
 ghost use Rattle.cpu_workers.specs.Reports.{Both, HasRun};
+ghost use Rattle.cpu_workers.specs.declared.starting.WorkerError.TheVariants.{NoMemory as LacksMemory};
 
 use crate::gates::Gate;
 use crate::turns::{Did, work};
 use crate::worker::Worker;
 use crossbeam_utils::sync::WaitGroup;
+use event_log::NoMemory;
 use layer_traits::IpcLayer;
 use std::alloc::{AllocError, Global};
 use std::snapshot::Snapshot;
@@ -25,6 +27,22 @@ pub enum WorkerError {
     /// A thread could not be started.
     #[error("NoThread(5)")]
     NoThread,
+}
+
+impl From<NoMemory> for WorkerError {
+    ghost from_gives = { λ _ e. e ≡ LacksMemory };
+
+    fn from(_error: NoMemory) -> WorkerError {
+        WorkerError::NoMemory
+    }
+}
+
+impl From<AllocError> for WorkerError {
+    ghost from_gives = { λ _ e. e ≡ LacksMemory };
+
+    fn from(_error: AllocError) -> WorkerError {
+        WorkerError::NoMemory
+    }
 }
 
 /// A worker that has come back from its thread, and what it did there.

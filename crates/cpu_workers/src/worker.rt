@@ -1,10 +1,11 @@
 //! A worker: one CPU with its machine.
 
-ghost use Rattle.std.specs.Prelude.{◌≡◌, ◌≢◌, ◌<◌, Some, None, length, vec_capacity};
+ghost use Rattle.std.specs.Prelude.{◌≡◌, ◌≢◌, ◌<◌, ◌≤◌, Some, None, IfOk, [], length, vec_capacity};
 
-use cpu::Cpu;
-use event_log::{CpuId, Entry};
+use cpu::{Cpu, Guest};
+use event_log::{CpuId, Entry, NoMemory};
 use layer_traits::{IpcLayer, Reason, Step};
+use std::alloc::Global;
 use std::marker::Model;
 
 /// One CPU with a machine of its own side, in which it may act at any time. A contract sees it as
@@ -57,7 +58,9 @@ where
     ghost use Rattle.layer_traits.specs.QueueBlocks.{inner};
     ghost use Rattle.cpu.specs.Cpus.{IsCpu, programs_of};
     ghost use Rattle.cpu.specs.Tables.{IsTabled, private};
-    ghost use Rattle.cpu.specs.Table.Setups.{Setup};
+    ghost use Rattle.event_log.specs.declared.ids.TheConstants.{THREADS};
+    ghost use Rattle.cpu.specs.Boots.{AreGuests};
+    ghost use Rattle.cpu.specs.Table.Setups.{Setup, at_boot as boot_of};
     ghost use Rattle.cpu.specs.Table.Steps.{halted_at};
     ghost use Rattle.cpu_workers.specs.Working.{IsPlanned, IsSame, Turned, is_inside};
     ghost use Rattle.cpu_workers.specs.Orders.{HasFollowed, IsTraceOf};
@@ -81,6 +84,40 @@ where
         ensures site { result.site ≡ I.site machine }
     {
         Worker { cpu, machine }
+    }
+
+    /// The worker of a CPU before its first turn, with the guests of its home threads, over a
+    /// machine of its own side in which nothing was done, with threads of these homes and so many
+    /// buffers. Its trace has room for `limit` entries.
+    ///
+    /// Errors: `NoMemory` where an allocation was refused; then the machine is gone.
+    pub fn at_boot(
+        alloc: Global,
+        machine: I::Machine,
+        number: CpuId,
+        homes: &[CpuId],
+        buffers: u8,
+        guests: Vec<Option<Guest>>,
+        limit: usize,
+    ) -> Result<Worker<I>, NoMemory>
+        requires stepwise { I.IsStepwise }
+        requires threads { length homes.now ≤ THREADS }
+        requires fresh { I.IsFresh machine homes.now number }
+        requires homes { I.homes_of machine ≡ homes.now }
+        requires buffers { length (I.caps machine) ≡ buffers }
+        requires seen { I.seen machine ≡ [] }
+        requires guests { AreGuests homes.now buffers number guests.items }
+        requires room { (m : I.Machine) → 0 < I.room m }
+        requires opens { inner (I.opening machine) ≡ opening_locks (I.caps machine) }
+        ensures cpu { IfOk result (λ w. w.cpu ≡ number) }
+        ensures plan { IfOk result (λ w. w.plan
+            ≡ record { homes = I.homes_of machine; caps = I.caps machine; programs = programs_of guests.items; limit = limit }) }
+        ensures boots { IfOk result (λ w. (setup : Setup) → setup.homes ≡ homes.now → w.private ≡ boot_of setup number) }
+        ensures acts { IfOk result (λ w. w.acts ≡ I.acts machine) }
+        ensures site { IfOk result (λ w. w.site ≡ I.site machine) }
+    {
+        let cpu = Cpu::at_boot(alloc, number, homes, buffers, guests, limit)?;
+        Ok(Worker::new(cpu, machine))
     }
 
     /// The trace of the worker's CPU and its machine.

@@ -7,3 +7,4 @@ mod WorkersLemmas
 mod OrderNumbers
 mod SpellingLemmas
 mod RunningLemmas
+mod Unguarded

@@ -66,9 +66,11 @@ run_numbers n caps earlier contents (e ∷ es) left few run =
     let is : IsNext caps earlier contents e = run.0 in
     let op : e.op ≤ length earlier = omega (arith, is.op, count_by-le-length (λ (x : Entry). x.buffer.0 == e.buffer.0) earlier) in
     let pos : e.pos ≤ length earlier = omega (arith, is.pos, count_by-le-length (λ (x : Entry). (x.buffer.0 == e.buffer.0) && kind_eq x.kind e.kind) earlier) in
-    let fits : length (earlier ++ e ∷ []) + length es ≤ n = rw length_push (omega arith) in
-    ((is.known, omega arith, omega arith, value_allowed e.kind _ _ _ e.value is.allowed), run_numbers n caps (earlier ++ e ∷ [])
-    (after_entry contents e) es left fits run.1)
+    let fits : length (earlier ++ e ∷ []) + length es ≤ n = rw length_push (omega arith) in (
+      (is.known, omega arith, omega arith, value_allowed e.kind _ _ _ e.value is.allowed),
+      run_numbers n caps (earlier ++ e ∷ [])
+          (after_entry contents e) es left fits run.1,
+    )
 
 -- what holds of the values of a run's entries holds of what the buffers hold
 push_all : (P : ℕ → Type 0) (xs : List ℕ) (x : ℕ) → AllByRecursion P xs → P x → AllByRecursion P (xs ++ x ∷ [])

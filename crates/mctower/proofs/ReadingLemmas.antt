@@ -1,23 +1,6 @@
 -- What is read off a system, one CPU or thread after another.
-use Rattle.std.proofs.Common.{◌≡◌, ℕ, zero, suc, ◌+◌, ◌<◌, ◌≤◌, List, [], ◌∷◌, ◌++◌, length, get_or}
-use Rattle.std.proofs.Common.{set, take, Some, refl, sym, ap, ◌∙◌, subst, arith, inl, inr}
+use Rattle.std.proofs.Common.{◌≡◌, ℕ, zero, suc, ◌+◌, ◌<◌, List, [], ◌∷◌, length, get_or, set, take, Some, arith}
 use Rattle.std.specs.Prelude.{slice_get}
-use Rattle.std.proofs.lemmas.List.{length-take-le}
-use Rattle.std.proofs.lemmas.Bool.{cases_eq}
-use Rattle.cpu.specs.Claims.{listed}
-use Rattle.mctower.proofs.ListLemmas.{within_get}
-
-pub listed_length : {X : Type 0} (f : ℕ → X) (from n : ℕ) → length (listed f from n) ≡ n
-listed_length f from zero = refl
-listed_length f from (suc n) = ap suc (listed_length f (from + 1) n)
-
--- one value more is listed
-pub listed_more : {X : Type 0} (f : ℕ → X) (from n : ℕ) → listed f from (n + 1) ≡ listed f from n ++ f (from + n) ∷ []
-listed_more f from zero = let same : from ≡ from + 0 = omega arith in ap (λ k. f k ∷ []) same
-listed_more f from (suc n) =
-    let next : suc n + 1 ≡ suc (n + 1) = omega arith in
-    let same : from + 1 + n ≡ from + suc n = omega arith in
-    rw next (ap (λ rest. f from ∷ rest) (listed_more f (from + 1) n ∙ ap (λ k. listed f (from + 1) n ++ f k ∷ []) same))
 
 -- one place more is read
 pub read_more : {X : Type 0} (P : ℕ → X → Type 0) (xs : List X) (i : ℕ) (x : X) → i < length xs

@@ -1,6 +1,6 @@
 -- What a run of a plan answers, by what its parts answer.
-use Rattle.std.proofs.Common.{◌≡◌, ℕ, Bool, true, false, List, [], ◌∷◌, length, map, replicate, refl, sym, ap, ◌∙◌, subst}
-use Rattle.std.specs.Prelude.{Option, Result, Ok, Err, IsErrAnd}
+use Rattle.std.proofs.Common.{◌≡◌, ℕ, true, false, List, length, map, replicate, sym, ap, ◌∙◌, subst}
+use Rattle.std.specs.Prelude.{Result, Ok, Err, IsErrAnd}
 use Rattle.std.proofs.lemmas.Bool.{false≢true}
 use Rattle.event_log.specs.declared.ids.CpuId.{CpuId}
 use Rattle.boot.specs.declared.refusals.BootError.{BootError}
@@ -8,19 +8,17 @@ use Rattle.boot.specs.Plan.{BootPlan}
 use Rattle.std.proofs.lemmas.List.{length-map}
 use Rattle.cpu.specs.Boots.{guests_for, homes_for, tables_for}
 use Rattle.cpu.specs.Cpus.{programs_of}
-use Rattle.mctower.proofs.ReadingLemmas.{listed_length}
+use Rattle.cpu.proofs.ListReads.{listed_length, map_twice}
 use Rattle.cpu.specs.Claims.{CpuShown, FollowPrograms, HasOneOrder, Shown, StandsOnce, StayHome}
 use Rattle.cpu.specs.Sound.{BootsByTable, IsSetupFor, RanByTable, SoundByTable, after_steps, setup_for}
 use Rattle.cpu.specs.Systems.{Ran, SamePlan, whole_of}
 use Rattle.cpu.specs.Table.Steps.{Whole, whole_at_boot}
+use Rattle.cpu.proofs.Sounding.{setup_on}
+use Rattle.mctower.specs.Output.{IsUntouched, Output}
 use Rattle.mctower.specs.Plans.{IsOpened, IsSystemOf, table_run}
 use Rattle.mctower.specs.Running.{AreCpus, IsOut, IsRunOf, IsTold, Writes, RunsPlan, RunsText, first_of}
 use Rattle.mctower.specs.declared.run.Fault.{Fault}
 use Rattle.mctower.specs.declared.run.Fault.TheVariants.{NoMemory, Boot, BadCpu, NoOrder, WriteFault}
-
-map_both : {X Y Z : Type 0} (f : X → Y) (g : Y → Z) (xs : List X) → map (λ x. g (f x)) xs ≡ map g (map f xs)
-map_both f g [] = refl
-map_both f g (x ∷ xs) = ap (λ rest. g (f x) ∷ rest) (map_both f g xs)
 
 -- a system that opens with a plan's buffers, homes, guests and room for entries is the plan's
 pub opened : (plan : BootPlan) (s : Shown) → s.caps ≡ plan.caps → s.homes ≡ homes_for plan → map (λ p. p.guests) s.cpus ≡ tables_for plan
@@ -28,8 +26,8 @@ pub opened : (plan : BootPlan) (s : Shown) → s.caps ≡ plan.caps → s.homes 
 opened plan s caps homes guests limits = record {
   caps = caps;
   homes = homes;
-  programs = map_both (λ (p : CpuShown). p.guests) programs_of s.cpus ∙ ap (map programs_of) guests;
-  cpus = sym (length-map s.cpus (λ (p : CpuShown). p.guests)) ∙ ap length guests ∙ listed_length (guests_for plan) 0 plan.cpus;
+  programs = sym (map_twice (λ (p : CpuShown). p.guests) programs_of s.cpus) ∙ ap (map programs_of) guests;
+  cpus = sym (length-map s.cpus (λ (p : CpuShown). p.guests)) ∙ ap length guests ∙ listed_length (guests_for plan) plan.cpus 0;
   limits = limits;
 }
 
@@ -49,7 +47,8 @@ stays_of plan first last of same = record {
 }
 
 -- a schedule that the step table runs from a plan's system at boot
-by_table : (plan : BootPlan) (steps : List CpuId) (first last : Shown) → IsOpened plan (length steps) first → BootsByTable first → IsSetupFor (setup_for plan) first
+by_table : (plan : BootPlan) (steps : List CpuId) (first last : Shown) → IsOpened plan (length steps) first → BootsByTable first
+    → IsSetupFor (setup_for plan) first
     → RanByTable first steps last → whole_of last ≡ table_run plan steps
 by_table plan steps first last of boots planned table =
     table (setup_for plan) planned.goes
@@ -65,6 +64,7 @@ run_of IsStepwise plan steps first last of ran boots planned table sound same on
   start = first;
   opened = of;
   ran = ran;
+  planned = setup_on (setup_for plan) same planned;
   table = λ step. by_table plan steps first last of (boots step) planned (table step);
   sound = sound;
   system = stays_of plan first last of.system same;
@@ -81,58 +81,57 @@ err_first (Ok pair) P is = is
 err_first (Err fault) P is = is
 
 -- a fault that is passed on
-err_runs : (IsStepwise : Type 0) (plan : BootPlan) (steps : List CpuId) (r : Result Shown Fault) (e : Fault) (failed : Bool) (old new : Option (List ℕ))
+err_runs : (IsStepwise : Type 0) (plan : BootPlan) (steps : List CpuId) (r : Result Shown Fault) (e : Fault) (out : Output)
     → IsErrAnd r (λ f. f ≡ e)
-    → RunsPlan IsStepwise plan steps (Err e) failed old new → RunsPlan IsStepwise plan steps r failed old new
-err_runs IsStepwise plan steps (Ok s) e failed old new is runs = absurd is
-err_runs IsStepwise plan steps (Err f) e failed old new is runs = subst (λ x. RunsPlan IsStepwise plan steps (Err x) failed old new) (sym is) runs
+    → RunsPlan IsStepwise plan steps (Err e) out → RunsPlan IsStepwise plan steps r out
+err_runs IsStepwise plan steps (Ok s) e out is runs = absurd is
+err_runs IsStepwise plan steps (Err f) e out is runs = subst (λ x. RunsPlan IsStepwise plan steps (Err x) out) (sym is) runs
 
 -- the schedule names a CPU that the plan has not
-pub bad_cpu : (IsStepwise : Type 0) (plan : BootPlan) (steps : List CpuId) (first : Shown) (text : Result BootPlan BootError) (r : Result Shown Fault) (failed : Bool)
-    (old : Option (List ℕ))
-    → text ≡ Ok plan → IsSystemOf plan first → (AreCpus (length first.cpus) steps → false ≡ true) → failed ≡ false → IsErrAnd r (λ f. f ≡ BadCpu)
-    → RunsText IsStepwise text steps r failed old old
-bad_cpu IsStepwise plan steps first text r failed old reads of unknown live is =
-    subst (λ x. RunsText IsStepwise x steps r failed old old) (sym reads)
-    (err_runs IsStepwise plan steps r BadCpu failed old old is
-    ((λ known. false≢true (unknown (subst (λ c. AreCpus c steps) (sym of.cpus) known))), (live, refl)))
+pub bad_cpu : (IsStepwise : Type 0) (plan : BootPlan) (steps : List CpuId) (first : Shown) (text : Result BootPlan BootError) (r : Result Shown Fault)
+    (out : Output) → text ≡ Ok plan → IsSystemOf plan first → (AreCpus (length first.cpus) steps → false ≡ true)
+    → IsUntouched out → IsErrAnd r (λ f. f ≡ BadCpu)
+    → RunsText IsStepwise text steps r out
+bad_cpu IsStepwise plan steps first text r out reads of unknown untouched is =
+    subst (λ x. RunsText IsStepwise x steps r out) (sym reads)
+    (err_runs IsStepwise plan steps r BadCpu out is
+    ((λ known. false≢true (unknown (subst (λ c. AreCpus c steps) (sym of.cpus) known))), untouched))
 
 -- what is out is of the run's system
-out_ran : (IsStepwise : Type 0) (plan : BootPlan) (steps : List CpuId) (caps : List ℕ) (first last : Shown) (failed : Bool) (old new : Option (List ℕ))
-    → caps ≡ plan.caps → IsSystemOf plan first → AreCpus (length first.cpus) steps → IsRunOf IsStepwise plan steps last → IsOut caps last failed old new
-    → IsTold IsStepwise plan steps last failed old new
-out_ran IsStepwise plan steps caps first last failed old new same of known ran out = record {
+out_ran : (IsStepwise : Type 0) (plan : BootPlan) (steps : List CpuId) (caps : List ℕ) (first last : Shown) (out : Output)
+    → caps ≡ plan.caps → IsSystemOf plan first → AreCpus (length first.cpus) steps → IsRunOf IsStepwise plan steps last → IsOut caps last out
+    → IsTold IsStepwise plan steps last out
+out_ran IsStepwise plan steps caps first last out same of known ran text = record {
   cpus = subst (λ c. AreCpus c steps) of.cpus known;
   ran = ran;
-  out = subst (λ l. IsOut l last failed old new) same out;
+  out = subst (λ l. IsOut l last out) same text;
 }
 
-write_fault : (IsStepwise A : Type 0) (plan : BootPlan) (steps : List CpuId) (caps : List ℕ) (first last : Shown) (e : Fault) (failed : Bool)
-    (old new : Option (List ℕ)) → caps ≡ plan.caps → IsSystemOf plan first → AreCpus (length first.cpus) steps → IsRunOf IsStepwise plan steps last
-    → Writes {A = A} caps last (Err e) failed old new
-    → RunsPlan IsStepwise plan steps (Err e) failed old new
-write_fault IsStepwise A plan steps caps first last NoMemory failed old new same of known ran writes = writes
-write_fault IsStepwise A plan steps caps first last (Boot e) failed old new same of known ran writes = absurd writes
-write_fault IsStepwise A plan steps caps first last BadCpu failed old new same of known ran writes = absurd writes
-write_fault IsStepwise A plan steps caps first last NoOrder failed old new same of known ran writes = absurd writes
-write_fault IsStepwise A plan steps caps first last WriteFault failed old new same of known ran writes =
-    (writes.0, (last, out_ran IsStepwise plan steps caps first last failed old new same of known ran writes.1))
+write_fault : (IsStepwise A : Type 0) (plan : BootPlan) (steps : List CpuId) (caps : List ℕ) (first last : Shown) (e : Fault) (out : Output)
+    → caps ≡ plan.caps → IsSystemOf plan first → AreCpus (length first.cpus) steps → IsRunOf IsStepwise plan steps last
+    → Writes {A = A} caps last (Err e) out
+    → RunsPlan IsStepwise plan steps (Err e) out
+write_fault IsStepwise A plan steps caps first last NoMemory out same of known ran writes = writes
+write_fault IsStepwise A plan steps caps first last (Boot e) out same of known ran writes = absurd writes
+write_fault IsStepwise A plan steps caps first last BadCpu out same of known ran writes = absurd writes
+write_fault IsStepwise A plan steps caps first last NoOrder out same of known ran writes = absurd writes
+write_fault IsStepwise A plan steps caps first last WriteFault out same of known ran writes =
+    (writes.0, (last, out_ran IsStepwise plan steps caps first last out same of known ran writes.1))
 
 -- the text could not be written
 pub not_written : (IsStepwise A : Type 0) (plan : BootPlan) (steps : List CpuId) (caps : List ℕ) (first last : Shown) (text : Result BootPlan BootError)
     (r : Result Shown Fault) (e : Fault)
-    (failed : Bool) (old new : Option (List ℕ)) → text ≡ Ok plan → caps ≡ plan.caps → IsSystemOf plan first → AreCpus (length first.cpus) steps
-    → IsRunOf IsStepwise plan steps last → Writes {A = A} caps last (Err e) failed old new → IsErrAnd r (λ f. f ≡ e)
-    → RunsText IsStepwise text steps r failed old new
-not_written IsStepwise A plan steps caps first last text r e failed old new reads same of known ran writes is =
-    subst (λ x. RunsText IsStepwise x steps r failed old new) (sym reads)
-    (err_runs IsStepwise plan steps r e failed old new is (write_fault IsStepwise A plan steps caps first last e failed old new same of known ran writes))
+    (out : Output) → text ≡ Ok plan → caps ≡ plan.caps → IsSystemOf plan first → AreCpus (length first.cpus) steps
+    → IsRunOf IsStepwise plan steps last → Writes {A = A} caps last (Err e) out → IsErrAnd r (λ f. f ≡ e)
+    → RunsText IsStepwise text steps r out
+not_written IsStepwise A plan steps caps first last text r e out reads same of known ran writes is =
+    subst (λ x. RunsText IsStepwise x steps r out) (sym reads)
+    (err_runs IsStepwise plan steps r e out is (write_fault IsStepwise A plan steps caps first last e out same of known ran writes))
 
 -- the text was written
-pub written : (IsStepwise : Type 0) (plan : BootPlan) (steps : List CpuId) (caps : List ℕ) (first last : Shown) (text : Result BootPlan BootError) (failed : Bool)
-    (old new : Option (List ℕ))
-    → text ≡ Ok plan → caps ≡ plan.caps → IsSystemOf plan first → AreCpus (length first.cpus) steps → IsRunOf IsStepwise plan steps last
-    → (failed ≡ false) × IsOut caps last failed old new → RunsText IsStepwise text steps (Ok last) failed old new
-written IsStepwise plan steps caps first last text failed old new reads same of known ran writes =
-    subst (λ x. RunsText IsStepwise x steps (Ok last) failed old new) (sym reads)
-    (writes.0, out_ran IsStepwise plan steps caps first last failed old new same of known ran writes.1)
+pub written : (IsStepwise : Type 0) (plan : BootPlan) (steps : List CpuId) (caps : List ℕ) (first last : Shown) (text : Result BootPlan BootError)
+    (out : Output) → text ≡ Ok plan → caps ≡ plan.caps → IsSystemOf plan first → AreCpus (length first.cpus) steps → IsRunOf IsStepwise plan steps last
+    → (out.failed ≡ false) × IsOut caps last out → RunsText IsStepwise text steps (Ok last) out
+written IsStepwise plan steps caps first last text out reads same of known ran writes =
+    subst (λ x. RunsText IsStepwise x steps (Ok last) out) (sym reads)
+    (writes.0, out_ran IsStepwise plan steps caps first last out same of known ran writes.1)

@@ -1,7 +1,7 @@
 -- The trace of a plan's system has a spelling, and what writing it answers.
-use Rattle.std.proofs.Common.{◌≡◌, ℕ, zero, suc, ◌+◌, ◌*◌, ◌^◌, ◌<◌, ◌≤◌, Bool, false, List, [], ◌∷◌}
-use Rattle.std.proofs.Common.{length, get_or, map, replicate, Some, refl, sym, ap, ◌∙◌, subst, arith}
-use Rattle.std.specs.Prelude.{slice_get, All, Option, Result, Ok, Err, IsErrAnd}
+use Rattle.std.proofs.Common.{◌≡◌, ℕ, zero, suc, ◌*◌, ◌^◌, ◌<◌, ◌≤◌, List, [], ◌∷◌}
+use Rattle.std.proofs.Common.{length, get_or, replicate, Some, refl, sym, ap, ◌∙◌, subst, arith}
+use Rattle.std.specs.Prelude.{slice_get, All, Result, Ok, Err, IsErrAnd}
 use Rattle.std.specs.List.{AllByRecursion, sum_by}
 use Rattle.std.proofs.lemmas.List.{length-map}
 use Rattle.std.proofs.lemmas.List.Sums.{sum_by-cons}
@@ -16,14 +16,13 @@ use Rattle.tracer.specs.declared.gathering.GatherError.{GatherError}
 use Rattle.tracer.specs.declared.gathering.GatherError.TheVariants as gathering
 use Rattle.tracer.specs.Gather.{IsOrder, TakesFirstReady, HasNoOrder}
 use Rattle.tracer.specs.TraceText.{IsSpellable, IsEntryOf, IsValueOf, spelling}
-use Rattle.tracer.specs.Sinks.{Outs}
 use Rattle.tracer.proofs.OrderLemmas.{runs_have_order, run_alike}
-use Rattle.layer_traits.specs.Places.{home_of}
 use Rattle.event_log.specs.declared.ids.CpuId.{CpuId}
-use Rattle.event_log.specs.Messages.{Message}
 use Rattle.cpu.specs.Cpus.{IsOfHome}
 use Rattle.cpu.specs.Calm.{TracesFit}
+use Rattle.cpu.proofs.ListReads.{shows_at}
 use Rattle.cpu.specs.Claims.{CpuShown, HasOneOrder, Shown, StayHome, traces_of}
+use Rattle.mctower.specs.Output.{IsPut, IsUntouched, Output}
 use Rattle.mctower.specs.Plans.{IsSystemOf, IsOfPlan, from_gather}
 use Rattle.mctower.specs.Running.{IsOut, Writes}
 use Rattle.mctower.specs.declared.run.Fault.{Fault}
@@ -53,15 +52,10 @@ replicated zero k x y at = absurd (cc)
 replicated (suc n) zero x y at = cc
 replicated (suc n) (suc k) x y at = replicated n k x y at
 
-get_mapped : {X Y : Type 0} (f : X → Y) (xs : List X) (k : ℕ) (x : X) → slice_get xs k ≡ Some x → slice_get (map f xs) k ≡ Some (f x)
-get_mapped f [] k x at = absurd (cc)
-get_mapped f (y ∷ xs) zero x at = let same : y ≡ x = cc in ap (λ z. Some (f z)) same
-get_mapped f (y ∷ xs) (suc k) x at = get_mapped f xs k x at
-
 -- a CPU of a plan's system has room for as many entries as the plan says
 pub limit_at : (plan : BootPlan) (s : Shown) (k : ℕ) (p : CpuShown) → IsSystemOf plan s → slice_get s.cpus k ≡ Some p → p.limit ≡ plan.trace
 limit_at plan s k p of at =
-    replicated plan.cpus k plan.trace p.limit (ap (λ l. slice_get l k) (sym of.limits) ∙ get_mapped (λ (x : CpuShown). x.limit) s.cpus k p at)
+    replicated plan.cpus k plan.trace p.limit (ap (λ l. slice_get l k) (sym of.limits) ∙ shows_at (λ (x : CpuShown). x.limit) s.cpus k p at)
 
 in_range : (buffers : ℕ) (es : List Entry) → AllByRecursion (λ e. (e.cpu.0 < CPUS) × (e.thread.0 < THREADS)) es
     → AllByRecursion (λ e. (e.buffer.0 < buffers) × (e.op < ENTRIES) × (e.pos < ENTRIES) × (e.value < 2 ^ 64 → IsValueOf e.kind e.value)) es
@@ -123,20 +117,20 @@ pub contents_length : (s : Shown) → HasOneOrder s → length s.contents ≡ le
 contents_length s one = run_length s.caps [] (empty_buffers s.caps) one.order s.contents one.run ∙ empty_length s.caps
 
 -- a refusal to gather is want of memory
-pub gather_refused : (A : Type 0) (caps : List ℕ) (s : Shown) (error : GatherError) (failed : Bool) (old : Option (List ℕ)) → HasOneOrder s → failed ≡ false
-    → (error ≡ gathering.NoOrder → HasNoOrder (traces_of s)) → Writes {A = A} caps s (Err (from_gather error)) failed old old
-gather_refused A caps s gathering.NoMemory failed old one live none = (live, refl)
-gather_refused A caps s gathering.NoOrder failed old one live none =
+pub gather_refused : (A : Type 0) (caps : List ℕ) (s : Shown) (error : GatherError) (out : Output) → HasOneOrder s → IsUntouched out
+    → (error ≡ gathering.NoOrder → HasNoOrder (traces_of s)) → Writes {A = A} caps s (Err (from_gather error)) out
+gather_refused A caps s gathering.NoMemory out one untouched none = untouched
+gather_refused A caps s gathering.NoOrder out one untouched none =
     absurd (runs_have_order (traces_of s) s.caps one.order s.contents one.keeps one.run (none refl))
 
 -- what is out of a spellable text
-pub text_out : (caps : List ℕ) (s : Shown) (order : List Entry) (failed : Bool) (old new : Option (List ℕ)) → IsOrder (traces_of s) order
+pub text_out : (caps : List ℕ) (s : Shown) (order : List Entry) (out : Output) → IsOrder (traces_of s) order
     → TakesFirstReady (traces_of s) order → IsRun caps order s.contents → IsSpellable caps order s.contents
-    → Outs failed old new (spelling caps order s.contents) → IsOut caps s failed old new
-text_out caps s order failed old new keeps first run spellable out = record {
+    → IsPut out (spelling caps order s.contents) → IsOut caps s out
+text_out caps s order out keeps first run spellable put = record {
   text = spelling caps order s.contents;
   is = record { order = order; keeps = keeps; first = first; run = run; spelled = record { spellable = spellable; spelled = refl } };
-  out = out;
+  out = put;
 }
 
 -- what is written of a plan's system: a text that has a spelling
@@ -151,15 +145,15 @@ spelled_as cpus caps s es left plan fits stay one is same values =
     (run_values (λ v. v < 2 ^ 64) plan.plan.caps [] (empty_buffers plan.plan.caps) es s.contents (empty_values (λ v. v < 2 ^ 64) plan.plan.caps) fit run)))
 
 -- what is out of it
-pub out_as : (cpus : ℕ) (caps : List ℕ) (s : Shown) (es : List Entry) (left : List (List ℕ)) (failed : Bool) (old new : Option (List ℕ)) → IsOfPlan cpus caps s
+pub out_as : (cpus : ℕ) (caps : List ℕ) (s : Shown) (es : List Entry) (left : List (List ℕ)) (out : Output) → IsOfPlan cpus caps s
     → HasOneOrder s → IsOrder (traces_of s) es → TakesFirstReady (traces_of s) es → left ≡ s.contents
-    → IsSpellable caps es left → Outs failed old new (spelling caps es left) → IsOut caps s failed old new
-out_as cpus caps s es left failed old new plan one is first same spellable out =
-    text_out caps s es failed old new is first (gathered_run s caps es (plan.system.caps ∙ sym plan.caps) one is)
-    (subst (λ l. IsSpellable caps es l) same spellable) (subst (λ l. Outs failed old new (spelling caps es l)) same out)
+    → IsSpellable caps es left → IsPut out (spelling caps es left) → IsOut caps s out
+out_as cpus caps s es left out plan one is first same spellable put =
+    text_out caps s es out is first (gathered_run s caps es (plan.system.caps ∙ sym plan.caps) one is)
+    (subst (λ l. IsSpellable caps es l) same spellable) (subst (λ l. IsPut out (spelling caps es l)) same put)
 
 -- a fault that is passed on
-pub err_writes : {A : Type 0} (caps : List ℕ) (s : Shown) (r : Result A Fault) (e : Fault) (failed : Bool) (old new : Option (List ℕ))
-    → IsErrAnd r (λ f. f ≡ e) → Writes {A = A} caps s (Err e) failed old new → Writes caps s r failed old new
-err_writes caps s (Ok x) e failed old new is writes = absurd is
-err_writes {A = A} caps s (Err f) e failed old new is writes = subst (λ x. Writes {A = A} caps s (Err x) failed old new) (sym is) writes
+pub err_writes : {A : Type 0} (caps : List ℕ) (s : Shown) (r : Result A Fault) (e : Fault) (out : Output)
+    → IsErrAnd r (λ f. f ≡ e) → Writes {A = A} caps s (Err e) out → Writes caps s r out
+err_writes caps s (Ok x) e out is writes = absurd is
+err_writes {A = A} caps s (Err f) e out is writes = subst (λ x. Writes {A = A} caps s (Err x) out) (sym is) writes

@@ -2,6 +2,7 @@ pub mod Line
 pub mod Schedule
 pub mod Count
 pub mod Serve
+pub mod Output
 pub mod Print
 pub mod Help
 pub mod Workers

@@ -1,9 +1,9 @@
 -- Refusals: which fault each stands for, the exit status, and the text that tells it.
-use Rattle.std.specs.Prelude.{ℕ, Bool, List, Option, Result, Ok, Err, codes}
+use Rattle.std.specs.Prelude.{ℕ, List, Result, Ok, Err, codes}
 use Rattle.clap.specs.Walk.{Text}
 use Rattle.boot.specs.declared.refusals.BootError.{BootError}
-use Rattle.tracer.specs.Sinks.{Outs}
 use Rattle.mctower.specs.Help.{help_of, topic_of}
+use Rattle.mctower.specs.Output.{IsPut, Output}
 use Rattle.mctower.specs.Print.{PrintsRefusal}
 use Rattle.mctower.specs.declared.line.LineError.{LineError}
 use Rattle.mctower.specs.declared.line.LineError.TheVariants as line
@@ -65,6 +65,6 @@ text_of words BadSchedule = Ok (codes "error: BadSchedule(9)\n")
 text_of words (Plan error) = Err error
 
 -- the text is out; of a plan, a line that tells the refusal; where the sink failed, a beginning of it
-abbrev pub Told : Result (List ℕ) BootError → Bool → Option (List ℕ) → Option (List ℕ) → Type 0
-Told (Ok text) failed old new = Outs failed old new text
-Told (Err error) failed old new = PrintsRefusal failed old new
+abbrev pub Told : Result (List ℕ) BootError → Output → Type 0
+Told (Ok text) out = IsPut out text
+Told (Err error) out = PrintsRefusal out

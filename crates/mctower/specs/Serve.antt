@@ -12,13 +12,13 @@ use Rattle.tracer.specs.declared.verdicts.Verdict.{Verdict}
 use Rattle.tracer.specs.declared.verdicts.Verdict.TheVariants as verdict
 use Rattle.tracer.specs.Judging.{verdict_of}
 use Rattle.tracer.specs.Reasons as reasons
-use Rattle.tracer.specs.Sinks.{Outs}
 use Rattle.mctower.specs.Line.{Meant, count, run, threads, check}
+use Rattle.mctower.specs.Output.{IsPut, IsUntouched, Output}
 use Rattle.mctower.specs.Refusals.{Told, status_of_refusal, text_of}
 use Rattle.mctower.specs.declared.refusals.Refusal.{Refusal}
 use Rattle.mctower.specs.declared.refusals.Refusal.TheVariants.{BadLine, NoMemory, BadCpu, NoThread, ReadFault, WriteFault, BadSchedule, Plan as BadPlan}
 use Rattle.cpu.specs.Claims.{Shown}
-use Rattle.mctower.specs.Running.{AreCpus, IsRunOf, IsTextOf, IsUntouched}
+use Rattle.mctower.specs.Running.{AreCpus, IsRunOf, IsTextOf}
 use Rattle.mctower.specs.State.{IsStateOf, text_of_state}
 use Rattle.mctower.specs.declared.serve.Done.{Done}
 use Rattle.mctower.specs.declared.serve.Done.TheVariants.{Exit, Ran}
@@ -32,12 +32,12 @@ status_of (Ok (Ran state)) = 0
 status_of (Err refusal) = status_of_refusal refusal
 
 -- the answer is this refusal, and nothing was written
-abbrev pub RefusedBy : Refusal → Result Done Refusal → Bool → Option (List ℕ) → Option (List ℕ) → Type 0
-RefusedBy refusal answer failed old new = (answer ≡ Err refusal) × IsUntouched failed old new
+abbrev pub RefusedBy : Refusal → Result Done Refusal → Output → Type 0
+RefusedBy refusal answer out = (answer ≡ Err refusal) × IsUntouched out
 
 -- the text is out, and the answer is that this is done; or the output failed, a beginning of the text is out, and that is the answer
-abbrev pub Puts : Done → List ℕ → Result Done Refusal → Bool → Option (List ℕ) → Option (List ℕ) → Type 0
-Puts done text answer failed old new = (answer ≡ (if failed then Err WriteFault else Ok done)) × Outs failed old new text
+abbrev pub Puts : Done → List ℕ → Result Done Refusal → Output → Type 0
+Puts done text answer out = (answer ≡ (if out.failed then Err WriteFault else Ok done)) × IsPut out text
 
 -- ---- the input
 
@@ -62,60 +62,63 @@ abbrev pub count_lines : ℕ → List ℕ
 count_lines number = codes "plain " ++ (decimal number ++ (codes "\ntable " ++ (decimal number ++ 10 ∷ [])))
 
 -- this number was counted: it is printed, or the order is refused for want of memory or of a thread
-abbrev pub Counts : ℕ → Result Done Refusal → Bool → Option (List ℕ) → Option (List ℕ) → Type 0
-Counts number answer failed old new = RefusedBy NoMemory answer failed old new
-    ⊎ (RefusedBy NoThread answer failed old new
-    ⊎ Puts (Exit 0) (count_lines number) answer failed old new)
+abbrev pub Counts : ℕ → Result Done Refusal → Output → Type 0
+Counts number answer out = RefusedBy NoMemory answer out
+    ⊎ (RefusedBy NoThread answer out
+    ⊎ Puts (Exit 0) (count_lines number) answer out)
 
 -- ---- check
 
 -- a verdict is printed: a yes with status 0, a no with the number of the line and the name of the reason with status 3
-abbrev pub Tells : Verdict → Result Done Refusal → Bool → Option (List ℕ) → Option (List ℕ) → Type 0
-Tells verdict.Yes answer failed old new = Puts (Exit 0) (codes "yes\n") answer failed old new
-Tells (verdict.No line reason) answer failed old new =
-    Puts (Exit 3) (codes "no " ++ (decimal line ++ (codes " " ++ (reasons.name_of reason ++ codes "\n")))) answer failed old new
-Tells verdict.NoMemory answer failed old new = RefusedBy NoMemory answer failed old new
+abbrev pub Tells : Verdict → Result Done Refusal → Output → Type 0
+Tells verdict.Yes answer out = Puts (Exit 0) (codes "yes\n") answer out
+Tells (verdict.No line reason) answer out =
+    Puts (Exit 3) (codes "no " ++ (decimal line ++ (codes " " ++ (reasons.name_of reason ++ codes "\n")))) answer out
+Tells verdict.NoMemory answer out = RefusedBy NoMemory answer out
 
 -- the verdict on the input is printed, or the input was not read
-abbrev pub Checks : Option (List ℕ) → Result Done Refusal → Bool → Option (List ℕ) → Option (List ℕ) → Type 0
-Checks input answer failed old new = RefusedBy NoMemory answer failed old new
-    ⊎ (RefusedBy ReadFault answer failed old new
-    ⊎ ((text : List ℕ) × IsInput input text × Tells (verdict_of text) answer failed old new))
+abbrev pub Checks : Option (List ℕ) → Result Done Refusal → Output → Type 0
+Checks input answer out = RefusedBy NoMemory answer out
+    ⊎ (RefusedBy ReadFault answer out
+    ⊎ ((text : List ℕ) × IsInput input text × Tells (verdict_of text) answer out))
 
 -- ---- run
 
+-- what is to be told is the system's state; or the output failed
+abbrev pub TellsRun : Type 0 → Shown → Result Done Refusal → Bool → Type 0
+TellsRun IsStepwise s answer false = (state : State) × IsStateOf IsStepwise s state × (answer ≡ Ok (Ran state))
+TellsRun IsStepwise s answer true = answer ≡ Err WriteFault
+
 -- the text is out, and what is to be told is the system's state; or the output failed, and a beginning of the text is out
-abbrev pub PutsRun : Shown → List ℕ → Result Done Refusal → Bool → Option (List ℕ) → Option (List ℕ) → Type 0
-PutsRun s text answer false old new = (state : State) × IsStateOf s state × (answer ≡ Ok (Ran state)) × Outs false old new text
-PutsRun s text answer true old new = (answer ≡ Err WriteFault) × Outs true old new text
+abbrev pub PutsRun : Type 0 → Shown → List ℕ → Result Done Refusal → Output → Type 0
+PutsRun IsStepwise s text answer out = TellsRun IsStepwise s answer out.failed × IsPut out text
 
 -- the plan's system took the steps, by the step table where its machine does one action a step, and its trace text is written
-pub record RunsTrace (IsStepwise : Type 0) (plan : BootPlan) (steps : List CpuId) (answer : Result Done Refusal) (failed : Bool)
-    (old new : Option (List ℕ)) : Type 0 where
+pub record RunsTrace (IsStepwise : Type 0) (plan : BootPlan) (steps : List CpuId) (answer : Result Done Refusal) (printed : Output) : Type 0 where
   pub cpus : AreCpus plan.cpus steps
   pub system : Shown
   pub ran : IsRunOf IsStepwise plan steps system
   pub trace : List ℕ
   pub traced : IsTextOf plan.caps system trace
-  pub put : PutsRun system trace answer failed old new
+  pub put : PutsRun IsStepwise system trace answer printed
 
 -- the plan is run, or a step is of no CPU of it; or the text is no plan, and that is told as its first fault
-abbrev pub RunsPlan : Type 0 → Result BootPlan BootError → List CpuId → Result Done Refusal → Bool → Option (List ℕ) → Option (List ℕ) → Type 0
-RunsPlan IsStepwise (Ok plan) steps answer failed old new = ((¬ AreCpus plan.cpus steps) × RefusedBy BadCpu answer failed old new)
-    ⊎ RunsTrace IsStepwise plan steps answer failed old new
-RunsPlan IsStepwise (Err error) steps answer failed old new = RefusedBy (BadPlan error) answer failed old new
+abbrev pub RunsPlan : Type 0 → Result BootPlan BootError → List CpuId → Result Done Refusal → Output → Type 0
+RunsPlan IsStepwise (Ok plan) steps answer out = ((¬ AreCpus plan.cpus steps) × RefusedBy BadCpu answer out)
+    ⊎ RunsTrace IsStepwise plan steps answer out
+RunsPlan IsStepwise (Err error) steps answer out = RefusedBy (BadPlan error) answer out
 
 -- the plan of these bytes is run; bytes that are no UTF-8 are no document; want of memory aside
-abbrev pub RunsBytes : Type 0 → List ℕ → List CpuId → Result Done Refusal → Bool → Option (List ℕ) → Option (List ℕ) → Type 0
-RunsBytes IsStepwise bytes steps answer failed old new = RefusedBy NoMemory answer failed old new
-    ⊎ (((¬ IsUtf8 bytes) × RefusedBy (BadPlan BadToml) answer failed old new)
-    ⊎ (IsUtf8 bytes × RunsPlan IsStepwise (plan_of bytes) steps answer failed old new))
+abbrev pub RunsBytes : Type 0 → List ℕ → List CpuId → Result Done Refusal → Output → Type 0
+RunsBytes IsStepwise bytes steps answer out = RefusedBy NoMemory answer out
+    ⊎ (((¬ IsUtf8 bytes) × RefusedBy (BadPlan BadToml) answer out)
+    ⊎ (IsUtf8 bytes × RunsPlan IsStepwise (plan_of bytes) steps answer out))
 
 -- the input's plan is run under these steps, or the input was not read
-abbrev pub Runs : Type 0 → Option (List ℕ) → List CpuId → Result Done Refusal → Bool → Option (List ℕ) → Option (List ℕ) → Type 0
-Runs IsStepwise input steps answer failed old new = RefusedBy NoMemory answer failed old new
-    ⊎ (RefusedBy ReadFault answer failed old new
-    ⊎ ((bytes : List ℕ) × IsInput input bytes × RunsBytes IsStepwise bytes steps answer failed old new))
+abbrev pub Runs : Type 0 → Option (List ℕ) → List CpuId → Result Done Refusal → Output → Type 0
+Runs IsStepwise input steps answer out = RefusedBy NoMemory answer out
+    ⊎ (RefusedBy ReadFault answer out
+    ⊎ ((bytes : List ℕ) × IsInput input bytes × RunsBytes IsStepwise bytes steps answer out))
 
 -- the steps that a schedule asks for: none without one
 abbrev pub steps_asked : Option Text → Option (List CpuId)
@@ -123,44 +126,48 @@ steps_asked None = Some []
 steps_asked (Some text) = steps_of text
 
 -- the steps are run; what is no schedule is a bad command line, want of memory aside
-abbrev pub RunsAsked : Type 0 → Option (List CpuId) → Option (List ℕ) → Result Done Refusal → Bool → Option (List ℕ) → Option (List ℕ) → Type 0
-RunsAsked IsStepwise (Some steps) input answer failed old new = Runs IsStepwise input steps answer failed old new
-RunsAsked IsStepwise None input answer failed old new = RefusedBy NoMemory answer failed old new ⊎ RefusedBy BadSchedule answer failed old new
+abbrev pub RunsAsked : Type 0 → Option (List CpuId) → Option (List ℕ) → Result Done Refusal → Output → Type 0
+RunsAsked IsStepwise (Some steps) input answer out = Runs IsStepwise input steps answer out
+RunsAsked IsStepwise None input answer out = RefusedBy NoMemory answer out ⊎ RefusedBy BadSchedule answer out
 
 -- ---- any order
 
--- Serving what the words mean: the answer, whether standard output failed, and its bytes before and after. The bytes on standard
+-- Serving what the words mean: the answer, and what became of standard output. The bytes on standard
 -- input are `input`, where they are known. Memory or the input may be wanting always.
-abbrev pub Serves : Type 0 → Option Meant → Option (List ℕ) → Result Done Refusal → Bool → Option (List ℕ) → Option (List ℕ) → Type 0
-Serves IsStepwise None input answer failed old new = RefusedBy NoMemory answer failed old new ⊎ RefusedBy BadLine answer failed old new
-Serves IsStepwise (Some (count cpus times)) input answer failed old new = Counts (times * cpus) answer failed old new
-Serves IsStepwise (Some check) input answer failed old new = Checks input answer failed old new
-Serves IsStepwise (Some (run schedule)) input answer failed old new = RunsAsked IsStepwise (steps_asked schedule) input answer failed old new
+abbrev pub Serves : Type 0 → Option Meant → Option (List ℕ) → Result Done Refusal → Output → Type 0
+Serves IsStepwise None input answer out = RefusedBy NoMemory answer out ⊎ RefusedBy BadLine answer out
+Serves IsStepwise (Some (count cpus times)) input answer out = Counts (times * cpus) answer out
+Serves IsStepwise (Some check) input answer out = Checks input answer out
+Serves IsStepwise (Some (run schedule)) input answer out = RunsAsked IsStepwise (steps_asked schedule) input answer out
 -- no such order is taken
-Serves IsStepwise (Some (threads turns)) input answer failed old new = ⊥
+Serves IsStepwise (Some (threads turns)) input answer out = ⊥
 
 -- ---- standard error
 
 -- what is on standard error, by the answer to these words: the state lines after a good run, nothing after a yes, a no or a count; else what
 -- tells the refusal
-abbrev pub Reports : List Text → Result Done Refusal → Bool → Option (List ℕ) → Option (List ℕ) → Type 0
-Reports words (Ok (Exit status)) failed old new = IsUntouched failed old new
-Reports words (Ok (Ran state)) failed old new = Outs failed old new (text_of_state state)
-Reports words (Err refusal) failed old new = Told (text_of words refusal) failed old new
+abbrev pub Reports : List Text → Result Done Refusal → Output → Type 0
+Reports words (Ok (Exit status)) out = IsUntouched out
+Reports words (Ok (Ran state)) out = IsPut out (text_of_state state)
+Reports words (Err refusal) out = Told (text_of words refusal) out
 
 -- there is one answer by which the exit status and standard error are
-pub record EndsTold (words : List Text) (status : ℕ) (failed : Bool) (old new : Option (List ℕ)) : Type 0 where
+pub record EndsTold (words : List Text) (status : ℕ) (err : Output) : Type 0 where
   pub answer : Result Done Refusal
   pub ends : status ≡ status_of answer
-  pub told : Reports words answer failed old new
+  pub told : Reports words answer err
 
 -- A command line is served: there is one answer by which the exit status, standard output and standard error are.
 pub record Ends (IsStepwise : Type 0) (words : List Text) (meant : Option Meant) (input : Option (List ℕ)) (status : ℕ)
-    (out_failed : Bool) (out_old out_new : Option (List ℕ)) (err_failed : Bool) (err_old err_new : Option (List ℕ)) : Type 0 where
+    (out err : Output) : Type 0 where
   pub answer : Result Done Refusal
   pub ends : status ≡ status_of answer
-  pub served : Serves IsStepwise meant input answer out_failed out_old out_new
-  pub told : Reports words answer err_failed err_old err_new
+  pub served : Serves IsStepwise meant input answer out
+  pub told : Reports words answer err
+
+-- Serving over layers of which each poll is one action: what is said of such layers holds without a condition.
+abbrev pub NoCondition : Type 0
+NoCondition = Unit {0}
 
 -- ---- standard input
 

@@ -3,7 +3,8 @@
 
 ghost use Rattle.std.specs.Prelude.{◌≡◌, false, map};
 ghost use Rattle.std.specs.Process.{exit_status};
-ghost use Rattle.tracer.specs.Sinks.{has_failed, writer_of};
+ghost use Rattle.tracer.specs.Sinks.{has_failed};
+ghost use Rattle.mctower.specs.Output.{between};
 ghost use Rattle.mctower.specs.Serve.{EndsTold};
 
 pub mod count;
@@ -67,8 +68,7 @@ fn words_after_the_name(rt: &HostRuntime) -> Result<Vec<String>, LineError> {
 /// Tells a refusal of these words, and gives the exit status of the process.
 fn refused<E: Write>(err: &mut Sink<E>, words: &[&str], refusal: Refusal) -> ExitCode
     requires { has_failed err.old ≡ false }
-    ensures { EndsTold (map (λ w. w.now) words.now) (exit_status result) (has_failed err.new) (E.contents (writer_of err.old))
-        (E.contents (writer_of err.new)) }
+    ensures { EndsTold (map (λ w. w.now) words.now) (exit_status result) (between E.contents err.old err.new) }
 {
     tell(err, words, refusal);
     ExitCode::from(status_of_refusal(refusal))
@@ -82,8 +82,7 @@ fn serve_words<T: AllocGlobal + Input + Print + Threads + Wait + Sync, E: Write>
     err: &mut Sink<E>,
 ) -> ExitCode
     requires { has_failed err.old ≡ false }
-    ensures { EndsTold (map (λ w. w.now) words.now) (exit_status result) (has_failed err.new) (E.contents (writer_of err.old))
-        (E.contents (writer_of err.new)) }
+    ensures { EndsTold (map (λ w. w.now) words.now) (exit_status result) (between E.contents err.old err.new) }
 {
     let Ok(buffered) = BufWriter::new(rt.alloc(), io::writer(rt)) else {
         return refused(err, words, Refusal::NoMemory);

@@ -2,7 +2,8 @@
 
 ghost use Rattle.std.specs.Prelude.{◌≡◌, IfOk, false, is_err, true};
 ghost use Rattle.std.specs.List.{before_first, flat_map};
-ghost use Rattle.tracer.specs.Sinks.{WentOut, has_failed, is_flushed, writer_of};
+ghost use Rattle.tracer.specs.Sinks.{WentOut, has_failed, is_flushed};
+ghost use Rattle.mctower.specs.Output.{between};
 ghost use Rattle.mctower.specs.Print.{PrintsRefusal, is_line_feed, shown_as};
 
 use arrayvec::ArrayString;
@@ -61,7 +62,7 @@ fn line_in(text: &str) -> &str
 /// memory.
 pub(crate) fn refuse<W: Write, F: fmt::Display>(sink: &mut Sink<W>, fault: &F)
     requires { has_failed sink.old ≡ false }
-    ensures { PrintsRefusal (has_failed sink.new) (W.contents (writer_of sink.old)) (W.contents (writer_of sink.new)) }
+    ensures { PrintsRefusal (between W.contents sink.old sink.new) }
 {
     let mut shown = ArrayString::<LONGEST>::new();
     let _ = write!(shown, "{fault}");

@@ -1,14 +1,11 @@
 //! What the state lines tell of a system, read off it.
 
-ghost use Rattle.std.specs.Prelude.{◌≡◌, ◌↔◌, ◌<◌, ◌≤◌, ℕ, false, length, slice_index_or, true};
-ghost use Rattle.std.specs.List.{list_all};
-ghost use Rattle.event_log.specs.declared.ids.CpuId.{CpuId};
+ghost use Rattle.std.specs.Prelude.{◌≡◌, ◌<◌, ◌≤◌, ℕ, length, slice_index_or};
 ghost use Rattle.event_log.specs.declared.ids.TheConstants.{CPUS, THREADS};
 ghost use Rattle.layer_traits.specs.declared.calls.Place.{Place};
-ghost use Rattle.cpu.specs.Calm.{calm_in};
 ghost use Rattle.cpu.specs.Claims.{IsPlaceOf, listed};
 ghost use Rattle.cpu.specs.Systems.{halted_in};
-ghost use Rattle.mctower.specs.State.{AreCalm, IsStateOf, is_settled};
+ghost use Rattle.mctower.specs.State.{IsStateOf};
 
 use crate::states::State;
 use arrayvec::ArrayVec;
@@ -47,55 +44,6 @@ where
     places
 }
 
-/// Whether each of so many CPUs of a system is calm.
-fn are_calm<I: Owned + Drop>(cpus: u8, system: &System<I>) -> bool
-where
-    I::Machine: Drop,
-    requires { length system.now.cpus ≡ cpus }
-    ensures calm { result ≡ true → AreCalm system.now }
-    ensures stirs { result ≡ false → (c : CpuId) × (c.0 < length system.now.cpus) × (calm_in c system.now ≡ false) }
-{
-    for cpu in 0..cpus {
-        if !system.is_calm(CpuId(cpu)) {
-            return false;
-        }
-    }
-    true
-}
-
-/// Whether a place is no pending queue.
-fn is_settled(place: &Place) -> bool
-    ensures { result ≡ is_settled place.now }
-{
-    match place {
-        Place::Pending(_) => false,
-        Place::Running(_)
-        | Place::Ready(_)
-        | Place::Hand(_)
-        | Place::LockSleeper(_)
-        | Place::WaitRecv(_)
-        | Place::WaitSend(_)
-        | Place::Ended => true,
-    }
-}
-
-/// Whether no place is a pending queue.
-fn are_settled(places: &[Place]) -> bool
-    ensures { result ≡ list_all is_settled places.now }
-{
-    places.iter().all(is_settled)
-}
-
-/// Whether a system of so many CPUs, whose threads are at these places, is quiet.
-fn is_quiet<I: Owned + Drop>(cpus: u8, places: &[Place], system: &System<I>) -> bool
-where
-    I::Machine: Drop,
-    requires { length system.now.cpus ≡ cpus }
-    ensures { (result ≡ true) ↔ (AreCalm system.now × (list_all is_settled places.now ≡ true)) }
-{
-    are_calm(cpus, system) && are_settled(places)
-}
-
 /// What the state lines tell of a system of so many CPUs and threads. Takes no memory.
 pub fn state_of<I: Owned + Drop>(cpus: u8, threads: usize, system: &System<I>) -> State
 where
@@ -104,11 +52,11 @@ where
     requires few_threads { threads ≤ THREADS }
     requires cpus { length system.now.cpus ≡ cpus }
     requires threads { length system.now.homes ≡ threads }
-    ensures { IsStateOf system.now result }
+    ensures { IsStateOf I.IsStepwise system.now result }
 {
     let places = places_of(threads, system);
     let halted = halted_of(cpus, system);
-    let is_quiet = is_quiet(cpus, &places[..threads], system);
+    let is_quiet = system.is_quiet();
     State {
         halted,
         places,

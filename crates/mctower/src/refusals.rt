@@ -1,7 +1,8 @@
 //! Refusals: why an order was not done, what tells it on standard error, and the exit status.
 
 ghost use Rattle.std.specs.Prelude.{◌≡◌, false, map, MatchResult, Ok, Err};
-ghost use Rattle.tracer.specs.Sinks.{has_failed, writer_of};
+ghost use Rattle.tracer.specs.Sinks.{has_failed};
+ghost use Rattle.mctower.specs.Output.{between};
 ghost use Rattle.mctower.specs.Refusals.{Told, from_count, from_fault, from_line, from_steps, status_of_refusal, text_of};
 
 use crate::help::help_on;
@@ -111,7 +112,7 @@ fn text_of(words: &[&str], refusal: Refusal) -> Result<&'static str, BootError>
 /// Tells a refusal of these words, if the sink takes it. Takes no memory.
 pub(crate) fn tell<W: Write>(sink: &mut Sink<W>, words: &[&str], refusal: Refusal)
     requires { has_failed sink.old ≡ false }
-    ensures { Told (text_of (map (λ w. w.now) words.now) refusal) (has_failed sink.new) (W.contents (writer_of sink.old)) (W.contents (writer_of sink.new)) }
+    ensures { Told (text_of (map (λ w. w.now) words.now) refusal) (between W.contents sink.old sink.new) }
 {
     match text_of(words, refusal) {
         Ok(text) => {

@@ -5,8 +5,9 @@ ghost use Rattle.event_log.specs.declared.ids.TheConstants.{BUFFERS};
 ghost use Rattle.boot.specs.Plan.{plan_of};
 ghost use Rattle.event_log.specs.declared.entries.Entry.{Entry as AnEntry};
 ghost use Rattle.tracer.specs.Gather.{traces_in};
-ghost use Rattle.tracer.specs.Sinks.{has_failed, writer_of};
+ghost use Rattle.tracer.specs.Sinks.{has_failed};
 ghost use Rattle.cpu.specs.Claims.{Shown, traces_of};
+ghost use Rattle.mctower.specs.Output.{between};
 ghost use Rattle.mctower.specs.Plans.{IsOfPlan, from_boot};
 ghost use Rattle.mctower.specs.Running.{RunsText, Writes, IsTextOf, first_of};
 ghost use Rattle.mctower.specs.State.{IsStateOf};
@@ -124,9 +125,8 @@ where
     I::Machine: Drop,
     requires live { has_failed sink.old ≡ false }
     requires few { length steps.now ≤ 1048576 }
-    ensures runs { RunsText I.IsStepwise (plan_of plan.now) steps.now (first_of result) (has_failed sink.new) (W.contents (writer_of sink.old))
-        (W.contents (writer_of sink.new)) }
-    ensures state { IfOk result (λ ran. IsStateOf ran.0 ran.1) }
+    ensures runs { RunsText I.IsStepwise (plan_of plan.now) steps.now (first_of result) (between W.contents sink.old sink.new) }
+    ensures state { IfOk result (λ ran. IsStateOf I.IsStepwise ran.0 ran.1) }
 {
     let boot = Boot::read(alloc, plan)?;
     let cpus = boot.cpus();
@@ -159,8 +159,7 @@ where
     I::Machine: Drop,
     requires live { has_failed sink.old ≡ false }
     requires few { length steps.now ≤ 1048576 }
-    ensures { RunsText I.IsStepwise (plan_of plan.now) steps.now result (has_failed sink.new) (W.contents (writer_of sink.old))
-        (W.contents (writer_of sink.new)) }
+    ensures { RunsText I.IsStepwise (plan_of plan.now) steps.now result (between W.contents sink.old sink.new) }
 {
     match run_plan(alloc, plan, steps, sink) {
         Ok((system, _)) => Ok(system),
@@ -189,7 +188,7 @@ where
     I::Machine: Drop,
     requires live { has_failed sink.old ≡ false }
     requires plan { IsOfPlan cpus caps.now system.now }
-    ensures { Writes caps.now system.now result (has_failed sink.new) (W.contents (writer_of sink.old)) (W.contents (writer_of sink.new)) }
+    ensures { Writes caps.now system.now result (between W.contents sink.old sink.new) }
 {
     system.holds();
     system.traces_fit();

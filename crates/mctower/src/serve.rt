@@ -3,7 +3,8 @@
 ghost use Rattle.std.specs.Prelude.{◌≡◌, ◌≤◌, ◌*◌, ◌⊎◌, IfOk, false, true, length, map, option_map, string_bytes};
 ghost use Rattle.std.specs.List.{flat_map};
 ghost use Rattle.event_log.specs.declared.ids.TheConstants.{CPUS};
-ghost use Rattle.tracer.specs.Sinks.{has_failed, is_flushed, writer_of};
+ghost use Rattle.tracer.specs.Sinks.{has_failed, is_flushed};
+ghost use Rattle.mctower.specs.Output.{between};
 ghost use Rattle.mctower.specs.Line.{order_of};
 ghost use Rattle.mctower.specs.Schedule.{ReadsSteps};
 ghost use Rattle.mctower.specs.Serve.{Checks, Counts, Ends, Puts, ReadsAll, Runs, RunsBytes, Serves, Tells, kind_refused, reads_input, steps_asked};
@@ -41,7 +42,7 @@ pub enum Done {
 /// Puts the pieces out and flushes; then this is done.
 fn put_out<O: Write>(out: &mut Sink<O>, pieces: &[&[u8]], done: Done) -> Result<Done, Refusal>
     requires { has_failed out.old ≡ false }
-    ensures put { Puts done (flat_map (λ p. p.now) pieces.now) result (has_failed out.new) (O.contents (writer_of out.old)) (O.contents (writer_of out.new)) }
+    ensures put { Puts done (flat_map (λ p. p.now) pieces.now) result (between O.contents out.old out.new) }
     ensures flushed { IfOk result (λ _. is_flushed out.new ≡ true) }
 {
     match print(out, pieces) {
@@ -61,7 +62,7 @@ fn serve_count<O: Write, T: Threads + Wait + Sync>(
     requires cpus { cpus ≤ CPUS }
     requires times { times ≤ MOST_TIMES }
     requires live { has_failed out.old ≡ false }
-    ensures counts { Counts (times * cpus) result (has_failed out.new) (O.contents (writer_of out.old)) (O.contents (writer_of out.new)) }
+    ensures counts { Counts (times * cpus) result (between O.contents out.old out.new) }
     ensures flushed { IfOk result (λ _. is_flushed out.new ≡ true) }
 {
     let Ok(number) = count_plain(alloc, cpus, times) else {
@@ -109,7 +110,7 @@ fn read_all<R: Read>(alloc: Global, input: &mut R) -> Result<Vec<u8>, Refusal>
 /// Prints a verdict: `yes`, or `no L Name(N)`. Gives the exit status.
 fn print_verdict<O: Write>(verdict: Verdict, out: &mut Sink<O>) -> Result<Done, Refusal>
     requires { has_failed out.old ≡ false }
-    ensures tells { Tells verdict result (has_failed out.new) (O.contents (writer_of out.old)) (O.contents (writer_of out.new)) }
+    ensures tells { Tells verdict result (between O.contents out.old out.new) }
     ensures flushed { IfOk result (λ _. is_flushed out.new ≡ true) }
 {
     match verdict {
@@ -138,7 +139,7 @@ fn serve_check<R: Read, O: Write>(
     out: &mut Sink<O>,
 ) -> Result<Done, Refusal>
     requires { has_failed out.old ≡ false }
-    ensures checks { Checks (R.remaining input.old) result (has_failed out.new) (O.contents (writer_of out.old)) (O.contents (writer_of out.new)) }
+    ensures checks { Checks (R.remaining input.old) result (between O.contents out.old out.new) }
     ensures flushed { IfOk result (λ _. is_flushed out.new ≡ true) }
 {
     let text = match read_all(alloc, input) {
@@ -169,7 +170,7 @@ where
     I::Machine: Drop,
     requires live { has_failed out.old ≡ false }
     requires few { length steps.now ≤ MOST_STEPS }
-    ensures runs { RunsBytes I.IsStepwise bytes.now steps.now result (has_failed out.new) (O.contents (writer_of out.old)) (O.contents (writer_of out.new)) }
+    ensures runs { RunsBytes I.IsStepwise bytes.now steps.now result (between O.contents out.old out.new) }
     ensures flushed { IfOk result (λ _. is_flushed out.new ≡ true) }
 {
     let Ok(plan) = str::from_utf8(bytes) else {
@@ -193,8 +194,7 @@ where
     I::Machine: Drop,
     requires live { has_failed out.old ≡ false }
     requires few { length steps.now ≤ MOST_STEPS }
-    ensures runs { Runs I.IsStepwise (R.remaining input.old) steps.now result (has_failed out.new) (O.contents (writer_of out.old))
-        (O.contents (writer_of out.new)) }
+    ensures runs { Runs I.IsStepwise (R.remaining input.old) steps.now result (between O.contents out.old out.new) }
     ensures flushed { IfOk result (λ _. is_flushed out.new ≡ true) }
 {
     let bytes = match read_all(alloc, input) {
@@ -216,7 +216,7 @@ where
     I::Machine: Drop,
     requires { has_failed out.old ≡ false }
     ensures served { Serves I.IsStepwise (order_of (map (λ w. w.now) words.now)) (R.remaining input.old) result
-        (has_failed out.new) (O.contents (writer_of out.old)) (O.contents (writer_of out.new)) }
+        (between O.contents out.old out.new) }
     ensures flushed { IfOk result (λ _. is_flushed out.new ≡ true) }
     ensures unread { reads_input (order_of (map (λ w. w.now) words.now)) ≡ false → input.new ≡ input.old }
 {
@@ -254,8 +254,7 @@ where
     requires out { has_failed out.old ≡ false }
     requires err { has_failed err.old ≡ false }
     ensures served { Ends I.IsStepwise (map (λ w. w.now) words.now) (order_of (map (λ w. w.now) words.now)) (R.remaining input.old) result
-        (has_failed out.new) (O.contents (writer_of out.old)) (O.contents (writer_of out.new))
-        (has_failed err.new) (E.contents (writer_of err.old)) (E.contents (writer_of err.new)) }
+        (between O.contents out.old out.new) (between E.contents err.old err.new) }
     ensures flushed { (result ≡ 0) ⊎ (result ≡ 3) → is_flushed out.new ≡ true }
     ensures unread { reads_input (order_of (map (λ w. w.now) words.now)) ≡ false → input.new ≡ input.old }
 {

@@ -1,12 +1,13 @@
 //! Command lines served whole: the exit status, standard output and standard error of each command,
 //! and an output that fails anywhere.
 
+use crate::print::print;
 use crate::tower::serve_tower;
 use std::io::{self, Write};
 use std::sync::Wait;
 use std::test::Fail;
 use std::thread::Threads;
-use tracer::Sink;
+use tracer::{Sink, WriteFault};
 
 /// One thread that sends 7.
 pub(crate) const ONE_SEND: &str =
@@ -162,4 +163,42 @@ fn an_output_that_fails_anywhere(rt: HostRuntime) {
         assert_eq!(rt; told.as_slice(), line.as_bytes());
         assert_eq!(rt; page.out.as_slice(), &SENT[..room]);
     }
+}
+
+/// A writer that takes every byte, but none of whose flushes is good.
+#[derive(Drop)]
+struct Clogged {
+    out: Vec<u8>,
+}
+
+impl Write for Clogged {
+    fn write(&mut self, buf: &[u8]) -> io::Result<usize> {
+        self.out.extend_from_slice(buf)?;
+        Ok(buf.len())
+    }
+
+    fn flush(&mut self) -> io::Result<()> {
+        Err(io::Error::from(io::ErrorKind::BrokenPipe))
+    }
+}
+
+#[test]
+fn an_output_that_fails_at_its_flush_alone(rt: HostRuntime) {
+    let mut page = Clogged {
+        out: Vec::new(rt.alloc()),
+    };
+    let printed = print(&mut Sink::new(&mut page), &[b"one\n".as_slice()]);
+    assert_eq!(rt; printed, Err(WriteFault));
+    let mut told = Vec::new(rt.alloc());
+    let status = serve_tower(
+        &rt,
+        rt.alloc(),
+        ["check"].as_slice(),
+        &mut SENT.as_slice(),
+        &mut Sink::new(&mut page),
+        &mut Sink::new(&mut told),
+    );
+    assert_eq!(rt; status, 1);
+    assert_eq!(rt; told.as_slice(), b"error: WriteFault(8)\n".as_slice());
+    assert_eq!(rt; page.out.as_slice(), b"one\nyes\n".as_slice());
 }

@@ -1,13 +1,23 @@
-//! The tower of all layers as one type, and serving over it. Nothing else names that type: a proof
-//! of a function that names it takes minutes.
+//! Serving over the tower of all layers. No function names the whole tower: a proof of one that
+//! names a nest of so many types takes minutes. So each names a few layers, over any that meet the
+//! trait beneath, and calls the one above.
 
-ghost use Rattle.std.specs.Prelude.{◌≡◌, false, map};
-ghost use Rattle.tracer.specs.Sinks.{has_failed, writer_of};
-ghost use Rattle.mctower.specs.Serve.{EndsTold};
+ghost use Rattle.std.specs.Prelude.{◌≡◌, ◌⊎◌, false, map, true};
+ghost use Rattle.tracer.specs.Sinks.{has_failed, is_flushed};
+ghost use Rattle.mctower.specs.Output.{between};
+ghost use Rattle.mctower.specs.Line.{order_of};
+ghost use Rattle.mctower.specs.Serve.{Ends, NoCondition, reads_input};
 
 use crate::serve::serve;
-use ipc_calls::{Ipc, Over, TowerEdit};
+use condvar::Cond;
+use fifo_buffer::Fifo;
+use ipc_calls::{Ipc, LockEdit, StepwiseBuffers, StepwiseLocks, StepwiseSections, TowerEdit};
+use layer_traits::Stepwise;
 use plain_machine::Plain;
+use queuing_lock::QLock;
+use scheduler::Sched;
+use shared_queue::SharedQueues;
+use sleep_wakeup::Sleeper;
 use spinlock::Ticket;
 use std::alloc::Global;
 use std::io::{Read, Write};
@@ -15,11 +25,94 @@ use std::sync::Wait;
 use std::thread::Threads;
 use tracer::Sink;
 
-/// The tower that serves a run: message calls over buffers, conditions, queuing locks, sleep and
-/// wakeup, a scheduler and shared queues, over ticket locks of one owned machine.
-pub type Tower = Ipc<Over<Ticket<Plain<TowerEdit>>>>;
+/// [`serve`] over a top layer of which each poll is one action: what `serve` says of such layers
+/// holds without a condition. So each step of a run is one of the step table, and a system that is
+/// told quiet is stuck.
+pub fn serve_stepwise<I: Stepwise + Drop, R: Read, O: Write, E: Write, T: Threads + Wait + Sync>(
+    rt: &T,
+    alloc: Global,
+    words: &[&str],
+    input: &mut R,
+    out: &mut Sink<O>,
+    err: &mut Sink<E>,
+) -> u8
+where
+    I::Machine: Drop,
+    requires out { has_failed out.old ≡ false }
+    requires err { has_failed err.old ≡ false }
+    ensures served { Ends NoCondition (map (λ w. w.now) words.now) (order_of (map (λ w. w.now) words.now)) (R.remaining input.old) result
+        (between O.contents out.old out.new) (between E.contents err.old err.new) }
+    ensures flushed { (result ≡ 0) ⊎ (result ≡ 3) → is_flushed out.new ≡ true }
+    ensures unread { reads_input (order_of (map (λ w. w.now) words.now)) ≡ false → input.new ≡ input.old }
+{
+    serve::<I, R, O, E, T>(rt, alloc, words, input, out, err)
+}
 
-/// [`serve`] over the tower.
+/// [`serve_stepwise`] over message calls.
+pub fn serve_buffers<
+    B: StepwiseBuffers + Drop,
+    R: Read,
+    O: Write,
+    E: Write,
+    T: Threads + Wait + Sync,
+>(rt: &T, alloc: Global, words: &[&str], input: &mut R, out: &mut Sink<O>, err: &mut Sink<E>) -> u8
+where
+    B::Machine: Drop,
+    requires out { has_failed out.old ≡ false }
+    requires err { has_failed err.old ≡ false }
+    ensures served { Ends NoCondition (map (λ w. w.now) words.now) (order_of (map (λ w. w.now) words.now)) (R.remaining input.old) result
+        (between O.contents out.old out.new) (between E.contents err.old err.new) }
+    ensures flushed { (result ≡ 0) ⊎ (result ≡ 3) → is_flushed out.new ≡ true }
+    ensures unread { reads_input (order_of (map (λ w. w.now) words.now)) ≡ false → input.new ≡ input.old }
+{
+    serve_stepwise::<Ipc<B>, R, O, E, T>(rt, alloc, words, input, out, err)
+}
+
+/// [`serve_buffers`] over buffers, conditions and queuing locks.
+pub fn serve_locks<S: StepwiseLocks + Drop, R: Read, O: Write, E: Write, T: Threads + Wait + Sync>(
+    rt: &T,
+    alloc: Global,
+    words: &[&str],
+    input: &mut R,
+    out: &mut Sink<O>,
+    err: &mut Sink<E>,
+) -> u8
+where
+    S::Machine: Drop,
+    requires out { has_failed out.old ≡ false }
+    requires err { has_failed err.old ≡ false }
+    ensures served { Ends NoCondition (map (λ w. w.now) words.now) (order_of (map (λ w. w.now) words.now)) (R.remaining input.old) result
+        (between O.contents out.old out.new) (between E.contents err.old err.new) }
+    ensures flushed { (result ≡ 0) ⊎ (result ≡ 3) → is_flushed out.new ≡ true }
+    ensures unread { reads_input (order_of (map (λ w. w.now) words.now)) ≡ false → input.new ≡ input.old }
+{
+    serve_buffers::<Fifo<Cond<QLock<S>>>, R, O, E, T>(rt, alloc, words, input, out, err)
+}
+
+/// [`serve_locks`] over sleep and wakeup, a scheduler and shared queues.
+pub fn serve_sections<
+    L: StepwiseSections + Drop,
+    R: Read,
+    O: Write,
+    E: Write,
+    T: Threads + Wait + Sync,
+>(rt: &T, alloc: Global, words: &[&str], input: &mut R, out: &mut Sink<O>, err: &mut Sink<E>) -> u8
+where
+    L::Machine: Drop,
+    requires out { has_failed out.old ≡ false }
+    requires err { has_failed err.old ≡ false }
+    ensures served { Ends NoCondition (map (λ w. w.now) words.now) (order_of (map (λ w. w.now) words.now)) (R.remaining input.old) result
+        (between O.contents out.old out.new) (between E.contents err.old err.new) }
+    ensures flushed { (result ≡ 0) ⊎ (result ≡ 3) → is_flushed out.new ≡ true }
+    ensures unread { reads_input (order_of (map (λ w. w.now) words.now)) ≡ false → input.new ≡ input.old }
+{
+    serve_locks::<Sleeper<LockEdit, Sched<SharedQueues<L>>>, R, O, E, T>(
+        rt, alloc, words, input, out, err,
+    )
+}
+
+/// [`serve_sections`] over ticket locks of one owned machine: [`serve`] over the whole tower, of
+/// which each poll is one action.
 pub fn serve_tower<R: Read, O: Write, E: Write, T: Threads + Wait + Sync>(
     rt: &T,
     alloc: Global,
@@ -30,7 +123,10 @@ pub fn serve_tower<R: Read, O: Write, E: Write, T: Threads + Wait + Sync>(
 ) -> u8
     requires out { has_failed out.old ≡ false }
     requires err { has_failed err.old ≡ false }
-    ensures { EndsTold (map (λ w. w.now) words.now) result (has_failed err.new) (E.contents (writer_of err.old)) (E.contents (writer_of err.new)) }
+    ensures served { Ends NoCondition (map (λ w. w.now) words.now) (order_of (map (λ w. w.now) words.now)) (R.remaining input.old) result
+        (between O.contents out.old out.new) (between E.contents err.old err.new) }
+    ensures flushed { (result ≡ 0) ⊎ (result ≡ 3) → is_flushed out.new ≡ true }
+    ensures unread { reads_input (order_of (map (λ w. w.now) words.now)) ≡ false → input.new ≡ input.old }
 {
-    serve::<Tower, R, O, E, T>(rt, alloc, words, input, out, err)
+    serve_sections::<Ticket<Plain<TowerEdit>>, R, O, E, T>(rt, alloc, words, input, out, err)
 }

@@ -97,8 +97,7 @@ fn a_close_is_written_in_the_second_version(rt: HostRuntime) {
     let mut writer = writer_with(rt.alloc(), 200, 7);
     let answer = one_close(&mut Sink::new(&mut writer));
     assert!(rt; answer);
-    let text =
-        b"mctower-trace 2\nbuffers 1\ncap 0 1\ne 1 1 close 0 - 0 0\nleft 0\nend\n";
+    let text = b"mctower-trace 2\nbuffers 1\ncap 0 1\ne 1 1 close 0 - 0 0\nleft 0\nend\n";
     assert_eq!(rt; writer.out.as_slice(), text.as_slice());
 }
 

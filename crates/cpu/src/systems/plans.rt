@@ -13,7 +13,7 @@ use layer_traits::Owned;
 use std::alloc::Global;
 
 /// The home of each thread of a plan.
-fn homes_of(boot: &Boot) -> ArrayVec<CpuId, THREADS>
+pub fn homes_of(boot: &Boot) -> ArrayVec<CpuId, THREADS>
     ensures { result.items ≡ homes_for boot.now }
 {
     let mut homes = ArrayVec::new();
@@ -43,7 +43,7 @@ fn guest_at(
 }
 
 /// The guests of a CPU of a plan.
-fn guests_of(alloc: Global, boot: &Boot, number: CpuId) -> Result<Vec<Option<Guest>>, NoMemory>
+pub fn guests_of(alloc: Global, boot: &Boot, number: CpuId) -> Result<Vec<Option<Guest>>, NoMemory>
     ensures { IfOk result (λ guests. guests.items ≡ guests_for boot.now number.0) }
 {
     let Ok(mut guests) = Vec::with_capacity(alloc, boot.threads()) else {

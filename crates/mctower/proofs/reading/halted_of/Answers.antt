@@ -1,19 +1,22 @@
-use Rattle.std.proofs.Common.{◌≡◌, ℕ, ◌+◌, ◌<◌, ◌∷◌, ◌++◌, [], Option, length, sym, ap, ◌∙◌, arith}
+use Rattle.std.proofs.Common.{◌≡◌, ℕ, suc, ◌+◌, ◌∷◌, ◌++◌, [], Option, length, sym, ap, ◌∙◌, arith}
 use Rattle.layer_traits.specs.declared.steps.Reason.{Reason}
 use Rattle.cpu.specs.Claims.{listed}
 use Rattle.cpu.specs.Systems.{halted_in}
-use Rattle.mctower.proofs.ReadingLemmas.{listed_length, listed_more}
+use Rattle.cpu.proofs.ListReads.{listed_length}
+use Rattle.cpu.proofs.PlanGuests.{listed_more}
 use Rattle.mctower.proofs.reading.halted_of.Goals as goal
 
 pub push-requires : goal.push-requires
 push-requires g c =
     let many : length c.loop-cpu.halted.items ≡ c.loop-cpu.cpu =
-    ap length c.loop-cpu.invariant ∙ listed_length (λ n. halted_in (record { 0 = n }) c.args.system.now) 0 c.loop-cpu.cpu in
+    ap length c.loop-cpu.invariant ∙ listed_length (λ n. halted_in (record { 0 = n }) c.args.system.now) c.loop-cpu.cpu 0 in
     omega (arith, many, c.loop-cpu-test.true, c.requires.few)
 
 pub loop-cpu-preserved : goal.loop-cpu-preserved
 loop-cpu-preserved g c =
+    let next : suc c.loop-cpu.cpu ≡ c.loop-cpu.cpu + 1 = omega arith in
     let at : 0 + c.loop-cpu.cpu ≡ c.loop-cpu.cpu = omega arith in
     let f : ℕ → Option Reason = λ n. halted_in (record { 0 = n }) c.args.system.now in
     c.push.ensures.items ∙ ap (λ l. l ++ c.halted.result ∷ []) c.loop-cpu.invariant
-    ∙ ap (λ r. listed f 0 c.loop-cpu.cpu ++ r ∷ []) (c.halted.ensures.is ∙ ap f (sym at)) ∙ sym (listed_more f 0 c.loop-cpu.cpu)
+    ∙ ap (λ r. listed f 0 c.loop-cpu.cpu ++ r ∷ []) (c.halted.ensures.is ∙ ap f (sym at)) ∙ sym (listed_more f c.loop-cpu.cpu 0)
+    ∙ ap (λ n. listed f 0 n) next

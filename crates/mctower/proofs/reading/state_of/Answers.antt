@@ -1,6 +1,5 @@
-use Rattle.std.proofs.Common.{◌≡◌, ◌<◌, ◌≤◌, length, get_or, take, sym, ap, ◌∙◌, subst, arith}
+use Rattle.std.proofs.Common.{sym, ap, ◌∙◌, subst, arith}
 use Rattle.std.proofs.lemmas.List.{length-take-le}
-use Rattle.layer_traits.specs.declared.calls.Place.{Place}
 use Rattle.cpu.specs.Claims.{IsPlaceOf, listed}
 use Rattle.cpu.specs.Systems.{halted_in}
 use Rattle.mctower.proofs.ReadingLemmas.{read_front}
@@ -15,5 +14,6 @@ returns g c = record {
   places = λ t place at.
       let read = read_front c.places_of-places.result c.args.threads t place at in
       subst (λ x. IsPlaceOf c.args.system.now (record { 0 = t }) x) read.1 (c.places_of-places.ensures.read t place read.0);
-  quiet = c.is_quiet-is_quiet.ensures;
+  quiet = c.is_quiet-is_quiet.ensures.is;
+  still = c.is_quiet-is_quiet.ensures.still;
 }

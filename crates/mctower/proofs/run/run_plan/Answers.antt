@@ -7,8 +7,8 @@ pub returns-in_err-run-clause-runs : goal.returns-in_err-run-clause-runs
 returns-in_err-run-clause-runs g c =
     let of = opened c.in_ok-boot.boot c.in_ok-system.system c.in_ok-system.ensures.caps c.in_ok-system.ensures.homes c.in_ok-system.ensures.guests
     c.in_ok-system.ensures.limits in
-    bad_cpu g.I.IpcLayer.IsStepwise c.in_ok-boot.boot c.args.steps.now c.in_ok-system.system _ _ _ _ c.in_ok-boot.ensures.plan of
-    c.in_err-run.ensures.known.1 c.requires.live (err_first c.from_residual-in_err-run.result (λ f. f ≡ BadCpu) c.from_residual-in_err-run.ensures.1)
+    bad_cpu g.I.IpcLayer.IsStepwise c.in_ok-boot.boot c.args.steps.now c.in_ok-system.system _ _ _ c.in_ok-boot.ensures.plan of
+    c.in_err-run.ensures.known.1 (c.requires.live, refl) (err_first c.from_residual-in_err-run.result (λ f. f ≡ BadCpu) c.from_residual-in_err-run.ensures.1)
 
 pub write_system-requires-clause-plan : goal.write_system-requires-clause-plan
 write_system-requires-clause-plan g c =
@@ -27,7 +27,7 @@ returns-in_err-write_system-clause-runs g c =
     let of = opened c.in_ok-boot.boot c.in_ok-system.system c.in_ok-system.ensures.caps c.in_ok-system.ensures.homes c.in_ok-system.ensures.guests
     c.in_ok-system.ensures.limits in
     not_written g.I.IpcLayer.IsStepwise (Unit {0}) c.in_ok-boot.boot c.args.steps.now c.as_slice.result.now
-    c.in_ok-system.system c.run.new.self _ _ c.in_err-write_system.field-0.0 _ _ _
+    c.in_ok-system.system c.run.new.self _ _ c.in_err-write_system.field-0.0 _
     c.in_ok-boot.ensures.plan (c.as_slice.ensures.value ∙ c.caps-caps.ensures.caps) of (c.in_ok-run.ensures.known.0 refl)
     (run_of g.I.IpcLayer.IsStepwise c.in_ok-boot.boot c.args.steps.now c.in_ok-system.system c.run.new.self
     (newly c.in_ok-boot.boot _ c.in_ok-system.system of c.in_ok-system.ensures.guests c.in_ok-system.ensures.room c.in_ok-system.ensures.taken)
@@ -40,7 +40,7 @@ pub returns-clause-runs : goal.returns-clause-runs
 returns-clause-runs g c =
     let of = opened c.in_ok-boot.boot c.in_ok-system.system c.in_ok-system.ensures.caps c.in_ok-system.ensures.homes c.in_ok-system.ensures.guests
     c.in_ok-system.ensures.limits in
-    written g.I.IpcLayer.IsStepwise c.in_ok-boot.boot c.args.steps.now c.as_slice.result.now c.in_ok-system.system c.run.new.self _ _ _ _
+    written g.I.IpcLayer.IsStepwise c.in_ok-boot.boot c.args.steps.now c.as_slice.result.now c.in_ok-system.system c.run.new.self _ _
     c.in_ok-boot.ensures.plan (c.as_slice.ensures.value ∙ c.caps-caps.ensures.caps) of (c.in_ok-run.ensures.known.0 refl)
     (run_of g.I.IpcLayer.IsStepwise c.in_ok-boot.boot c.args.steps.now c.in_ok-system.system c.run.new.self
     (newly c.in_ok-boot.boot _ c.in_ok-system.system of c.in_ok-system.ensures.guests c.in_ok-system.ensures.room c.in_ok-system.ensures.taken)

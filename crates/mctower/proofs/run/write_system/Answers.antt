@@ -1,4 +1,4 @@
-use Rattle.std.proofs.Common.{◌≡◌, ◌<◌, ◌^◌, List, ℕ, length, get_or, ap, sym, ◌∙◌, subst, map}
+use Rattle.std.proofs.Common.{◌≡◌, ◌<◌, ◌^◌, List, ℕ, length, get_or, ap, refl, sym, ◌∙◌, subst, map}
 use Rattle.std.specs.Prelude.{Err}
 use Rattle.event_log.specs.declared.entries.Entry.{Entry}
 use Rattle.tracer.specs.Gather.{traces_in, HasNoOrder, IsOrder, TakesFirstReady}
@@ -16,8 +16,8 @@ pub returns-in_err-order : goal.returns-in_err-order
 returns-in_err-order g c =
     let same : traces_in c.deref.result.now ≡ traces_of c.args.system.now = ap traces_in c.deref.ensures.value ∙ c.in_ok-traces.ensures in
     err_writes c.args.caps.now c.args.system.now c.from_residual-in_err-order.result
-    (from_gather c.in_err-order.field-0.0) _ _ _ c.from_residual-in_err-order.ensures.1
-    (gather_refused (Unit {0}) c.args.caps.now c.args.system.now c.in_err-order.field-0.0 _ _ c.holds.ensures.one_order c.requires.live
+    (from_gather c.in_err-order.field-0.0) _ c.from_residual-in_err-order.ensures.1
+    (gather_refused (Unit {0}) c.args.caps.now c.args.system.now c.in_err-order.field-0.0 _ c.holds.ensures.one_order (c.requires.live, refl)
     (λ is. subst HasNoOrder same (c.in_err-order.ensures.none (ap Err is))))
 
 pub write_trace-requires-clause-spellable : goal.write_trace-requires-clause-spellable
@@ -44,9 +44,9 @@ returns-in_err-write_trace g c =
     let left = ap (map (λ v. v.items)) c.deref-4.ensures.0 ∙ c.contents-left.ensures in
     let values = subst (λ (es : List Entry). (k : ℕ) (d : Entry) → k < length es → (get_or es k d).value < 2 ^ 64)
     (c.deref-2.ensures.value ∙ sym c.deref-3.ensures.value) c.values_fit.ensures in
-    err_writes c.args.caps.now c.args.system.now c.from_residual-in_err-write_trace.result WriteFault _ _ _ c.from_residual-in_err-write_trace.ensures.1 (
+    err_writes c.args.caps.now c.args.system.now c.from_residual-in_err-write_trace.result WriteFault _ c.from_residual-in_err-write_trace.ensures.1 (
       sym c.in_err-write_trace.ensures.failed,
-      out_as c.args.cpus c.args.caps.now c.args.system.now c.deref-3.result.now _ _ _ _ c.requires.plan c.holds.ensures.one_order is first left
+      out_as c.args.cpus c.args.caps.now c.args.system.now c.deref-3.result.now _ _ c.requires.plan c.holds.ensures.one_order is first left
           (spelled_as c.args.cpus c.args.caps.now c.args.system.now c.deref-3.result.now _ c.requires.plan c.traces_fit.ensures
           c.holds.ensures.stay c.holds.ensures.one_order is left values) c.in_err-write_trace.ensures.out,
     )
@@ -64,7 +64,7 @@ returns g c =
     let values = subst (λ (es : List Entry). (k : ℕ) (d : Entry) → k < length es → (get_or es k d).value < 2 ^ 64)
     (c.deref-2.ensures.value ∙ sym c.deref-3.ensures.value) c.values_fit.ensures in (
       sym c.in_ok-write_trace.ensures.failed,
-      out_as c.args.cpus c.args.caps.now c.args.system.now c.deref-3.result.now _ _ _ _ c.requires.plan c.holds.ensures.one_order is first left
+      out_as c.args.cpus c.args.caps.now c.args.system.now c.deref-3.result.now _ _ c.requires.plan c.holds.ensures.one_order is first left
           (spelled_as c.args.cpus c.args.caps.now c.args.system.now c.deref-3.result.now _ c.requires.plan c.traces_fit.ensures
           c.holds.ensures.stay c.holds.ensures.one_order is left values) c.in_ok-write_trace.ensures.out,
     )

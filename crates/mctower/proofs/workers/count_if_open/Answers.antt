@@ -1,5 +1,5 @@
-use Rattle.std.proofs.Common.{◌≡◌, List, All, sym, subst, ◌∙◌, rules}
-use Rattle.table_machine.specs.Desks.{Desk, new_desks}
+use Rattle.std.proofs.Common.{◌≡◌, All, sym, subst, ◌∙◌, rules}
+use Rattle.table_machine.specs.Desks.{new_desks}
 use Rattle.mctower.specs.declared.count.AddOne.{AddOne}
 use Rattle.mctower.specs.declared.count.TheConstants.{NUMBER}
 use Rattle.mctower.specs.Workers.{AllHaveMade, IsFresh}

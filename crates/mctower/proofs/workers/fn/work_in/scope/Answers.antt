@@ -1,4 +1,4 @@
-use Rattle.std.proofs.Common.{◌≡◌, ◌+◌, ◌≤◌, ◌<◌, [], ◌∷◌, ◌++◌, length, sym, ap, subst, ◌∙◌, take, vec_capacity, vec_len, arith, length-append}
+use Rattle.std.proofs.Common.{◌≡◌, ◌≤◌, ◌<◌, [], ◌∷◌, ◌++◌, length, sym, ap, subst, ◌∙◌, take, vec_capacity, vec_len, arith, length-append}
 use Rattle.table_machine.proofs.Returning.{yield_more, no_more}
 use Rattle.mctower.specs.declared.count.TheConstants.{NUMBER}
 use Rattle.mctower.specs.Workers.{Both, HasMade}

@@ -1,0 +1,83 @@
+-- The blocks and edits of the tower may go from thread to thread.
+use Prim.{Unit}
+use denote.RattleType.{RattleType}
+use denote.Enum.Declared.{shape}
+use denote.Ref.{NamedLft}
+use denote.Hole.{as_row}
+use denote.Param.SendFields.{declared_send}
+use denote.Param.Send.{IsSend, IsSync, sendable, enum_send, enum_sync, recorded_send, recorded_sync, view_send}
+use Rattle.std.proofs.Crossing.{crosses}
+use Rattle.thread_blocks.specs.contracts.queues.ThreadQueue as queue
+use Rattle.thread_blocks.proofs.queues.ThreadQueue.TheSendSync as queue_crosses
+use Rattle.layer_traits.proofs.room.Room.TheSendSync as room_crosses
+use Rattle.layer_traits.specs.contracts.queue_edits.QueueBlock as block
+use Rattle.layer_traits.proofs.queue_edits.QueueEdit.TheSendSync as queue_edit
+use Rattle.sleep_wakeup.proofs.edits.SleepEdit.TheSendSync as sleep_edit
+use Rattle.queuing_lock.proofs.edits.QLockEdit.TheSendSync as lock_edit
+use Rattle.layer_traits.proofs.conditions.CvEdit.TheSendSync as cv_edit
+use Rattle.layer_traits.proofs.conditions.CvLeave.TheSendSync as cv_leave
+use Rattle.layer_traits.proofs.buffer_edits.BufferEdit.TheSendSync as buffer_edit
+use Rattle.sleep_wakeup.proofs.edits.SleepBlock.TheSendSync as sleep_block
+use Rattle.queuing_lock.proofs.edits.QBlock.TheSendSync as lock_block
+use Rattle.layer_traits.proofs.buffer_blocks.BufferBlock.TheSendSync as buffer_block
+use Rattle.spinlock.specs.contracts.turn.Turn as turn
+use Rattle.spinlock.specs.contracts.lock_line.ByTicket as by_ticket
+use Rattle.spinlock.proofs.turn.Turn.TheSendSync as turn_crosses
+use Rattle.table_machine.specs.contracts.seats.Seat as table_seat
+use Rattle.table_machine.proofs.seats.Seat.TheSendSync as seat_crosses
+use Rattle.table_machine.specs.contracts.table_words.TicketWords as ticket
+use Rattle.layer_traits.specs.contracts.queue_edits.QueueEdit as edit_row
+use Rattle.sleep_wakeup.specs.contracts.edits.SleepEdit as sleep_edit_row
+use Rattle.queuing_lock.specs.contracts.edits.QLockEdit as lock_edit_row
+use Rattle.layer_traits.specs.contracts.conditions.CvEdit as cv_edit_row
+use Rattle.layer_traits.specs.contracts.conditions.CvLeave as cv_leave_row
+use Rattle.layer_traits.specs.contracts.buffer_edits.BufferEdit as buffer_edit_row
+use Rattle.sleep_wakeup.specs.contracts.edits.SleepBlock as sleep_block_row
+use Rattle.queuing_lock.specs.contracts.edits.QBlock as lock_block_row
+use Rattle.layer_traits.specs.contracts.buffer_blocks.BufferBlock as buffer_block_row
+use Rattle.layer_traits.specs.contracts.queues.QueueAnswer as queue_answer
+use Rattle.layer_traits.specs.contracts.sleeps.Outcome as outcome
+use Rattle.layer_traits.specs.contracts.locked.QOut as lock_out
+use Rattle.layer_traits.specs.contracts.conditions.CvOut as cv_out
+use Rattle.layer_traits.specs.contracts.buffer_edits.BufferOut as buffer_out
+use Rattle.cpu_workers.specs.contracts.seats.TowerSeat as seat
+use Rattle.cpu_workers.specs.contracts.seats.TowerSeat.TheInside as inside
+
+field_send : (B : RattleType) → IsSend B → IsSend (block.the_field B).row
+field_send B s = enum_send (shape (block.the_type B))
+    ((room_crosses.the_send queue.the_row queue_crosses.the_send, (search (sendable, crosses), tt)), ((room_crosses.the_send B s, tt), tt))
+
+field_sync : (B : RattleType) → IsSync B → IsSync (block.the_field B).row
+field_sync B s = enum_sync (shape (block.the_type B))
+    ((room_crosses.the_sync queue.the_row queue_crosses.the_sync, (search (sendable, crosses), tt)), ((room_crosses.the_sync B s, tt), tt))
+
+pub block_send : (B : RattleType) → IsSend B → IsSend (block.the_row B)
+block_send B s = recorded_send (block.the_field B).row _ _ (block.the_type B).to_one (field_send B s)
+
+pub block_sync : (B : RattleType) → IsSync B → IsSync (block.the_row B)
+block_sync B s = recorded_sync (block.the_field B).row _ _ (block.the_type B).to_one (field_sync B s)
+
+seat_part : (a : NamedLft) (E K B O : RattleType) (g : _) (h : _) (k : _) → IsSend E → IsSend B → IsSync B → IsSend (as_row (table_seat.the_field a E K B O g h k))
+seat_part a E K B O g h k e s y = seat_crosses.the_send a E K B O g h k e s y
+
+edit_send : IsSend (edit_row.the_row (sleep_edit_row.the_row (lock_edit_row.the_row (cv_edit_row.the_row buffer_edit_row.the_row) cv_leave_row.the_row)))
+edit_send = queue_edit.the_send _ (sleep_edit.the_send _ (lock_edit.the_send _ _ (cv_edit.the_send _ buffer_edit.the_send) cv_leave.the_send))
+
+tower_block_send : IsSend (block.the_row (sleep_block_row.the_row (lock_block_row.the_row buffer_block_row.the_row)))
+tower_block_send = block_send _ (sleep_block.the_send _ (lock_block.the_send _ buffer_block.the_send))
+
+pub tower_seat_send : (a : NamedLft) → IsSend (seat.the_row a)
+tower_seat_send a = view_send _ _ _ _ _ (declared_send (inside.the_type a) (
+  seat_part a _ ticket.the_row _
+      (queue_answer.the_row (outcome.the_row (lock_out.the_row (cv_out.the_row buffer_out.the_row)))) _ (record { is_clone = λ _ _. Unit {0}; is_infallible = λ _. Unit {0} }) _
+      edit_send tower_block_send (block_sync _ (sleep_block.the_sync _ (lock_block.the_sync _ buffer_block.the_sync))),
+  tt,
+))
+
+abbrev answer : RattleType
+answer = queue_answer.the_row (outcome.the_row (lock_out.the_row (cv_out.the_row buffer_out.the_row)))
+
+pub ticket_send : (a : NamedLft) → IsSend (turn.the_row (seat.the_row a) by_ticket.the_row
+    (edit_row.the_row (sleep_edit_row.the_row (lock_edit_row.the_row (cv_edit_row.the_row buffer_edit_row.the_row) cv_leave_row.the_row)))
+    (block.the_row (sleep_block_row.the_row (lock_block_row.the_row buffer_block_row.the_row))) answer)
+ticket_send a = turn_crosses.the_send _ _ _ _ _ (tower_seat_send a) edit_send tower_block_send

@@ -1,0 +1,121 @@
+-- A CPU that was made with its guests is one before its first step, over a machine in which nothing was done.
+use Rattle.std.proofs.Common.{◌≡◌, ℕ, zero, suc, ◌<◌, ◌≤◌, List, [], ◌∷◌, length, replicate, drop, Option, Some, None, refl, ap, sym, ◌∙◌, subst, arith}
+use Rattle.std.specs.Prelude.{All, IfOk, Result, Ok, Err, slice_get, slice_index_or}
+use Rattle.std.proofs.lemmas.Option.{get_or_from_slice_get}
+use Rattle.boot.specs.Plan.{BootPlan, IsPlan, Task}
+use Rattle.event_log.specs.declared.entries.Entry.{Entry}
+use Rattle.event_log.specs.declared.ids.CpuId.{CpuId}
+use Rattle.event_log.specs.declared.ids.LockId.{LockId}
+use Rattle.event_log.specs.declared.ids.TheConstants.{THREADS}
+use Rattle.event_log.specs.Actions.{Action}
+use Rattle.guest.specs.declared.instructions.Instruction.{Instruction}
+use Rattle.layer_traits.specs.declared.talks.Talk.{Talk}
+use Rattle.layer_traits.specs.BufferLaw.{Buffering, Doing, buffering_at_start, quiet}
+use Rattle.layer_traits.specs.IpcLaw.{OpensSo}
+use Rattle.layer_traits.specs.Places.{Threads, at_boot}
+use Rattle.cpu.specs.declared.guests.Guest.{Guest}
+use Rattle.cpu.specs.Boots.{AreGuests, IsBooted, guests_for, homes_for}
+use Rattle.cpu.specs.Cpus.{IsCpu, guest_at, programs_of}
+use Rattle.cpu.specs.Sound.{setup_for}
+use Rattle.cpu.specs.Table.Setups.{Setup, Private, at_boot as boot_of, program_or}
+use Rattle.cpu.specs.Tables.{IsTabled, private}
+use Rattle.cpu.specs.Tower.Views.{TowerBlock, TowerName}
+use Rattle.cpu.proofs.Booting.{boots}
+use Rattle.cpu.proofs.ListReads.{shows_at, there_is}
+use Rattle.cpu.proofs.PlanGuests.{by_task}
+use Rattle.cpu.proofs.Started.{private_boots}
+use Rattle.cpu.proofs.TableCalls.{boots_tabled}
+use Rattle.cpu_workers.specs.declared.turns.Did.{Did}
+use Rattle.cpu_workers.specs.Reports.{Both, HasRun}
+use Rattle.cpu_workers.specs.Seating.{HasLeft, IsApart, IsAtBoot}
+use Rattle.cpu_workers.specs.Working.{Charge, IsPlanned, Working}
+
+module _ (homes : List CpuId) (buffers : ℕ) (number : CpuId) (guests : List (Option Guest)) (most : ℕ) (its : CpuId) (table : List (Option Guest))
+    (trace : List Entry) (limit capacity : ℕ) (are : AreGuests homes buffers number guests)
+    (made : IsBooted number guests most its table trace limit capacity) where
+  pub boots_over : (homes2 : List CpuId) (count : ℕ) (seen : List Entry) (threads : Threads) (talks : List Talk) (doing : Option Doing)
+      → length homes ≤ THREADS → homes2 ≡ homes → count ≡ buffers → seen ≡ [] → threads ≡ at_boot homes number → talks ≡ replicate THREADS quiet → doing ≡ None
+      → IsCpu homes2 count seen threads talks doing its table trace limit capacity
+  boots_over homes2 count seen threads talks doing few same counted none threads_are talks_are nothing =
+      rw (same, counted, none, threads_are, talks_are, nothing, made.number_is, made.guests_are, made.nothing, made.limit_is)
+      (boots homes buffers number guests most capacity are few made.reserved)
+
+  pub tabled_over : (homes2 : List CpuId) (caps : List ℕ) (own : Buffering) (doing : Option Doing) (opening : LockId → Option TowerBlock) → homes2 ≡ homes
+      → own ≡ buffering_at_start homes number → doing ≡ None → OpensSo caps homes number opening
+      → IsTabled homes2 caps its own doing table opening
+  tabled_over homes2 caps own doing opening same own_is nothing opens =
+      rw (same, own_is, nothing, made.number_is, made.guests_are) (boots_tabled homes caps number guests buffers opening are opens)
+
+  pub private_over : (own : Buffering) (p : Private) → p ≡ private own table trace → own ≡ buffering_at_start homes number
+      → (setup : Setup) → setup.homes ≡ homes → p ≡ boot_of setup number
+  private_over own p is own_is setup same =
+      is ∙ (λ i. private (own_is i) (made.guests_are i) (made.nothing i)) ∙ private_boots setup homes buffers number guests same are
+
+-- The workers of a plan.
+
+program_back : (guests : List (Option Guest)) (t : ℕ) (program : List Instruction) → slice_index_or (programs_of guests) t None ≡ Some program
+    → (g : Guest) × (guest_at guests t ≡ Some g) × (g.program ≡ program)
+program_back [] t program at = absurd (cc at)
+program_back (None ∷ guests) zero program at = absurd (cc at)
+program_back (Some g ∷ guests) zero program at = (g, refl, cc at)
+program_back (o ∷ guests) (suc t) program at = program_back guests t program at
+
+-- the plan of a CPU's worker is that of the step table's setup
+pub planned_by : (plan : BootPlan) → IsPlan plan → (c : ℕ) (homes : List CpuId) (caps : List ℕ) (guests : List (Option Guest)) (limit : ℕ)
+    → homes ≡ homes_for plan → caps ≡ plan.caps → guests ≡ guests_for plan c → limit ≡ plan.trace
+    → IsPlanned (setup_for plan) (record { homes = homes; caps = caps; programs = programs_of guests; limit = limit })
+planned_by plan is c homes caps guests limit homes_are caps_are guests_are limit_is = record {
+  homes_are = sym homes_are;
+  caps_are = sym caps_are;
+  room_is = sym limit_is;
+  programs_are = λ t program at.
+      let back = program_back guests t.0 program at in
+      let of = by_task plan.cpus (length plan.caps) plan.tasks is.tasks.each c t.0 back.0 (ap (λ (l : List (Option Guest)). guest_at l t.0) (sym guests_are) ∙ back.1) in
+      ap program_or (shows_at (λ (task : Task). task.program) plan.tasks t.0 of.task of.there) ∙ ap (λ (x : Guest). x.program) of.is ∙ back.2;
+}
+
+-- the worker that was made is that of its CPU before its first turn
+pub at_boot_if : {E : Type 0} (plan : BootPlan) (number : CpuId) (homes : List CpuId) (charge : Charge) (acts : List (Action TowerName)) (r : Result Working E)
+    → IsPlanned (setup_for plan) charge → homes ≡ homes_for plan → acts ≡ [] → IfOk r (λ w. w.cpu ≡ number) → IfOk r (λ w. w.plan ≡ charge)
+    → IfOk r (λ w. (setup : Setup) → setup.homes ≡ homes → w.private ≡ boot_of setup number) → IfOk r (λ w. w.acts ≡ acts) → IfOk r (IsAtBoot plan number)
+at_boot_if plan number homes charge acts (Ok w) planned homes_are none cpu plan_is boots acts_are = record {
+  cpu_is = cpu;
+  planned = subst (λ (p : Charge). IsPlanned (setup_for plan) p) (sym plan_is) planned;
+  boots = boots (setup_for plan) (sym homes_are);
+  fresh = acts_are ∙ none;
+}
+at_boot_if plan number homes charge acts (Err e) planned homes_are none cpu plan_is boots acts_are = tt
+
+-- what stands at this number of a list stands in front of the rest
+pub left_at : {X : Type 0} (xs : List X) (n : ℕ) (r : X) → n < length xs → r ≡ slice_index_or (drop n xs) 0 r → slice_get xs n ≡ Some r
+left_at [] n r within is = absurd (omega (arith, within))
+left_at (x ∷ xs) zero r within is = ap Some (sym is)
+left_at (x ∷ xs) (suc n) r within is = left_at xs n r (omega (arith, within)) is
+
+-- what belongs to the element at this number
+pub both_back : {A B : Type 0} (Fits : A → B → Type 0) (xs : List A) (ys : List B) → Both Fits xs ys → (k : ℕ) (y : B) → slice_get ys k ≡ Some y
+    → (x : A) × (slice_get xs k ≡ Some x) × Fits x y
+both_back Fits [] [] all k y at = absurd (cc at)
+both_back Fits [] (z ∷ ys) all k y at = absurd all
+both_back Fits (x ∷ xs) [] all k y at = absurd all
+both_back Fits (x ∷ xs) (z ∷ ys) all zero y at = let same : z ≡ y = cc at in (x, refl, subst (λ w. Fits x w) same all.0)
+both_back Fits (x ∷ xs) (z ∷ ys) all (suc k) y at = both_back Fits xs ys all.1 k y at
+
+-- a worker that ran from boot leaves this
+pub left_so : (plan : BootPlan) (May : CpuId → ℕ → Type 0) (turns : ℕ) (c : CpuId) (first last : Working) (acts : List (Action TowerName)) (site : List ℕ)
+    (trace : List Entry) (did its : Did) → IsAtBoot plan c first → HasRun May turns first last did.taken did.stop → IsApart last acts site trace → its ≡ did
+    → HasLeft plan May turns c acts site trace its.taken its.stop
+left_so plan May turns c first last acts site trace did its boot ran apart same = record {
+  first = first;
+  last = last;
+  at_boot = boot;
+  ran = subst (λ (d : Did). HasRun May turns first last d.taken d.stop) (sym same) ran;
+  apart = apart;
+}
+
+-- workers that have each seen nothing
+pub all_fresh : {X : Type 0} (acts : X → List (Action TowerName)) (ws : List X) → ((k : ℕ) (w : X) → slice_get ws k ≡ Some w → acts w ≡ [])
+    → All (λ w. acts w ≡ []) ws
+all_fresh acts ws each k d within =
+    let there = there_is ws k within in
+    subst (λ w. acts w ≡ []) (sym (get_or_from_slice_get ws k there.0 d there.1)) (each k there.0 there.1)

@@ -1,0 +1,56 @@
+use Rattle.std.proofs.Common.{◌≡◌, ◌≤◌, ◌∷◌, ◌<◌, [], List, Some, drop, length, refl, ap, ◌∙◌, sym, subst, arith, vec_capacity, vec_len}
+use Rattle.std.specs.Prelude.{slice_get, slice_index_or}
+use Rattle.std.proofs.lemmas.List.{length-append}
+use Rattle.layer_traits.specs.OnePlace.{cpu_at}
+use Rattle.cpu.proofs.Booting.{at_end, drop_more}
+use Rattle.cpu_workers.specs.Seating.{IsAtBoot}
+use Rattle.cpu_workers.specs.Working.{Working}
+use Rattle.cpu_workers.proofs.Seated.{left_at}
+use Rattle.cpu_workers.proofs.seating.workers_over.Goals as goal
+
+pub worker_over-requires-clause-ready : goal.worker_over-requires-clause-ready
+worker_over-requires-clause-ready g c =
+    let machines = c.args.machines.items in
+    let n = c.loop-number.number in
+    let within : n < length machines =
+    let test = c.loop-number-test.true in let count = c.len-count.ensures in let ok = c.args.machines.ok.0 in omega (arith, test, count, ok) in
+    c.requires.ready n c.remove-machine.result (left_at machines n c.remove-machine.result within
+    (c.remove-machine.ensures.value ∙ ap (λ l. slice_index_or l 0 c.remove-machine.result) c.loop-number.invariant.machines_left))
+
+pub push_reserved-requires : goal.push_reserved-requires
+push_reserved-requires g c =
+    let inv = c.loop-number.invariant in
+    let machines = c.args.machines.items in
+    let within : c.loop-number.number < length machines =
+    let test = c.loop-number-test.true in let count = c.len-count.ensures in let ok = c.args.machines.ok.0 in omega (arith, test, count, ok) in
+    let many = inv.so_many in
+    let room = inv.has_room in
+    let its = c.loop-number.workers.ok.0 in
+    omega (arith, within, many, room, its)
+
+pub loop-number-preserved : goal.loop-number-preserved
+loop-number-preserved g c =
+    let L = g.L.LockLayer in
+    let inv = c.loop-number.invariant in
+    let machines = c.args.machines.items in
+    let n = c.loop-number.number in
+    let w = c.in_ok-worker.worker in
+    let e = c.in_ok-worker.ensures in
+    let within : n < length machines =
+    let test = c.loop-number-test.true in let count = c.len-count.ensures in let ok = c.args.machines.ok.0 in omega (arith, test, count, ok) in
+    let grown = c.push_reserved.ensures.items in
+    let here = left_at machines n c.remove-machine.result within
+    (c.remove-machine.ensures.value ∙ ap (λ l. slice_index_or l 0 c.remove-machine.result) inv.machines_left) in
+    record {
+      machines_left = c.remove-machine.ensures.items ∙ ap (λ l. drop 1 l) inv.machines_left ∙ drop_more machines n within;
+      so_many =
+          let long = ap (λ l. length l) grown ∙ length-append c.loop-number.workers.items (w ∷ []) in
+          let before = inv.so_many in
+          omega (arith, long, before);
+      has_room = subst (λ k. length machines ≤ k) (sym c.push_reserved.ensures.capacity) inv.has_room;
+      each = λ k z at. at_end (λ j (y : Working). IsAtBoot c.args.boot.now (cpu_at j) y
+          × ((m : g.row.L-Machine.Denot) → slice_get machines j ≡ Some m → y.site ≡ L.site m))
+          c.loop-number.workers.items w inv.each
+          (rw inv.so_many (e.at_boot, λ m there. let same : c.remove-machine.result ≡ m = cc (here, there) in e.site ∙ ap (λ x. L.site x) same))
+          k z (subst (λ l. slice_get l k ≡ Some z) grown at);
+    }

@@ -1,0 +1,123 @@
+-- The workers of a plan at one table: their actions by the layers' names, what each has done, and the blocks that they leave.
+use Rattle.std.specs.Prelude.{◌≡◌, ℕ, List, [], map, length, slice_get, Option, Some, None, IsSome, ◌<◌}
+use Rattle.boot.specs.Plan.{BootPlan}
+use Rattle.event_log.specs.declared.entries.Entry.{Entry}
+use Rattle.event_log.specs.declared.ids.BufId.{BufId}
+use Rattle.event_log.specs.declared.ids.CpuId.{CpuId}
+use Rattle.event_log.specs.declared.ids.LockId.{LockId}
+use Rattle.event_log.specs.declared.ids.LockId.TheVariants.{Pending, Buffer}
+use Rattle.event_log.specs.Actions.{Action, AreLegal, acts_of, renamed}
+use Rattle.event_log.specs.Messages.{Message}
+use Rattle.layer_traits.specs.declared.queue_edits.QueueBlock.{QueueBlock}
+use Rattle.layer_traits.specs.declared.queue_edits.QueueBlock.TheVariants.{Queue, Above}
+use Rattle.layer_traits.specs.declared.queue_edits.QueueEdit.{QueueEdit}
+use Rattle.layer_traits.specs.BufferEffects.{opening_locks}
+use Rattle.layer_traits.specs.OneLock.{AreDistinct, opened}
+use Rattle.layer_traits.specs.QueueBlocks.{StartsWell, homes_in, inner}
+use Rattle.layer_traits.specs.Renaming.{renamed_edit, viewed}
+use Rattle.layer_traits.specs.WordsProtocol.{edit_of}
+use Rattle.queuing_lock.specs.Nested.{edit_in as lock_call, lock_of}
+use Rattle.sleep_wakeup.specs.Nested.{edit_in as slept_edit, state_of}
+use Rattle.cpu.specs.Boots.{homes_for}
+use Rattle.cpu.specs.Sound.{setup_for}
+use Rattle.table_machine.specs.Desks.{Board, Closes, IsOver, site_of}
+use Rattle.cpu.specs.Table.Setups.{at_boot}
+use Rattle.cpu.specs.Tower.Views.{TowerName}
+use Rattle.cpu_workers.specs.declared.stops.Stop.{Stop}
+use Rattle.cpu_workers.specs.Closing.{Key, LockBlock, LockEdit, tower_rules}
+use Rattle.cpu_workers.specs.Orders.{HasFollowed, IsTraceOf}
+use Rattle.cpu_workers.specs.Reports.{HasRun}
+use Rattle.cpu_workers.specs.Working.{IsPlanned, Working}
+
+-- what a section of the tower's locks does, and what such a lock guards
+abbrev pub Edit : Type 0
+Edit = QueueEdit LockEdit
+
+abbrev pub Block : Type 0
+Block = QueueBlock LockBlock
+
+-- the actions of the tower's locks, by the names of the layers' calls
+abbrev pub tower_acts : List (Action Edit) → List (Action TowerName)
+tower_acts acts = map (renamed (renamed_edit lock_call)) (map (renamed (renamed_edit slept_edit)) acts)
+
+-- the locks of the tower open as a plan says: an empty queue for each CPU, with the home of each thread, and an empty buffer of each
+-- capacity under a free lock
+pub record OpensPlan (plan : BootPlan) (opening : LockId → Option Block) : Type 0 where
+  pub starts : StartsWell opening
+  pub homes : homes_in opening ≡ homes_for plan
+  pub queues : (c : CpuId) → c.0 < plan.cpus → IsSome (opening (Pending c))
+  pub locks : inner (viewed lock_of (viewed state_of opening)) ≡ opening_locks plan.caps
+
+-- a machine for one CPU's worker before its first turn: it acts for the CPU, no section of which is under way, has seen no section and no
+-- action, and its locks open so
+pub record IsReady (Acts Rests Unseen Idle Opens : Type 0) : Type 0 where
+  pub acts : Acts
+  pub rests : Rests
+  pub unseen : Unseen
+  pub idle : Idle
+  pub opens : Opens
+
+-- the worker of a CPU of a plan before its first turn
+pub record IsAtBoot (plan : BootPlan) (c : CpuId) (w : Working) : Type 0 where
+  pub cpu_is : w.cpu ≡ c
+  pub planned : IsPlanned (setup_for plan) w.plan
+  pub boots : w.private ≡ at_boot (setup_for plan) c
+  pub fresh : w.acts ≡ []
+
+-- the worker's trace and what its machine has seen, apart from it, and what it keeps
+pub record IsApart (w : Working) (acts : List (Action TowerName)) (site : List ℕ) (trace : List Entry) : Type 0 where
+  pub acts_are : acts ≡ w.acts
+  pub site_is : site ≡ w.site
+  pub trace_is : trace ≡ w.private.trace
+  pub own : IsTraceOf w.cpu w.plan.caps w.acts w.private.trace
+  pub legal : AreLegal w.acts
+  pub follows : HasFollowed w
+
+-- the worker of a CPU of a plan has run from before its first turn to where it stopped, and this is what it left
+pub record HasLeft (plan : BootPlan) (May : CpuId → ℕ → Type 0) (turns : ℕ) (c : CpuId) (acts : List (Action TowerName)) (site : List ℕ)
+    (trace : List Entry) (taken : ℕ) (stop : Stop) : Type 0 where
+  pub first : Working
+  pub last : Working
+  pub at_boot : IsAtBoot plan c first
+  pub ran : HasRun May turns first last taken stop
+  pub apart : IsApart last acts site trace
+
+-- the worker of a CPU left its key of this table, which is outside all locks, and the rest
+pub record LeftKey (plan : BootPlan) (May : CpuId → ℕ → Type 0) (turns : ℕ) (board : Board Block) (c : CpuId) (key : Key)
+    (trace : List Entry) (taken : ℕ) (stop : Stop) : Type 0 where
+  pub cpu_is : key.cpu ≡ c
+  pub over : IsOver board key
+  pub left : HasLeft plan May turns c (tower_acts (acts_of edit_of key.seen)) (site_of key.table) trace taken stop
+
+-- the workers of all CPUs have left what stands in these lists, by CPU
+pub record HaveLeft (plan : BootPlan) (May : CpuId → ℕ → Type 0) (turns : ℕ) (board : Board Block) (keys : List Key) (traces : List (List Entry))
+    (taken : List ℕ) (stops : List Stop) : Type 0 where
+  pub count : length keys ≡ plan.cpus
+  pub traces_count : length traces ≡ plan.cpus
+  pub each : (c : CpuId) → c.0 < plan.cpus → (key : Key) × (trace : List Entry) × (n : ℕ) × (stop : Stop)
+      × (slice_get keys c.0 ≡ Some key) × (slice_get traces c.0 ≡ Some trace) × (slice_get taken c.0 ≡ Some n) × (slice_get stops c.0 ≡ Some stop)
+      × LeftKey plan May turns board c key trace n stop
+
+-- the workers of a plan have run at one table that opened as the plan says, and these are the blocks that it left when it was closed
+pub record IsReportOf (plan : BootPlan) (May : CpuId → ℕ → Type 0) (turns : ℕ) (traces : List (List Entry)) (taken : List ℕ) (stops : List Stop)
+    (blocks : List (LockId × Block)) : Type 0 where
+  pub board : Board Block
+  pub cpus_are : board.cpus ≡ plan.cpus
+  pub distinct : AreDistinct board.start
+  pub opens : OpensPlan plan (opened board.start)
+  pub keys : List Key
+  pub left : HaveLeft plan May turns board keys traces taken stops
+  pub closes : Closes tower_rules board keys blocks
+
+-- the items of a buffer's block; of a queue's there are none
+abbrev pub items_of : Block → List Message
+items_of (Queue queue homes) = []
+items_of (Above block) = block.above.above.items
+
+abbrev pub items_if : Option Block → List Message
+items_if None = []
+items_if (Some block) = items_of block
+
+-- the items of a buffer among these blocks
+abbrev pub items_in : List (LockId × Block) → BufId → List Message
+items_in blocks b = items_if (opened blocks (Buffer b))

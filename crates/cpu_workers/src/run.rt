@@ -1,0 +1,181 @@
+//! The workers of a plan at one table of shared words.
+
+ghost use Rattle.std.specs.Prelude.{◌≡◌, ◌≤◌, [], IfOk, All, length, map, vec_capacity};
+ghost use Rattle.layer_traits.specs.OneLock.{AreDistinct, opened};
+ghost use Rattle.table_machine.specs.Desks.{IsOf, new_desks};
+ghost use Rattle.boot.specs.Plan.{IsPlan};
+ghost use Rattle.cpu.specs.Sound.{setup_for};
+ghost use Rattle.cpu_workers.specs.Closing.{shown};
+ghost use Rattle.cpu_workers.specs.Lawful.{IsLawfulReport};
+ghost use Rattle.cpu_workers.specs.Seating.{HaveLeft, OpensPlan};
+
+use crate::gates::Gate;
+use crate::report::Report;
+use crate::seating::{Left, run_over};
+use crate::seats::TowerSeat;
+use crate::starting::WorkerError;
+use crate::stops::Stop;
+use boot::Boot;
+use cpu::homes_of;
+use event_log::{Entry, NoMemory};
+use ipc_calls::{TowerEdit, tower_blocks};
+use layer_traits::Edit;
+use spinlock::Ticket;
+use std::alloc::{AllocError, Global};
+use std::sync::Wait;
+use std::thread::Threads;
+use table_machine::{Key, Shared};
+
+// What workers leave behind at a table, by CPU: their keys, traces, stops and turns.
+#[derive(Drop)]
+struct Back<E: Edit> {
+    keys: Vec<Key<E>>,
+    traces: Vec<Vec<Entry>>,
+    stops: Vec<Stop>,
+    taken: Vec<u64>,
+}
+
+impl<E: Edit> Back<E> {
+    // Room for what so many workers leave.
+    fn with_capacity(alloc: Global, count: usize) -> Result<Back<E>, AllocError>
+        ensures keys { IfOk result (λ b. (b.keys.items ≡ []) × (count ≤ vec_capacity b.keys)) }
+        ensures traces { IfOk result (λ b. (b.traces.items ≡ []) × (count ≤ vec_capacity b.traces)) }
+        ensures stops { IfOk result (λ b. (b.stops.items ≡ []) × (count ≤ vec_capacity b.stops)) }
+        ensures taken { IfOk result (λ b. (b.taken.items ≡ []) × (count ≤ vec_capacity b.taken)) }
+    {
+        Ok(Back {
+            keys: Vec::with_capacity(alloc, count)?,
+            traces: Vec::with_capacity(alloc, count)?,
+            stops: Vec::with_capacity(alloc, count)?,
+            taken: Vec::with_capacity(alloc, count)?,
+        })
+    }
+}
+
+// A seat for each key.
+fn seats_at<'a>(
+    alloc: Global,
+    shared: &'a Shared<TowerEdit>,
+    keys: Vec<Key<TowerEdit>>,
+) -> Result<Vec<TowerSeat<'a>>, AllocError>
+    requires { All (IsOf shared.now) keys.items }
+    ensures { IfOk result (λ seats. seats.items ≡ keys.items) }
+{
+    let mut seats = Vec::with_capacity(alloc, keys.len())?;
+    for key in keys {
+        let seat = TowerSeat::new(shared, key);
+        seats.push_reserved(seat);
+    }
+    Ok(seats)
+}
+
+// Leaves the seats, and puts what the workers left into the lists, which have room.
+fn parted(left: Vec<Left<TowerSeat<'_>>>, back: Back<TowerEdit>) -> Back<TowerEdit>
+    requires keys { (back.keys.items ≡ []) × (length left.items ≤ vec_capacity back.keys) }
+    requires traces { (back.traces.items ≡ []) × (length left.items ≤ vec_capacity back.traces) }
+    requires stops { (back.stops.items ≡ []) × (length left.items ≤ vec_capacity back.stops) }
+    requires taken { (back.taken.items ≡ []) × (length left.items ≤ vec_capacity back.taken) }
+    ensures keys { result.keys.items ≡ map (λ x. x.machine) left.entry.items }
+    ensures traces { map (λ t. t.items) result.traces.items ≡ map (λ x. x.trace.items) left.entry.items }
+    ensures stops { result.stops.items ≡ map (λ x. x.did.stop) left.entry.items }
+    ensures taken { result.taken.items ≡ map (λ x. x.did.taken) left.entry.items }
+{
+    let Back {
+        mut keys,
+        mut traces,
+        mut stops,
+        mut taken,
+    } = back;
+    for one in left {
+        let Left {
+            machine,
+            trace,
+            did,
+        } = one;
+        let key = machine.back();
+        keys.push_reserved(key);
+        traces.push_reserved(trace);
+        stops.push_reserved(did.stop);
+        taken.push_reserved(did.taken);
+    }
+    Back {
+        keys,
+        traces,
+        stops,
+        taken,
+    }
+}
+
+// Lets a worker of each CPU run at its seat.
+fn run_at<G: Gate + Sync, R: Threads + Wait + Sync>(
+    rt: &R,
+    alloc: Global,
+    boot: &Boot,
+    turns: u64,
+    gate: &G,
+    shared: &Shared<TowerEdit>,
+    keys: Vec<Key<TowerEdit>>,
+) -> Result<Back<TowerEdit>, WorkerError>
+    requires keys { keys.items ≡ new_desks shared.now boot.now.cpus }
+    requires opens { OpensPlan boot.now (opened shared.now.start) }
+    ensures { IfOk result (λ b. HaveLeft boot.now (G.MayLimit gate.now) turns shared.now b.keys.items (map (λ t. t.items) b.traces.items) b.taken.items
+        b.stops.items) }
+{
+    let back = Back::with_capacity(alloc, boot.cpus() as usize)?;
+    let seats = seats_at(alloc, shared, keys)?;
+    let left = run_over::<Ticket<TowerSeat<'_>>, G, R>(rt, alloc, boot, turns, gate, seats)?;
+    Ok(parted(left, back))
+}
+
+// The table of a plan, with the key of each CPU.
+fn table_of(
+    alloc: Global,
+    boot: &Boot,
+) -> Result<(Shared<TowerEdit>, Vec<Key<TowerEdit>>), NoMemory>
+    ensures plan { IfOk result (λ r. IsPlan boot.now) }
+    ensures cpus { IfOk result (λ r. r.0.cpus ≡ boot.now.cpus) }
+    ensures distinct { IfOk result (λ r. AreDistinct r.0.start) }
+    ensures opens { IfOk result (λ r. OpensPlan boot.now (opened r.0.start)) }
+    ensures keys { IfOk result (λ r. r.1.items ≡ new_desks r.0 boot.now.cpus) }
+{
+    let homes = homes_of(boot);
+    let caps = boot.caps();
+    let blocks = tower_blocks(alloc, boot.cpus(), caps.as_slice(), homes.as_slice())?;
+    Shared::open(alloc, blocks, boot.cpus())
+}
+
+/// Runs a plan with a worker thread for each CPU, each at its own seat at one table of shared
+/// words, under a gate. A worker stops between two of its sections, as [`crate::work`] says:
+/// where its CPU is halted, where the gate has answered `Limit`, or where `turns` turns are taken.
+///
+/// It waits for its workers, so it need not return. All memory is taken and all workers are known to
+/// have started before any step is taken.
+///
+/// Errors: `NoMemory` where memory was refused and `NoThread` where a thread could not be started;
+/// then no step was taken, and the threads that were started are joined.
+pub fn run_workers<G: Gate + Sync, R: Threads + Wait + Sync>(
+    rt: &R,
+    alloc: Global,
+    boot: &Boot,
+    turns: u64,
+    gate: &G,
+) -> Result<Report, WorkerError>
+    ensures { IfOk result (λ r. IsLawfulReport (setup_for boot.now) (G.MayLimit gate.now) turns
+        (shown (map (λ t. t.items) r.traces.items) r.taken.items r.stops.items r.blocks.items)) }
+{
+    let open = table_of(alloc, boot)?;
+    let (shared, keys) = open;
+    let back = run_at(rt, alloc, boot, turns, gate, &shared, keys)?;
+    let Back {
+        keys,
+        traces,
+        stops,
+        taken,
+    } = back;
+    Ok(Report {
+        traces,
+        blocks: shared.close(keys),
+        stops,
+        taken,
+    })
+}

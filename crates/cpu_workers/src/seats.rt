@@ -1,0 +1,91 @@
+//! The seat of a CPU at the table of the tower's locks.
+
+ghost use Rattle.std.specs.Prelude.{◌≡◌};
+ghost use Rattle.table_machine.specs.Desks.{IsOf};
+
+use event_log::{CpuId, LockId};
+use ipc_calls::{TowerBlock, TowerEdit};
+use layer_traits::{Mark, Words};
+use std::marker::Model;
+use table_machine::{Key, Seat, Shared};
+
+/// A seat at the table of the tower's locks: a [`Seat`] under a name of its own, so that no proof
+/// above it has to compare the tower's edits.
+#[derive(Drop)]
+pub(crate) struct TowerSeat<'a> {
+    seat: Seat<'a, TowerEdit>,
+}
+
+impl<'a> Model for TowerSeat<'a> {
+    ghost use Rattle.table_machine.specs.Desks.{Desk};
+    ghost use Rattle.cpu_workers.specs.Seating.{Block, Edit};
+
+    ghost Value = { Desk Edit Block };
+
+    ghost view = { λ s. s.seat };
+}
+
+impl<'a> TowerSeat<'a> {
+    // Takes the seat of the key's CPU. The key is one of this table.
+    pub(crate) fn new(shared: &'a Shared<TowerEdit>, key: Key<TowerEdit>) -> TowerSeat<'a>
+        requires { IsOf shared.now key }
+        ensures { result ≡ key }
+    {
+        TowerSeat {
+            seat: shared.seat(key),
+        }
+    }
+
+    // Leaves the seat.
+    pub(crate) fn back(self) -> Key<TowerEdit>
+        ensures { result ≡ self.entry }
+    {
+        let TowerSeat { seat } = self;
+        seat.back()
+    }
+}
+
+impl<'a> Words for TowerSeat<'a> {
+    ghost use Rattle.std.specs.Prelude.{◌≡◌, ℕ};
+    ghost use Rattle.event_log.specs.History.{IsLawful};
+    ghost use Rattle.layer_traits.specs.WordsProtocol.{MayCome, edit_of};
+    ghost use Rattle.layer_traits.specs.OneLock.{opened};
+    ghost use Rattle.table_machine.specs.Desks.{site_of};
+    ghost use Rattle.cpu_workers.specs.Closing.{tower_rules};
+
+    type Edit = TowerEdit;
+
+    type Mark = Mark<TowerEdit>;
+
+    ghost edit_in = { edit_of };
+
+    ghost opening = { λ s. opened s.start };
+
+    ghost seen = { λ s. s.seen };
+
+    ghost ActsFor = { λ s c. (c ≡ s.cpu) × IsLawful (MayCome (tower_rules.allowed (opened s.start))) s.seen };
+
+    ghost room = { λ s. 1 };
+
+    ghost site = { λ s. site_of s.table };
+
+    fn mark(edit: TowerEdit) -> Mark<TowerEdit>
+        ensures { edit_of result ≡ edit }
+    {
+        Mark { edit }
+    }
+
+    fn draw(&mut self, cpu: CpuId, lock: LockId) -> u64 {
+        self.seat.draw(cpu, lock)
+    }
+
+    fn look(&mut self, cpu: CpuId, lock: LockId, ticket: u64) -> Option<TowerBlock> {
+        self.seat.look(cpu, lock, ticket)
+    }
+
+    fn free(&mut self, cpu: CpuId, lock: LockId, block: TowerBlock, mark: Mark<TowerEdit>) {
+        self.seat.free(cpu, lock, block, mark)
+    }
+
+    ghost legal = { λ s c acts. acts.1 };
+}

@@ -1,0 +1,97 @@
+-- What is said under a condition is so under any that it follows from: so what is said of layers whose polls are single actions holds
+-- without a condition where they are such.
+use Rattle.std.proofs.Common.{inl, inr, ℕ, Bool, true, false, List, Option, Some, None}
+use Rattle.std.specs.Prelude.{Result, Ok, Err}
+use Rattle.event_log.specs.declared.ids.CpuId.{CpuId}
+use Rattle.boot.specs.declared.refusals.BootError.{BootError}
+use Rattle.boot.specs.Plan.{BootPlan}
+use Rattle.clap.specs.Walk.{Text}
+use Rattle.cpu.specs.Claims.{Shown}
+use Rattle.cpu.specs.Systems.{Ran, WentOn, goes, starts, stayed, took}
+use Rattle.mctower.specs.declared.refusals.Refusal.{Refusal}
+use Rattle.mctower.specs.declared.serve.Done.{Done}
+use Rattle.mctower.specs.declared.states.State.{State}
+use Rattle.mctower.specs.Line.{Meant, check, count, run, threads}
+use Rattle.mctower.specs.Output.{Output}
+use Rattle.mctower.specs.Running.{IsRunOf}
+use Rattle.mctower.specs.Serve.{Ends, Runs, RunsAsked, RunsPlan, Serves, TellsRun}
+use Rattle.mctower.specs.State.{IsStateOf}
+
+module _ (If Where : Type 0) (follows : Where → If) where
+  went : (c : CpuId) (s r : Shown) → WentOn If c s r → WentOn Where c s r
+  went c s r (took live step) = took live (λ here. step (follows here))
+  went c s r (stayed reason is same) = stayed reason is same
+
+  ran : (start : Shown) (steps : List CpuId) (s : Shown) → Ran If start steps s → Ran Where start steps s
+  ran start _ _ starts = starts
+  ran start _ _ (goes {steps = steps} {s = s} c r before step) = goes c r (ran start steps s before) (went c s r step)
+
+  run_of : (plan : BootPlan) (steps : List CpuId) (s : Shown) → IsRunOf If plan steps s → IsRunOf Where plan steps s
+  run_of plan steps s is = record {
+    start = is.start;
+    opened = is.opened;
+    ran = ran is.start steps s is.ran;
+    planned = is.planned;
+    table = λ here. is.table (follows here);
+    sound = λ here. is.sound (follows here);
+    system = is.system;
+    room = is.room;
+    one_order = is.one_order;
+    follow = is.follow;
+    stay = is.stay;
+    once = is.once;
+  }
+
+  state_of : (s : Shown) (state : State) → IsStateOf If s state → IsStateOf Where s state
+  state_of s state is = record {
+    halted = is.halted;
+    count = is.count;
+    many = is.many;
+    places = is.places;
+    quiet = is.quiet;
+    still = λ here. is.still (follows here);
+  }
+
+  tells : (s : Shown) (answer : Result Done Refusal) (failed : Bool) → TellsRun If s answer failed → TellsRun Where s answer failed
+  tells s answer false (state, is, given) = (state, state_of s state is, given)
+  tells s answer true given = given
+
+  runs_plan : (read : Result BootPlan BootError) (steps : List CpuId) (answer : Result Done Refusal) (out : Output)
+      → RunsPlan If read steps answer out → RunsPlan Where read steps answer out
+  runs_plan (Ok plan) steps answer out (inl refused) = inl refused
+  runs_plan (Ok plan) steps answer out (inr runs) = inr (record {
+    cpus = runs.cpus;
+    system = runs.system;
+    ran = run_of plan steps runs.system runs.ran;
+    trace = runs.trace;
+    traced = runs.traced;
+    put = (tells runs.system answer out.failed runs.put.0, runs.put.1);
+  })
+  runs_plan (Err error) steps answer out refused = refused
+
+  runs_input : (input : Option (List ℕ)) (steps : List CpuId) (answer : Result Done Refusal) (out : Output)
+      → Runs If input steps answer out → Runs Where input steps answer out
+  runs_input input steps answer out (inl refused) = inl refused
+  runs_input input steps answer out (inr (inl refused)) = inr (inl refused)
+  runs_input input steps answer out (inr (inr (bytes, is, inl refused))) = inr (inr (bytes, is, inl refused))
+  runs_input input steps answer out (inr (inr (bytes, is, inr (inl refused)))) = inr (inr (bytes, is, inr (inl refused)))
+  runs_input input steps answer out (inr (inr (bytes, is, inr (inr (text, runs))))) =
+      inr (inr (bytes, is, inr (inr (text, runs_plan _ steps answer out runs))))
+
+  asked : (steps : Option (List CpuId)) (input : Option (List ℕ)) (answer : Result Done Refusal) (out : Output)
+      → RunsAsked If steps input answer out → RunsAsked Where steps input answer out
+  asked None input answer out refused = refused
+  asked (Some steps) input answer out runs = runs_input input steps answer out runs
+
+  serves : (meant : Option Meant) (input : Option (List ℕ)) (answer : Result Done Refusal) (out : Output)
+      → Serves If meant input answer out → Serves Where meant input answer out
+  serves None input answer out served = served
+  serves (Some (count cpus times)) input answer out served = served
+  serves (Some check) input answer out served = served
+  serves (Some (run schedule)) input answer out served = asked _ input answer out served
+  serves (Some (threads turns)) input answer out served = absurd served
+
+  pub ends : {words : List Text} {meant : Option Meant} {input : Option (List ℕ)} {status : ℕ} {out err : Output}
+      → Ends If words meant input status out err → Ends Where words meant input status out err
+  ends {meant = meant} {input = input} {out = out} is =
+      record { answer = is.answer; ends = is.ends; served = serves meant input is.answer out is.served; told = is.told }
