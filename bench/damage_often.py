@@ -3,9 +3,9 @@
 
     bench/damage_often.py PROGRAM [HOW_MANY] [SEED]
 
-A text is a run of first-in first-out buffers, near which it is damaged (entries swapped, dropped, turned, counted anew) or near its
-grammar (a byte, a piece, a number, a line); a plan and a schedule near theirs. Prints each case whose answer differs; the last line
-counts them. TOML is read by Python's own tomllib.
+A text is a run of first-in first-out buffers, perhaps with closes, near which it is damaged (entries swapped, dropped, turned, counted
+anew) or near its grammar (a byte, a piece, a number, a line); a plan, with or without the key of its lock, and a schedule near theirs.
+Prints each case whose answer differs; the last line counts them. TOML is read by Python's own tomllib.
 """
 import random
 import subprocess
@@ -14,7 +14,7 @@ import tomllib
 
 CPUS, THREADS, BUFFERS, CAPACITY, TRACE, ENTRIES = 8, 64, 16, 32, 65536, 524288
 LINES, STEPS, WORD = 256, 1048576, 2**64
-ODD_NUMBERS = [b'00', b'01', b'', b'-1', b'+1', b'1.0', b'x', b'8', b'16', b'17', b'33', b'64', b'524287', b'524288',
+ODD_NUMBERS = [b'00', b'01', b'', b'-', b'-1', b'+1', b'1.0', b'x', b'8', b'16', b'17', b'33', b'64', b'524287', b'524288',
                b'18446744073709551615', b'18446744073709551616', b'99999999999999999999999']
 
 
@@ -39,15 +39,23 @@ def numbers(pieces, tops):
     return found
 
 
+# The effects that each version of the text can spell, those that have a message, and with whose calls each is counted.
+HEADS = {b'mctower-trace 1': (b'send', b'recv'), b'mctower-trace 2': (b'send', b'recv', b'close', b'sendc', b'recvc')}
+MESSAGES = (b'send', b'recv', b'sendc')
+GROUPS = {b'send': b'send', b'sendc': b'send', b'recv': b'recv', b'recvc': b'recv', b'close': b'close'}
+
+
 class Judge:
     def __init__(self):
         self.want, self.caps, self.items, self.counts, self.entries, self.buffer = 'head', [], [], {}, 0, 0
+        self.closed, self.used = set(), set()
 
     def line(self, line):
         pieces = line.split(b' ')
         if self.want == 'head':
-            if line != b'mctower-trace 1':
+            if line not in HEADS:
                 raise No('Spelling(30)')
+            self.kinds = HEADS[line]
             self.want = 'count'
         elif self.want == 'count':
             if len(pieces) != 2 or pieces[0] != b'buffers':
@@ -73,36 +81,53 @@ class Judge:
         elif self.want == 'end':
             if line != b'end':
                 raise No('Spelling(30)')
+            if any(len(kinds) < len(self.kinds) and self.used <= set(kinds) for kinds in HEADS.values()):
+                raise No('Version(38)')
             self.want = 'nothing'
         else:
             raise No('Spelling(30)')
 
     def entry(self, pieces):
-        if len(pieces) != 8 or pieces[3] not in (b'send', b'recv'):
+        if len(pieces) != 8 or pieces[3] not in self.kinds:
             raise No('Spelling(30)')
         kind = pieces.pop(3)
+        if kind not in MESSAGES:
+            if pieces[4] != b'-':
+                raise No('Spelling(30)')
+            pieces[4] = b'0'
         found = numbers(pieces[1:], [CPUS, THREADS, self.count, WORD, ENTRIES, ENTRIES])
         self.entries += 1
         if self.entries > ENTRIES:
             raise No('Range(31)')
+        self.used.add(kind)
         buffer, value, op, pos = found[2:]
+        group = buffer, GROUPS[kind]
         if op != self.counts.get(buffer, 0):
             raise No('Op(32)')
-        if pos != self.counts.get((buffer, kind), 0):
+        if pos != self.counts.get(group, 0):
             raise No('Pos(33)')
+        self.take_effect(kind, buffer, value)
+        self.counts[buffer] = op + 1
+        self.counts[group] = pos + 1
+
+    def take_effect(self, kind, buffer, value):
         items = self.items[buffer]
+        if kind in (b'sendc', b'recvc') and buffer not in self.closed or kind == b'send' and buffer in self.closed:
+            raise No('CloseState(39)')
         if kind == b'send':
             if len(items) >= self.caps[buffer]:
                 raise No('Full(34)')
             items.append(value)
-        else:
+        elif kind == b'recv':
             if not items:
                 raise No('EmptyTake(35)')
             if items[0] != value:
                 raise No('WrongValue(36)')
             items.pop(0)
-        self.counts[buffer] = op + 1
-        self.counts[buffer, kind] = pos + 1
+        elif kind == b'recvc' and items:
+            raise No('NotEmpty(40)')
+        elif kind == b'close':
+            self.closed.add(buffer)
 
     def left(self, pieces):
         self.want = 'left'
@@ -138,6 +163,9 @@ class Bad(Exception):
 
 
 SHAPES = {'set': 'rn', 'add': 'rr', 'sub': 'rr', 'jnz': 'rk', 'send': 'br', 'recv': 'br', 'yield': '', 'exit': ''}
+
+
+LOCKS = ('ticket', 'grant')
 
 
 def guest_fault(line, count):
@@ -194,10 +222,17 @@ def too_wide(value):
     return type(value) is int and not -2**63 <= value < 2**63
 
 
+def parse_float(text):
+    value = float(text)
+    if abs(value) == float('inf') and 'inf' not in text:
+        raise ValueError
+    return value
+
+
 def plan_fault(text):
     """The error line of a plan without `error: `, and the number of its CPUs."""
     try:
-        table = tomllib.loads(text.decode())
+        table = tomllib.loads(text.decode(), parse_float=parse_float)
         if too_wide(table):
             raise ValueError
     except (ValueError, RecursionError):
@@ -207,6 +242,8 @@ def plan_fault(text):
         read(table, 'trace', 'trace', is_integer, lambda n: 1 <= n <= TRACE)
         buffers = read(table, 'buffers', 'buffers', is_list_of(is_integer),
                        lambda caps: 1 <= len(caps) <= BUFFERS and all(1 <= n <= CAPACITY for n in caps))
+        if 'lock' in table:
+            read(table, 'lock', 'lock', lambda value: type(value) is str, lambda name: name in LOCKS)
         threads = read(table, 'thread', 'thread', is_list_of(lambda item: type(item) is dict), lambda all: 1 <= len(all) <= THREADS)
         for number, thread in enumerate(threads):
             read(thread, 'cpu', f'thread {number} cpu', is_integer, lambda n: 0 <= n < cpus)
@@ -239,45 +276,64 @@ def steps(text):
 def some_text(pick):
     count = pick.randint(1, 3)
     caps = [pick.randint(1, 3) for _ in range(count)]
-    items, counts, entries = [[] for _ in caps], {}, []
+    items, counts, closed, entries = [[] for _ in caps], {}, set(), []
+    kinds = pick.choice([['send', 'recv'], ['send', 'recv'], ['send', 'send', 'recv', 'recv', 'close']])
     for _ in range(pick.randint(0, 8)):
         b = pick.randrange(count)
-        kind = pick.choice(['send', 'recv'])
+        kind = pick.choice(kinds)
+        if b in closed:
+            kind = {'send': 'sendc', 'recv': 'recv' if items[b] else 'recvc'}.get(kind, kind)
         if kind == 'send' and len(items[b]) == caps[b] or kind == 'recv' and not items[b]:
             continue
-        value = pick.choice([0, 7, 7, 8, WORD - 1]) if kind == 'send' else items[b].pop(0)
+        value = items[b].pop(0) if kind == 'recv' else pick.choice([0, 7, 7, 8, WORD - 1]) if kind in ('send', 'sendc') else '-'
         if kind == 'send':
             items[b].append(value)
-        entries.append([pick.randrange(CPUS), pick.randrange(THREADS), kind, b, value, counts.get(b, 0), counts.get((b, kind), 0)])
-        counts[b] = counts.get(b, 0) + 1
-        counts[b, kind] = counts.get((b, kind), 0) + 1
+        if kind == 'close':
+            closed.add(b)
+        entries.append([pick.randrange(CPUS), pick.randrange(THREADS), kind, b, value] + numbered(counts, kind, b))
     for _ in range(pick.choice([0, 0, 1, 2])):
         near_a_run(pick, entries)
-    lines = ['mctower-trace 1', f'buffers {count}'] + [f'cap {b} {k}' for b, k in enumerate(caps)]
+    version = 2 if any(e[2] not in ('send', 'recv') for e in entries) else 1
+    if pick.random() < 0.05:
+        version = pick.choice([0, 1, 2, 3])
+    lines = [f'mctower-trace {version}', f'buffers {count}'] + [f'cap {b} {k}' for b, k in enumerate(caps)]
     lines += ['e ' + ' '.join(map(str, e)) for e in entries]
     lines += [' '.join(map(str, ['left', b] + items[b])) for b in range(count)] + ['end']
     return b''.join(line.encode() + b'\n' for line in lines)
+
+
+def numbered(counts, kind, b):
+    """The op and the pos of the next effect of this kind."""
+    group = b, GROUPS[kind.encode()]
+    found = [counts.get(b, 0), counts.get(group, 0)]
+    counts[b], counts[group] = found[0] + 1, found[1] + 1
+    return found
+
+
+TURNED = {'send': 'recv', 'recv': 'send', 'close': 'sendc', 'sendc': 'send', 'recvc': 'recv'}
 
 
 def near_a_run(pick, entries):
     if not entries:
         return
     i, j = pick.randrange(len(entries)), pick.randrange(len(entries))
-    how = pick.randrange(5)
+    how = pick.randrange(6)
     if how == 0:
         entries[i], entries[j] = entries[j], entries[i]
     elif how == 1:
         del entries[i]
     elif how == 2:
-        entries[i][2] = 'recv' if entries[i][2] == 'send' else 'send'
+        entries[i][2] = pick.choice(['close', 'sendc', 'recvc']) if pick.random() < 0.2 else TURNED[entries[i][2]]
+        entries[i][4] = '-' if entries[i][2] in ('close', 'recvc') else 7 if entries[i][4] == '-' else entries[i][4]
     elif how == 3:
-        entries[i][4] = pick.choice([0, 7, 8])
+        entries[i][4] = pick.choice([0, 7, 8, '-'])
     else:
+        if how == 5:
+            kind = pick.choice(list(TURNED))
+            entries.insert(i, entries[j][:2] + [kind, entries[j][3], '-' if kind in ('close', 'recvc') else 7, 0, 0])
         counts = {}
         for e in entries:
-            e[5], e[6] = counts.get(e[3], 0), counts.get((e[3], e[2]), 0)
-            counts[e[3]] = e[5] + 1
-            counts[e[3], e[2]] = e[6] + 1
+            e[5:] = numbered(counts, e[2], e[3])
 
 
 def near_its_grammar(pick, text):
@@ -318,21 +374,26 @@ def some_plan(pick):
     buffers = [pick.randint(1, CAPACITY) for _ in range(pick.randint(1, 3))]
     cpus = pick.randint(1, CPUS)
     lines = [f'cpus = {cpus}', f'trace = {pick.randint(1, TRACE)}', f'buffers = {buffers}']
+    lines += pick.choice([[], ['lock = "ticket"'], ['lock = "grant"']])
     for _ in range(pick.randint(1, 3)):
         chosen = [pick.choice(PROGRAM_LINES) for _ in range(pick.randint(1, 4))]
         lines += ['', '[[thread]]', f'cpu = {pick.randrange(cpus)}', 'program = [' + ', '.join(f'"{line}"' for line in chosen) + ']']
     return '\n'.join(lines).encode() + b'\n'
 
 
+NEAR_A_LOCK = [b'"mcs"', b'"Grant"', b'"ticket "', b'""', b'7', b'true', b'["ticket"]', b'{ a = "grant" }', b"'ticket'", b'"gran\\u0074"',
+               b'"""grant"""', b'lock = 1 #', b'lock = "\xc3\xa4" #', b'lock = "grant"\nlock = ']
+
+
 def near_a_plan(pick, text):
-    how = pick.randrange(7)
+    how = pick.randrange(8)
     if how == 0:
         return near_its_grammar(pick, text)
     if how == 1:
         old = pick.choice([b'cpus = ', b'trace = ', b'cpu = ', b'buffers = [', b'r0', b'send ', b'recv ', b'jnz r0 ', b'set r0 '])
         return text.replace(old, old + pick.choice([b'1', b'9', b'0', b'-', b' ', b'99', b'1.', b'0x']), pick.choice([1, 9]))
     if how == 2:
-        old = pick.choice([b'cpus', b'trace', b'buffers', b'thread', b'cpu ', b'program', b'send', b'yield', b'exit'])
+        old = pick.choice([b'cpus', b'trace', b'buffers', b'lock', b'ticket', b'grant', b'thread', b'cpu ', b'program', b'send', b'yield', b'exit'])
         return text.replace(old, pick.choice([b'other', old.upper(), old + b'2', b'']), 1)
     if how == 3:
         return text.replace(b' = ', b' = ' + pick.choice([b'true #', b'"1" #', b'1.5 #', b'[] #', b'{} #', b'[1, "a"] #', b'99999999999999999999 #', b'-1 #']), 1) \
@@ -341,6 +402,8 @@ def near_a_plan(pick, text):
         return text.replace(b'"', pick.choice([b"'", b'', b'"""']), pick.choice([1, 2, 99]))
     if how == 5:
         return text.replace(b'program = [', b'program = [' + b'"exit", ' * pick.choice([1, 252, 256, 300]), 1)
+    if how == 6:
+        return text.replace(pick.choice([b'"ticket"', b'"grant"', b'lock = ']), pick.choice(NEAR_A_LOCK), 1)
     return text.replace(b'[[thread]]', pick.choice([b'[thread]', b'[[threads]]', b'[[thread]]\nname = 1', b'[[thread.x]]']), pick.choice([1, 9]))
 
 

@@ -1,6 +1,7 @@
 //! Refuses one allocation of a program that it is loaded into: the one whose number, from 1 on, is
 //! in the environment as REFUSE, and by REFUSE_FROM all later ones too; or one start of a thread, by
-//! REFUSE_THREAD. Then it writes `refused` on standard error. All others are the C library's.
+//! REFUSE_THREAD, and by REFUSE_THREAD_FROM all later ones too. Then it writes `refused` on standard
+//! error. All others are the C library's.
 //! By CUT_OUT so many bytes of standard output pass, and then a write fails; by CUT_IN so many of
 //! standard input, and then a read does.
 //!
@@ -37,24 +38,29 @@ fn tell() -> bool {
     true
 }
 
-/// Whether this allocation is to be refused.
-fn is_refused() -> bool {
-    let (one, from) = (number(c"REFUSE"), number(c"REFUSE_FROM"));
+/// Whether a request is to be refused: the one with the number under `one`, or the one under `from` and all later ones.
+fn is_refused(asked: &AtomicU64, one: &CStr, from: &CStr) -> bool {
+    let (one, from) = (number(one), number(from));
     if one.is_none() && from.is_none() {
         return false;
     }
-    let asked = ALLOCATIONS.fetch_add(1, SeqCst) + 1;
+    let asked = asked.fetch_add(1, SeqCst) + 1;
     (one == Some(asked) || from.is_some_and(|from| from <= asked)) && tell()
+}
+
+/// Whether this allocation is to be refused.
+fn lacks_memory() -> bool {
+    is_refused(&ALLOCATIONS, c"REFUSE", c"REFUSE_FROM")
 }
 
 #[unsafe(no_mangle)]
 pub extern "C" fn malloc(size: usize) -> *mut c_void {
-    if is_refused() { ptr::null_mut() } else { unsafe { __libc_malloc(size) } }
+    if lacks_memory() { ptr::null_mut() } else { unsafe { __libc_malloc(size) } }
 }
 
 #[unsafe(no_mangle)]
 pub extern "C" fn realloc(block: *mut c_void, size: usize) -> *mut c_void {
-    if is_refused() { ptr::null_mut() } else { unsafe { __libc_realloc(block, size) } }
+    if lacks_memory() { ptr::null_mut() } else { unsafe { __libc_realloc(block, size) } }
 }
 
 type Start = extern "C" fn(*mut c_void) -> *mut c_void;
@@ -68,7 +74,7 @@ const NEXT: *mut c_void = usize::MAX as *mut c_void;
 
 #[unsafe(no_mangle)]
 pub unsafe extern "C" fn pthread_create(thread: *mut c_void, how: *const c_void, start: Start, with: *mut c_void) -> c_int {
-    if number(c"REFUSE_THREAD").is_some_and(|one| THREADS.fetch_add(1, SeqCst) + 1 == one) && tell() {
+    if is_refused(&THREADS, c"REFUSE_THREAD", c"REFUSE_THREAD_FROM") {
         return NO_MORE;
     }
     let create: Create = unsafe { mem::transmute(dlsym(NEXT, c"pthread_create".as_ptr())) };

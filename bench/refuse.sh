@@ -1,27 +1,48 @@
-#!/bin/sh
-# Refuses each allocation in turn of the tests of a crate that are named for it, until none is left
-# to refuse. Each test has to pass each time: it takes its answer or NoMemory, and nothing else.
+#!/usr/bin/env bash
+# Runs the tests that are named for a refused allocation while allocations are refused: each one alone, until none is left to refuse,
+# and then each with all later ones. Each test has to pass each time: it takes its answer or NoMemory, and nothing else.
 #
 #   (cd crates/boot && rt test) && bench/refuse.sh boot
 #
-# prints for each such test how many allocations it asks for. It wants the built tests, and rustc.
+# prints for each such test how many allocations it asks for. Without a name it takes each crate whose tests are built, as `rt ci`
+# leaves them; .ci/run calls it so. Where there is no rustc it refuses nothing and says so. The last line counts the tests and the runs.
 set -eu
 cd "$(dirname "$0")/.."
-tests=crates/$1/out/$1_tests
-[ -x "$tests" ] || { echo "build the tests first: (cd crates/$1 && rt test)"; exit 1; }
+PATH=$PATH:$HOME/.cargo/bin
+command -v rustc > /dev/null || { echo "refuse: nothing was refused, since no rustc is here to build what refuses"; exit 0; }
+[ $# -gt 0 ] || set -- $(for tests in crates/*/out/*_tests; do [ ! -x "$tests" ] || basename "$tests" _tests; done)
+[ $# -gt 0 ] || { echo "refuse: build the tests first: (cd crates/boot && rt test)"; exit 1; }
 room=$(mktemp -d)
 trap 'rm -rf "$room"' EXIT
 rustc --edition 2024 -O -C panic=abort --crate-type cdylib -o "$room/librefuse.so" bench/refuse.rs
-for name in $("$tests" --list | sed -n 's/: test$//p' | grep refused_allocation); do
-    number=1
-    while :; do
-        if ! REFUSE=$number LD_PRELOAD=$room/librefuse.so "$tests" "$name" > "$room/out" 2> "$room/err"; then
-            echo "$name FAILED with allocation $number refused"
-            cat "$room/err"
-            exit 1
-        fi
-        grep -q '^refused$' "$room/err" || break
-        number=$((number + 1))
-    done
-    echo "$name passed with each of its $((number - 1)) allocations refused"
+passed=0
+runs=0
+
+# Runs the test $2 of the program $1 with each allocation refused by what the name $3 refuses, and leaves in `asked` how many there were.
+refuse_each() {
+  local number=1
+  while :; do
+    if ! timeout 60 env LD_PRELOAD="$room/librefuse.so" "$3=$number" "$1" "$2" > "$room/out" 2> "$room/err"; then
+      echo "refuse: $2 FAILED with $3=$number"
+      cat "$room/out" "$room/err"
+      exit 1
+    fi
+    grep -q '^refused$' "$room/err" || break
+    number=$((number + 1))
+  done
+  asked=$((number - 1))
+  runs=$((runs + asked))
+}
+
+for name; do
+  tests=crates/$name/out/${name}_tests
+  [ -x "$tests" ] || { echo "refuse: build the tests first: (cd crates/$name && rt test)"; exit 1; }
+  for test in $("$tests" --list | sed -n 's/: test$//p' | grep refused_allocation); do
+    refuse_each "$tests" "$test" REFUSE_FROM
+    refuse_each "$tests" "$test" REFUSE
+    echo "$name $test passed with each of its $asked allocations refused, alone and with all later ones"
+    passed=$((passed + 1))
+  done
 done
+echo "refuse: $passed tests passed, $runs runs with something refused"
+[ "$passed" -gt 0 ]
