@@ -264,9 +264,16 @@ module _ (homes : List CpuId) (caps : List ℕ) (buffers : ℕ) (seen : List Ent
           → private_passed setup own (states guests) trace pass (record { own = own2; answer = result }) ≡ private own2 guests2 trace → Goal
       by_line line goes after =
           subst (λ q. IsStep ActsFor (cpu_step setup number) p q (named old) (named new) Stepped) after
-          (line_is_step ActsFor setup opening number own2 p p (fifo_pass_plan setup.homes number pass own)
-          (private_passed setup own (states guests) trace pass) old new result
-          acts opens line known_so (λ past same. step_goes setup number p p old past same (λ inside. refl) goes)
+          (line_is_step (record { ActsFor = ActsFor; setup = setup; opening = opening; c = number; acts = acts; opens = opens; old = old; new = new })
+          (record {
+            p = p;
+            q = p;
+            plan = fifo_pass_plan setup.homes number pass own;
+            after = private_passed setup own (states guests) trace pass;
+            line = line;
+            goes = λ past same. step_goes setup number p p old past same (λ inside. refl) goes;
+          })
+          (record { own = own2; answer = result }) known_so
           (subst (λ h. Follows ActsFor tower opening number (fifo_pass_plan h number pass own) old new (record { own = own2; answer = result }))
           (sym of.homes_are) follows))
 

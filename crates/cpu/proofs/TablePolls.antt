@@ -51,6 +51,7 @@ use Rattle.cpu.proofs.TableRows.{call_is, halted_same, states_at, states_long}
 use Rattle.cpu.proofs.Tower.Begins.{first_polls_are_steps, polls_are_steps}
 use Rattle.cpu.proofs.Tower.Chains.{put_same}
 use Rattle.cpu.proofs.Tower.Kept.{IsFree, begins_keep, kept_by, plans_keep}
+use Rattle.cpu.proofs.Tower.Polled.{Polled}
 use Rattle.cpu.proofs.Tower.Passed.{at_rest, in_call}
 
 -- the opening blocks are the table's, of whatever programs
@@ -330,21 +331,29 @@ module _ (homes : List CpuId) (caps : List ℕ) (buffers : ℕ) (seen : List Ent
         follows_so = subst (λ h. Follows ActsFor tower opening number (fifo_plan h number t c own) old new (record { own = own2; answer = result }))
             (sym of.homes_are) follows
 
+        abbrev polled_so : Polled
+        polled_so = record {
+          ActsFor = ActsFor;
+          setup = setup;
+          opening = opening;
+          c = number;
+          acts = acts;
+          opens = opens_as setup homes caps number opening of.homes_are of.caps_are tabled.opens;
+          old = old;
+          new = new;
+        }
+
         pub poll_steps : IsStep ActsFor (cpu_step setup number) (private own guests trace) (private own2 guests2 trace2) (named old) (named new) Stepped
         poll_steps = subst (λ q. IsStep ActsFor (cpu_step setup number) (private own guests trace) q (named old) (named new) Stepped) private_so
             (go (is_between talk.stage))
           where
-            opens : OpensAs setup number opening
-            opens = opens_as setup homes caps number opening of.homes_are of.caps_are tabled.opens
-
             go : (talk.stage ≡ at_stage.Between) ⊎ (talk.stage ≡ at_stage.Between → ⊥)
                 → IsStep ActsFor (cpu_step setup number) (private own guests trace)
                 (private_after setup number t c own (states guests) trace (record { own = own2; answer = result })) (named old) (named new) Stepped
             go (inl between) =
                 let outside : is_in_section (phase number old) ≡ false = sym busy ∙ outside_so inside rests between in
-                first_polls_are_steps ActsFor setup opening number own own2 (states guests) trace t c old new result acts opens (begins_so setup of between)
+                first_polls_are_steps polled_so own (states guests) trace t c (record { own = own2; answer = result }) (begins_so setup of between)
                 (known_in own2 known2) outside (not_halted outside) follows_so
             go (inr calls) =
-                polls_are_steps ActsFor setup opening number own own2 (states guests) trace t c old new result acts opens (going_so calls)
-                (known_in own known)
-                (known_in own2 known2) not_halted follows_so
+                polls_are_steps polled_so own (states guests) trace t c (record { own = own2; answer = result }) (going_so calls)
+                (known_in own known) (known_in own2 known2) not_halted follows_so

@@ -1,4 +1,5 @@
 pub mod Viewed
+pub mod Callers
 pub mod Numbered
 pub mod Settled
 pub mod Lines
@@ -6,6 +7,7 @@ pub mod Composition
 pub mod Chains
 pub mod Sends
 pub mod Plans
+pub mod Polled
 pub mod Polls
 pub mod Begins
 pub mod Passing

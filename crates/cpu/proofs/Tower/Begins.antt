@@ -1,13 +1,11 @@
 -- Each poll of a call is a step of the table: of one that goes on, and of one that begins, where the call begins and its caller takes its
 -- place at the lock in one step.
-use Rattle.std.proofs.Common.{◌≡◌, ◌≢◌, ℕ, ◌+◌, ◌<◌, ◌==◌, Bool, true, false, ◌&&◌, List, length, slice_set}
-use Rattle.std.proofs.Common.{Option, Some, None, IsSome, option_map, refl, ap, sym, ◌∙◌, subst, arith}
+use Rattle.std.proofs.Common.{◌≡◌, ◌+◌, ◌<◌, false, ◌&&◌, List, length, slice_set, Option, Some, None, option_map, refl, ap, sym, ◌∙◌, subst, arith}
 use Rattle.event_log.specs.declared.entries.Entry.{Entry}
 use Rattle.event_log.specs.declared.ids.BufId.{BufId}
 use Rattle.event_log.specs.declared.ids.CpuId.{CpuId}
-use Rattle.event_log.specs.declared.ids.LockId.{LockId}
 use Rattle.event_log.specs.declared.ids.Tid.{Tid}
-use Rattle.event_log.specs.Actions.{Action, phase}
+use Rattle.event_log.specs.Actions.{phase}
 use Rattle.event_log.specs.Messages.{no_message}
 use Rattle.guest.specs.declared.instructions.Instruction.{Instruction}
 use Rattle.guest.specs.declared.instructions.Instruction.TheVariants as instruction
@@ -26,17 +24,19 @@ use Rattle.layer_traits.specs.Places.{is_thread}
 use Rattle.layer_traits.specs.Plans.{Left, Follows, is_in_section}
 use Rattle.layer_traits.specs.BufferLaw.{Buffering, begun_at, fifo_plan, going, going_at, plan_at, talk_of}
 use Rattle.cpu.specs.Table.Blocks.{Sends, Receives}
-use Rattle.cpu.specs.Table.Setups.{Setup, Acquires, Call as TableCall, Private, Thread, home_threads, new_thread, open_calls, program_of, stands_at, thread_at}
-use Rattle.cpu.specs.Table.Choice.{Choice, Goes, at_call, at_hand, at_instruction, begins, choice, new_call}
-use Rattle.cpu.specs.Table.Steps.{acting, cpu_step, halted_at, halted_by}
-use Rattle.cpu.specs.Tower.Views.{TowerBlock, TowerName, TowerOut, tower}
+use Rattle.cpu.specs.Table.Setups.{Setup, Acquires, Call as TableCall, Private, new_thread, program_of, thread_at}
+use Rattle.cpu.specs.Table.Choice.{Goes, at_instruction, choice, new_call}
+use Rattle.cpu.specs.Table.Steps.{cpu_step, halted_at, halted_by}
+use Rattle.cpu.specs.Tower.Views.{TowerOut, tower}
 use Rattle.cpu.specs.Tower.Privates.{call_from, guest_at, private_after, private_of, thread_from, thread_of, threads_in, tid}
-use Rattle.cpu.specs.Tower.Composed.{AsksFor, HandIsKnown, IsBeginning, IsGoing, IsLine, OpensAs, Stands, asks, was_handed, enters, tries, waits, was_woken}
+use Rattle.cpu.specs.Tower.Composed.{AsksFor, HandIsKnown, IsBeginning, IsGoing, IsLine, Stands, asks, was_handed, enters, tries, waits, was_woken}
 use Rattle.cpu.specs.Tower.Composed.{asks_again, was_handed_again, signals, signals_own, releases, has_signalled, has_signalled_own, has_released, named}
-use Rattle.cpu.proofs.Tower.Numbered.{numbered_at, own_at, parts, threads_at}
-use Rattle.cpu.proofs.Tower.Lines.{HasHad, Site, after, from, own, talk}
+use Rattle.cpu.proofs.Tower.Callers.{HasRoom, Site, awake, caller_in}
+use Rattle.cpu.proofs.Tower.Numbered.{numbered_at, own_at, part_at, parts, threads_at}
+use Rattle.cpu.proofs.Tower.Lines.{HasHad, from, own, talk}
 use Rattle.cpu.proofs.Tower.Composition.{asks_line}
 use Rattle.cpu.proofs.Tower.Plans.{plans_are_lines}
+use Rattle.cpu.proofs.Tower.Polled.{Polled, Way}
 use Rattle.cpu.proofs.Tower.Polls.{begins_so, choice_current, choice_hand, line_is_step, step_goes}
 
 -- the table's thread of a number
@@ -72,25 +72,35 @@ going_goes setup c p t call current is halted = go p.hand refl
     go None at = choice_current setup c p t (Some call) at current is halted
     go (Some u) at = choice_hand setup c p u at
 
-pub polls_are_steps : (ActsFor : CpuId → Type 0) (setup : Setup) (opening : LockId → Option TowerBlock) (c : CpuId) (own own' : Buffering)
-    (guests : List State) (trace : List Entry) (t : Tid) (call : Call) (old new : List (Action TowerName)) (result : Option Reply) → ActsFor c
-    → OpensAs setup c opening → IsGoing own guests t call → HandIsKnown setup own → HandIsKnown setup own'
-    → (is_in_section (phase c old) ≡ false → halted_at setup c (private_of own guests trace) ≡ None)
-    → Follows ActsFor tower opening c (fifo_plan setup.homes c t call own) old new (record { own = own'; answer = result })
-    → IsStep ActsFor (cpu_step setup c) (private_of own guests trace)
-    (private_after setup c t call own guests trace (record { own = own'; answer = result })) (named old) (named new) Stepped
-polls_are_steps ActsFor setup opening c own own' guests trace t call old new result acts opens going known known' live follows =
-    let p : Private = private_of own guests trace in
-    let talk_now : Talk = talk_of own.talks t in
-    let begun : begun_at talk_now.stage talk_now.call ≡ Some call
-    = ap (begun_at talk_now.stage) going.begun
-    ∙ begun_stands talk_now.stage (threads_in own).hand own.cv.lock.sleep.kept (slept_for own.cv.lock.slept t)
-    (slept_for own.cv.waits t) talk_now.effect call going.stands in
-    let is = ap (λ x. x.call) (thread_here own guests trace t going.in_guests) ∙ ap (option_map _) begun in
-    line_is_step ActsFor setup opening c own' p p (fifo_plan setup.homes c t call own)
-    (private_after setup c t call own guests trace) old new result acts opens
-    (plans_are_lines setup c own guests trace t call going known) known'
-    (λ past same. step_goes setup c p p old past same (λ inside. refl) (λ outside. going_goes setup c p t _ going.current is (live outside))) follows
+module _ (polled : Polled) (own : Buffering) (guests : List State) (trace : List Entry) (t : Tid) (call : Call) (got : Left Buffering Reply) where
+  open polled use {ActsFor, setup, opening, c, old, new}
+
+  -- the poll of this call that left this is a step of the table, from a part that is the CPU's before it
+  abbrev pub IsStepFrom : Buffering → Type 0
+  IsStepFrom o =
+      Follows ActsFor tower opening c (fifo_plan setup.homes c t call o) old new got
+      → IsStep ActsFor (cpu_step setup c) (private_of o guests trace) (private_after setup c t call o guests trace got) (named old) (named new) Stepped
+
+  pub polls_are_steps : IsGoing own guests t call → HandIsKnown setup own → HandIsKnown setup got.own
+      → (is_in_section (phase c old) ≡ false → halted_at setup c (private_of own guests trace) ≡ None) → IsStepFrom own
+  polls_are_steps going known known2 live follows =
+      let p : Private = private_of own guests trace in
+      let talk_now : Talk = talk_of own.talks t in
+      let begun : begun_at talk_now.stage talk_now.call ≡ Some call
+      = ap (begun_at talk_now.stage) going.begun
+      ∙ begun_stands talk_now.stage (threads_in own).hand own.cv.lock.sleep.kept (slept_for own.cv.lock.slept t)
+      (slept_for own.cv.waits t) talk_now.effect call going.stands in
+      let is = ap (λ x. x.call) (thread_here own guests trace t going.in_guests) ∙ ap (option_map _) begun in
+      let way : Way Reply polled = record {
+        p = p;
+        q = p;
+        plan = fifo_plan setup.homes c t call own;
+        after = private_after setup c t call own guests trace;
+        line = plans_are_lines setup c own guests trace t call going known;
+        goes = λ past same. step_goes setup c p p old past same (λ inside. refl)
+            (λ outside. going_goes setup c p t _ going.current is (live outside));
+      } in
+      line_is_step polled way got known2 follows
 
 -- A call that begins.
 
@@ -143,43 +153,30 @@ module _ (site : Site) (had : HasHad site None) (first_position : site.position 
       ∙ ap (λ x. at_instruction site.setup site.c p site.t (next_of (program_of site.setup site.t) x.guest)) there in
       way ∙ begins_at (next_of (program_of site.setup site.t) g) begins_here (ap halted_by (sym way) ∙ halted)
 
-module _ (ActsFor : CpuId → Type 0) (setup : Setup) (opening : LockId → Option TowerBlock) (c : CpuId) (own own2 : Buffering)
-    (guests : List State) (trace : List Entry) (t : Tid) (call : Call) (old new : List (Action TowerName)) (result : Option Reply) (acts : ActsFor c)
-    (opens : OpensAs setup c opening) (beginning : IsBeginning setup own guests t call) (known : HandIsKnown setup own2)
-    (outside : is_in_section (phase c old) ≡ false) where
-  abbrev First : Buffering → Type 0
-  First o = halted_at setup c (private_of o guests trace) ≡ None
-      → Follows ActsFor tower opening c (fifo_plan setup.homes c t call o) old new (record { own = own2; answer = result })
-      → IsStep ActsFor (cpu_step setup c) (private_of o guests trace)
-      (private_after setup c t call o guests trace (record { own = own2; answer = result })) (named old) (named new) Stepped
+module _ (polled : Polled) (own : Buffering) (guests : List State) (trace : List Entry) (t : Tid) (call : Call) (got : Left Buffering Reply)
+    (beginning : IsBeginning polled.setup own guests t call) (known : HandIsKnown polled.setup got.own)
+    (outside : is_in_section (phase polled.c polled.old) ≡ false) where
+  open polled use {setup, c, old}
 
-  abbrev site : Site
-  site = record {
-    setup = setup;
-    c = c;
-    t = t;
-    ready = (threads_in own).ready;
-    ended = (threads_in own).ended;
-    slept = own.cv.lock.slept;
-    waits = own.cv.waits;
-    talks = own.talks;
-    guests = guests;
-    trace = trace;
-    call = call;
-    position = 0;
+  abbrev First : Buffering → Type 0
+  First o = halted_at setup c (private_of o guests trace) ≡ None → IsStepFrom polled own guests trace t call got o
+
+  abbrev room : HasRoom own guests t
+  room = record {
     in_guests = beginning.in_guests;
     in_talks = beginning.in_talks;
     in_slept = beginning.in_slept;
     in_waits = beginning.in_waits;
-    is_slept = beginning.slept;
-    is_waits = beginning.waits;
   }
+
+  abbrev site : Site
+  site = awake (caller_in setup c own guests t room trace call 0) beginning.slept beginning.waits
 
   abbrev had : HasHad site None
   had = ap (λ s. (going_at s (talk_of own.talks t) call).effect) beginning.between
 
   abbrev pieces : Buffering
-  pieces = own_at (Some t) None (threads_in own).ready (threads_in own).ended None own.cv.lock.slept own.cv.waits own.talks
+  pieces = part_at site.runner None None
 
   by_pieces : First pieces
   by_pieces halted follow =
@@ -189,11 +186,16 @@ module _ (ActsFor : CpuId → Type 0) (setup : Setup) (opening : LockId → Opti
       = ap (λ s. plan_at setup.homes c t call (going_at s (talk_of own.talks t) call).stage
       (going_at s (talk_of own.talks t) call) pieces) beginning.between in
       let line = subst (λ x. IsLine setup c q x (private_after setup c t call pieces guests trace)) (sym plan) (asks_line site had) in
-      line_is_step ActsFor setup opening c own2 p q (fifo_plan setup.homes c t call pieces)
-      (private_after setup c t call pieces guests trace) old new result acts opens
-      line known
-      (λ past same. step_goes setup c p q old past same (λ inside. absurd (cc (inside, outside)))
-      (λ out. choice_begins site had refl beginning.between beginning.at halted)) follow
+      let way : Way Reply polled = record {
+        p = p;
+        q = q;
+        plan = fifo_plan setup.homes c t call pieces;
+        after = private_after setup c t call pieces guests trace;
+        line = line;
+        goes = λ past same. step_goes setup c p q old past same (λ inside. absurd (cc (inside, outside)))
+            (λ out. choice_begins site had refl beginning.between beginning.at halted);
+      } in
+      line_is_step polled way got known follow
 
   pub first_polls_are_steps : First own
   first_polls_are_steps =

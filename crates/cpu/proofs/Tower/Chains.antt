@@ -13,27 +13,28 @@ use Rattle.thread_blocks.specs.Queues.{is_in}
 use Rattle.layer_traits.specs.declared.calls.Call.{Call as TowerCall}
 use Rattle.layer_traits.specs.declared.calls.Effect.{Effect}
 use Rattle.layer_traits.specs.declared.calls.Reply.{Reply}
-use Rattle.layer_traits.specs.declared.locked.QEdit.TheVariants.{Acquire, Inside, Release}
-use Rattle.layer_traits.specs.declared.conditions.CvLeave.TheVariants.{Leave, Wait}
+use Rattle.layer_traits.specs.declared.locked.QEdit.TheVariants.{Acquire, Release}
+use Rattle.layer_traits.specs.declared.conditions.CvLeave.TheVariants.{Wait}
 use Rattle.layer_traits.specs.declared.buffer_edits.BufferEdit.{BufferEdit}
 use Rattle.layer_traits.specs.declared.buffer_edits.BufferOut.{BufferOut}
 use Rattle.layer_traits.specs.declared.talks.Stage.{Stage as TowerStage}
 use Rattle.layer_traits.specs.declared.talks.Stage.TheVariants as at
 use Rattle.layer_traits.specs.declared.talks.Talk.{Talk}
 use Rattle.layer_traits.specs.BufferProtocol.{buffer_rules}
-use Rattle.layer_traits.specs.BufferLaw.{BufferPlan, Buffering, at_stage, buffer_of, chained, fifo_plan, going}
-use Rattle.layer_traits.specs.BufferLaw.{left_heard, plan_at, plan_of, plan_on, quiet, side_of as tower_side, talk_of}
+use Rattle.layer_traits.specs.BufferLaw.{BufferPlan, Buffering, buffer_of, chained, fifo_plan, going, left_heard, plan_at, plan_of, plan_on, quiet}
+use Rattle.layer_traits.specs.BufferLaw.{side_of as tower_side, talk_of}
 use Rattle.layer_traits.specs.Conditions.{CvCall}
 use Rattle.layer_traits.specs.CvLaw.{Waiting, cv_plan, cv_plan_for, left_waiting}
 use Rattle.layer_traits.specs.LockLaw.{plan_for, slept_for}
 use Rattle.layer_traits.specs.Locking.{lock_moves}
-use Rattle.layer_traits.specs.Plans.{Left, Plan, raised}
-use Rattle.cpu.specs.Table.Setups.{Setup, Acquires, Enters, Tries, Waits, AcquiresAgain, Signals, SignalsOwn, Releases, Stage, Thread, Private}
+use Rattle.layer_traits.specs.Plans.{Plan, raised}
+use Rattle.cpu.specs.Table.Setups.{Setup, Acquires, Enters, Tries, Waits, AcquiresAgain, Signals, SignalsOwn, Releases, Stage}
 use Rattle.cpu.specs.Tower.Views.{TowerAnswer, TowerName, TowerOut}
 use Rattle.cpu.specs.Tower.Privates.{guest_at, guests_after, private_after, private_of, thread_from, tid, trace_after}
 use Rattle.cpu.specs.Tower.Composed.{IsLine}
-use Rattle.cpu.proofs.Tower.Numbered.{changed, goes, own_at, parts, threads_at}
-use Rattle.cpu.proofs.Tower.Lines.{HasHad, Site, after, e, from, g, own, talk, threads, with_call, k}
+use Rattle.cpu.proofs.Tower.Callers.{Caller, Runner, Site, at_next, awake, talk_at}
+use Rattle.cpu.proofs.Tower.Numbered.{changed, goes, own_at, part_at, parts, threads_at}
+use Rattle.cpu.proofs.Tower.Lines.{HasHad, after, e, from, g, own, talk, threads, with_call, k}
 use Rattle.cpu.proofs.Tower.Composition.{asks_line, asks_again_line, enters_line, tries_line, waits_line, signals_line, own_signals_line, releases_line}
 
 -- the plan of a poll of this call is a line of the table
@@ -46,16 +47,17 @@ pub put_same : {X : Type 0} (xs : List X) (n : ℕ) (x d : X) → get_or xs n d 
 put_same xs n x d is = sym (set-get_or xs n d) ∙ ap (slice_set xs n) is
 
 -- the part's private state, with its current thread in the place of its number
-pub private_here : (t : Tid) (hand : Option Tid) (ready ended : List Tid) (kept : Option TowerOut) (slept waits : List (Option BufId)) (talks : List Talk)
-    (guests : List State) (trace : List Entry) → t.0 < length guests → t.0 < length talks → (talk : Talk) (s w : Option BufId)
-    → talk_of talks t ≡ talk → slept_for slept t ≡ s → slept_for waits t ≡ w
-    → private_of (own_at (Some t) hand ready ended kept slept waits talks) guests trace
-    ≡ parts (Some t) ready hand (slice_set (threads_at (own_at (Some t) hand ready ended kept slept waits talks) guests) t.0
-    (thread_from talk s w (is_some kept) (is_in t ended) (guest_at guests t))) trace
-private_here t hand ready ended kept slept waits talks guests trace in_guests in_talks talk s w is is_s is_w =
-    (λ i. private_of (own_at (Some t) hand ready ended kept slept waits (put_same talks t.0 talk quiet is i))
-    (put_same guests t.0 (guest_at guests t) at_start refl i) trace)
-    ∙ goes t hand ready ended kept slept waits talks guests in_guests in_talks hand ready kept talk (guest_at guests t) trace s w is_s is_w
+module _ (runner : Runner) (hand : Option Tid) (kept : Option TowerOut) (trace : List Entry) where
+  open runner use {t, ready, ended, slept, waits, talks, guests}
+
+  pub private_here : (talk : Talk) (s w : Option BufId) → talk_of talks t ≡ talk → slept_for slept t ≡ s → slept_for waits t ≡ w
+      → private_of (part_at runner hand kept) guests trace
+      ≡ parts (Some t) ready hand (slice_set (threads_at (part_at runner hand kept) guests) t.0
+      (thread_from talk s w (is_some kept) (is_in t ended) (guest_at guests t))) trace
+  private_here talk s w is is_s is_w =
+      (λ i. private_of (own_at (Some t) hand ready ended kept slept waits (put_same talks t.0 talk quiet is i))
+      (put_same guests t.0 (guest_at guests t) at_start refl i) trace)
+      ∙ goes runner hand kept hand ready kept talk (guest_at guests t) trace s w is_s is_w
 
 -- the plan of a poll, where the talk is this
 pub fifo_at : (setup : Setup) (c : CpuId) (t : Tid) (call : TowerCall) (own : Buffering) (talk : Talk) → talk_of own.talks t ≡ talk
@@ -73,73 +75,67 @@ module _ (site : Site) (effect : Option Effect) (had : HasHad site effect) (stag
       → IsLine site.setup site.c (from site effect had at) plan (after site effect had)
       → LineOf site.setup site.c site.t site.call (own site effect had) site.guests site.trace
   going_line at same plan is_plan line =
-      let here = private_here site.t None site.ready site.ended None site.slept site.waits site.talks site.guests site.trace site.in_guests site.in_talks
-      (talk site effect had stage) None None is site.is_slept site.is_waits
+      let here = private_here site.runner None None site.trace (talk site effect had stage) None None is site.is_slept site.is_waits
       ∙ ap (λ x. parts (Some site.t) site.ready None (slice_set (threads site effect had) site.t.0 x) site.trace) same in
       let way = fifo_at site.setup site.c site.t site.call (own site effect had) (talk site effect had stage) is ∙ is_plan in
       subst (λ x. x) (λ i. IsLine site.setup site.c (sym here i) (sym way i) (after site effect had)) line
 
 module _ (site : Site) where
-  abbrev talk_at : TowerStage → Option Effect → Talk
-  talk_at stage effect = record { stage = stage; call = Some site.call; position = site.position; effect = effect }
+  open site use {caller, setup, c, t, talks, guests, trace, call}
 
   abbrev pub SiteLine : Type 0
-  SiteLine = LineOf site.setup site.c site.t site.call
-      (own_at (Some site.t) None site.ready site.ended None site.slept site.waits site.talks) site.guests site.trace
+  SiteLine = LineOf setup c t call (part_at site.runner None None) guests trace
 
-  had_none : (stage : TowerStage) → (going (talk_at stage None) site.call).effect ≡ None → talk_of site.talks site.t ≡ talk_at stage None → HasHad site None
-  had_none stage so is = ap (λ x. (going x site.call).effect) is ∙ so
+  had_none : (stage : TowerStage) → (going (talk_at caller stage None) call).effect ≡ None → talk_of talks t ≡ talk_at caller stage None → HasHad site None
+  had_none stage so is = ap (λ x. (going x call).effect) is ∙ so
 
-  pub site_asks : talk_of site.talks site.t ≡ talk_at at.Acquires None → SiteLine
+  pub site_asks : talk_of talks t ≡ talk_at caller at.Acquires None → SiteLine
   site_asks is = let had = had_none at.Acquires refl is in going_line site None had at.Acquires is Acquires refl _ refl (asks_line site had)
 
-  pub site_enters : talk_of site.talks site.t ≡ talk_at at.Enters None → SiteLine
+  pub site_enters : talk_of talks t ≡ talk_at caller at.Enters None → SiteLine
   site_enters is = let had = had_none at.Enters refl is in going_line site None had at.Enters is Enters refl _ refl (enters_line site had)
 
-  pub site_tries : talk_of site.talks site.t ≡ talk_at at.Tries None → SiteLine
+  pub site_tries : talk_of talks t ≡ talk_at caller at.Tries None → SiteLine
   site_tries is = let had = had_none at.Tries refl is in going_line site None had at.Tries is Tries refl _ refl (tries_line site had)
 
-  pub site_waits : talk_of site.talks site.t ≡ talk_at at.Waits None → SiteLine
+  pub site_waits : talk_of talks t ≡ talk_at caller at.Waits None → SiteLine
   site_waits is = let had = had_none at.Waits refl is in going_line site None had at.Waits is Waits refl _ refl (waits_line site had)
 
-  pub site_asks_again : talk_of site.talks site.t ≡ talk_at at.AcquiresAgain None → SiteLine
+  pub site_asks_again : talk_of talks t ≡ talk_at caller at.AcquiresAgain None → SiteLine
   site_asks_again is =
       let had = had_none at.AcquiresAgain refl is in going_line site None had at.AcquiresAgain is AcquiresAgain refl _ refl (asks_again_line site had)
 
-  pub site_signals : (f : Effect) → talk_of site.talks site.t ≡ talk_at at.Signals (Some f) → SiteLine
+  pub site_signals : (f : Effect) → talk_of talks t ≡ talk_at caller at.Signals (Some f) → SiteLine
   site_signals f is =
-      let had : HasHad site (Some f) = ap (λ x. (going x site.call).effect) is in
+      let had : HasHad site (Some f) = ap (λ x. (going x call).effect) is in
       going_line site (Some f) had at.Signals is Signals refl _ refl (signals_line site f had)
 
-  pub site_own_signals : (f : Effect) → talk_of site.talks site.t ≡ talk_at at.SignalsOwn (Some f) → SiteLine
+  pub site_own_signals : (f : Effect) → talk_of talks t ≡ talk_at caller at.SignalsOwn (Some f) → SiteLine
   site_own_signals f is =
-      let had : HasHad site (Some f) = ap (λ x. (going x site.call).effect) is in
+      let had : HasHad site (Some f) = ap (λ x. (going x call).effect) is in
       going_line site (Some f) had at.SignalsOwn is SignalsOwn refl _ refl (own_signals_line site f had)
 
-  pub site_releases : (f : Effect) → talk_of site.talks site.t ≡ talk_at at.Releases (Some f) → SiteLine
+  pub site_releases : (f : Effect) → talk_of talks t ≡ talk_at caller at.Releases (Some f) → SiteLine
   site_releases f is =
-      let had : HasHad site (Some f) = ap (λ x. (going x site.call).effect) is in
+      let had : HasHad site (Some f) = ap (λ x. (going x call).effect) is in
       going_line site (Some f) had at.Releases is Releases refl _ refl (releases_line site f had)
 
 -- Chains: the thread slept for the lock and was handed it, or waited and was woken.
 
-module _ (setup : Setup) (c : CpuId) (t : Tid) (ready ended : List Tid) (slept waits : List (Option BufId)) (talks : List Talk) (guests : List State)
-    (trace : List Entry) (call : TowerCall) (position : ℕ) (in_guests : t.0 < length guests) (in_talks : t.0 < length talks)
-    (in_slept : t.0 < length slept) (in_waits : t.0 < length waits) where
+module _ (caller : Caller) where
+  open caller use {runner, setup, c, t, ready, ended, slept, waits, talks, guests, trace, call, in_guests, in_talks, in_slept, in_waits}
+
   abbrev was : Buffering
-  was = own_at (Some t) None ready ended None slept waits talks
+  was = part_at runner None None
 
   abbrev so : TowerStage → Talk
-  so stage = record { stage = stage; call = Some call; position = position; effect = None }
+  so stage = talk_at caller stage None
 
   abbrev then_own : List (Option BufId) → List (Option BufId) → TowerStage → Buffering
   then_own slept2 waits2 stage = own_at (Some t) None ready ended None slept2 waits2 (slice_set talks t.0 (so stage))
 
   now_talk : (stage : TowerStage) → talk_of (slice_set talks t.0 (so stage)) t ≡ so stage
   now_talk stage = get_or-set_same talks t.0 (so stage) quiet in_talks
-
-  now_long : (stage : TowerStage) → t.0 < length (slice_set talks t.0 (so stage))
-  now_long stage = subst (λ n. t.0 < n) (sym (length-set talks t.0 (so stage))) in_talks
 
   -- the private state is the same
   same_private : (stage next : TowerStage) (slept2 waits2 : List (Option BufId)) (s w : Option BufId) → talk_of talks t ≡ so stage
@@ -150,11 +146,10 @@ module _ (setup : Setup) (c : CpuId) (t : Tid) (ready ended : List Tid) (slept w
       → private_of (then_own slept2 waits2 next) guests trace ≡ private_of was guests trace
   same_private stage next slept2 waits2 s w is is_s is_w slept_same waits_same s2 w2 same =
       (λ i. private_of (then_own slept2 waits2 next) (put_same guests t.0 (guest_at guests t) at_start refl i) trace)
-      ∙ (changed t None ready ended None slept waits talks guests in_guests in_talks (Some t) None ready None slept2 waits2 (so next)
-      (guest_at guests t) trace None None false
+      ∙ (changed runner None None (Some t) None ready None slept2 waits2 (so next) (guest_at guests t) trace None None false
       (λ j other. ap (λ b. b && false) (ne_eqb t.0 j (λ e. other (sym e)))) slept_same waits_same s2 w2 (ap (λ b. b && false) (same_tid_self t))
       ∙ (ap (λ x. parts (Some t) ready None (slice_set (threads_at was guests) t.0 x) trace) same
-      ∙ sym (private_here t None ready ended None slept waits talks guests trace in_guests in_talks (so stage) s w is is_s is_w)))
+      ∙ sym (private_here runner None None trace (so stage) s w is is_s is_w)))
 
   -- a line of the state to which the poll went on is one of the state from which it came
   chained_line : (stage next : TowerStage) (own2 : Buffering) → talk_of talks t ≡ so stage → talk_of own2.talks t ≡ so next
@@ -178,29 +173,6 @@ module _ (setup : Setup) (c : CpuId) (t : Tid) (ready ended : List Tid) (slept w
       ap (cv_plan_for (lock_moves buffer_rules) setup.homes c (buffer_of call) (Acquire t) was.cv) w
       ∙ ap (λ o. raised (λ l. left_waiting t (buffer_of call) waits l.own l.answer)
       (plan_for (lock_moves buffer_rules) setup.homes c (buffer_of call) (Acquire t) was.cv.lock o)) s
-
-  abbrev site_then : (slept2 waits2 : List (Option BufId)) (stage : TowerStage) → t.0 < length slept2 → t.0 < length waits2
-      → slept_for slept2 t ≡ None → slept_for waits2 t ≡ None → Site
-  site_then slept2 waits2 stage long_slept long_waits s2 w2 = record {
-    setup = setup;
-    c = c;
-    t = t;
-    ready = ready;
-    ended = ended;
-    slept = slept2;
-    waits = waits2;
-    talks = slice_set talks t.0 (so stage);
-    guests = guests;
-    trace = trace;
-    call = call;
-    position = position;
-    in_guests = in_guests;
-    in_talks = now_long stage;
-    in_slept = long_slept;
-    in_waits = long_waits;
-    is_slept = s2;
-    is_waits = w2;
-  }
 
   slept_set : slept_for (slice_set slept t.0 None) t ≡ None
   slept_set = get_or-set_same slept t.0 None None in_slept
@@ -233,7 +205,7 @@ module _ (setup : Setup) (c : CpuId) (t : Tid) (ready ended : List Tid) (slept w
       (same_private at.Acquires at.Enters (slice_set slept t.0 None) waits (Some b) None is s w
       (λ j other. get_or-set_other slept t.0 j None None other) (λ j other. refl) slept_set w refl)
       (handed_plan b is s w)
-      (site_enters (site_then (slice_set slept t.0 None) waits at.Enters slept_long in_waits slept_set w) (now_talk at.Enters))
+      (site_enters (awake (at_next caller (slice_set slept t.0 None) waits at.Enters slept_long in_waits) slept_set w) (now_talk at.Enters))
 
   pub handed_again_plan : (b : BufId) → talk_of talks t ≡ so at.AcquiresAgain → slept_for slept t ≡ Some b → slept_for waits t ≡ None
       → fifo_plan setup.homes c t call was ≡ fifo_plan setup.homes c t call (then_own (slice_set slept t.0 None) waits at.Tries)
@@ -253,7 +225,7 @@ module _ (setup : Setup) (c : CpuId) (t : Tid) (ready ended : List Tid) (slept w
       (same_private at.AcquiresAgain at.Tries (slice_set slept t.0 None) waits (Some b) None is s w
       (λ j other. get_or-set_other slept t.0 j None None other) (λ j other. refl) slept_set w refl)
       (handed_again_plan b is s w)
-      (site_tries (site_then (slice_set slept t.0 None) waits at.Tries slept_long in_waits slept_set w) (now_talk at.Tries))
+      (site_tries (awake (at_next caller (slice_set slept t.0 None) waits at.Tries slept_long in_waits) slept_set w) (now_talk at.Tries))
 
   -- the plan of a thread that was woken is to ask for the lock again
   pub woken_plan : (b : BufId) → talk_of talks t ≡ so at.Waits → slept_for slept t ≡ None → slept_for waits t ≡ Some b
@@ -275,4 +247,4 @@ module _ (setup : Setup) (c : CpuId) (t : Tid) (ready ended : List Tid) (slept w
       (same_private at.Waits at.AcquiresAgain slept (slice_set waits t.0 None) None (Some b) is s w
       (λ j other. refl) (λ j other. get_or-set_other waits t.0 j None None other) s waits_set refl)
       (woken_plan b is s w)
-      (site_asks_again (site_then slept (slice_set waits t.0 None) at.AcquiresAgain in_slept waits_long s waits_set) (now_talk at.AcquiresAgain))
+      (site_asks_again (awake (at_next caller slept (slice_set waits t.0 None) at.AcquiresAgain in_slept waits_long) s waits_set) (now_talk at.AcquiresAgain))

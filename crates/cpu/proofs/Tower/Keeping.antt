@@ -1,82 +1,51 @@
 -- How all threads stand to a part is kept by each section of a call, where nobody is in the hand.
-use Rattle.std.proofs.Common.{◌≡◌, ◌≢◌, ◌⊎◌, inl, inr, ℕ, ◌<◌, Bool, true, false, List, [], ◌∷◌, ◌++◌, length, slice_get}
-use Rattle.std.proofs.Common.{slice_set, Option, Some, None, IsSome, is_some, if◌then◌else◌, refl, ap, sym, ◌∙◌, subst}
-use Rattle.std.proofs.lemmas.List.{get_or-set_same, get_or-set_other, set-get_or}
-use Rattle.event_log.specs.declared.entries.Entry.{Entry}
+use Rattle.std.proofs.Common.{◌≡◌, ◌≢◌, ◌⊎◌, inl, inr, ℕ, Bool, true, false, List, [], ◌∷◌, ◌++◌, length, slice_get, slice_set, Option, Some, None, refl, ap}
+use Rattle.std.proofs.Common.{sym, ◌∙◌, subst}
+use Rattle.std.proofs.lemmas.List.{get_or-set_same, get_or-set_other, length-set}
 use Rattle.event_log.specs.declared.ids.BufId.{BufId}
 use Rattle.event_log.specs.declared.ids.CpuId.{CpuId}
 use Rattle.event_log.specs.declared.ids.LockId.TheVariants.{Buffer}
 use Rattle.event_log.specs.declared.ids.Tid.{Tid}
-use Rattle.event_log.specs.History.{same_cpu}
-use Rattle.event_log.specs.Messages.{Message}
-use Rattle.guest.specs.declared.instructions.Instruction.{Instruction}
-use Rattle.guest.specs.State.{State, at_start, next_of}
-use Rattle.thread_blocks.specs.Queues.{first, is_in}
-use Rattle.layer_traits.proofs.CountLemmas.{same_cpu_sym}
-use Rattle.layer_traits.specs.declared.calls.Call.{Call as TowerCall}
-use Rattle.layer_traits.specs.declared.calls.Call.TheVariants.{Send, Recv}
+use Rattle.thread_blocks.specs.Queues.{first}
 use Rattle.layer_traits.specs.declared.calls.Effect.{Effect}
 use Rattle.layer_traits.specs.declared.calls.Reply.{Reply}
 use Rattle.layer_traits.specs.declared.locked.QEdit.TheVariants.{Acquire, Inside, Release}
-use Rattle.layer_traits.specs.declared.locked.QOut.{QOut}
-use Rattle.layer_traits.specs.declared.locked.QOut.TheVariants as lock
 use Rattle.layer_traits.specs.declared.locked.Side.{Side}
 use Rattle.layer_traits.specs.declared.locked.Side.TheVariants.{Receivers, Senders}
 use Rattle.layer_traits.specs.declared.conditions.CvEdit.TheVariants.{Edit, SignalFront}
 use Rattle.layer_traits.specs.declared.conditions.CvLeave.TheVariants.{Leave, Wait}
 use Rattle.layer_traits.specs.declared.conditions.CvOut.{CvOut}
-use Rattle.layer_traits.specs.declared.conditions.CvOut.TheVariants as cv
 use Rattle.layer_traits.specs.declared.buffer_edits.BufferEdit.{BufferEdit}
 use Rattle.layer_traits.specs.declared.buffer_edits.BufferOut.{BufferOut}
-use Rattle.layer_traits.specs.declared.buffer_edits.BufferOut.TheVariants.{Entered, NotYet, Done}
+use Rattle.layer_traits.specs.declared.buffer_edits.BufferOut.TheVariants.{NotYet}
 use Rattle.layer_traits.specs.declared.queue_edits.QueueBlock.TheVariants as block
 use Rattle.layer_traits.specs.declared.queue_edits.QueueEdit.TheVariants as queue
 use Rattle.layer_traits.specs.declared.queues.QueueAnswer.TheVariants as told
-use Rattle.layer_traits.specs.declared.sleeps.Outcome.{Outcome}
 use Rattle.layer_traits.specs.declared.talks.Stage.{Stage as TowerStage}
 use Rattle.layer_traits.specs.declared.talks.Stage.TheVariants as at
 use Rattle.layer_traits.specs.declared.talks.Talk.{Talk}
-use Rattle.layer_traits.specs.BufferBlocks.{BufferState, buffer_answer, editor, first_item, is_turn}
+use Rattle.layer_traits.specs.BufferBlocks.{BufferState, buffer_answer}
 use Rattle.layer_traits.specs.BufferProtocol.{buffer_rules}
-use Rattle.layer_traits.specs.BufferLaw.{BufferPlan, Buffering, at_stage, chained, buffer_of, entry_of, plan_on, first_of}
-use Rattle.layer_traits.specs.BufferLaw.{going, left_heard, other_side, plan_at, plan_beneath, plan_of, quiet, reply_of}
-use Rattle.layer_traits.specs.BufferLaw.{section_at as tower_section, side_of as tower_side, talk_of, try_of}
+use Rattle.layer_traits.specs.BufferLaw.{BufferPlan, Buffering, buffer_of, first_of, other_side, quiet, side_of as tower_side, talk_of, try_of}
 use Rattle.layer_traits.specs.Conditions.{CvCall}
-use Rattle.layer_traits.specs.CvLaw.{Waiting, cv_plan, cv_plan_for, left_waiting}
-use Rattle.layer_traits.specs.LockLaw.{Locking, left_after, plan_for, slept_for}
-use Rattle.layer_traits.specs.Locking.{LockState, line_asked, lock_answer, lock_moves, told_asker}
-use Rattle.layer_traits.specs.Places.{Threads, is_cpu}
-use Rattle.layer_traits.specs.Plans.{Left, Plan, Now, Act, raised}
-use Rattle.layer_traits.specs.SleepLaw.{Sleeping, left_done, sleep_plan}
-use Rattle.cpu.specs.Guests.{after_answer}
-use Rattle.cpu.specs.Table.Blocks.{Answer, Asks, Sends, Receives, Told, Position, effect_of}
-use Rattle.cpu.specs.Table.Setups.{Setup, Acquires, Enters, Tries, Waits, AcquiresAgain, Signals, SignalsOwn, Releases}
-use Rattle.cpu.specs.Table.Setups.{Returns, Stage, Call, Thread, Private, cpu_or, home_of, program_of, thread_at}
-use Rattle.cpu.specs.Table.Choice.{after_section, at_buffer, first_section, guest_after, heard, heard_entry}
-use Rattle.cpu.specs.Table.Choice.{heard_position, returned_at, section_at, settled, slept_if, woken}
-use Rattle.cpu.specs.Tower.Views.{TowerAnswer, TowerBlock, TowerName, TowerOut, answer_view, name_of, tower}
-use Rattle.cpu.specs.Tower.Privates.{asks_in, call_from, guest_at, guests_after, private_after, private_of, thread_from, tid, trace_after}
-use Rattle.cpu.specs.Tower.Composed.{HandIsKnown, IsKind, IsLine}
-use Rattle.cpu.proofs.Tower.Numbered.{changed, goes, gone, numbered_long, own_at, parts, threads_at}
-use Rattle.cpu.proofs.Tower.Settled.{asks_for, calling, done_with, from_t, goes_on, heard_is, put, returns, with_t}
-use Rattle.cpu.proofs.Tower.Lines.{Site, HasHad, Tried, first_editor, first_name, first_answer, try_editor, try_name}
-use Rattle.cpu.proofs.Tower.Lines.{try_answer, wait_name, signal_name, own_signal_name, reply_guest, entry_heard}
-use Rattle.cpu.proofs.Tower.Lines.{own, g, e, threads, buf, talk, k, from, after, runs_on, sleeps_now}
-use Rattle.cpu.proofs.Tower.Lines.{waits_now, beneath_is, fresh, react, line, lift, waking, by_home}
-use Rattle.cpu.proofs.Tower.Lines.{stands, by_table, stays_so, has_returned}
-use Rattle.std.proofs.lemmas.Bool.{cases_eq, eqb-false, eqb-true}
-use Rattle.std.proofs.lemmas.List.{length-set}
+use Rattle.layer_traits.specs.LockLaw.{slept_for}
+use Rattle.layer_traits.specs.Locking.{LockState, lock_answer}
+use Rattle.layer_traits.specs.Places.{is_cpu}
+use Rattle.layer_traits.specs.Plans.{Left, Plan, Act}
+use Rattle.cpu.specs.Table.Setups.{Setup}
+use Rattle.cpu.specs.Tower.Views.{TowerAnswer, TowerBlock, TowerName, TowerOut, tower}
+use Rattle.cpu.specs.Tower.Privates.{tid}
+use Rattle.cpu.specs.Tower.Composed.{IsKind, IsUsed, Stands, asks, was_handed, enters, tries, waits as stands_waits, was_woken, asks_again, was_handed_again}
+use Rattle.cpu.specs.Tower.Composed.{signals, signals_own, releases, has_signalled, has_signalled_own, has_released}
+use Rattle.cpu.proofs.Tower.Numbered.{own_at}
+use Rattle.cpu.proofs.Tower.Callers.{Site}
+use Rattle.cpu.proofs.Tower.Lines.{HasHad, Tried, first_answer, try_answer, talk, fresh, react, lift, waking}
+use Rattle.std.proofs.lemmas.Bool.{cases_eq, eqb-false}
 use Rattle.event_log.specs.declared.ids.LockId.{LockId}
 use Rattle.event_log.specs.declared.ids.TheConstants.{THREADS}
-use Rattle.layer_traits.specs.BufferLaw.{begun, fifo_plan}
-use Rattle.layer_traits.specs.Places.{is_thread}
-use Rattle.thread_blocks.proofs.Members.{same_tid_true}
-use Rattle.cpu.specs.Tower.Privates.{threads_in}
-use Rattle.cpu.specs.Tower.Composed.{IsUsed, Stands, asks, was_handed, enters, tries, waits as stands_waits, was_woken, asks_again}
-use Rattle.cpu.specs.Tower.Composed.{was_handed_again, signals, signals_own, releases, has_signalled, has_signalled_own, has_released}
 use Rattle.cpu.specs.Tower.Standing.{IsPart, MayStand, inside, outside}
-use Rattle.cpu.proofs.Tower.Composition.{asked_out, did_out, signal_out, left_out, wait_out, effect_is, over, plan, plan_to, asks_plan}
-use Rattle.cpu.proofs.Tower.Composition.{asks_again_plan, enters_plan, tries_plan, waits_plan, signals_plan, own_signals_plan, releases_plan}
+use Rattle.cpu.proofs.Tower.Composition.{asked_out, did_out, signal_out, left_out, wait_out, effect_is, over, plan, plan_to, asks_plan, asks_again_plan}
+use Rattle.cpu.proofs.Tower.Composition.{enters_plan, tries_plan, waits_plan, signals_plan, own_signals_plan, releases_plan}
 
 -- the threads but this one stand as they may, and the tables have a place for each thread
 pub record Rest (t : Tid) (slept waits : List (Option BufId)) (talks : List Talk) : Type 0 where

@@ -1,131 +1,65 @@
 -- How all threads stand to a part is kept by every poll of a call.
-use Rattle.std.proofs.Common.{◌≡◌, ◌≢◌, ◌⊎◌, inl, inr, ℕ, ◌<◌, Bool, true, false, List, [], ◌∷◌, ◌++◌, length, slice_get, slice_set}
-use Rattle.std.proofs.Common.{Option, Some, None, IsSome, option_map, is_some, if◌then◌else◌, refl, ap, sym, ◌∙◌, subst}
-use Rattle.std.proofs.lemmas.List.{get_or-set_same, get_or-set_other, set-get_or}
-use Rattle.event_log.specs.declared.entries.Entry.{Entry}
+use Rattle.std.proofs.Common.{◌≡◌, inr, ◌<◌, List, [], length, slice_get, slice_set, Option, Some, None, IsSome, option_map, refl, ap, sym, ◌∙◌, subst}
+use Rattle.std.proofs.lemmas.List.{get_or-set_same, get_or-set_other, length-set}
 use Rattle.event_log.specs.declared.ids.BufId.{BufId}
 use Rattle.event_log.specs.declared.ids.CpuId.{CpuId}
-use Rattle.event_log.specs.declared.ids.LockId.TheVariants.{Buffer, Pending}
+use Rattle.event_log.specs.declared.ids.LockId.TheVariants.{Pending}
 use Rattle.event_log.specs.declared.ids.Tid.{Tid}
-use Rattle.event_log.specs.History.{same_cpu}
-use Rattle.event_log.specs.Messages.{Message}
-use Rattle.guest.specs.declared.instructions.Instruction.{Instruction}
-use Rattle.guest.specs.State.{State, at_start, next_of}
-use Rattle.thread_blocks.specs.Queues.{first, is_in}
-use Rattle.layer_traits.proofs.CountLemmas.{same_cpu_sym}
+use Rattle.guest.specs.State.{State}
 use Rattle.layer_traits.specs.declared.calls.Call.{Call as TowerCall}
-use Rattle.layer_traits.specs.declared.calls.Call.TheVariants.{Send, Recv}
 use Rattle.layer_traits.specs.declared.calls.Effect.{Effect}
 use Rattle.layer_traits.specs.declared.calls.Reply.{Reply}
-use Rattle.layer_traits.specs.declared.locked.QEdit.TheVariants.{Acquire, Inside, Release}
-use Rattle.layer_traits.specs.declared.locked.QOut.{QOut}
+use Rattle.layer_traits.specs.declared.locked.QEdit.TheVariants.{Inside, Release}
 use Rattle.layer_traits.specs.declared.locked.QOut.TheVariants as lock
-use Rattle.layer_traits.specs.declared.locked.Side.{Side}
-use Rattle.layer_traits.specs.declared.locked.Side.TheVariants.{Receivers, Senders}
-use Rattle.layer_traits.specs.declared.conditions.CvEdit.TheVariants.{Edit, SignalFront}
-use Rattle.layer_traits.specs.declared.conditions.CvLeave.TheVariants.{Leave, Wait}
+use Rattle.layer_traits.specs.declared.conditions.CvEdit.TheVariants.{SignalFront}
+use Rattle.layer_traits.specs.declared.conditions.CvLeave.TheVariants.{Leave}
 use Rattle.layer_traits.specs.declared.conditions.CvOut.{CvOut}
 use Rattle.layer_traits.specs.declared.conditions.CvOut.TheVariants as cv
 use Rattle.layer_traits.specs.declared.buffer_edits.BufferEdit.{BufferEdit}
 use Rattle.layer_traits.specs.declared.buffer_edits.BufferOut.{BufferOut}
-use Rattle.layer_traits.specs.declared.buffer_edits.BufferOut.TheVariants.{Entered, NotYet, Done}
-use Rattle.layer_traits.specs.declared.queue_edits.QueueBlock.TheVariants as block
 use Rattle.layer_traits.specs.declared.queue_edits.QueueEdit.TheVariants as queue
 use Rattle.layer_traits.specs.declared.queues.QueueAnswer.TheVariants as told
-use Rattle.layer_traits.specs.declared.sleeps.Outcome.{Outcome}
 use Rattle.layer_traits.specs.declared.talks.Stage.{Stage as TowerStage}
 use Rattle.layer_traits.specs.declared.talks.Stage.TheVariants as at
 use Rattle.layer_traits.specs.declared.talks.Talk.{Talk}
-use Rattle.layer_traits.specs.BufferBlocks.{BufferState, buffer_answer, editor, first_item, is_turn}
-use Rattle.layer_traits.specs.BufferProtocol.{buffer_rules}
-use Rattle.layer_traits.specs.BufferLaw.{BufferPlan, Buffering, at_stage, chained, buffer_of, entry_of, plan_on, first_of}
-use Rattle.layer_traits.specs.BufferLaw.{going, left_heard, other_side, plan_at, plan_beneath, plan_of, quiet, reply_of}
-use Rattle.layer_traits.specs.BufferLaw.{section_at as tower_section, side_of as tower_side, talk_of, try_of}
+use Rattle.layer_traits.specs.BufferLaw.{BufferPlan, Buffering, going, left_heard, other_side, plan_at, quiet, side_of as tower_side, talk_of, fifo_plan}
+use Rattle.layer_traits.specs.BufferLaw.{going_at}
 use Rattle.layer_traits.specs.Conditions.{CvCall}
-use Rattle.layer_traits.specs.CvLaw.{Waiting, cv_plan, cv_plan_for, left_waiting}
-use Rattle.layer_traits.specs.LockLaw.{Locking, left_after, plan_for, slept_for}
-use Rattle.layer_traits.specs.Locking.{LockState, line_asked, lock_answer, lock_moves, told_asker}
-use Rattle.layer_traits.specs.Places.{Threads, is_cpu}
-use Rattle.layer_traits.specs.Plans.{Left, Plan, Now, Act, raised}
-use Rattle.layer_traits.specs.SleepLaw.{Sleeping, left_done, sleep_plan}
-use Rattle.cpu.specs.Guests.{after_answer}
-use Rattle.cpu.specs.Table.Blocks.{Answer, Asks, Sends, Receives, Told, Position, effect_of}
-use Rattle.cpu.specs.Table.Setups.{Setup, Acquires, Enters, Tries, Waits, AcquiresAgain, Signals, SignalsOwn, Releases}
-use Rattle.cpu.specs.Table.Setups.{Returns, Stage, Call, Thread, Private, cpu_or, home_of, program_of, thread_at}
-use Rattle.cpu.specs.Table.Choice.{after_section, at_buffer, first_section, guest_after, heard, heard_entry}
-use Rattle.cpu.specs.Table.Choice.{heard_position, returned_at, section_at, settled, slept_if, woken}
-use Rattle.cpu.specs.Tower.Views.{TowerAnswer, TowerBlock, TowerName, TowerOut, answer_view, name_of, tower}
-use Rattle.cpu.specs.Tower.Privates.{asks_in, call_from, guest_at, guests_after, private_after, private_of, thread_from, tid, trace_after}
-use Rattle.cpu.specs.Tower.Composed.{HandIsKnown, IsKind, IsLine}
-use Rattle.cpu.proofs.Tower.Numbered.{changed, goes, gone, numbered_long, own_at, parts, threads_at}
-use Rattle.cpu.proofs.Tower.Settled.{asks_for, calling, done_with, from_t, goes_on, heard_is, put, returns, with_t}
-use Rattle.cpu.proofs.Tower.Lines.{Site, HasHad, Tried, first_editor, first_name, first_answer, try_editor, try_name}
-use Rattle.cpu.proofs.Tower.Lines.{try_answer, wait_name, signal_name, own_signal_name, reply_guest, entry_heard}
-use Rattle.cpu.proofs.Tower.Lines.{own, g, e, threads, buf, talk, k, from, after, runs_on, sleeps_now}
-use Rattle.cpu.proofs.Tower.Lines.{waits_now, beneath_is, fresh, react, line, lift, waking, by_home}
-use Rattle.cpu.proofs.Tower.Lines.{stands, by_table, stays_so, has_returned}
-use Rattle.std.proofs.lemmas.Bool.{cases_eq, eqb-false, eqb-true}
-use Rattle.std.proofs.lemmas.List.{length-set}
+use Rattle.layer_traits.specs.LockLaw.{slept_for}
+use Rattle.layer_traits.specs.Plans.{Left, Plan, raised, Acting, Follows, at_give}
+use Rattle.cpu.specs.Table.Setups.{Setup}
+use Rattle.cpu.specs.Tower.Views.{TowerAnswer, TowerBlock, TowerName, TowerOut, tower}
+use Rattle.cpu.specs.Tower.Composed.{HandIsKnown, Stands, asks, was_handed, enters, tries, waits as stands_waits, was_woken, asks_again, was_handed_again}
+use Rattle.cpu.specs.Tower.Composed.{signals, signals_own, releases, has_signalled, has_signalled_own, has_released, IsGoing, OpensAs, outcome_of}
+use Rattle.cpu.proofs.Tower.Callers.{Caller, HasRoom, Site, at_next, awake, caller_in, talk_at}
+use Rattle.cpu.proofs.Tower.Numbered.{own_at}
+use Rattle.cpu.proofs.Tower.Lines.{HasHad, own, e, react_in}
 use Rattle.event_log.specs.declared.ids.LockId.{LockId}
-use Rattle.event_log.specs.declared.ids.TheConstants.{THREADS}
-use Rattle.layer_traits.specs.BufferLaw.{begun, fifo_plan}
 use Rattle.layer_traits.specs.Places.{is_thread}
-use Rattle.thread_blocks.proofs.Members.{same_tid_true}
 use Rattle.cpu.specs.Tower.Privates.{threads_in}
-use Rattle.cpu.specs.Tower.Composed.{IsUsed, Stands, asks, was_handed, enters, tries, waits as stands_waits, was_woken, asks_again}
-use Rattle.cpu.specs.Tower.Composed.{was_handed_again, signals, signals_own, releases, has_signalled, has_signalled_own, has_released}
 use Rattle.cpu.specs.Tower.Standing.{IsPart, MayStand, inside, outside}
-use Rattle.cpu.proofs.Tower.Composition.{asked_out, did_out, signal_out, left_out, wait_out, effect_is, over, plan, plan_to, asks_plan}
-use Rattle.cpu.proofs.Tower.Composition.{asks_again_plan, enters_plan, tries_plan, waits_plan, signals_plan, own_signals_plan, releases_plan}
+use Rattle.cpu.proofs.Tower.Composition.{plan}
 use Rattle.event_log.specs.Actions.{Action, Phase, Rests as IsResting, Waits as IsWaiting, Holds, phase}
 use Rattle.event_log.specs.Sections.{block_after, sections_in}
-use Rattle.layer_traits.specs.declared.queues.QueueAnswer.{QueueAnswer}
-use Rattle.layer_traits.specs.BufferLaw.{going_at}
 use Rattle.layer_traits.specs.Passes.{queue_for}
-use Rattle.layer_traits.specs.Plans.{Acting, Follows, at_give}
 use Rattle.std.proofs.lemmas.Bool.{ne_eqb}
-use Rattle.cpu.specs.Tower.Views.{view}
-use Rattle.cpu.specs.Tower.Composed.{IsGoing, OpensAs, outcome_of}
 use Rattle.cpu.proofs.Tower.Chains.{fifo_at, handed_plan, handed_again_plan, woken_plan}
 use Rattle.cpu.proofs.Tower.Sends.{home_there, sends, beneath_is as beneath_sends}
-use Rattle.cpu.proofs.Tower.Lines.{react_in}
 use Rattle.cpu.proofs.Tower.Polls.{IsKindIn, kind_after, opens_kind}
-use Rattle.cpu.proofs.Tower.Keeping.{IsKept, Rest, on, rest_set, asks_keeps, asks_again_keeps, enters_keeps}
-use Rattle.cpu.proofs.Tower.Keeping.{tries_keeps, waits_keeps, signals_keeps, own_signals_keeps, releases_keeps}
+use Rattle.cpu.proofs.Tower.Keeping.{IsKept, Rest, on, rest_set, asks_keeps, asks_again_keeps, enters_keeps, tries_keeps, waits_keeps, signals_keeps}
+use Rattle.cpu.proofs.Tower.Keeping.{own_signals_keeps, releases_keeps}
 
-module _ (setup : Setup) (c : CpuId) (t : Tid) (ready ended : List Tid) (slept waiting : List (Option BufId)) (talks : List Talk) (guests : List State)
-    (trace : List Entry) (call : TowerCall) (position : ℕ) (in_guests : t.0 < length guests) (in_talks : t.0 < length talks)
-    (in_slept : t.0 < length slept) (in_waits : t.0 < length waiting) (others : Rest t slept waiting talks) where
+module _ (caller : Caller) (others : Rest caller.t caller.slept caller.waits caller.talks) where
+  open caller use {setup, c, t, ready, ended, slept, waits as waiting, talks, call, position, in_talks, in_slept, in_waits}
+
   abbrev here : TowerStage → Option Effect → Talk
-  here stage effect = record { stage = stage; call = Some call; position = position; effect = effect }
+  here stage effect = talk_at caller stage effect
 
   abbrev pieces : Option Tid → Option TowerOut → List (Option BufId) → List (Option BufId) → List Talk → Buffering
   pieces hand kept slept2 waits2 talks2 = own_at (Some t) hand ready ended kept slept2 waits2 talks2
 
   abbrev Keeps : Buffering → Type 0
   Keeps o = IsKept setup c (fifo_plan setup.homes c t call o)
-
-  abbrev site : slept_for slept t ≡ None → slept_for waiting t ≡ None → Site
-  site s w = record {
-    setup = setup;
-    c = c;
-    t = t;
-    ready = ready;
-    ended = ended;
-    slept = slept;
-    waits = waiting;
-    talks = talks;
-    guests = guests;
-    trace = trace;
-    call = call;
-    position = position;
-    in_guests = in_guests;
-    in_talks = in_talks;
-    in_slept = in_slept;
-    in_waits = in_waits;
-    is_slept = s;
-    is_waits = w;
-  }
 
   -- where the plan begins or goes on at this stage
   here_keeps : (hand : Option Tid) (kept : Option TowerOut) (stage : TowerStage) (effect : Option Effect) (p : BufferPlan Reply)
@@ -147,29 +81,6 @@ module _ (setup : Setup) (c : CpuId) (t : Tid) (ready ended : List Tid) (slept w
   then_talk : (stage : TowerStage) → talk_of (slice_set talks t.0 (here stage None)) t ≡ here stage None
   then_talk stage = get_or-set_same talks t.0 (here stage None) quiet in_talks
 
-  abbrev then_site : (slept2 waits2 : List (Option BufId)) (stage : TowerStage) → t.0 < length slept2 → t.0 < length waits2
-      → slept_for slept2 t ≡ None → slept_for waits2 t ≡ None → Site
-  then_site slept2 waits2 stage long_s long_w s2 w2 = record {
-    setup = setup;
-    c = c;
-    t = t;
-    ready = ready;
-    ended = ended;
-    slept = slept2;
-    waits = waits2;
-    talks = slice_set talks t.0 (here stage None);
-    guests = guests;
-    trace = trace;
-    call = call;
-    position = position;
-    in_guests = in_guests;
-    in_talks = subst (λ n. t.0 < n) (sym (length-set talks t.0 (here stage None))) in_talks;
-    in_slept = long_s;
-    in_waits = long_w;
-    is_slept = s2;
-    is_waits = w2;
-  }
-
   slept_rest : (stage : TowerStage) → Rest t (slice_set slept t.0 None) waiting (slice_set talks t.0 (here stage None))
   slept_rest stage =
       rest_set t slept waiting (slice_set slept t.0 None) waiting talks (here stage None) others (λ j other. get_or-set_other slept t.0 j None None other)
@@ -185,11 +96,10 @@ module _ (setup : Setup) (c : CpuId) (t : Tid) (ready ended : List Tid) (slept w
   handed_keeps b is s w =
       let slept2 : List (Option BufId) = slice_set slept t.0 None in
       let own2 : Buffering = pieces None None slept2 waiting (slice_set talks t.0 (here at.Enters None)) in
-      let site2 : Site = then_site slept2 waiting at.Enters (subst (λ n. t.0 < n) (sym (length-set slept t.0 None)) in_slept) in_waits
+      let site2 : Site = awake (at_next caller slept2 waiting at.Enters (subst (λ n. t.0 < n) (sym (length-set slept t.0 None)) in_slept) in_waits)
       (get_or-set_same slept t.0 None None in_slept) w in
       let had2 : HasHad site2 None = ap (λ x. (going x call).effect) (then_talk at.Enters) in
-      subst (λ x. IsKept setup c x) (sym (handed_plan setup c t ready ended slept waiting talks guests
-      trace call position in_guests in_talks in_slept in_waits b is s w
+      subst (λ x. IsKept setup c x) (sym (handed_plan caller b is s w
       ∙ fifo_at setup c t call own2 (here at.Enters None) (then_talk at.Enters))) (enters_keeps site2 had2 (slept_rest at.Enters))
 
   handed_again_keeps : (b : BufId) → talk_of talks t ≡ here at.AcquiresAgain None → slept_for slept t ≡ Some b → slept_for waiting t ≡ None
@@ -197,11 +107,10 @@ module _ (setup : Setup) (c : CpuId) (t : Tid) (ready ended : List Tid) (slept w
   handed_again_keeps b is s w =
       let slept2 : List (Option BufId) = slice_set slept t.0 None in
       let own2 : Buffering = pieces None None slept2 waiting (slice_set talks t.0 (here at.Tries None)) in
-      let site2 : Site = then_site slept2 waiting at.Tries (subst (λ n. t.0 < n) (sym (length-set slept t.0 None)) in_slept) in_waits
+      let site2 : Site = awake (at_next caller slept2 waiting at.Tries (subst (λ n. t.0 < n) (sym (length-set slept t.0 None)) in_slept) in_waits)
       (get_or-set_same slept t.0 None None in_slept) w in
       let had2 : HasHad site2 None = ap (λ x. (going x call).effect) (then_talk at.Tries) in
-      subst (λ x. IsKept setup c x) (sym (handed_again_plan setup c t ready ended slept waiting talks
-      guests trace call position in_guests in_talks in_slept in_waits b is s w
+      subst (λ x. IsKept setup c x) (sym (handed_again_plan caller b is s w
       ∙ fifo_at setup c t call own2 (here at.Tries None) (then_talk at.Tries))) (tries_keeps site2 had2 (slept_rest at.Tries))
 
   woken_keeps : (b : BufId) → talk_of talks t ≡ here at.Waits None → slept_for slept t ≡ None → slept_for waiting t ≡ Some b
@@ -209,19 +118,18 @@ module _ (setup : Setup) (c : CpuId) (t : Tid) (ready ended : List Tid) (slept w
   woken_keeps b is s w =
       let waits2 : List (Option BufId) = slice_set waiting t.0 None in
       let own2 : Buffering = pieces None None slept waits2 (slice_set talks t.0 (here at.AcquiresAgain None)) in
-      let site2 : Site = then_site slept waits2 at.AcquiresAgain in_slept (subst (λ n. t.0 < n) (sym (length-set waiting t.0 None)) in_waits)
+      let site2 : Site = awake (at_next caller slept waits2 at.AcquiresAgain in_slept (subst (λ n. t.0 < n) (sym (length-set waiting t.0 None)) in_waits))
       s (get_or-set_same waiting t.0 None None in_waits) in
       let had2 : HasHad site2 None = ap (λ x. (going x call).effect) (then_talk at.AcquiresAgain) in
-      subst (λ x. IsKept setup c x) (sym (woken_plan setup c t ready ended slept waiting talks guests
-      trace call position in_guests in_talks in_slept in_waits b is s w
+      subst (λ x. IsKept setup c x) (sym (woken_plan caller b is s w
       ∙ fifo_at setup c t call own2 (here at.AcquiresAgain None) (then_talk at.AcquiresAgain))) (asks_again_keeps site2 had2 (waits_rest at.AcquiresAgain))
 
   -- a thread in the hand is sent
   module _ (u : Tid) (f : Effect) (s : slept_for slept t ≡ None) (w : slept_for waiting t ≡ None) (known : IsSome (slice_get setup.homes u.0)) where
     abbrev sending : TowerOut → TowerStage → CvCall BufferEdit → BufferPlan Reply
-    sending out stage e = sends setup c t u ready ended slept waiting talks guests trace call position f in_guests in_talks s w known out stage e
+    sending out stage e = sends (awake caller s w) u f known out stage e
 
-    send_keeps : (out : TowerOut) (stage : TowerStage) (e : CvCall BufferEdit) (had : HasHad (site s w) (Some f)) (next : Talk) → talk_of talks t
+    send_keeps : (out : TowerOut) (stage : TowerStage) (e : CvCall BufferEdit) (had : HasHad (awake caller s w) (Some f)) (next : Talk) → talk_of talks t
         ≡ here stage (Some f)
         → plan_at setup.homes c t call (going (here stage (Some f)) call).stage (going (here stage (Some f)) call)
         (pieces (Some u) (Some out) slept waiting talks)
@@ -237,8 +145,8 @@ module _ (setup : Setup) (c : CpuId) (t : Tid) (ready ended : List Tid) (slept w
           react = react_in (sending out stage e);
           used = inr (u, home_there c (slice_get setup.homes u.0) known);
           is = refl;
-          stays = subst IsPart (sym still) (on (site s w) (Some f) had others (Some u) ready (Some out) (here stage (Some f)) may);
-          gives = λ x kind. subst IsPart (sym done) (on (site s w) (Some f) had others None ready None next may_next);
+          stays = subst IsPart (sym still) (on (awake caller s w) (Some f) had others (Some u) ready (Some out) (here stage (Some f)) may);
+          gives = λ x kind. subst IsPart (sym done) (on (awake caller s w) (Some f) had others None ready None next may_next);
         })
 
     signalled_keeps : (v : CvOut BufferOut) → talk_of talks t ≡ here at.Signals (Some f)
@@ -247,7 +155,7 @@ module _ (setup : Setup) (c : CpuId) (t : Tid) (ready ended : List Tid) (slept w
         send_keeps (outcome_of (lock.Did v) u) at.Signals (Inside (SignalFront t (other_side call))) (had_some at.Signals f refl is)
         (here at.SignalsOwn (Some f)) is
         (ap (raised (left_heard t call (here at.Signals (Some f)) talks at.Signals))
-        (beneath_sends setup c t u ready ended slept waiting talks guests trace call position f in_guests in_talks s w known (outcome_of (lock.Did v) u)
+        (beneath_sends (awake caller s w) u f known (outcome_of (lock.Did v) u)
         (Inside (SignalFront t (other_side call))) w s))
         refl refl (inside at.Signals (Some u) (Some (outcome_of (lock.Did v) u)) None None (Some f) (has_signalled u v f))
         (inside at.SignalsOwn None None None None (Some f) (signals_own f))
@@ -258,7 +166,7 @@ module _ (setup : Setup) (c : CpuId) (t : Tid) (ready ended : List Tid) (slept w
         send_keeps (outcome_of (lock.Did v) u) at.SignalsOwn (Inside (SignalFront t (tower_side call))) (had_some at.SignalsOwn f refl is)
         (here at.Releases (Some f)) is
         (ap (raised (left_heard t call (here at.SignalsOwn (Some f)) talks at.SignalsOwn))
-        (beneath_sends setup c t u ready ended slept waiting talks guests trace call position f in_guests in_talks s w known (outcome_of (lock.Did v) u)
+        (beneath_sends (awake caller s w) u f known (outcome_of (lock.Did v) u)
         (Inside (SignalFront t (tower_side call))) w s))
         refl refl (inside at.SignalsOwn (Some u) (Some (outcome_of (lock.Did v) u)) None None (Some f) (has_signalled_own u v f))
         (inside at.Releases None None None None (Some f) (releases f))
@@ -268,8 +176,7 @@ module _ (setup : Setup) (c : CpuId) (t : Tid) (ready ended : List Tid) (slept w
         send_keeps (outcome_of (lock.Released cv.Left) u) at.Releases (Release (Leave t)) (had_some at.Releases f refl is)
         (record { stage = at.Between; call = None; position = position; effect = Some f }) is
         (ap (raised (left_heard t call (here at.Releases (Some f)) talks at.Releases))
-        (beneath_sends setup c t u ready ended slept waiting talks guests trace call position f in_guests in_talks s w known
-        (outcome_of (lock.Released cv.Left) u)
+        (beneath_sends (awake caller s w) u f known (outcome_of (lock.Released cv.Left) u)
         (Release (Leave t)) w s))
         refl refl (inside at.Releases (Some u) (Some (outcome_of (lock.Released cv.Left) u)) None None (Some f) (has_released u f)) (outside (Some f))
 
@@ -279,21 +186,21 @@ module _ (setup : Setup) (c : CpuId) (t : Tid) (ready ended : List Tid) (slept w
       → ((u : Tid) → hand ≡ Some u → IsSome (slice_get setup.homes u.0))
       → Keeps (pieces hand kept slept waiting talks)
   by_stands stage hand kept s w effect asks is is_s is_w known =
-      here_keeps None None at.Acquires None _ is refl (asks_keeps (site is_s is_w) (had_none at.Acquires refl is) others)
+      here_keeps None None at.Acquires None _ is refl (asks_keeps (awake caller is_s is_w) (had_none at.Acquires refl is) others)
   by_stands stage hand kept s w effect enters is is_s is_w known =
-      here_keeps None None at.Enters None _ is refl (enters_keeps (site is_s is_w) (had_none at.Enters refl is) others)
+      here_keeps None None at.Enters None _ is refl (enters_keeps (awake caller is_s is_w) (had_none at.Enters refl is) others)
   by_stands stage hand kept s w effect tries is is_s is_w known =
-      here_keeps None None at.Tries None _ is refl (tries_keeps (site is_s is_w) (had_none at.Tries refl is) others)
+      here_keeps None None at.Tries None _ is refl (tries_keeps (awake caller is_s is_w) (had_none at.Tries refl is) others)
   by_stands stage hand kept s w effect stands_waits is is_s is_w known =
-      here_keeps None None at.Waits None _ is refl (waits_keeps (site is_s is_w) (had_none at.Waits refl is) others)
+      here_keeps None None at.Waits None _ is refl (waits_keeps (awake caller is_s is_w) (had_none at.Waits refl is) others)
   by_stands stage hand kept s w effect asks_again is is_s is_w known =
-      here_keeps None None at.AcquiresAgain None _ is refl (asks_again_keeps (site is_s is_w) (had_none at.AcquiresAgain refl is) others)
+      here_keeps None None at.AcquiresAgain None _ is refl (asks_again_keeps (awake caller is_s is_w) (had_none at.AcquiresAgain refl is) others)
   by_stands stage hand kept s w effect (signals f) is is_s is_w known =
-      here_keeps None None at.Signals (Some f) _ is refl (signals_keeps (site is_s is_w) f (had_some at.Signals f refl is) others)
+      here_keeps None None at.Signals (Some f) _ is refl (signals_keeps (awake caller is_s is_w) f (had_some at.Signals f refl is) others)
   by_stands stage hand kept s w effect (signals_own f) is is_s is_w known =
-      here_keeps None None at.SignalsOwn (Some f) _ is refl (own_signals_keeps (site is_s is_w) f (had_some at.SignalsOwn f refl is) others)
+      here_keeps None None at.SignalsOwn (Some f) _ is refl (own_signals_keeps (awake caller is_s is_w) f (had_some at.SignalsOwn f refl is) others)
   by_stands stage hand kept s w effect (releases f) is is_s is_w known =
-      here_keeps None None at.Releases (Some f) _ is refl (releases_keeps (site is_s is_w) f (had_some at.Releases f refl is) others)
+      here_keeps None None at.Releases (Some f) _ is refl (releases_keeps (awake caller is_s is_w) f (had_some at.Releases f refl is) others)
   by_stands stage hand kept s w effect (was_handed b) is is_s is_w known =
       handed_keeps b is is_s is_w
   by_stands stage hand kept s w effect (was_handed_again b) is is_s is_w known =
@@ -320,9 +227,14 @@ pub plans_keep : (setup : Setup) (c : CpuId) (own : Buffering) (guests : List St
     → HandIsKnown setup own → IsPart own → IsKept setup c (fifo_plan setup.homes c t call own)
 plans_keep setup c own guests t call going_on known part =
     let talk_now : Talk = talk_of own.talks t in
-    let keep = by_stands setup c t (threads_in own).ready (threads_in own).ended own.cv.lock.slept own.cv.waits own.talks guests [] call talk_now.position
-    going_on.in_guests going_on.in_talks going_on.in_slept going_on.in_waits (rest_of own t going_on.current part) talk_now.stage (threads_in own).hand
-    own.cv.lock.sleep.kept (slept_for own.cv.lock.slept t) (slept_for own.cv.waits t) talk_now.effect going_on.stands
+    let room : HasRoom own guests t = record {
+      in_guests = going_on.in_guests;
+      in_talks = going_on.in_talks;
+      in_slept = going_on.in_slept;
+      in_waits = going_on.in_waits;
+    } in
+    let keep = by_stands (caller_in setup c own guests t room [] call talk_now.position) (rest_of own t going_on.current part) talk_now.stage
+    (threads_in own).hand own.cv.lock.sleep.kept (slept_for own.cv.lock.slept t) (slept_for own.cv.waits t) talk_now.effect going_on.stands
     (λ i. record { stage = talk_now.stage; call = going_on.begun i; position = talk_now.position; effect = talk_now.effect }) refl refl known in
     subst (λ o. IsKept setup c (fifo_plan setup.homes c t call
     (own_at o (threads_in own).hand (threads_in own).ready (threads_in own).ended own.cv.lock.sleep.kept
@@ -345,26 +257,13 @@ pub begins_keep : (setup : Setup) (c : CpuId) (own : Buffering) (guests : List S
     → IsKept setup c (fifo_plan setup.homes c t call own)
 begins_keep setup c own guests t call free part =
     let pieces : Buffering = own_at (Some t) None (threads_in own).ready (threads_in own).ended None own.cv.lock.slept own.cv.waits own.talks in
-    let site : Site = record {
-      setup = setup;
-      c = c;
-      t = t;
-      ready = (threads_in own).ready;
-      ended = (threads_in own).ended;
-      slept = own.cv.lock.slept;
-      waits = own.cv.waits;
-      talks = own.talks;
-      guests = guests;
-      trace = [];
-      call = call;
-      position = 0;
+    let room : HasRoom own guests t = record {
       in_guests = free.in_guests;
       in_talks = free.in_talks;
       in_slept = free.in_slept;
       in_waits = free.in_waits;
-      is_slept = free.slept;
-      is_waits = free.waits;
     } in
+    let site : Site = awake (caller_in setup c own guests t room [] call 0) free.slept free.waits in
     let had : HasHad site None = ap (λ x. (going_at x (talk_of own.talks t) call).effect) free.between in
     let begins : fifo_plan setup.homes c t call pieces ≡ plan site had at.Acquires
     = ap (λ x. plan_at setup.homes c t call (going_at x (talk_of own.talks t) call).stage (going_at x (talk_of own.talks t) call) pieces) free.between in

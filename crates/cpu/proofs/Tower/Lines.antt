@@ -1,6 +1,6 @@
 -- The plan of a section of a call is a line of the table, where nobody is in the hand.
-use Rattle.std.proofs.Common.{◌≡◌, ◌≢◌, ◌⊎◌, inl, inr, ℕ, ◌<◌, Bool, true, false, List, [], ◌∷◌, ◌++◌, length, slice_get}
-use Rattle.std.proofs.Common.{slice_set, Option, Some, None, IsSome, is_some, if◌then◌else◌, refl, ap, sym, ◌∙◌, subst}
+use Rattle.std.proofs.Common.{◌≡◌, ◌⊎◌, inl, inr, ℕ, ◌<◌, Bool, true, false, List, [], ◌∷◌, ◌++◌, length, slice_get, slice_set, Option, Some, None, IsSome}
+use Rattle.std.proofs.Common.{is_some, if◌then◌else◌, refl, ap, sym, ◌∙◌, subst}
 use Rattle.std.proofs.lemmas.List.{get_or-set_same, get_or-set_other, set-get_or}
 use Rattle.event_log.specs.declared.entries.Entry.{Entry}
 use Rattle.event_log.specs.declared.ids.BufId.{BufId}
@@ -17,47 +17,42 @@ use Rattle.layer_traits.specs.declared.calls.Call.{Call as TowerCall}
 use Rattle.layer_traits.specs.declared.calls.Call.TheVariants.{Send, Recv}
 use Rattle.layer_traits.specs.declared.calls.Effect.{Effect}
 use Rattle.layer_traits.specs.declared.calls.Reply.{Reply}
-use Rattle.layer_traits.specs.declared.locked.QEdit.TheVariants.{Acquire, Inside, Release}
+use Rattle.layer_traits.specs.declared.locked.QEdit.TheVariants.{Inside, Release}
 use Rattle.layer_traits.specs.declared.locked.QOut.{QOut}
-use Rattle.layer_traits.specs.declared.locked.QOut.TheVariants as lock
-use Rattle.layer_traits.specs.declared.locked.Side.{Side}
 use Rattle.layer_traits.specs.declared.locked.Side.TheVariants.{Receivers, Senders}
 use Rattle.layer_traits.specs.declared.conditions.CvEdit.TheVariants.{Edit, SignalFront}
-use Rattle.layer_traits.specs.declared.conditions.CvLeave.TheVariants.{Leave, Wait}
+use Rattle.layer_traits.specs.declared.conditions.CvLeave.TheVariants.{Wait}
 use Rattle.layer_traits.specs.declared.conditions.CvOut.{CvOut}
-use Rattle.layer_traits.specs.declared.conditions.CvOut.TheVariants as cv
 use Rattle.layer_traits.specs.declared.buffer_edits.BufferEdit.{BufferEdit}
 use Rattle.layer_traits.specs.declared.buffer_edits.BufferOut.{BufferOut}
 use Rattle.layer_traits.specs.declared.buffer_edits.BufferOut.TheVariants.{Entered, NotYet, Done}
 use Rattle.layer_traits.specs.declared.queue_edits.QueueBlock.TheVariants as block
 use Rattle.layer_traits.specs.declared.queue_edits.QueueEdit.TheVariants as queue
 use Rattle.layer_traits.specs.declared.queues.QueueAnswer.TheVariants as told
-use Rattle.layer_traits.specs.declared.sleeps.Outcome.{Outcome}
 use Rattle.layer_traits.specs.declared.talks.Stage.{Stage as TowerStage}
-use Rattle.layer_traits.specs.declared.talks.Stage.TheVariants as at
 use Rattle.layer_traits.specs.declared.talks.Talk.{Talk}
 use Rattle.layer_traits.specs.BufferBlocks.{BufferState, buffer_answer, editor, first_item, is_turn}
 use Rattle.layer_traits.specs.BufferProtocol.{buffer_rules}
-use Rattle.layer_traits.specs.BufferLaw.{BufferPlan, Buffering, at_stage, chained, buffer_of, first_of, going, left_heard, other_side, plan_at}
-use Rattle.layer_traits.specs.BufferLaw.{plan_beneath, plan_of, quiet, reply_of, section_at as tower_section, side_of as tower_side, talk_of, try_of}
+use Rattle.layer_traits.specs.BufferLaw.{BufferPlan, Buffering, buffer_of, first_of, going, left_heard, other_side, quiet, reply_of, side_of as tower_side}
+use Rattle.layer_traits.specs.BufferLaw.{talk_of, try_of}
 use Rattle.layer_traits.specs.Conditions.{CvCall}
 use Rattle.layer_traits.specs.CvLaw.{Waiting, cv_plan, cv_plan_for, left_waiting}
 use Rattle.layer_traits.specs.LockLaw.{Locking, left_after, plan_for, slept_for}
-use Rattle.layer_traits.specs.Locking.{LockState, line_asked, lock_answer, lock_moves, told_asker}
+use Rattle.layer_traits.specs.Locking.{LockState, lock_answer, lock_moves}
 use Rattle.layer_traits.specs.Places.{Threads, is_cpu}
 use Rattle.layer_traits.specs.Plans.{Left, Plan, Now, Act, raised}
 use Rattle.layer_traits.specs.SleepLaw.{Sleeping, left_done, sleep_plan}
 use Rattle.cpu.specs.Guests.{after_answer}
 use Rattle.cpu.specs.Table.Blocks.{Answer, Asks, Sends, Receives, Told, effect_of}
-use Rattle.cpu.specs.Table.Setups.{Setup, Acquires, Enters, Tries, Waits, AcquiresAgain, Signals, SignalsOwn, Releases}
-use Rattle.cpu.specs.Table.Setups.{Returns, Stage, Call, Thread, Private, cpu_or, home_of, program_of, thread_at}
-use Rattle.cpu.specs.Table.Choice.{after_section, at_buffer, first_section, guest_after, heard, heard_entry}
-use Rattle.cpu.specs.Table.Choice.{heard_position, returned_at, section_at, settled, slept_if, woken}
+use Rattle.cpu.specs.Table.Setups.{Tries, Waits, Signals, SignalsOwn, Returns, Stage, Call, Thread, Private, cpu_or, home_of, program_of, thread_at}
+use Rattle.cpu.specs.Table.Choice.{after_section, at_buffer, first_section, guest_after, heard, heard_entry, heard_position, returned_at, section_at, settled}
+use Rattle.cpu.specs.Table.Choice.{slept_if, woken}
 use Rattle.cpu.specs.Tower.Views.{TowerAnswer, TowerBlock, TowerName, TowerOut, answer_view, name_of, tower}
-use Rattle.cpu.specs.Tower.Privates.{asks_in, call_from, guest_at, guests_after, private_after, private_of, thread_from, tid, trace_after}
+use Rattle.cpu.specs.Tower.Privates.{asks_in, call_from, guest_at, guests_after, private_after, private_of, thread_from, trace_after}
 use Rattle.cpu.specs.Tower.Composed.{HandIsKnown, IsKind, IsLine}
-use Rattle.cpu.proofs.Tower.Numbered.{changed, goes, gone, numbered_long, own_at, parts, threads_at}
-use Rattle.cpu.proofs.Tower.Settled.{asks_for, calling, done_with, from_t, goes_on, heard_is, put, returns, with_t}
+use Rattle.cpu.proofs.Tower.Callers.{Site}
+use Rattle.cpu.proofs.Tower.Numbered.{goes, gone, numbered_long, own_at, part_at, parts, threads_at}
+use Rattle.cpu.proofs.Tower.Settled.{asks_for, calling, done_with, from_t, goes_on, heard_is, put, returns}
 
 -- What a call's sections are, by what it asks.
 
@@ -132,35 +127,13 @@ abbrev pub react_in : {N R S A : Type 0} → Plan N R S A → Option R → Left 
 react_in (Now left) = λ reply. left
 react_in (Act lock name react) = react
 
--- thread t runs, nobody is in the hand, and it neither sleeps nor waits: the part's own state by its pieces, the guests, the trace, and
--- the call that it is in
-pub record Site : Type 0 where
-  pub setup : Setup
-  pub c : CpuId
-  pub t : Tid
-  pub ready : List Tid
-  pub ended : List Tid
-  pub slept : List (Option BufId)
-  pub waits : List (Option BufId)
-  pub talks : List Talk
-  pub guests : List State
-  pub trace : List Entry
-  pub call : TowerCall
-  pub position : ℕ
-  pub in_guests : t.0 < length guests
-  pub in_talks : t.0 < length talks
-  pub in_slept : t.0 < length slept
-  pub in_waits : t.0 < length waits
-  pub is_slept : slept_for slept t ≡ None
-  pub is_waits : slept_for waits t ≡ None
-
 -- the effect that the call has had
 abbrev pub HasHad : Site → Option Effect → Type 0
 HasHad site effect = (going (talk_of site.talks site.t) site.call).effect ≡ effect
 
 module _ (site : Site) (effect : Option Effect) (is_effect : HasHad site effect) where
   abbrev pub own : Buffering
-  own = own_at (Some site.t) None site.ready site.ended None site.slept site.waits site.talks
+  own = part_at site.runner None None
 
   abbrev pub g : State
   g = guest_at site.guests site.t
@@ -209,8 +182,7 @@ module _ (site : Site) (effect : Option Effect) (is_effect : HasHad site effect)
   runs_on hand2 ready2 kept2 talk2 answer =
       (λ i. private_of (own_at (Some site.t) hand2 ready2 site.ended kept2 site.slept site.waits (slice_set site.talks site.t.0 talk2)) (guests_by answer i)
       (trace_after site.c site.t buf (is_effect i) (get_or-set_same site.talks site.t.0 talk2 quiet site.in_talks i).effect site.trace))
-      ∙ goes site.t None site.ready site.ended None site.slept site.waits site.talks site.guests site.in_guests site.in_talks hand2 ready2 kept2 talk2
-      (guest_by answer)
+      ∙ goes site.runner None None hand2 ready2 kept2 talk2 (guest_by answer)
       (trace_after site.c site.t buf effect talk2.effect site.trace) None None site.is_slept site.is_waits
 
   -- what a poll leaves after which thread t sleeps for the lock, or waits
@@ -225,7 +197,7 @@ module _ (site : Site) (effect : Option Effect) (is_effect : HasHad site effect)
       (λ i. private_of (own_at None None site.ready site.ended None (slice_set site.slept site.t.0 (Some buf)) site.waits
       (slice_set site.talks site.t.0 (talk stage))) (guests_by None i)
       (trace_after site.c site.t buf (is_effect i) (get_or-set_same site.talks site.t.0 (talk stage) quiet site.in_talks i).effect site.trace))
-      ∙ gone site.t None site.ready site.ended None site.slept site.waits site.talks site.guests site.in_guests site.in_talks None site.ready
+      ∙ gone site.runner None None None site.ready
       (slice_set site.slept site.t.0 (Some buf)) site.waits (talk stage) g
       (trace_after site.c site.t buf effect effect site.trace) (Some buf) None (λ j other. get_or-set_other site.slept site.t.0 j (Some buf) None other)
       (λ j other. refl)
@@ -243,7 +215,7 @@ module _ (site : Site) (effect : Option Effect) (is_effect : HasHad site effect)
       (λ i. private_of (own_at None hand2 ready2 site.ended None site.slept (slice_set site.waits site.t.0 (Some buf))
       (slice_set site.talks site.t.0 (talk stage))) (guests_by None i)
       (trace_after site.c site.t buf (is_effect i) (get_or-set_same site.talks site.t.0 (talk stage) quiet site.in_talks i).effect site.trace))
-      ∙ gone site.t None site.ready site.ended None site.slept site.waits site.talks site.guests site.in_guests site.in_talks hand2 ready2 site.slept
+      ∙ gone site.runner None None hand2 ready2 site.slept
       (slice_set site.waits site.t.0 (Some buf)) (talk stage) g
       (trace_after site.c site.t buf effect effect site.trace) None (Some buf) (λ j other. refl)
       (λ j other. get_or-set_other site.waits site.t.0 j (Some buf) None other)

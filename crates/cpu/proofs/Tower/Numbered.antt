@@ -1,21 +1,22 @@
 -- A CPU's private state in which one thread changed.
-use Rattle.std.proofs.Common.{◌≡◌, ◌≢◌, ℕ, zero, suc, ◌+◌, ◌<◌, ◌≤◌, ◌==◌, Bool, true, false, ◌&&◌, List, [], ◌∷◌}
-use Rattle.std.proofs.Common.{length, get_or, slice_set, Option, Some, None, is_some, refl, ap, sym, ◌∙◌, arith}
+use Rattle.std.proofs.Common.{◌≡◌, ◌≢◌, ℕ, zero, suc, ◌+◌, ◌<◌, ◌≤◌, Bool, false, ◌&&◌, List, [], ◌∷◌, length, get_or, slice_set, Option, Some, None, is_some}
+use Rattle.std.proofs.Common.{refl, ap, sym, ◌∙◌, arith}
 use Rattle.std.proofs.lemmas.Bool.{ne_eqb}
-use Rattle.std.proofs.lemmas.List.{get_or-set_same, get_or-set_other, set-get_or}
+use Rattle.std.proofs.lemmas.List.{get_or-set_same, get_or-set_other}
 use Rattle.event_log.specs.declared.entries.Entry.{Entry}
 use Rattle.event_log.specs.declared.ids.BufId.{BufId}
 use Rattle.event_log.specs.declared.ids.Tid.{Tid}
-use Rattle.guest.specs.State.{State, at_start}
+use Rattle.guest.specs.State.{State}
 use Rattle.thread_blocks.specs.Queues.{is_in}
 use Rattle.thread_blocks.proofs.Members.{same_tid_self}
 use Rattle.layer_traits.specs.declared.talks.Talk.{Talk}
 use Rattle.layer_traits.specs.LockLaw.{slept_for}
 use Rattle.layer_traits.specs.Places.{is_thread}
-use Rattle.layer_traits.specs.BufferLaw.{Buffering, quiet, talk_of}
+use Rattle.layer_traits.specs.BufferLaw.{Buffering, quiet}
 use Rattle.cpu.specs.Table.Setups.{Private, Thread}
 use Rattle.cpu.specs.Tower.Views.{TowerOut}
-use Rattle.cpu.specs.Tower.Privates.{guest_at, numbered, private_of, thread_from, thread_of, tid}
+use Rattle.cpu.specs.Tower.Privates.{numbered, private_of, thread_from, thread_of, tid}
+use Rattle.cpu.proofs.Tower.Callers.{Runner}
 
 pub numbered_long : (f : ℕ → State → Thread) (n : ℕ) (guests : List State) → length (numbered f n guests) ≡ length guests
 numbered_long f n [] = refl
@@ -75,10 +76,15 @@ parts current ready hand threads trace = record { current = current; ready = rea
 abbrev pub threads_at : Buffering → List State → List Thread
 threads_at own guests = numbered (λ n. thread_of own (tid n)) 0 guests
 
-module _ (t : Tid) (hand : Option Tid) (ready ended : List Tid) (kept : Option TowerOut) (slept waits : List (Option BufId)) (talks : List Talk)
-    (guests : List State) (in_guests : t.0 < length guests) (in_talks : t.0 < length talks) where
+-- the part of a thread that runs
+abbrev pub part_at : Runner → (hand : Option Tid) (kept : Option TowerOut) → Buffering
+part_at runner hand kept = own_at (Some runner.t) hand runner.ready runner.ended kept runner.slept runner.waits runner.talks
+
+module _ (runner : Runner) (hand : Option Tid) (kept : Option TowerOut) where
+  open runner use {t, ended, slept, waits, talks, guests, in_guests, in_talks}
+
   abbrev before : Buffering
-  before = own_at (Some t) hand ready ended kept slept waits talks
+  before = part_at runner hand kept
 
   -- thread t runs or nobody does: its talk, guest and where it sleeps or waits changed
   pub changed : (current2 hand2 : Option Tid) (ready2 : List Tid) (kept2 : Option TowerOut) (slept2 waits2 : List (Option BufId)) (talk : Talk)

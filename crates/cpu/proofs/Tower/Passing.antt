@@ -1,8 +1,8 @@
 -- The passes from thread to thread are lines of the table, or steps of it without an action.
-use Rattle.std.proofs.Common.{◌≡◌, ◌≢◌, ℕ, ◌+◌, ◌<◌, ◌≤◌, ◌==◌, Bool, true, false, ◌&&◌, ◌||◌, List, [], ◌∷◌, ◌++◌, length, slice_get}
-use Rattle.std.proofs.Common.{slice_set, Option, Some, None, IsSome, is_some, refl, ap, sym, ◌∙◌, subst, arith, inl, inr}
+use Rattle.std.proofs.Common.{◌≡◌, ◌≢◌, ℕ, ◌+◌, ◌<◌, Bool, true, false, ◌&&◌, ◌||◌, List, [], ◌∷◌, ◌++◌, length, slice_get, slice_set, Option, Some, None}
+use Rattle.std.proofs.Common.{IsSome, refl, ap, sym, ◌∙◌, arith, inl, inr}
 use Rattle.std.proofs.lemmas.Bool.{ne_eqb}
-use Rattle.std.proofs.lemmas.List.{append-nil, get_or-set_same, set-get_or}
+use Rattle.std.proofs.lemmas.List.{append-nil}
 use Rattle.event_log.specs.declared.entries.Entry.{Entry}
 use Rattle.event_log.specs.declared.ids.BufId.{BufId}
 use Rattle.event_log.specs.declared.ids.CpuId.{CpuId}
@@ -24,13 +24,14 @@ use Rattle.layer_traits.specs.Passes.{queue_for}
 use Rattle.layer_traits.specs.Places.{is_thread}
 use Rattle.layer_traits.specs.Plans.{Left}
 use Rattle.layer_traits.specs.BufferLaw.{Buffering, fifo_pass_plan, quiet, talk_of}
-use Rattle.cpu.specs.Table.Blocks.{Answer, Pend, TakeAll}
-use Rattle.cpu.specs.Table.Setups.{Setup, Private, Thread, new_thread, program_of, stands_at, thread_at}
-use Rattle.cpu.specs.Table.Choice.{after_by, after_section, asked_by, at_pending, drained, ends, with_guest}
-use Rattle.cpu.specs.Tower.Views.{TowerAnswer, TowerBlock, TowerOut, answer_view, tower}
+use Rattle.cpu.specs.Table.Blocks.{Pend}
+use Rattle.cpu.specs.Table.Setups.{Setup, Private, Thread, program_of, thread_at}
+use Rattle.cpu.specs.Table.Choice.{after_by, after_section, asked_by, at_pending, ends, with_guest}
+use Rattle.cpu.specs.Tower.Views.{TowerAnswer, TowerBlock, answer_view, tower}
 use Rattle.cpu.specs.Tower.Privates.{guest_at, private_of, private_passed, thread_from, thread_of, tid}
 use Rattle.cpu.specs.Tower.Composed.{HandIsKnown, IsKind, IsLine}
-use Rattle.cpu.proofs.Tower.Numbered.{changed, numbered_changed, numbered_same, own_at, parts, threads_at}
+use Rattle.cpu.proofs.Tower.Callers.{Runner}
+use Rattle.cpu.proofs.Tower.Numbered.{changed, numbered_changed, numbered_same, own_at, part_at, parts, threads_at}
 use Rattle.cpu.proofs.Tower.Lines.{react_in}
 use Rattle.cpu.proofs.Tower.Sends.{home_there, queue_is}
 use Rattle.cpu.proofs.Tower.Chains.{put_same}
@@ -99,8 +100,21 @@ module _ (setup : Setup) (c : CpuId) (guests : List State) (trace : List Entry) 
 
   module _ (t : Tid) (ready : List Tid) (between : (talk_of talks t).stage ≡ at.Between) (in_guests : t.0 < length guests)
       (in_talks : t.0 < length talks) where
+    abbrev runner : Runner
+    runner = record {
+      t = t;
+      ready = ready;
+      ended = ended;
+      slept = slept;
+      waits = waits;
+      talks = talks;
+      guests = guests;
+      in_guests = in_guests;
+      in_talks = in_talks;
+    }
+
     abbrev pub running : Buffering
-    running = own_at (Some t) None ready ended None slept waits talks
+    running = part_at runner None None
 
     abbrev p : Private
     p = private_of running guests trace
@@ -131,7 +145,7 @@ module _ (setup : Setup) (c : CpuId) (guests : List State) (trace : List Entry) 
         let ready2 : List Tid = (ready ++ pending) ++ t ∷ [] in
         (λ i. private_of (own_at None None ready2 ended None slept waits (put_same talks t.0 (talk_of talks t) quiet refl i))
         (slice_set guests t.0 guest) trace)
-        ∙ (changed t None ready ended None slept waits talks guests in_guests in_talks None None ready2 None slept waits (talk_of talks t) guest trace
+        ∙ (changed runner None None None None ready2 None slept waits (talk_of talks t) guest trace
         (slept_for slept t) (slept_for waits t) false (λ j other. refl) (λ j other. refl) (λ j other. refl) refl refl refl
         ∙ (ap (λ x. parts None ready2 None (slice_set (threads_at running guests) t.0 x) trace) (thread_free false guest)
         ∙ sym (ap (λ x. after_by setup c p t x.call (answer_view (told.Taken pending))) there_free

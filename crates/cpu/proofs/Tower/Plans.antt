@@ -1,95 +1,69 @@
 -- The plan of every poll of a begun call is a line of the table.
-use Rattle.std.proofs.Common.{◌≡◌, ℕ, ◌<◌, List, length, slice_get, Option, Some, None, IsSome, refl, sym, subst}
-use Rattle.event_log.specs.declared.entries.Entry.{Entry}
+use Rattle.std.proofs.Common.{◌≡◌, slice_get, Option, Some, IsSome, refl, sym, subst}
 use Rattle.event_log.specs.declared.ids.BufId.{BufId}
-use Rattle.event_log.specs.declared.ids.CpuId.{CpuId}
 use Rattle.event_log.specs.declared.ids.Tid.{Tid}
-use Rattle.guest.specs.State.{State}
-use Rattle.layer_traits.specs.declared.calls.Call.{Call}
 use Rattle.layer_traits.specs.declared.calls.Effect.{Effect}
 use Rattle.layer_traits.specs.declared.talks.Stage.{Stage}
-use Rattle.layer_traits.specs.declared.talks.Stage.TheVariants as at
 use Rattle.layer_traits.specs.declared.talks.Talk.{Talk}
 use Rattle.layer_traits.specs.LockLaw.{slept_for}
-use Rattle.layer_traits.specs.BufferLaw.{Buffering, talk_of}
-use Rattle.cpu.specs.Table.Setups.{Setup}
+use Rattle.layer_traits.specs.BufferLaw.{talk_of}
 use Rattle.cpu.specs.Tower.Views.{TowerOut}
 use Rattle.cpu.specs.Tower.Privates.{threads_in}
-use Rattle.cpu.specs.Tower.Composed.{HandIsKnown, IsGoing, PlansAreLines, Stands, asks, was_handed, enters, tries, waits, was_woken, asks_again}
-use Rattle.cpu.specs.Tower.Composed.{was_handed_again, signals, signals_own, releases, has_signalled, has_signalled_own, has_released}
+use Rattle.cpu.specs.Tower.Composed.{PlansAreLines, Stands, asks, was_handed, enters, tries, waits, was_woken, asks_again, was_handed_again, signals}
+use Rattle.cpu.specs.Tower.Composed.{signals_own, releases, has_signalled, has_signalled_own, has_released}
+use Rattle.cpu.proofs.Tower.Callers.{Caller, HasRoom, awake, caller_in, talk_at}
 use Rattle.cpu.proofs.Tower.Numbered.{own_at}
-use Rattle.cpu.proofs.Tower.Lines.{Site}
-use Rattle.cpu.proofs.Tower.Chains.{LineOf, site_asks, site_enters, site_tries, site_waits, site_asks_again, site_signals}
-use Rattle.cpu.proofs.Tower.Chains.{site_own_signals, site_releases, handed_line, handed_again_line, woken_line}
+use Rattle.cpu.proofs.Tower.Chains.{LineOf, site_asks, site_enters, site_tries, site_waits, site_asks_again, site_signals, site_own_signals, site_releases}
+use Rattle.cpu.proofs.Tower.Chains.{handed_line, handed_again_line, woken_line}
 use Rattle.cpu.proofs.Tower.Sends.{has_signalled_line, has_signalled_own_line, has_released_line}
 
-module _ (setup : Setup) (c : CpuId) (t : Tid) (ready ended : List Tid) (slept waiting : List (Option BufId)) (talks : List Talk) (guests : List State)
-    (trace : List Entry) (call : Call) (position : ℕ) (in_guests : t.0 < length guests) (in_talks : t.0 < length talks)
-    (in_slept : t.0 < length slept) (in_waits : t.0 < length waiting) where
-  abbrev talk : Stage → Option Effect → Talk
-  talk stage effect = record { stage = stage; call = Some call; position = position; effect = effect }
-
-  abbrev site : slept_for slept t ≡ None → slept_for waiting t ≡ None → Site
-  site s w = record {
-    setup = setup;
-    c = c;
-    t = t;
-    ready = ready;
-    ended = ended;
-    slept = slept;
-    waits = waiting;
-    talks = talks;
-    guests = guests;
-    trace = trace;
-    call = call;
-    position = position;
-    in_guests = in_guests;
-    in_talks = in_talks;
-    in_slept = in_slept;
-    in_waits = in_waits;
-    is_slept = s;
-    is_waits = w;
-  }
+module _ (caller : Caller) where
+  open caller use {setup, c, t, ready, ended, slept, waits as waiting, talks, guests, trace, call}
 
   by_stands : (stage : Stage) (hand : Option Tid) (kept : Option TowerOut) (s w : Option BufId) (effect : Option Effect) → Stands stage hand kept s w effect
-      → talk_of talks t ≡ talk stage effect → slept_for slept t ≡ s → slept_for waiting t ≡ w
+      → talk_of talks t ≡ talk_at caller stage effect → slept_for slept t ≡ s → slept_for waiting t ≡ w
       → ((u : Tid) → hand ≡ Some u → IsSome (slice_get setup.homes u.0))
       → LineOf setup c t call (own_at (Some t) hand ready ended kept slept waiting talks) guests trace
   by_stands stage hand kept s w effect asks is is_s is_w known =
-      site_asks (site is_s is_w) is
+      site_asks (awake caller is_s is_w) is
   by_stands stage hand kept s w effect enters is is_s is_w known =
-      site_enters (site is_s is_w) is
+      site_enters (awake caller is_s is_w) is
   by_stands stage hand kept s w effect tries is is_s is_w known =
-      site_tries (site is_s is_w) is
+      site_tries (awake caller is_s is_w) is
   by_stands stage hand kept s w effect waits is is_s is_w known =
-      site_waits (site is_s is_w) is
+      site_waits (awake caller is_s is_w) is
   by_stands stage hand kept s w effect asks_again is is_s is_w known =
-      site_asks_again (site is_s is_w) is
+      site_asks_again (awake caller is_s is_w) is
   by_stands stage hand kept s w effect (signals f) is is_s is_w known =
-      site_signals (site is_s is_w) f is
+      site_signals (awake caller is_s is_w) f is
   by_stands stage hand kept s w effect (signals_own f) is is_s is_w known =
-      site_own_signals (site is_s is_w) f is
+      site_own_signals (awake caller is_s is_w) f is
   by_stands stage hand kept s w effect (releases f) is is_s is_w known =
-      site_releases (site is_s is_w) f is
+      site_releases (awake caller is_s is_w) f is
   by_stands stage hand kept s w effect (was_handed b) is is_s is_w known =
-      handed_line setup c t ready ended slept waiting talks guests trace call position in_guests in_talks in_slept in_waits b is is_s is_w
+      handed_line caller b is is_s is_w
   by_stands stage hand kept s w effect (was_handed_again b) is is_s is_w known =
-      handed_again_line setup c t ready ended slept waiting talks guests trace call position in_guests in_talks in_slept in_waits b is is_s is_w
+      handed_again_line caller b is is_s is_w
   by_stands stage hand kept s w effect (was_woken b) is is_s is_w known =
-      woken_line setup c t ready ended slept waiting talks guests trace call position in_guests in_talks in_slept in_waits b is is_s is_w
+      woken_line caller b is is_s is_w
   by_stands stage hand kept s w effect (has_signalled u v f) is is_s is_w known =
-      has_signalled_line setup c t u ready ended slept waiting talks guests trace call position f in_guests in_talks is_s is_w (known u refl) v is
+      has_signalled_line (awake caller is_s is_w) u f (known u refl) v is
   by_stands stage hand kept s w effect (has_signalled_own u v f) is is_s is_w known =
-      has_signalled_own_line setup c t u ready ended slept waiting talks guests trace call position f in_guests in_talks is_s is_w (known u refl) v is
+      has_signalled_own_line (awake caller is_s is_w) u f (known u refl) v is
   by_stands stage hand kept s w effect (has_released u f) is is_s is_w known =
-      has_released_line setup c t u ready ended slept waiting talks guests trace call position f in_guests in_talks is_s is_w (known u refl) is
+      has_released_line (awake caller is_s is_w) u f (known u refl) is
 
 pub plans_are_lines : PlansAreLines
 plans_are_lines setup c own guests trace t call going known =
     let talk_now : Talk = talk_of own.talks t in
-    let line = by_stands setup c t (threads_in own).ready (threads_in own).ended own.cv.lock.slept own.cv.waits own.talks guests trace call talk_now.position
-    going.in_guests going.in_talks going.in_slept going.in_waits talk_now.stage (threads_in own).hand own.cv.lock.sleep.kept (slept_for own.cv.lock.slept t)
-    (slept_for own.cv.waits t) talk_now.effect going.stands
+    let room : HasRoom own guests t = record {
+      in_guests = going.in_guests;
+      in_talks = going.in_talks;
+      in_slept = going.in_slept;
+      in_waits = going.in_waits;
+    } in
+    let line = by_stands (caller_in setup c own guests t room trace call talk_now.position) talk_now.stage (threads_in own).hand
+    own.cv.lock.sleep.kept (slept_for own.cv.lock.slept t) (slept_for own.cv.waits t) talk_now.effect going.stands
     (λ i. record { stage = talk_now.stage; call = going.begun i; position = talk_now.position; effect = talk_now.effect }) refl refl known in
     subst (λ o. LineOf setup c t call (own_at o (threads_in own).hand (threads_in own).ready (threads_in own).ended own.cv.lock.sleep.kept own.cv.lock.slept
     own.cv.waits own.talks) guests trace) (sym going.current) line

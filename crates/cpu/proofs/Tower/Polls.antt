@@ -1,36 +1,34 @@
 -- From plans to steps: a poll that followed a line of the table is a step of it.
-use Rattle.std.proofs.Common.{◌≡◌, ℕ, Bool, true, false, List, [], ◌∷◌, ◌++◌, map, Option, Some, None}
-use Rattle.std.proofs.Common.{option_map, slice_get, if◌then◌else◌, refl, ap, sym, ◌∙◌, subst}
-use Rattle.event_log.specs.declared.entries.Entry.{Entry}
+use Rattle.std.proofs.Common.{◌≡◌, ℕ, Bool, true, false, List, [], ◌∷◌, ◌++◌, Option, Some, None, option_map, slice_get, if◌then◌else◌, refl, ap, sym, ◌∙◌}
+use Rattle.std.proofs.Common.{subst}
 use Rattle.event_log.specs.declared.ids.CpuId.{CpuId}
 use Rattle.event_log.specs.declared.ids.LockId.{LockId}
 use Rattle.event_log.specs.declared.ids.LockId.TheVariants.{Pending, Buffer}
 use Rattle.event_log.specs.declared.ids.Tid.{Tid}
 use Rattle.event_log.specs.History.{same_lock}
-use Rattle.event_log.specs.Actions.{Action, action_in, Phase, Rests, Waits, Holds, next_action, phase, renamed}
+use Rattle.event_log.specs.Actions.{Action, action_in, Phase, Rests, Waits, Holds, phase, renamed}
 use Rattle.event_log.specs.Sections.{Section, block_after, sections_in}
 use Rattle.event_log.proofs.Foreign.{phase_others}
 use Rattle.event_log.proofs.Renaming.{next_action_renamed, others_renamed, phase_renamed}
-use Rattle.guest.specs.State.{State}
-use Rattle.layer_traits.specs.declared.calls.Call.{Call as TowerCall}
 use Rattle.layer_traits.specs.declared.queue_edits.QueueBlock.TheVariants as block
 use Rattle.layer_traits.specs.declared.queue_edits.QueueEdit.TheVariants as queue
 use Rattle.layer_traits.specs.declared.steps.Reason.{Reason}
 use Rattle.layer_traits.specs.declared.steps.Reason.TheVariants.{AllEnded, TraceFull}
 use Rattle.layer_traits.specs.declared.steps.Step.TheVariants.{Stepped, Halted}
-use Rattle.layer_traits.specs.Along.{IsStep, Outcome}
+use Rattle.layer_traits.specs.Along.{IsStep}
 use Rattle.layer_traits.specs.Looks.{Tries}
-use Rattle.layer_traits.specs.Plans.{Left, Plan, Act, Acting, Follows, Table, at_give, is_in_section, reply}
+use Rattle.layer_traits.specs.Plans.{Left, Acting, Follows, at_give, is_in_section, reply}
 use Rattle.layer_traits.specs.BufferLaw.{Buffering}
-use Rattle.layer_traits.proofs.LookLemmas.{tries_follow, tries_renamed}
+use Rattle.layer_traits.proofs.LookLemmas.{tries_renamed}
 use Rattle.layer_traits.proofs.PlanRenaming.{map-append, reply_viewed}
-use Rattle.cpu.specs.Table.Blocks.{Answer, Block, Name, OfBuffer, OfPending}
+use Rattle.cpu.specs.Table.Blocks.{Block, Name, OfPending}
 use Rattle.cpu.specs.Table.Edits.{edited, kernel}
 use Rattle.cpu.specs.Table.Setups.{Setup, Private, have_ended, home_threads, opening as table_opening, opening_buffer, thread_at, Call as TableCall}
-use Rattle.cpu.specs.Table.Choice.{Alone, Choice, Goes, Halts, Ask, after_section, asked, at_call, at_current, at_hand, at_ready, choice}
+use Rattle.cpu.specs.Table.Choice.{Alone, Choice, Goes, Halts, Ask, asked, at_call, at_current, at_hand, at_ready, choice}
 use Rattle.cpu.specs.Table.Steps.{acting, acting_on, after_reply, chosen, cpu_step, halted_at, halted_by, step_in}
-use Rattle.cpu.specs.Tower.Views.{TablesAgree, TowerAnswer, TowerBlock, TowerName, answer_view, name_of, tower, view}
-use Rattle.cpu.specs.Tower.Composed.{HaltsExactly, HandIsKnown, IsKind, IsLine, IsUsed, OpensAs, answer_of, named}
+use Rattle.cpu.specs.Tower.Views.{TowerBlock, TowerName, answer_view, name_of, tower, view}
+use Rattle.cpu.specs.Tower.Composed.{HaltsExactly, HandIsKnown, IsKind, answer_of, named}
+use Rattle.cpu.proofs.Tower.Polled.{Polled, Way}
 use Rattle.cpu.proofs.Tower.Viewed.{tables_agree}
 
 -- The blocks of the locks are of their kinds.
@@ -80,13 +78,10 @@ opens_alike a b lock same (s ∷ past) =
 
 -- A line of the table is a step of it.
 
-module _ {A : Type 0} (ActsFor : CpuId → Type 0) (setup : Setup) (opening : LockId → Option TowerBlock) (c : CpuId) (own : Buffering) (p q : Private)
-    (plan : Plan TowerName TowerAnswer Buffering A) (after : Left Buffering A → Private) (old new : List (Action TowerName)) (result : Option A)
-    (acts : ActsFor c) (opens : OpensAs setup c opening) (line : IsLine setup c q plan after) (known : HandIsKnown setup own)
-    (goes : (past : List (Action TowerName)) → phase c past ≡ phase c old → cpu_step setup c p (named past) ≡ acting setup c q (named past))
-    (follows : Follows ActsFor tower opening c plan old new (record { own = own; answer = result })) where
-  abbrev got : Left Buffering A
-  got = record { own = own; answer = result }
+module _ {A : Type 0} (polled : Polled) (way : Way A polled) (got : Left Buffering A) (known : HandIsKnown polled.setup got.own)
+    (follows : Follows polled.ActsFor tower polled.opening polled.c way.plan polled.old polled.new got) where
+  open polled use {ActsFor, setup, opening, c, acts, opens, old, new}
+  open way use {p, q, after, line, goes}
 
   planned : Acting ActsFor tower opening c line.lock line.name line.react old new got
   planned = subst (λ x. Follows ActsFor tower opening c x old new got) line.is follows

@@ -1,70 +1,47 @@
 -- The plan of a begun call is a line of the table, where a thread that its section woke is in the hand: it is put among its home's pending.
-use Rattle.std.proofs.Common.{◌≡◌, ◌≢◌, ◌⊎◌, inl, inr, ℕ, ◌<◌, Bool, true, false, List, [], ◌∷◌, ◌++◌, length, slice_get}
-use Rattle.std.proofs.Common.{slice_set, Option, Some, None, IsSome, is_some, if◌then◌else◌, refl, ap, sym, ◌∙◌, subst}
-use Rattle.std.proofs.lemmas.List.{get_or-set_same, get_or-set_other, set-get_or}
-use Rattle.event_log.specs.declared.entries.Entry.{Entry}
-use Rattle.event_log.specs.declared.ids.BufId.{BufId}
+use Rattle.std.proofs.Common.{◌≡◌, inr, ◌<◌, Bool, true, false, List, length, slice_get, slice_set, Option, Some, None, IsSome, refl, ap, sym, ◌∙◌, subst}
+use Rattle.std.proofs.lemmas.List.{set-get_or}
 use Rattle.event_log.specs.declared.ids.CpuId.{CpuId}
-use Rattle.event_log.specs.declared.ids.LockId.TheVariants.{Buffer, Pending}
+use Rattle.event_log.specs.declared.ids.LockId.TheVariants.{Pending}
 use Rattle.event_log.specs.declared.ids.Tid.{Tid}
-use Rattle.event_log.specs.History.{same_cpu}
-use Rattle.event_log.specs.Messages.{Message}
-use Rattle.guest.specs.declared.instructions.Instruction.{Instruction}
 use Rattle.guest.specs.State.{State, at_start, next_of}
 use Rattle.thread_blocks.specs.Queues.{is_in}
-use Rattle.layer_traits.proofs.CountLemmas.{same_cpu_sym}
-use Rattle.layer_traits.specs.declared.calls.Call.{Call as TowerCall}
-use Rattle.layer_traits.specs.declared.calls.Call.TheVariants.{Send, Recv}
 use Rattle.layer_traits.specs.declared.calls.Effect.{Effect}
 use Rattle.layer_traits.specs.declared.calls.Reply.{Reply}
-use Rattle.layer_traits.specs.declared.locked.QEdit.TheVariants.{Acquire, Inside, Release}
-use Rattle.layer_traits.specs.declared.locked.QOut.{QOut}
+use Rattle.layer_traits.specs.declared.locked.QEdit.TheVariants.{Inside, Release}
 use Rattle.layer_traits.specs.declared.locked.QOut.TheVariants as lock
-use Rattle.layer_traits.specs.declared.locked.Side.{Side}
-use Rattle.layer_traits.specs.declared.locked.Side.TheVariants.{Receivers, Senders}
-use Rattle.layer_traits.specs.declared.conditions.CvEdit.TheVariants.{Edit, SignalFront}
-use Rattle.layer_traits.specs.declared.conditions.CvLeave.TheVariants.{Leave, Wait}
+use Rattle.layer_traits.specs.declared.conditions.CvEdit.TheVariants.{SignalFront}
+use Rattle.layer_traits.specs.declared.conditions.CvLeave.TheVariants.{Leave}
 use Rattle.layer_traits.specs.declared.conditions.CvOut.{CvOut}
 use Rattle.layer_traits.specs.declared.conditions.CvOut.TheVariants as cv
 use Rattle.layer_traits.specs.declared.buffer_edits.BufferEdit.{BufferEdit}
 use Rattle.layer_traits.specs.declared.buffer_edits.BufferOut.{BufferOut}
-use Rattle.layer_traits.specs.declared.buffer_edits.BufferOut.TheVariants.{Entered, NotYet, Done}
-use Rattle.layer_traits.specs.declared.queue_edits.QueueBlock.TheVariants as block
 use Rattle.layer_traits.specs.declared.queue_edits.QueueEdit.TheVariants as queue
 use Rattle.layer_traits.specs.declared.queues.QueueAnswer.TheVariants as told
-use Rattle.layer_traits.specs.declared.sleeps.Outcome.{Outcome}
 use Rattle.layer_traits.specs.declared.talks.Stage.{Stage as TowerStage}
 use Rattle.layer_traits.specs.declared.talks.Stage.TheVariants as at
 use Rattle.layer_traits.specs.declared.talks.Talk.{Talk}
-use Rattle.layer_traits.specs.BufferBlocks.{BufferState, buffer_answer, editor, first_item, is_turn}
 use Rattle.layer_traits.specs.BufferProtocol.{buffer_rules}
-use Rattle.layer_traits.specs.BufferLaw.{BufferPlan, Buffering, at_stage, chained, buffer_of, first_of, going, left_heard, other_side, plan_at}
-use Rattle.layer_traits.specs.BufferLaw.{plan_beneath, plan_of, quiet, reply_of, section_at as tower_section, side_of as tower_side, talk_of, try_of}
+use Rattle.layer_traits.specs.BufferLaw.{BufferPlan, Buffering, at_stage, buffer_of, going, left_heard, other_side, plan_at, quiet, reply_of}
+use Rattle.layer_traits.specs.BufferLaw.{side_of as tower_side, talk_of}
 use Rattle.layer_traits.specs.Conditions.{CvCall}
 use Rattle.layer_traits.specs.CvLaw.{Waiting, cv_plan, cv_plan_for, left_waiting}
-use Rattle.layer_traits.specs.LockLaw.{Locking, left_after, plan_for, slept_for}
-use Rattle.layer_traits.specs.Locking.{LockState, line_asked, lock_answer, lock_moves, told_asker}
-use Rattle.layer_traits.specs.Places.{Threads, is_cpu}
-use Rattle.layer_traits.specs.Plans.{Left, Plan, Now, Act, raised}
-use Rattle.layer_traits.specs.SleepLaw.{Sleeping, left_done, sleep_plan}
+use Rattle.layer_traits.specs.LockLaw.{left_after, plan_for, slept_for}
+use Rattle.layer_traits.specs.Locking.{lock_moves}
+use Rattle.layer_traits.specs.Plans.{Left, Plan, raised}
+use Rattle.layer_traits.specs.SleepLaw.{sleep_plan}
 use Rattle.cpu.specs.Guests.{after_answer}
-use Rattle.cpu.specs.Table.Blocks.{Answer, Asks, Sends, Receives, Told, effect_of}
-use Rattle.cpu.specs.Table.Setups.{Setup, Acquires, Enters, Tries, Waits, AcquiresAgain, Signals, SignalsOwn, Releases}
-use Rattle.cpu.specs.Table.Setups.{Returns, Stage, Call, Thread, Private, cpu_or, home_of, program_of, thread_at}
-use Rattle.cpu.specs.Table.Choice.{after_section, at_buffer, first_section, guest_after, heard, heard_entry}
-use Rattle.cpu.specs.Table.Choice.{heard_position, returned_at, section_at, settled, slept_if, woken}
-use Rattle.cpu.specs.Tower.Views.{TowerAnswer, TowerBlock, TowerName, TowerOut, answer_view, name_of, tower}
-use Rattle.cpu.specs.Tower.Privates.{asks_in, call_from, guest_at, guests_after, private_after, private_of, thread_from, tid, trace_after}
-use Rattle.cpu.specs.Tower.Composed.{HandIsKnown, IsKind, IsLine}
-use Rattle.cpu.proofs.Tower.Numbered.{changed, goes, gone, numbered_long, own_at, parts, threads_at}
-use Rattle.cpu.proofs.Tower.Settled.{asks_for, calling, done_with, from_t, goes_on, heard_is, put, returns, with_t}
-use Rattle.layer_traits.specs.BufferLaw.{fifo_plan}
+use Rattle.cpu.specs.Table.Setups.{SignalsOwn, Releases, Returns, Call, Thread, Private, cpu_or, program_of}
+use Rattle.cpu.specs.Table.Choice.{settled, at_pending}
+use Rattle.cpu.specs.Tower.Views.{TowerAnswer, TowerName, TowerOut}
+use Rattle.cpu.specs.Tower.Privates.{call_from, guest_at, guests_after, private_after, private_of, thread_from, trace_after}
+use Rattle.cpu.proofs.Tower.Callers.{Site, talk_at}
+use Rattle.cpu.proofs.Tower.Numbered.{goes, numbered_long, own_at, part_at, parts, threads_at}
+use Rattle.cpu.proofs.Tower.Settled.{calling, goes_on, returns}
 use Rattle.layer_traits.specs.Passes.{or_else, queue_for}
 pub use Rattle.layer_traits.proofs.PlaceLemmas.{home_there}
 use Rattle.cpu.specs.Table.Blocks.{Pend}
-use Rattle.cpu.specs.Table.Choice.{at_pending}
 use Rattle.cpu.specs.Tower.Composed.{outcome_of}
-use Rattle.cpu.specs.Tower.Privates.{stage_from}
 use Rattle.cpu.proofs.Tower.Lines.{react_in, reply_guest}
 use Rattle.cpu.proofs.Tower.Chains.{LineOf, fifo_at, private_here, put_same}
 
@@ -72,14 +49,14 @@ pub queue_is : (c : CpuId) (o : Option CpuId) → IsSome o → or_else c o ≡ c
 queue_is c None there = absurd (cc there)
 queue_is c (Some d) there = refl
 
-module _ (setup : Setup) (c : CpuId) (t u : Tid) (ready ended : List Tid) (slept waits : List (Option BufId)) (talks : List Talk) (guests : List State)
-    (trace : List Entry) (call : TowerCall) (position : ℕ) (f : Effect) (in_guests : t.0 < length guests) (in_talks : t.0 < length talks)
-    (is_slept : slept_for slept t ≡ None) (is_waits : slept_for waits t ≡ None) (known : IsSome (slice_get setup.homes u.0)) where
+module _ (site : Site) (u : Tid) (f : Effect) (known : IsSome (slice_get site.setup.homes u.0)) where
+  open site use {setup, c, runner, t, ready, ended, slept, waits, talks, guests, trace, call, position, in_guests, is_slept, is_waits}
+
   abbrev pub own_with : TowerOut → Buffering
-  own_with outcome = own_at (Some t) (Some u) ready ended (Some outcome) slept waits talks
+  own_with outcome = part_at runner (Some u) (Some outcome)
 
   abbrev pub here : TowerStage → Talk
-  here stage = record { stage = stage; call = Some call; position = position; effect = Some f }
+  here stage = talk_at site.caller stage (Some f)
 
   abbrev g : State
   g = guest_at guests t
@@ -141,14 +118,12 @@ module _ (setup : Setup) (c : CpuId) (t u : Tid) (ready ended : List Tid) (slept
     sent talk2 answer =
         (λ i. private_of (own_at (Some t) None ready ended None slept waits (slice_set talks t.0 talk2)) (guests_by answer i)
         (trace_after c t (buffer_of call) (effect_is i) (talk_of (slice_set talks t.0 talk2) t).effect trace))
-        ∙ goes t (Some u) ready ended (Some outcome) slept waits talks guests in_guests in_talks None ready None talk2 (guest_by answer) trace None None
-        is_slept is_waits
+        ∙ goes runner (Some u) (Some outcome) None ready None talk2 (guest_by answer) trace None None is_slept is_waits
 
     -- the thread as the table has it: its section is done
     threads_are : (x : Thread) → thread_from (here stage) None None true e g ≡ x → threads outcome ≡ slice_set (threads outcome) t.0 x
     threads_are x same =
-        ap (λ p. p.threads) (private_here t (Some u) ready ended (Some outcome) slept waits talks guests trace in_guests in_talks
-        (here stage) None None is is_slept is_waits)
+        ap (λ p. p.threads) (private_here runner (Some u) (Some outcome) trace (here stage) None None is is_slept is_waits)
         ∙ ap (slice_set (threads outcome) t.0) same
 
     line : (s : CvCall BufferEdit) (left : Left Buffering Reply)

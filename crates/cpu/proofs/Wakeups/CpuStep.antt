@@ -33,7 +33,7 @@ use Rattle.cpu.proofs.Wakeups.Spots.{IsTurn, is_local, IsCallers, MayComeBy, May
 use Rattle.cpu.proofs.Wakeups.Pairs.{sleeps_at, woken_sleeps}
 use Rattle.cpu.proofs.Wakeups.Called.{Good, Moves, was_woken, has_slept, stays, moves_at, CallersAre, callers_are, is_the_caller, sleeps_not_home}
 use Rattle.cpu.proofs.Wakeups.Agreement.{owing_own, turn_of_stage, turn_of_call, is_last, is_done, Agrees, IsSettled, runs, home_is, hand_is, within}
-use Rattle.cpu.proofs.Wakeups.Sits.{section_caller, bed_not_hand, agrees_call, agrees_pended, agrees_drained}
+use Rattle.cpu.proofs.Wakeups.Sits.{IsCalling, section_caller, bed_not_hand, agrees_call, agrees_pended, agrees_drained}
 use Rattle.cpu.proofs.Wakeups.Sits.{agrees_yielded, guest_calls, agrees_foreign, drained_hand}
 
 -- The locks' blocks are of their kinds.
@@ -300,7 +300,14 @@ module _ (setup : Setup) (past : List (Section Name)) (good : Good setup past) (
           let sleeps = (woken_sleeps call.buffer s k _ _ _ pair (section_at t call call.stage) (ap (is_thread s) woke ∙ same_tid_self s)).1 in
           let off = sleeps_not_home call.buffer (spot setup s past) sleeps in
           (off, good.known s off) in
-          let now = agrees_call setup c p (λ u. turn setup u past) (λ u. spot setup u past) agrees settled_before empty t runs_now call is k asleep in
+          let calling : IsCalling setup c p (λ u. turn setup u past) (λ u. spot setup u past) t call = record {
+            agrees = agrees;
+            settled_before = settled_before;
+            empty = empty;
+            runs_now = runs_now;
+            is = is;
+          } in
+          let now = agrees_call setup c p (λ u. turn setup u past) (λ u. spot setup u past) t call calling k asleep in
           let a = answer_of_buffer (section_at t call call.stage) k in
           let gives : after_reply setup c p (option_map (answer (section_at t call call.stage)) (Some (OfBuffer k))) ≡ after_call setup c p t call a =
           ap (λ h. after_in setup c p h a) empty ∙ ap (λ h. after_at setup c p h a) runs_now ∙ ap (λ h. after_by setup c p t h a) is in

@@ -261,8 +261,18 @@ woken_current setup c (Some s) p = by_test (same_cpu (home_of setup s) c)
     by_test true = refl
     by_test false = refl
 
-module _ (setup : Setup) (c : CpuId) (p : Private) (T : Tid → Turn) (P : Tid → Spot) (agrees : Agrees setup c p T P) (settled_before : IsSettled setup c p)
-    (empty : p.hand ≡ None) (t : Tid) (runs_now : p.current ≡ Some t) (call : Call) (is : (thread_at p t).call ≡ Some call) where
+-- in a private state that agrees, the hand is empty and thread t runs within this call
+pub record IsCalling (setup : Setup) (c : CpuId) (p : Private) (T : Tid → Turn) (P : Tid → Spot) (t : Tid) (call : Call) : Type 0 where
+  pub agrees : Agrees setup c p T P
+  pub settled_before : IsSettled setup c p
+  pub empty : p.hand ≡ None
+  pub runs_now : p.current ≡ Some t
+  pub is : (thread_at p t).call ≡ Some call
+
+module _ (setup : Setup) (c : CpuId) (p : Private) (T : Tid → Turn) (P : Tid → Spot) (t : Tid) (call : Call)
+    (calling : IsCalling setup c p T P t call) where
+  open calling use {agrees, settled_before, empty, runs_now, is}
+
   local_now : is_local setup c t ≡ true
   local_now = (runs setup c p T P agrees t runs_now).0
 

@@ -1,0 +1,99 @@
+-- A thread that runs on a CPU, and the call that it is in: what the lemmas on a poll's plan are told of.
+use Rattle.std.proofs.Common.{◌≡◌, ℕ, ◌<◌, List, length, slice_set, Option, Some, None, sym, subst}
+use Rattle.std.proofs.lemmas.List.{length-set}
+use Rattle.event_log.specs.declared.entries.Entry.{Entry}
+use Rattle.event_log.specs.declared.ids.BufId.{BufId}
+use Rattle.event_log.specs.declared.ids.CpuId.{CpuId}
+use Rattle.event_log.specs.declared.ids.Tid.{Tid}
+use Rattle.guest.specs.State.{State}
+use Rattle.layer_traits.specs.declared.calls.Call.{Call}
+use Rattle.layer_traits.specs.declared.calls.Effect.{Effect}
+use Rattle.layer_traits.specs.declared.talks.Stage.{Stage}
+use Rattle.layer_traits.specs.declared.talks.Talk.{Talk}
+use Rattle.layer_traits.specs.BufferLaw.{Buffering}
+use Rattle.layer_traits.specs.LockLaw.{slept_for}
+use Rattle.cpu.specs.Table.Setups.{Setup}
+use Rattle.cpu.specs.Tower.Privates.{threads_in}
+
+-- thread t runs: the CPU's part but for its hand and the answer that it keeps, and the guests, where the thread has a talk and a guest
+pub record Runner : Type 0 where
+  pub t : Tid
+  pub ready : List Tid
+  pub ended : List Tid
+  pub slept : List (Option BufId)
+  pub waits : List (Option BufId)
+  pub talks : List Talk
+  pub guests : List State
+  pub in_guests : t.0 < length guests
+  pub in_talks : t.0 < length talks
+
+-- the thread that runs is in a call, or begins one
+pub record Caller : Type 0 where
+  pub setup : Setup
+  pub c : CpuId
+  pub runner : Runner
+  pub open runner use *
+  pub trace : List Entry
+  pub call : Call
+  pub position : ℕ
+  pub in_slept : t.0 < length slept
+  pub in_waits : t.0 < length waits
+
+-- it neither sleeps for the lock nor waits
+pub record Site : Type 0 where
+  pub caller : Caller
+  pub open caller use *
+  pub is_slept : slept_for slept t ≡ None
+  pub is_waits : slept_for waits t ≡ None
+
+-- the lists of a part and of its guests reach thread t
+pub record HasRoom (own : Buffering) (guests : List State) (t : Tid) : Type 0 where
+  pub in_guests : t.0 < length guests
+  pub in_talks : t.0 < length own.talks
+  pub in_slept : t.0 < length own.cv.lock.slept
+  pub in_waits : t.0 < length own.cv.waits
+
+-- the thread in its part
+abbrev pub caller_in : (setup : Setup) (c : CpuId) (own : Buffering) (guests : List State) (t : Tid) → HasRoom own guests t → (trace : List Entry)
+    (call : Call) (position : ℕ) → Caller
+caller_in setup c own guests t room trace call position = record {
+  setup = setup;
+  c = c;
+  runner = record {
+    t = t;
+    ready = (threads_in own).ready;
+    ended = (threads_in own).ended;
+    slept = own.cv.lock.slept;
+    waits = own.cv.waits;
+    talks = own.talks;
+    guests = guests;
+    in_guests = room.in_guests;
+    in_talks = room.in_talks;
+  };
+  trace = trace;
+  call = call;
+  position = position;
+  in_slept = room.in_slept;
+  in_waits = room.in_waits;
+}
+
+abbrev pub awake : (caller : Caller) → slept_for caller.slept caller.t ≡ None → slept_for caller.waits caller.t ≡ None → Site
+awake caller is_slept is_waits = record { caller = caller; is_slept = is_slept; is_waits = is_waits }
+
+-- the talk of the call at a stage
+abbrev pub talk_at : Caller → Stage → Option Effect → Talk
+talk_at caller stage effect = record { stage = stage; call = Some caller.call; position = caller.position; effect = effect }
+
+-- the caller at this stage, with what the poll left of where threads sleep and wait
+abbrev pub at_next : (caller : Caller) (slept2 waits2 : List (Option BufId)) (stage : Stage) → caller.t.0 < length slept2 → caller.t.0 < length waits2
+    → Caller
+at_next caller slept2 waits2 stage long_slept long_waits = record caller {
+  runner = record caller.runner {
+    slept = slept2;
+    waits = waits2;
+    talks = slice_set caller.talks caller.t.0 (talk_at caller stage None);
+    in_talks = subst (λ n. caller.t.0 < n) (sym (length-set caller.talks caller.t.0 (talk_at caller stage None))) caller.in_talks;
+  };
+  in_slept = long_slept;
+  in_waits = long_waits;
+}

@@ -1,0 +1,32 @@
+-- A poll of a CPU: the system in which it is a step, the log before and after it, and the line of the table that it goes.
+use Rattle.std.proofs.Common.{◌≡◌, List, Option}
+use Rattle.event_log.specs.declared.ids.CpuId.{CpuId}
+use Rattle.event_log.specs.declared.ids.LockId.{LockId}
+use Rattle.event_log.specs.Actions.{Action, phase}
+use Rattle.layer_traits.specs.BufferLaw.{Buffering}
+use Rattle.layer_traits.specs.Plans.{Left, Plan}
+use Rattle.cpu.specs.Table.Setups.{Setup, Private}
+use Rattle.cpu.specs.Table.Steps.{acting, cpu_step}
+use Rattle.cpu.specs.Tower.Views.{TowerAnswer, TowerBlock, TowerName}
+use Rattle.cpu.specs.Tower.Composed.{IsLine, OpensAs, named}
+
+-- the poll is CPU c's, in a system with this setup whose locks open with these blocks
+pub record Polled : Type 1 where
+  pub ActsFor : CpuId → Type 0
+  pub setup : Setup
+  pub opening : LockId → Option TowerBlock
+  pub c : CpuId
+  pub acts : ActsFor c
+  pub opens : OpensAs setup c opening
+  pub old : List (Action TowerName)
+  pub new : List (Action TowerName)
+
+-- from p the CPU's step goes on as from q, and from there the poll's plan is a line of the table
+pub record Way (A : Type 0) (polled : Polled) : Type 0 where
+  pub p : Private
+  pub q : Private
+  pub plan : Plan TowerName TowerAnswer Buffering A
+  pub after : Left Buffering A → Private
+  pub line : IsLine polled.setup polled.c q plan after
+  pub goes : (past : List (Action TowerName)) → phase polled.c past ≡ phase polled.c polled.old
+      → cpu_step polled.setup polled.c p (named past) ≡ acting polled.setup polled.c q (named past)
