@@ -2,7 +2,6 @@
 use Rattle.std.proofs.Common.{◌≡◌, ◌≢◌, ◌⊎◌, inl, inr, Bool, true, false, List, ◌++◌, Option, Some, None, option_map}
 use Rattle.std.proofs.Common.{option_to_list, is_some, if◌then◌else◌, refl, ap, sym, ◌∙◌, subst}
 use Rattle.event_log.specs.declared.ids.CpuId.{CpuId}
-use Rattle.event_log.specs.declared.ids.LockId.{LockId}
 use Rattle.event_log.specs.declared.ids.Tid.{Tid}
 use Rattle.layer_traits.specs.declared.buffer_edits.BufferEdit.{BufferEdit}
 use Rattle.layer_traits.specs.declared.buffer_edits.BufferOut.{BufferOut}
@@ -12,24 +11,21 @@ use Rattle.layer_traits.specs.declared.calls.Effect.{Effect}
 use Rattle.layer_traits.specs.declared.calls.Reply.{Reply}
 use Rattle.layer_traits.specs.declared.conditions.CvOut.{CvOut}
 use Rattle.layer_traits.specs.declared.locked.QOut.{QOut}
-use Rattle.layer_traits.specs.declared.queue_edits.QueueBlock.{QueueBlock}
 use Rattle.layer_traits.specs.declared.scheds.SchedCall.{SchedCall}
 use Rattle.layer_traits.specs.declared.talks.Stage.{Stage}
 use Rattle.layer_traits.specs.declared.talks.Stage.TheVariants.{Between, Acquires, Enters, Tries, Waits, AcquiresAgain, Signals, SignalsOwn, Releases}
 use Rattle.layer_traits.specs.declared.talks.Talk.{Talk}
 use Rattle.layer_traits.specs.BufferEffects.{effects_in}
 use Rattle.layer_traits.specs.BufferLaw.{Answered, Called, begun_at, buffer_of, entry_of, going, heard, placed, replied, reply_of, talk_of, told_by, tried}
-use Rattle.layer_traits.specs.BufferProtocol.{BufferLock}
 use Rattle.layer_traits.specs.Conditions.{CvCall}
-use Rattle.layer_traits.specs.CvLaw.{Waiting}
 use Rattle.layer_traits.specs.LockLaw.{slept_for}
 use Rattle.layer_traits.specs.Places.{home_of}
-use Rattle.layer_traits.specs.QueueBlocks.{homes_in, inner}
 use Rattle.layer_traits.specs.Queues.{buffer_sections}
 use Rattle.thread_blocks.specs.Queues.{same_tid}
 use Rattle.thread_blocks.proofs.Members.{same_tid_true}
 use Rattle.fifo_buffer.specs.Stances.{InCall, TalkFits, called_at, done_at}
-use Rattle.fifo_buffer.specs.Turns.{After, BufferEvent, CallsFit, FitsAt, NoSection, Sleeps, Stays, Turned, calling_after}
+use Rattle.fifo_buffer.specs.Turns.{After, CallsFit, FitsAt, NoSection, Sleeps, Stays, calling_after}
+use Rattle.fifo_buffer.proofs.TurnTaken.{TurnTaken}
 use Rattle.fifo_buffer.proofs.Parts.{effects_append, effects_others, effects_over}
 
 placed_call : (talk : Talk) (out : BufferOut) → (placed talk out).call ≡ talk.call
@@ -76,36 +72,34 @@ begun_there Signals o is = refl
 begun_there SignalsOwn o is = refl
 begun_there Releases o is = refl
 
-module _ (opening : LockId → Option (QueueBlock BufferLock)) (ActsFor : CpuId → Type 0) (c : CpuId) (t : Tid)
-    (home : home_of (homes_in opening) t ≡ Some c) (call : Call) (talk : Talk)
-    (called : talk.call ≡ Some call) (old new : List BufferEvent) (own left : Waiting BufferOut) (under_way : Option (SchedCall (CvCall BufferEdit)))
-    (done : Bool) (later : Talk)
-    (turned : Turned (homes_in opening) ActsFor (inner opening) c t call talk old new own left under_way done later)
-    (talks now : List Talk) (own_talk : talk_of now t ≡ later) (same : (u : Tid) → same_tid t u ≡ false → talk_of now u ≡ talk_of talks u) where
+module _ (turn : TurnTaken) (home : home_of turn.homes turn.t ≡ Some turn.c) (called : turn.talk.call ≡ Some turn.call)
+    (talks now : List Talk) (own_talk : talk_of now turn.t ≡ turn.later) (same : (u : Tid) → same_tid turn.t u ≡ false → talk_of now u ≡ talk_of talks u) where
+  open turn use {homes, ActsFor, O, c, t, call, talk, old, new, own, left, under_way, done, later, turned}
+
   -- the talks of the other threads fit as before
-  pub others_after : ((u : Tid) → home_of (homes_in opening) u ≡ Some c → same_tid t u ≡ false → FitsAt (inner opening) (buffer_sections old) own talks u)
-      → (u : Tid) → home_of (homes_in opening) u ≡ Some c → same_tid t u ≡ false → FitsAt (inner opening) (buffer_sections new) left now u
+  pub others_after : ((u : Tid) → home_of homes u ≡ Some c → same_tid t u ≡ false → FitsAt O (buffer_sections old) own talks u)
+      → (u : Tid) → home_of homes u ≡ Some c → same_tid t u ≡ false → FitsAt O (buffer_sections new) left now u
   others_after before u there other =
       rw (same u other, (turned.marks u other).0, (turned.marks u other).1)
       (turned.apart u there other (talk_of talks u).call (slept_for own.lock.slept u) (slept_for own.waits u) (talk_of talks u) (before u there other))
 
   abbrev Fit : Option Tid → Type 0
-  Fit calling = CallsFit (homes_in opening) c (inner opening) (buffer_sections new) left now under_way calling
+  Fit calling = CallsFit homes c O (buffer_sections new) left now under_way calling
 
-  idle : NoSection under_way → left.lock.sleep.kept ≡ None → FitsAt (inner opening) (buffer_sections new) left now t
-      → ((u : Tid) → home_of (homes_in opening) u ≡ Some c → same_tid t u ≡ false → FitsAt (inner opening) (buffer_sections new) left now u) → Fit None
+  idle : NoSection under_way → left.lock.sleep.kept ≡ None → FitsAt O (buffer_sections new) left now t
+      → ((u : Tid) → home_of homes u ≡ Some c → same_tid t u ≡ false → FitsAt O (buffer_sections new) left now u) → Fit None
   idle none kept mine others = record { none = none; kept = kept; fit = λ u there. go u there (same_tid t u) refl }
     where
-      go : (u : Tid) → home_of (homes_in opening) u ≡ Some c → (b : Bool) → same_tid t u ≡ b → FitsAt (inner opening) (buffer_sections new) left now u
-      go u there true is = subst (λ v. FitsAt (inner opening) (buffer_sections new) left now v) (same_tid_true t u is) mine
+      go : (u : Tid) → home_of homes u ≡ Some c → (b : Bool) → same_tid t u ≡ b → FitsAt O (buffer_sections new) left now u
+      go u there true is = subst (λ v. FitsAt O (buffer_sections new) left now v) (same_tid_true t u is) mine
       go u there false is = others u there is
 
-  pub finish : ((u : Tid) → home_of (homes_in opening) u ≡ Some c → same_tid t u ≡ false → FitsAt (inner opening) (buffer_sections old) own talks u)
+  pub finish : ((u : Tid) → home_of homes u ≡ Some c → same_tid t u ≡ false → FitsAt O (buffer_sections old) own talks u)
       → (answer : Option Reply) → answer ≡ (if done then replied call talk talk.stage else None)
       → Fit (calling_after t left.lock.sleep.threads.current answer)
   finish before answer answers = go done answers turned.after
     where
-      others : (u : Tid) → home_of (homes_in opening) u ≡ Some c → same_tid t u ≡ false → FitsAt (inner opening) (buffer_sections new) left now u
+      others : (u : Tid) → home_of homes u ≡ Some c → same_tid t u ≡ false → FitsAt O (buffer_sections new) left now u
       others = others_after before
 
       at : (runs : Option Tid) (told : Option Reply) → left.lock.sleep.threads.current ≡ runs → answer ≡ told → Fit (calling_after t runs told)
@@ -118,7 +112,7 @@ module _ (opening : LockId → Option (QueueBlock BufferLock)) (ActsFor : CpuId 
       none_there (Some s) is = absurd cc
 
       go : (d : Bool) → answer ≡ (if d then replied call talk talk.stage else None)
-          → After (inner opening) (buffer_sections new) t call talk left under_way d later
+          → After O (buffer_sections new) t call talk left under_way d later
           → Fit (calling_after t left.lock.sleep.threads.current answer)
       go true is after = by_stage (goes_or_ends talk call talk.stage after.heard_is.0 called after.reply)
         where
@@ -129,9 +123,9 @@ module _ (opening : LockId → Option (QueueBlock BufferLock)) (ActsFor : CpuId 
               → Fit (calling_after t left.lock.sleep.threads.current answer)
           by_stage (inl goes) =
               let is_call : later.call ≡ Some call = ap (λ (o : Talk). o.call) after.heard_is.1 ∙ goes.1 in
-              let fits : InCall (inner opening) (buffer_sections new) t call (slept_for left.lock.slept t)
+              let fits : InCall O (buffer_sections new) t call (slept_for left.lock.slept t)
               (slept_for left.waits t) later.stage later.position later.effect
-              = subst (λ o. TalkFits (inner opening) (buffer_sections new) t o (slept_for left.lock.slept t) (slept_for left.waits t) later) is_call
+              = subst (λ o. TalkFits O (buffer_sections new) t o (slept_for left.lock.slept t) (slept_for left.waits t) later) is_call
               after.fits in
               at (Some t) None after.current (is ∙ goes.0)
               (record {
@@ -149,12 +143,12 @@ module _ (opening : LockId → Option (QueueBlock BufferLock)) (ActsFor : CpuId 
               (idle (none_there under_way after.none) after.kept (rw own_talk after.fits) others)
       go false is after = by_case after.1
         where
-          by_case : Sleeps (inner opening) (buffer_sections new) t call talk left under_way ⊎ Stays (inner opening)
+          by_case : Sleeps O (buffer_sections new) t call talk left under_way ⊎ Stays O
               (buffer_sections new) t call talk left under_way
               → Fit (calling_after t left.lock.sleep.threads.current answer)
           by_case (inl sleeps) =
               at None None sleeps.current is (idle (none_there under_way sleeps.none) sleeps.kept
-              (rw (own_talk ∙ after.0) (subst (λ o. TalkFits (inner opening) (buffer_sections new) t o (slept_for left.lock.slept t)
+              (rw (own_talk ∙ after.0) (subst (λ o. TalkFits O (buffer_sections new) t o (slept_for left.lock.slept t)
               (slept_for left.waits t) talk) (sym called) sleeps.fits)) others)
           by_case (inr stays) =
               at (Some t) None stays.current is
@@ -175,14 +169,14 @@ module _ (opening : LockId → Option (QueueBlock BufferLock)) (ActsFor : CpuId 
   pub called_by : (Acts : CpuId → Type 0) → ((d : CpuId) → Acts d → ActsFor d) → (first : List Talk) → talk.effect ≡ (going (talk_of first t) call).effect
       → ((u : Tid) → u.0 ≢ t.0 → talk_of now u ≡ talk_of first u) → called_at talk.stage ≡ true
       → (answer : Option Reply) → answer ≡ (if done then replied call talk talk.stage else None)
-      → Called Acts c t call first now (effects_in (inner opening) (buffer_sections old)) (effects_in (inner opening) (buffer_sections new)) answer
+      → Called Acts c t call first now (effects_in O (buffer_sections old)) (effects_in O (buffer_sections new)) answer
   called_by Acts weaker first same_effect apart in_call answer answers = record {
-    others = effects_over (inner opening) turned.others old;
+    others = effects_over O turned.others old;
     mine = turned.effect;
-    foreign = λ d acts. effects_others (inner opening) d turned.others old (turned.foreign d (weaker d acts));
+    foreign = λ d acts. effects_others O d turned.others old (turned.foreign d (weaker d acts));
     is =
         turned.effects ∙ ap (λ es. option_to_list (option_map (entry_of c t (buffer_of call)) turned.effect) ++ es)
-        (effects_append (inner opening) turned.others old);
+        (effects_append O turned.others old);
     fresh = λ f is. (sym same_effect ∙ (turned.fresh f is).0, ap (λ (o : Talk). o.effect) own_talk ∙ (turned.fresh f is).1, (turned.fresh f is).2);
     stays = λ none. ap (λ (o : Talk). o.effect) own_talk ∙ turned.stays none ∙ same_effect;
     answers = go done answers turned.after;
@@ -193,7 +187,7 @@ module _ (opening : LockId → Option (QueueBlock BufferLock)) (ActsFor : CpuId 
       to x y is r told = subst (λ (z : Talk). Answered call z r) (sym is) told
 
       go : (d : Bool) → answer ≡ (if d then replied call talk talk.stage else None)
-          → After (inner opening) (buffer_sections new) t call talk left under_way d later
+          → After O (buffer_sections new) t call talk left under_way d later
           → Answered call (talk_of now t) answer
       go false is after =
           subst (Answered call (talk_of now t)) (sym is)
@@ -207,9 +201,9 @@ module _ (opening : LockId → Option (QueueBlock BufferLock)) (ActsFor : CpuId 
               → Answered call (talk_of now t) answer
           by_stage (inl goes) =
               let is_call : later.call ≡ Some call = ap (λ (o : Talk). o.call) after.heard_is.1 ∙ goes.1 in
-              let fits : InCall (inner opening) (buffer_sections new) t call (slept_for left.lock.slept t)
+              let fits : InCall O (buffer_sections new) t call (slept_for left.lock.slept t)
               (slept_for left.waits t) later.stage later.position later.effect
-              = subst (λ o. TalkFits (inner opening) (buffer_sections new) t o (slept_for left.lock.slept t) (slept_for left.waits t) later) is_call
+              = subst (λ o. TalkFits O (buffer_sections new) t o (slept_for left.lock.slept t) (slept_for left.waits t) later) is_call
               after.fits in
               subst (Answered call (talk_of now t)) (sym (is ∙ goes.0))
               (to (talk_of now t) later own_talk None (begun_there later.stage later.call fits.called ∙ is_call))

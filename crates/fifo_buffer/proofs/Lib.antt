@@ -1,11 +1,13 @@
 pub mod Apart
 pub mod OwnSteps
 pub mod Events
+pub mod Callers
 pub mod Polls
 pub mod Turning
 pub mod Heard
 pub mod Parts
 pub mod Passes
+pub mod TurnTaken
 pub mod Finish
 pub mod First
 pub mod Twice

@@ -57,25 +57,57 @@ split : (homes : List CpuId) (c : CpuId) (p : Pass) (done : Bool) (past : List B
 split homes c p true past = refl
 split homes c p false past = refl
 
-module _ (opening : LockId → Option (QueueBlock BufferLock)) (ActsFor Acts : CpuId → Type 0) (weaker : (d : CpuId) → Acts d → ActsFor d) (c : CpuId) (p : Pass)
-    (result : Option (Unit {0})) (old new : List BufferEvent) (own own' : Threads)
-    (polled : SchedPolled (lock_kernel (cv_rules buffer_deeds) opening) ActsFor c (sched.Pass p) (done_if result) old new own own') where
+-- a call that was passed on to the scheduler of CPU c: the log and the CPU's threads before it and after it, and what it did
+pub record PassDone : Type 1 where
+  pub opening : LockId → Option (QueueBlock BufferLock)
+  pub ActsFor : CpuId → Type 0
+  pub c : CpuId
+  pub p : Pass
+  pub result : Option (Unit {0})
+  pub old : List BufferEvent
+  pub new : List BufferEvent
+  pub own : Threads
+  pub own' : Threads
+  pub polled : SchedPolled (lock_kernel (cv_rules buffer_deeds) opening) ActsFor c (sched.Pass p) (done_if result) old new own own'
+
+-- the pass of which this is told
+abbrev pub pass_done : (opening : LockId → Option (QueueBlock BufferLock)) {ActsFor : CpuId → Type 0} {c : CpuId} (p : Pass) (result : Option (Unit {0}))
+    {old new : List BufferEvent} {own own' : Threads}
+    → SchedPolled (lock_kernel (cv_rules buffer_deeds) opening) ActsFor c (sched.Pass p) (done_if result) old new own own' → PassDone
+pass_done opening {ActsFor} {c} p result {old} {new} {own} {own'} polled = record {
+  opening = opening;
+  ActsFor = ActsFor;
+  c = c;
+  p = p;
+  result = result;
+  old = old;
+  new = new;
+  own = own;
+  own' = own';
+  polled = polled;
+}
+
+module _ (pass : PassDone) where
+  open pass use {opening, ActsFor, c, p, result, old, new, own, own', polled}
+
   pub pass_grown : new ≡ pass_events (homes_in opening) c p (is_some (done_if {O = BufferOutcome} result)) ++ (polled.others ++ old)
   pass_grown = polled.is ∙ split (homes_in opening) c p (is_some (done_if {O = BufferOutcome} result)) (polled.others ++ old)
 
   same_sections : buffer_sections new ≡ buffer_sections (polled.others ++ old)
   same_sections = ap buffer_sections pass_grown ∙ no_sections (homes_in opening) c p (is_some (done_if {O = BufferOutcome} result)) (polled.others ++ old)
 
-  pub pass_seen : OthersSeen Acts (effects_in (inner opening) (buffer_sections old)) (effects_in (inner opening) (buffer_sections new))
-  pass_seen = record {
+  pub pass_seen : (Acts : CpuId → Type 0) → ((d : CpuId) → Acts d → ActsFor d)
+      → OthersSeen Acts (effects_in (inner opening) (buffer_sections old)) (effects_in (inner opening) (buffer_sections new))
+  pass_seen Acts weaker = record {
     others = effects_over (inner opening) polled.others old;
     foreign = λ d acts. effects_others (inner opening) d polled.others old (polled.foreign d (weaker d acts));
     is = ap (effects_in (inner opening)) same_sections ∙ effects_append (inner opening) polled.others old;
   }
 
-  pub pass_moved : PassPolled (homes_in opening) Acts c p result (moves_in (lock_kernel (cv_rules buffer_deeds) opening) old)
+  pub pass_moved : (Acts : CpuId → Type 0) → ((d : CpuId) → Acts d → ActsFor d)
+      → PassPolled (homes_in opening) Acts c p result (moves_in (lock_kernel (cv_rules buffer_deeds) opening) old)
       (moves_in (lock_kernel (cv_rules buffer_deeds) opening) new) own own'
-  pass_moved =
+  pass_moved Acts weaker =
       let moved = pass_polled (lock_kernel (cv_rules buffer_deeds) opening) ActsFor c p (done_if result) old new own own' polled in
       let same : is_some (done_if {O = BufferOutcome} result) ≡ is_some result = done_same BufferOutcome result in
       record {

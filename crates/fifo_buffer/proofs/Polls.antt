@@ -51,6 +51,7 @@ use Rattle.thread_blocks.specs.Queues.{same_tid}
 use Rattle.fifo_buffer.specs.Stances.{InCall, IsMark, TalkFits, asks_at, heard_by, slept_by, talk_in, waits_at, waits_by}
 use Rattle.fifo_buffer.specs.Turns.{After, BufferEvent, BufferOutcome, Goes, Kept, MayTurn, Midway, Turned, heard_if, is_plain}
 use Rattle.fifo_buffer.proofs.Apart.{fits_apart}
+use Rattle.fifo_buffer.proofs.Callers.{Caller}
 use Rattle.fifo_buffer.proofs.Events.{caller_is, due_now, keeps_fits, owner_due}
 use Rattle.fifo_buffer.proofs.OwnSteps.{Stepped, own_step}
 
@@ -337,11 +338,10 @@ not_false : (x y : Bool) → (not x && y) ≡ false → x ≡ false → y ≡ fa
 not_false true y is out = absurd cc
 not_false false y is out = is
 
-module _ (opening : LockId → Option (QueueBlock BufferLock)) (ActsFor : CpuId → Type 0) (c : CpuId) (acts : ActsFor c) (t : Tid)
-    (home : home_of (homes_in opening) t ≡ Some c)
-    (small : t.0 < THREADS) (call : Call) (stage : Stage) (position : ℕ) (effect : Option Effect) (own : Waiting BufferOut)
-    (slept_size : length own.lock.slept ≡ THREADS) (waits_size : length own.waits ≡ THREADS)
-    (runs : own.lock.sleep.threads.current ≡ Some t) (old others : List BufferEvent) (foreign : AreForeign ActsFor event_actor others) where
+module _ (caller : Caller) (stage : Stage) (position : ℕ) (effect : Option Effect) (others : List BufferEvent)
+    (foreign : AreForeign caller.ActsFor event_actor others) where
+  open caller use {opening, ActsFor, c, acts, t, home, small, call, own, slept_size, waits_size, runs, old}
+
   abbrev O : LockId → Option BufferLock
   O = inner opening
 
@@ -781,11 +781,11 @@ module _ (opening : LockId → Option (QueueBlock BufferLock)) (ActsFor : CpuId 
         → l ≡ left_after u (buffer_of call) own.lock.slept s.own s.answer
         → got ≡ left_waiting u (buffer_of call) own.waits l.own l.answer
         → TurnedBy new got under_way
-    locks_turn new deed lawful is may before goes under_way s l got u caller s_is ends l_is got_is =
+    locks_turn new deed lawful is may before goes under_way s l got u is_caller s_is ends l_is got_is =
         let base = deed_turn new deed lawful is may (view before goes) in
         let got_both : got ≡ both t (buffer_of call) own.waits own.lock.slept s
         = got_is ∙ ap (λ (x : Left (Locking (CvOut BufferOut)) BufferOutcome). left_waiting u (buffer_of call) own.waits x.own x.answer) l_is
-        ∙ ap (λ v. both v (buffer_of call) own.waits own.lock.slept s) caller in
+        ∙ ap (λ v. both v (buffer_of call) own.waits own.lock.slept s) is_caller in
         subst (λ g. TurnedBy new g under_way) (sym got_both)
         (subst (λ w. TurnedBy new (both t (buffer_of call) own.waits own.lock.slept s) w) (sym ends)
         (subst (λ x. TurnedBy new (both t (buffer_of call) own.waits own.lock.slept x) (under_left x)) (sym s_is) base))

@@ -1,12 +1,10 @@
 -- One poll of the conditions, for a call: who was woken out of its wait, who was handed the lock, and whose section went on.
-use Rattle.std.proofs.Common.{◌≡◌, ◌<◌, ℕ, Bool, true, false, List, [], length, Option, Some, None, IsSome, is_some, slice_set, refl, ap, sym, ◌∙◌, subst}
+use Rattle.std.proofs.Common.{◌≡◌, ℕ, Bool, true, false, List, [], length, Option, Some, None, IsSome, is_some, slice_set, refl, ap, sym, ◌∙◌, subst}
 use Rattle.std.proofs.lemmas.List.{length-set}
 use Rattle.event_log.specs.declared.ids.BufId.{BufId}
-use Rattle.event_log.specs.declared.ids.CpuId.{CpuId}
 use Rattle.event_log.specs.declared.ids.LockId.{LockId}
 use Rattle.event_log.specs.declared.ids.LockId.TheVariants.{Buffer}
 use Rattle.event_log.specs.declared.ids.Tid.{Tid}
-use Rattle.event_log.specs.declared.ids.TheConstants.{THREADS}
 use Rattle.event_log.specs.History.{IsLawful, same_lock}
 use Rattle.event_log.proofs.Same.{same_lock_true}
 use Rattle.layer_traits.specs.declared.buffer_edits.BufferEdit.{BufferEdit}
@@ -18,7 +16,6 @@ use Rattle.layer_traits.specs.declared.conditions.CvOut.TheVariants as answer
 use Rattle.layer_traits.specs.declared.locked.QOut.{QOut}
 use Rattle.layer_traits.specs.declared.locked.QOut.TheVariants.{Acquired, Released}
 use Rattle.layer_traits.specs.declared.moves.Line.TheVariants as line
-use Rattle.layer_traits.specs.declared.queue_edits.QueueBlock.{QueueBlock}
 use Rattle.layer_traits.specs.declared.scheds.SchedCall.{SchedCall}
 use Rattle.layer_traits.specs.declared.talks.Stage.{Stage}
 use Rattle.layer_traits.specs.declared.talks.Stage.TheVariants.{Between, Acquires, Enters, Tries, Waits, AcquiresAgain, Signals, SignalsOwn, Releases}
@@ -29,7 +26,6 @@ use Rattle.layer_traits.specs.Conditions.{CvCall, cv_rules}
 use Rattle.layer_traits.specs.CvLaw.{CvPolled, WaitOver, Waiting, left_waiting, left_woken}
 use Rattle.layer_traits.specs.LockLaw.{Handed, LockPolled, Locks, Locking, left_handed, lock_kernel, slept_for}
 use Rattle.layer_traits.specs.Locking.{line_in, owner_in, lock_caller}
-use Rattle.layer_traits.specs.Places.{home_of}
 use Rattle.layer_traits.specs.Plans.{Left}
 use Rattle.layer_traits.specs.QueueBlocks.{homes_in, inner}
 use Rattle.layer_traits.specs.Queues.{QueueAllowed, buffer_sections}
@@ -37,6 +33,7 @@ use Rattle.layer_traits.specs.SleepLaw.{Sleeping}
 use Rattle.thread_blocks.specs.Queues.{same_tid, is_in}
 use Rattle.fifo_buffer.specs.Stances.{Grip, Holds, InCall, Stance, TalkFits, talk_in, waits_at}
 use Rattle.fifo_buffer.specs.Turns.{Begins, BufferEvent, BufferOutcome, Ended, Goes, Turned, heard_if}
+use Rattle.fifo_buffer.proofs.Callers.{Caller}
 use Rattle.fifo_buffer.proofs.Events.{caller_is}
 use Rattle.fifo_buffer.proofs.Polls.{locks_turn, other_mark, own_mark}
 
@@ -166,11 +163,9 @@ handed_on O past t call at Releases position effect holds now = absurd (wrong no
     wrong : false ≡ true → ⊥
     wrong is = absurd cc
 
-module _ (opening : LockId → Option (QueueBlock BufferLock)) (ActsFor : CpuId → Type 0) (c : CpuId) (acts : ActsFor c) (t : Tid)
-    (home : home_of (homes_in opening) t ≡ Some c)
-    (small : t.0 < THREADS) (call : Call) (own : Waiting BufferOut)
-    (slept_size : length own.lock.slept ≡ THREADS) (waits_size : length own.waits ≡ THREADS)
-    (runs : own.lock.sleep.threads.current ≡ Some t) (old new : List BufferEvent) where
+module _ (caller : Caller) (new : List BufferEvent) where
+  open caller use {opening, ActsFor, c, t, small, call, own, slept_size, waits_size, runs, old}
+
   -- a poll that does nothing but answer
   at_once_turn : (stage : Stage) (position : ℕ) (effect : Option Effect) (left : Waiting BufferOut) (later : Talk)
       → left.lock.sleep ≡ own.lock.sleep
@@ -206,14 +201,14 @@ module _ (opening : LockId → Option (QueueBlock BufferLock)) (ActsFor : CpuId 
       → got ≡ left_woken u o.side own.waits own.lock
       → Turned (homes_in opening) ActsFor (inner opening) c t call (talk_in stage call position effect) old old own got.own under_way (is_some got.answer)
       (heard_if (talk_in stage call position effect) stage got.answer)
-  over_turn stage position effect at waits_is begins got under_way u caller o leaves =
+  over_turn stage position effect at waits_is begins got under_way u is_caller o leaves =
       let fits : InCall (inner opening) (buffer_sections old) t call (slept_for own.lock.slept t) (Some at) stage position effect
       = subst (λ w. InCall (inner opening) (buffer_sections old) t call (slept_for own.lock.slept t) w stage position effect) waits_is begins.fits in
       let on = waited_on (inner opening) (buffer_sections old) t call at (slept_for own.lock.slept t) stage position effect fits in
       let out : QOut (CvOut BufferOut) = Released (answer.Waited o.side) in
       let later : Talk = heard (talk_in stage call position effect) stage out in
       let left : Waiting BufferOut = record { lock = own.lock; waits = slice_set own.waits t.0 None } in
-      let is : got ≡ left_woken t o.side own.waits own.lock = leaves ∙ ap (λ v. left_woken v o.side own.waits own.lock) caller in
+      let is : got ≡ left_woken t o.side own.waits own.lock = leaves ∙ ap (λ v. left_woken v o.side own.waits own.lock) is_caller in
       subst (λ (g : Left (Waiting BufferOut) BufferOutcome). Turned (homes_in opening) ActsFor (inner opening) c t call
       (talk_in stage call position effect) old old own g.own under_way
       (is_some g.answer) (heard_if (talk_in stage call position effect) stage g.answer)) (sym is)
@@ -241,7 +236,7 @@ module _ (opening : LockId → Option (QueueBlock BufferLock)) (ActsFor : CpuId 
       → under_way ≡ None → l ≡ left_handed u own.lock.slept own.lock.sleep → got ≡ left_waiting u (buffer_of call) own.waits l.own l.answer
       → Turned (homes_in opening) ActsFor (inner opening) c t call (talk_in stage call position effect) old old own got.own under_way (is_some got.answer)
       (heard_if (talk_in stage call position effect) stage got.answer)
-  handed_turn stage position effect at slept_is waits_none begins got l under_way u caller owns awake ends l_is got_is =
+  handed_turn stage position effect at slept_is waits_none begins got l under_way u is_caller owns awake ends l_is got_is =
       let some_slept : InCall (inner opening) (buffer_sections old) t call (Some at) (slept_for own.waits t) stage position effect
       = subst (λ w. InCall (inner opening) (buffer_sections old) t call w (slept_for own.waits t) stage position effect) slept_is begins.fits in
       let fits : InCall (inner opening) (buffer_sections old) t call (Some at) None stage position effect
@@ -253,7 +248,7 @@ module _ (opening : LockId → Option (QueueBlock BufferLock)) (ActsFor : CpuId 
       let is : got ≡ record { own = left; answer = Some (record { out = Acquired; slept = false; woke = None }) }
       = got_is ∙ ap (λ (x : Left (Locking (CvOut BufferOut)) BufferOutcome). left_waiting u (buffer_of call) own.waits x.own x.answer) l_is
       ∙ ap (λ v. left_waiting v (buffer_of call) own.waits (left_handed v own.lock.slept own.lock.sleep).own
-      (left_handed v own.lock.slept own.lock.sleep).answer) caller in
+      (left_handed v own.lock.slept own.lock.sleep).answer) is_caller in
       subst (λ (g : Left (Waiting BufferOut) BufferOutcome). Turned (homes_in opening) ActsFor (inner opening) c t call
       (talk_in stage call position effect) old old own g.own under_way
       (is_some g.answer) (heard_if (talk_in stage call position effect) stage g.answer)) (sym is)
@@ -324,8 +319,8 @@ module _ (opening : LockId → Option (QueueBlock BufferLock)) (ActsFor : CpuId 
       (section_at t call stage) w old new own.lock under_way polled.left)
       (ap (slept_for own.lock.slept) (caller_is t call stage) ∙ slept_is) polled.polled in
       let sleep = locks.polled in
-      locks_turn opening ActsFor c acts t home small call stage position effect own slept_size waits_size runs old sleep.others sleep.foreign slept_is waits_is
-      new sleep.deed lawful sleep.is sleep.may before goes under_way locks.left polled.left got
+      locks_turn caller stage position effect sleep.others sleep.foreign slept_is waits_is new sleep.deed lawful sleep.is sleep.may before goes
+      under_way locks.left polled.left got
       (lock_caller (cv_rules buffer_deeds) (section_at t call stage)) (caller_is t call stage) sleep.leaves locks.ends locks.leaves polled.leaves
 
   pub polled_turn : (talk : Talk) (before under_way : Option (SchedCall (CvCall BufferEdit))) → talk.call ≡ Some call

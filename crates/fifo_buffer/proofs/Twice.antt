@@ -4,7 +4,6 @@ use Rattle.std.proofs.Common.{is_some, slice_set, if◌then◌else◌, refl, ap,
 use Rattle.std.proofs.lemmas.Bool.{eqb-false}
 use Rattle.std.proofs.lemmas.List.{get_or-set_other, length-set}
 use Rattle.event_log.specs.declared.ids.BufId.{BufId}
-use Rattle.event_log.specs.declared.ids.CpuId.{CpuId}
 use Rattle.event_log.specs.declared.ids.LockId.{LockId}
 use Rattle.event_log.specs.declared.ids.Tid.{Tid}
 use Rattle.layer_traits.specs.declared.buffer_edits.BufferEdit.{BufferEdit}
@@ -25,7 +24,8 @@ use Rattle.layer_traits.specs.LockLaw.{is_handed, slept_for}
 use Rattle.layer_traits.specs.Queues.{buffer_sections}
 use Rattle.thread_blocks.specs.Queues.{same_tid}
 use Rattle.fifo_buffer.specs.Stances.{IsMark, TalkFits, asks_at, waits_at}
-use Rattle.fifo_buffer.specs.Turns.{After, BufferEvent, Ended, Goes, MayTurn, Sizes, Sleeps, Stays, Turned, calling_after, doing_at, is_at_once, reply_at}
+use Rattle.fifo_buffer.specs.Turns.{After, Ended, Goes, MayTurn, Sizes, Sleeps, Stays, calling_after, doing_at, is_at_once, reply_at}
+use Rattle.fifo_buffer.proofs.TurnTaken.{TurnTaken}
 use Rattle.fifo_buffer.proofs.First.{goes_called, going_same}
 
 pub at_once_why : (stage : Stage) (handed : Bool) → is_at_once stage handed ≡ true → (waits_at stage ≡ true) ⊎ (handed ≡ true)
@@ -72,10 +72,9 @@ other_talk talks now t u x is other = ap (λ l. talk_of l u) is ∙ get_or-set_o
 pub apart_talk : (talks now : List Talk) (t u : Tid) (x : Talk) → now ≡ slice_set talks t.0 x → u.0 ≢ t.0 → talk_of now u ≡ talk_of talks u
 apart_talk talks now t u x is other = ap (λ l. talk_of l u) is ∙ get_or-set_other talks t.0 u.0 x quiet other
 
-module _ (homes : List CpuId) (ActsFor : CpuId → Type 0) (O : LockId → Option BufferLock) (c : CpuId) (t : Tid) (call : Call) (talk : Talk)
-    (old new : List BufferEvent)
-    (own left : Waiting BufferOut) (under_way : Option (SchedCall (CvCall BufferEdit))) (done : Bool) (later : Talk)
-    (turned : Turned homes ActsFor O c t call talk old new own left under_way done later) where
+module _ (turn : TurnTaken) where
+  open turn use {O, t, call, talk, new, own, left, under_way, done, later, turned}
+
   pub ended_of : done ≡ true → Ended O (buffer_sections new) t talk left under_way later
   ended_of is = subst (λ d. After O (buffer_sections new) t call talk left under_way d later) is turned.after
 
@@ -222,16 +221,15 @@ waits_once SignalsOwn handed waits = absurd cc
 waits_once Releases handed waits = absurd cc
 
 -- where one turn was all, the thread neither slept for the lock nor waited
-pub exit_free : (homes : List CpuId) (ActsFor : CpuId → Type 0) (O : LockId → Option BufferLock) (c : CpuId) (t : Tid) (call : Call) (talk : Talk)
-    (old new : List BufferEvent)
-    (own left : Waiting BufferOut) (under_way : Option (SchedCall (CvCall BufferEdit))) (done : Bool) (later : Talk)
-    → Turned homes ActsFor O c t call talk old new own left under_way done later → (handed : Bool) → MarksOf t talk.stage own
-    → ((done ≡ true) × (is_at_once talk.stage handed ≡ false)) ⊎ (done ≡ false)
-    → own.lock.sleep.threads.current ≡ Some t → handed ≡ is_handed own.lock.slept own.lock.sleep.threads.current
-    → (slept_for own.lock.slept t ≡ None) × (slept_for own.waits t ≡ None)
-exit_free homes ActsFor O c t call talk old new own left under_way done later turned handed marks exits runs handed_is =
-    (go_slept (slept_for own.lock.slept t) refl, go_waits (slept_for own.waits t) refl)
+pub exit_free : (turn : TurnTaken) (handed : Bool) → MarksOf turn.t turn.talk.stage turn.own
+    → ((turn.done ≡ true) × (is_at_once turn.talk.stage handed ≡ false)) ⊎ (turn.done ≡ false)
+    → turn.own.lock.sleep.threads.current ≡ Some turn.t → handed ≡ is_handed turn.own.lock.slept turn.own.lock.sleep.threads.current
+    → (slept_for turn.own.lock.slept turn.t ≡ None) × (slept_for turn.own.waits turn.t ≡ None)
+exit_free turn handed marks exits runs handed_is =
+    (go_slept (slept_for turn.own.lock.slept turn.t) refl, go_waits (slept_for turn.own.waits turn.t) refl)
   where
+    open turn use {t, talk, own, done, turned}
+
     not_both : done ≡ true → is_at_once talk.stage handed ≡ true → ⊥
     not_both is once = by exits
       where

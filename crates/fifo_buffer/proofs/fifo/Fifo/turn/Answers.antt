@@ -11,6 +11,7 @@ use Rattle.layer_traits.specs.QueueBlocks.{homes_in}
 use Rattle.layer_traits.specs.QueueRules.{queue_rules}
 use Rattle.layer_traits.proofs.CallLemmas.{follows_raised}
 use Rattle.fifo_buffer.specs.Turns.{heard_if}
+use Rattle.fifo_buffer.proofs.Callers.{Caller}
 use Rattle.fifo_buffer.proofs.Heard.{heard_left, runs_awake, runs_home}
 use Rattle.fifo_buffer.proofs.Events.{caller_is}
 use Rattle.fifo_buffer.proofs.Polls.{may_turn}
@@ -61,8 +62,22 @@ returns-clause-turned g c =
     let seen = rw (edit_is, c.buffer_in.ensures) at c.poll-answer.ensures.seen in
     let woken = rw edit_is at c.poll-answer.ensures.woken in
     let handed = rw edit_is at c.poll-answer.ensures.handed in
-    let turn = polled_turn (C.opening m) (λ d. C.ActsFor m d) cpu acts t home small call (C.own p) c.requires.sizes.slept c.requires.sizes.waits
-    c.requires.may.current (C.seen m) (C.seen c.poll-answer.new.m) talk (C.under_way p) (C.under_way c.poll-answer.new.self) c.requires.may.called
+    let caller : Caller = record {
+      opening = C.opening m;
+      ActsFor = λ d. C.ActsFor m d;
+      c = cpu;
+      acts = acts;
+      t = t;
+      home = home;
+      small = small;
+      call = call;
+      own = C.own p;
+      slept_size = c.requires.sizes.slept;
+      waits_size = c.requires.sizes.waits;
+      runs = c.requires.may.current;
+      old = C.seen m;
+    } in
+    let turn = polled_turn caller (C.seen c.poll-answer.new.m) talk (C.under_way p) (C.under_way c.poll-answer.new.self) c.requires.may.called
     c.requires.may.goes
     lawful awake (lock_caller (cv_rules buffer_deeds) (section_at t call talk.stage)) (caller_is t call talk.stage)
     (record { own = C.own c.poll-answer.new.self; answer = c.poll-answer.result }) seen (λ some. ap C.seen (woken some)) (λ some. ap C.seen (handed some)) in

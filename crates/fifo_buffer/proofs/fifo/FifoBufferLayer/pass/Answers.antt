@@ -2,7 +2,7 @@ use Rattle.std.proofs.Common.{◌++◌, is_some}
 use Rattle.layer_traits.specs.QueueBlocks.{homes_in}
 use Rattle.layer_traits.specs.SleepLaw.{done_if}
 use Rattle.fifo_buffer.specs.Turns.{BufferOutcome}
-use Rattle.fifo_buffer.proofs.Passes.{lawful_before, part_passed, pass_events, pass_grown, pass_moved, pass_seen, passed_own}
+use Rattle.fifo_buffer.proofs.Passes.{lawful_before, part_passed, pass_done, pass_events, pass_grown, pass_moved, pass_seen, passed_own}
 use Rattle.fifo_buffer.proofs.fifo.FifoBufferLayer.pass.Goals as goal
 
 pub returns-clause-acts : goal.returns-clause-acts
@@ -12,19 +12,15 @@ pub returns-clause-seen : goal.returns-clause-seen
 returns-clause-seen g c =
     let C = g.C.CvLayer in
     let m = c.args.m.now in
-    let p = c.args.self.now.lower in
     rw c.pass.ensures.opening
-    (pass_seen (C.opening m) (λ d. C.ActsFor m d) _ (λ d both. both.0) (C.cpu_of p) c.args.call c.pass.result (C.seen m) (C.seen c.pass.new.m)
-    (C.own p).lock.sleep.threads (C.own c.pass.new.self).lock.sleep.threads c.pass.ensures.seen)
+    (pass_seen (pass_done (C.opening m) c.args.call c.pass.result c.pass.ensures.seen) _ (λ d both. both.0))
 
 pub returns-clause-passed : goal.returns-clause-passed
 returns-clause-passed g c =
     let C = g.C.CvLayer in
     let m = c.args.m.now in
-    let p = c.args.self.now.lower in
     rw c.pass.ensures.opening
-    (pass_moved (C.opening m) (λ d. C.ActsFor m d) _ (λ d both. both.0) (C.cpu_of p) c.args.call c.pass.result (C.seen m) (C.seen c.pass.new.m)
-    (C.own p).lock.sleep.threads (C.own c.pass.new.self).lock.sleep.threads c.pass.ensures.seen)
+    (pass_moved (pass_done (C.opening m) c.args.call c.pass.result c.pass.ensures.seen) _ (λ d both. both.0))
 
 pub returns-clause-fits : goal.returns-clause-fits
 returns-clause-fits g c =
@@ -35,17 +31,13 @@ returns-clause-fits g c =
     let cpu = C.cpu_of p.lower in
     let acts = law.own_cpu p.lower m c.requires.fits.0 in
     let polled = c.pass.ensures.seen in
-    let threads = (C.own p.lower).lock.sleep.threads in
-    let threads_then = (C.own c.pass.new.self).lock.sleep.threads in
-    let grown = pass_grown (C.opening m) (λ d. C.ActsFor m d) (λ d. C.ActsFor m d) (λ d a. a) cpu c.args.call c.pass.result (C.seen m)
-    (C.seen c.pass.new.m) threads threads_then polled in
+    let pass = pass_done (C.opening m) c.args.call c.pass.result polled in
+    let grown = pass_grown pass in
     let lawful = rw c.pass.ensures.opening at (law.lawful c.pass.new.m cpu (c.pass.ensures.acts cpu acts)) in
     let before = lawful_before (C.opening m) (pass_events (homes_in (C.opening m)) cpu c.args.call
     (is_some (done_if {O = BufferOutcome} c.pass.result))) (polled.others ++ C.seen m)
     (C.seen c.pass.new.m) grown lawful in
-    let on = part_passed (C.opening m) (λ d. C.ActsFor m d) (λ d. C.ActsFor m d) (λ d a. a) cpu c.args.call c.pass.result (C.seen m)
-    (C.seen c.pass.new.m) threads threads_then polled
-    cpu (polled.foreign cpu acts) before (C.own p.lower) p.talks.talks (C.under_way p.lower) p.calling c.requires.fits.1 in (
+    let on = part_passed pass cpu (polled.foreign cpu acts) before (C.own p.lower) p.talks.talks (C.under_way p.lower) p.calling c.requires.fits.1 in (
       c.pass.ensures.fits,
       rw (c.pass.ensures.opening, c.pass.ensures.cpu, c.pass.ensures.call)
           (passed_own (C.opening m) cpu (C.seen c.pass.new.m) (C.own p.lower) (C.own c.pass.new.self) p.talks.talks
@@ -62,18 +54,14 @@ returns-clause-others g c q other fits =
     let cpu = C.cpu_of p.lower in
     let acts = law.own_cpu p.lower m c.requires.fits.0 in
     let polled = c.pass.ensures.seen in
-    let threads = (C.own p.lower).lock.sleep.threads in
-    let threads_then = (C.own c.pass.new.self).lock.sleep.threads in
-    let grown = pass_grown (C.opening m) (λ d. C.ActsFor m d) (λ d. C.ActsFor m d) (λ d a. a) cpu c.args.call c.pass.result (C.seen m)
-    (C.seen c.pass.new.m) threads threads_then polled in
+    let pass = pass_done (C.opening m) c.args.call c.pass.result polled in
+    let grown = pass_grown pass in
     let lawful = rw c.pass.ensures.opening at (law.lawful c.pass.new.m cpu (c.pass.ensures.acts cpu acts)) in
     let before = lawful_before (C.opening m) (pass_events (homes_in (C.opening m)) cpu c.args.call
     (is_some (done_if {O = BufferOutcome} c.pass.result))) (polled.others ++ C.seen m)
     (C.seen c.pass.new.m) grown lawful in (
       c.pass.ensures.others q.lower other fits.0,
       rw c.pass.ensures.opening
-          (part_passed (C.opening m) (λ d. C.ActsFor m d) (λ d. C.ActsFor m d) (λ d a. a) cpu c.args.call c.pass.result (C.seen m)
-          (C.seen c.pass.new.m) threads threads_then polled
-          (C.cpu_of q.lower) (polled.foreign (C.cpu_of q.lower) (law.own_cpu q.lower m fits.0)) before (C.own q.lower) q.talks.talks
+          (part_passed pass (C.cpu_of q.lower) (polled.foreign (C.cpu_of q.lower) (law.own_cpu q.lower m fits.0)) before (C.own q.lower) q.talks.talks
           (C.under_way q.lower) q.calling fits.1),
     )

@@ -20,6 +20,7 @@ use Rattle.fifo_buffer.proofs.First.{first_may, goes_called}
 use Rattle.fifo_buffer.proofs.Heard.{runs_home}
 use Rattle.fifo_buffer.specs.OwnedLaws.{block_there}
 use Rattle.fifo_buffer.proofs.Parts.{moves_grown, other_part}
+use Rattle.fifo_buffer.proofs.TurnTaken.{taken}
 use Rattle.fifo_buffer.proofs.Twice.{apart_talk, ended_of, next_going, told_as, exit_free, marks_of, doing_by}
 use Rattle.fifo_buffer.proofs.Twice.{later_call, later_effect, next_may, other_talk, runs_by, sizes_of, why, why_slept}
 use Rattle.fifo_buffer.proofs.fifo.FifoBufferLayer.poll.Goals as goal
@@ -58,7 +59,6 @@ turn-done-requires-clause-may g c =
     (law.stands p.lower m c.requires.fits.0) c.requires.runs in
     let first = first_may homes cpu O (buffer_sections (C.seen m)) own talks (C.under_way p.lower) p.calling t call home c.requires.fits.1.calls
     c.requires.runs c.requires.hand c.requires.same c.requires.goes_on in
-    let talk = going (talk_of talks t) call in
     let may = first.0 in
     may
 
@@ -80,7 +80,6 @@ turn-last-requires-clause-may g c =
     (law.stands p.lower m c.requires.fits.0) c.requires.runs in
     let first = first_may homes cpu O (buffer_sections (C.seen m)) own talks (C.under_way p.lower) p.calling t call home c.requires.fits.1.calls
     c.requires.runs c.requires.hand c.requires.same c.requires.goes_on in
-    let talk = going (talk_of talks t) call in
     let may = first.0 in
     let one = c.turn-done in
     let m1 = one.new.m in
@@ -88,67 +87,28 @@ turn-last-requires-clause-may g c =
     let under1 = C.under_way one.new.self.lower in
     let talks1 = one.new.self.talks.talks in
     let later1 = talk_of talks1 t in
-    let Acts0 : CpuId → Type 0 = λ d. C.ActsFor m d in
-    let turned1 = one.ensures.turned in
+    let turn1 = taken one.ensures.turned in
     let at_once = (ap (λ (s : Stage). is_at_once s c.at_once.result) (sym c.next_stage-stage.ensures) ∙ sym c.answers_at_once-at_once.ensures)
     ∙ c.if-at_once.true in
-    let next_is : going later1 call ≡ later1 = next_going homes Acts0 O cpu t call talk (C.seen m)
-    (C.seen m1) own own1 under1 one.result later1 turned1 c.at_once.result c.if-done.true at_once may.called in
+    let next_is : going later1 call ≡ later1 = next_going turn1 c.at_once.result c.if-done.true at_once may.called in
     rw one.ensures.opening
     (subst (λ (x : Talk). MayTurn O (buffer_sections (C.seen m1)) t call x own1 under1) (sym next_is)
-    (next_may homes Acts0 O cpu t call talk (C.seen m) (C.seen m1) own own1 under1 one.result later1 turned1 c.at_once.result c.if-done.true at_once
-    may.called))
+    (next_may turn1 c.at_once.result c.if-done.true at_once may.called))
 
 pub returns-clause-runs : goal.returns-clause-runs
 returns-clause-runs g c =
-    let C = g.C.CvLayer in
-    let m = c.args.m.now in
-    let p = c.args.self.now in
-    let cpu = C.cpu_of p.lower in
-    let t = c.args.t in
-    let call = c.args.call.now in
-    let talks = p.talks.talks in
-    let own = C.own p.lower in
-    let O = inner (C.opening m) in
-    let homes = homes_in (C.opening m) in
-    let talk = going (talk_of talks t) call in
     let one = c.turn-done in
-    let m1 = one.new.m in
-    let own1 = C.own one.new.self.lower in
-    let under1 = C.under_way one.new.self.lower in
-    let talks1 = one.new.self.talks.talks in
-    let later1 = talk_of talks1 t in
-    let Acts0 : CpuId → Type 0 = λ d. C.ActsFor m d in
-    let turned1 = one.ensures.turned in
-    rw c.told-2.ensures.lower (runs_by homes Acts0 O cpu t call talk (C.seen m) (C.seen m1) own own1 under1 one.result later1 turned1 c.told-2.result
-    (told_as homes Acts0 O cpu t call talk (C.seen m) (C.seen m1) own own1 under1 one.result later1 turned1 c.next_stage-stage.result
-    c.next_stage-stage.ensures c.told-2.result c.told-2.ensures.answer))
+    let turn1 = taken one.ensures.turned in
+    rw c.told-2.ensures.lower (runs_by turn1 c.told-2.result
+    (told_as turn1 c.next_stage-stage.result c.next_stage-stage.ensures c.told-2.result c.told-2.ensures.answer))
 
 pub returns-clause-doing : goal.returns-clause-doing
 returns-clause-doing g c =
-    let C = g.C.CvLayer in
-    let m = c.args.m.now in
-    let p = c.args.self.now in
-    let cpu = C.cpu_of p.lower in
-    let t = c.args.t in
-    let call = c.args.call.now in
-    let talks = p.talks.talks in
-    let own = C.own p.lower in
-    let O = inner (C.opening m) in
-    let homes = homes_in (C.opening m) in
-    let talk = going (talk_of talks t) call in
     let one = c.turn-done in
-    let m1 = one.new.m in
-    let own1 = C.own one.new.self.lower in
-    let under1 = C.under_way one.new.self.lower in
-    let talks1 = one.new.self.talks.talks in
-    let later1 = talk_of talks1 t in
-    let Acts0 : CpuId → Type 0 = λ d. C.ActsFor m d in
-    let turned1 = one.ensures.turned in
+    let turn1 = taken one.ensures.turned in
     rw (c.told-2.ensures.calling, c.told-2.ensures.lower)
-    (doing_by homes Acts0 O cpu t call talk (C.seen m) (C.seen m1) own own1 under1 one.result later1 turned1 c.told-2.result
-    (told_as homes Acts0 O cpu t call talk (C.seen m) (C.seen m1) own own1 under1 one.result later1 turned1 c.next_stage-stage.result
-    c.next_stage-stage.ensures c.told-2.result c.told-2.ensures.answer))
+    (doing_by turn1 c.told-2.result
+    (told_as turn1 c.next_stage-stage.result c.next_stage-stage.ensures c.told-2.result c.told-2.ensures.answer))
 
 pub returns-clause-moves : goal.returns-clause-moves
 returns-clause-moves g c =
@@ -181,30 +141,23 @@ returns-clause-fits g c =
     (law.stands p.lower m c.requires.fits.0) c.requires.runs in
     let first = first_may homes cpu O (buffer_sections (C.seen m)) own talks (C.under_way p.lower) p.calling t call home c.requires.fits.1.calls
     c.requires.runs c.requires.hand c.requires.same c.requires.goes_on in
-    let talk = going (talk_of talks t) call in
     let may = first.0 in
     let one = c.turn-done in
-    let m1 = one.new.m in
-    let own1 = C.own one.new.self.lower in
-    let under1 = C.under_way one.new.self.lower in
     let talks1 = one.new.self.talks.talks in
     let later1 = talk_of talks1 t in
-    let Acts0 : CpuId → Type 0 = λ d. C.ActsFor m d in
-    let turned1 = one.ensures.turned in
+    let turn1 = taken one.ensures.turned in
     let same1 : (u : Tid) → same_tid t u ≡ false → talk_of talks1 u ≡ talk_of talks u = λ u other. other_talk talks talks1 t u later1 one.ensures.talks other in
-    let sizes1 = sizes_of homes Acts0 O cpu t call talk (C.seen m) (C.seen m1) own own1 under1 one.result later1 turned1 talks talks1
-    one.ensures.talks c.requires.fits.1.sizes in
-    let others1 = others_after (C.opening m) Acts0 cpu t home call talk may.called (C.seen m) (C.seen m1) own own1 under1 one.result later1 turned1
-    talks talks1 refl same1 first.1 in (
+    let sizes1 = sizes_of turn1 talks talks1 one.ensures.talks c.requires.fits.1.sizes in
+    let others1 = others_after turn1 home may.called talks talks1 refl same1 first.1 in (
       rw c.told-2.ensures.lower one.ensures.fits,
       rw (c.told-2.ensures.lower, c.told-2.ensures.talks, c.told-2.ensures.calling, one.ensures.opening, one.ensures.cpu)
           (record {
             boots = c.requires.fits.1.boots;
             sizes = sizes1;
             calls =
-                finish (C.opening m) Acts0 cpu t home call talk may.called (C.seen m) (C.seen m1) own own1 under1 one.result later1 turned1 talks
+                finish turn1 home may.called talks
                 talks1 refl same1 first.1
-                c.told-2.result (told_as homes Acts0 O cpu t call talk (C.seen m) (C.seen m1) own own1 under1 one.result later1 turned1
+                c.told-2.result (told_as turn1
                 c.next_stage-stage.result c.next_stage-stage.ensures c.told-2.result c.told-2.ensures.answer);
           }),
     )
@@ -230,21 +183,16 @@ returns-clause-called g c =
     let talk = going (talk_of talks t) call in
     let may = first.0 in
     let one = c.turn-done in
-    let m1 = one.new.m in
-    let own1 = C.own one.new.self.lower in
-    let under1 = C.under_way one.new.self.lower in
     let talks1 = one.new.self.talks.talks in
     let later1 = talk_of talks1 t in
-    let Acts0 : CpuId → Type 0 = λ d. C.ActsFor m d in
-    let turned1 = one.ensures.turned in
+    let turn1 = taken one.ensures.turned in
     let same1 : (u : Tid) → same_tid t u ≡ false → talk_of talks1 u ≡ talk_of talks u = λ u other. other_talk talks talks1 t u later1 one.ensures.talks other in
     rw (one.ensures.opening, c.told-2.ensures.talks)
-    (called_by (C.opening m) Acts0 cpu t home call talk may.called (C.seen m) (C.seen m1) own own1 under1 one.result later1 turned1 talks talks1 refl
+    (called_by turn1 home may.called talks talks1 refl
     same1 _ (λ d both. both.0) talks
     refl (λ u other. apart_talk talks talks1 t u later1 one.ensures.talks other)
     (goes_called O (buffer_sections (C.seen m)) t call talk own (C.under_way p.lower) may.goes) c.told-2.result
-    (told_as homes Acts0 O cpu t call talk (C.seen m) (C.seen m1) own own1 under1 one.result later1 turned1 c.next_stage-stage.result
-    c.next_stage-stage.ensures c.told-2.result c.told-2.ensures.answer))
+    (told_as turn1 c.next_stage-stage.result c.next_stage-stage.ensures c.told-2.result c.told-2.ensures.answer))
 
 pub returns-clause-others : goal.returns-clause-others
 returns-clause-others g c q other fits =
@@ -253,8 +201,6 @@ returns-clause-others g c q other fits =
     let m = c.args.m.now in
     let p = c.args.self.now in
     let cpu = C.cpu_of p.lower in
-    let talks = p.talks.talks in
-    let own = C.own p.lower in
     let acts = law.own_cpu p.lower m c.requires.fits.0 in
     let one = c.turn-done in
     let m1 = one.new.m in
@@ -285,87 +231,38 @@ returns-then-at_once-clause-room g c =
     (law.stands p.lower m c.requires.fits.0) c.requires.runs in
     let first = first_may homes cpu O (buffer_sections (C.seen m)) own talks (C.under_way p.lower) p.calling t call home c.requires.fits.1.calls
     c.requires.runs c.requires.hand c.requires.same c.requires.goes_on in
-    let talk = going (talk_of talks t) call in
     let may = first.0 in
     let one = c.turn-done in
     let m1 = one.new.m in
-    let own1 = C.own one.new.self.lower in
-    let under1 = C.under_way one.new.self.lower in
-    let talks1 = one.new.self.talks.talks in
-    let later1 = talk_of talks1 t in
-    let Acts0 : CpuId → Type 0 = λ d. C.ActsFor m d in
-    let turned1 = one.ensures.turned in
+    let turn1 = taken one.ensures.turned in
     let at_once = (ap (λ (s : Stage). is_at_once s c.at_once.result) (sym c.next_stage-stage.ensures) ∙ sym c.answers_at_once-at_once.ensures)
     ∙ c.if-at_once.true in
     let two = c.turn-last in
     let m2 = two.new.m in
-    let sm : m1 ≡ m = elim (why homes Acts0 O cpu t call talk (C.seen m) (C.seen m1) own own1 under1 one.result later1 turned1 c.at_once.result
-    c.if-done.true at_once may.called c.requires.runs
-    c.at_once.ensures) [ inl some ↦ one.ensures.woken some | inr some ↦ one.ensures.handed some ] in
+    let sm : m1 ≡ m = elim (why turn1 c.at_once.result c.if-done.true at_once may.called c.requires.runs c.at_once.ensures)
+    [ inl some ↦ one.ensures.woken some | inr some ↦ one.ensures.handed some ] in
     subst (λ x. C.room x ≤ C.room m2 + 1) sm two.ensures.room
 
 pub returns-then-at_once-clause-runs : goal.returns-then-at_once-clause-runs
 returns-then-at_once-clause-runs g c =
-    let C = g.C.CvLayer in
-    let m = c.args.m.now in
-    let p = c.args.self.now in
-    let cpu = C.cpu_of p.lower in
-    let t = c.args.t in
-    let call = c.args.call.now in
-    let talks = p.talks.talks in
-    let own = C.own p.lower in
-    let O = inner (C.opening m) in
-    let homes = homes_in (C.opening m) in
     let one = c.turn-done in
-    let m1 = one.new.m in
-    let own1 = C.own one.new.self.lower in
-    let talks1 = one.new.self.talks.talks in
-    let later1 = talk_of talks1 t in
     let turned1 = one.ensures.turned in
     let two = c.turn-last in
-    let m2 = two.new.m in
-    let own2 = C.own two.new.self.lower in
-    let under2 = C.under_way two.new.self.lower in
-    let talks2 = two.new.self.talks.talks in
-    let later2 = talk_of talks2 t in
-    let next = going later1 call in
-    let Acts1 : CpuId → Type 0 = λ d. C.ActsFor m1 d in
     let turned2 = rw (one.ensures.opening, one.ensures.cpu) at two.ensures.turned in
-    let run = runs_by homes Acts1 O cpu t call next (C.seen m1) (C.seen m2) own1 own2 under2 two.result later2 turned2 c.told.result
-    (told_as homes Acts1 O cpu t call next (C.seen m1) (C.seen m2) own1 own2 under2 two.result later2 turned2 c.next_stage-next.result
-    c.next_stage-next.ensures c.told.result c.told.ensures.answer) in
+    let turn2 = taken turned2 in
+    let run = runs_by turn2 c.told.result
+    (told_as turn2 c.next_stage-next.result c.next_stage-next.ensures c.told.result c.told.ensures.answer) in
     rw c.told.ensures.lower (record { current = run.current; hand = run.hand; ended = run.ended ∙ turned1.ended })
 
 pub returns-then-at_once-clause-doing : goal.returns-then-at_once-clause-doing
 returns-then-at_once-clause-doing g c =
-    let C = g.C.CvLayer in
-    let m = c.args.m.now in
-    let p = c.args.self.now in
-    let cpu = C.cpu_of p.lower in
-    let t = c.args.t in
-    let call = c.args.call.now in
-    let talks = p.talks.talks in
-    let own = C.own p.lower in
-    let O = inner (C.opening m) in
-    let homes = homes_in (C.opening m) in
     let one = c.turn-done in
-    let m1 = one.new.m in
-    let own1 = C.own one.new.self.lower in
-    let talks1 = one.new.self.talks.talks in
-    let later1 = talk_of talks1 t in
     let two = c.turn-last in
-    let m2 = two.new.m in
-    let own2 = C.own two.new.self.lower in
-    let under2 = C.under_way two.new.self.lower in
-    let talks2 = two.new.self.talks.talks in
-    let later2 = talk_of talks2 t in
-    let next = going later1 call in
-    let Acts1 : CpuId → Type 0 = λ d. C.ActsFor m1 d in
     let turned2 = rw (one.ensures.opening, one.ensures.cpu) at two.ensures.turned in
+    let turn2 = taken turned2 in
     rw (c.told.ensures.calling, c.told.ensures.lower)
-    (doing_by homes Acts1 O cpu t call next (C.seen m1) (C.seen m2) own1 own2 under2 two.result later2 turned2 c.told.result
-    (told_as homes Acts1 O cpu t call next (C.seen m1) (C.seen m2) own1 own2 under2 two.result later2 turned2 c.next_stage-next.result
-    c.next_stage-next.ensures c.told.result c.told.ensures.answer))
+    (doing_by turn2 c.told.result
+    (told_as turn2 c.next_stage-next.result c.next_stage-next.ensures c.told.result c.told.ensures.answer))
 
 pub returns-then-at_once-clause-moves : goal.returns-then-at_once-clause-moves
 returns-then-at_once-clause-moves g c =
@@ -385,25 +282,18 @@ returns-then-at_once-clause-moves g c =
     (law.stands p.lower m c.requires.fits.0) c.requires.runs in
     let first = first_may homes cpu O (buffer_sections (C.seen m)) own talks (C.under_way p.lower) p.calling t call home c.requires.fits.1.calls
     c.requires.runs c.requires.hand c.requires.same c.requires.goes_on in
-    let talk = going (talk_of talks t) call in
     let may = first.0 in
     let one = c.turn-done in
     let m1 = one.new.m in
-    let own1 = C.own one.new.self.lower in
-    let under1 = C.under_way one.new.self.lower in
-    let talks1 = one.new.self.talks.talks in
-    let later1 = talk_of talks1 t in
-    let Acts0 : CpuId → Type 0 = λ d. C.ActsFor m d in
-    let turned1 = one.ensures.turned in
+    let turn1 = taken one.ensures.turned in
     let at_once = (ap (λ (s : Stage). is_at_once s c.at_once.result) (sym c.next_stage-stage.ensures) ∙ sym c.answers_at_once-at_once.ensures)
     ∙ c.if-at_once.true in
     let two = c.turn-last in
     let m2 = two.new.m in
     let Acts1 : CpuId → Type 0 = λ d. C.ActsFor m1 d in
     let turned2 = rw (one.ensures.opening, one.ensures.cpu) at two.ensures.turned in
-    let sm : m1 ≡ m = elim (why homes Acts0 O cpu t call talk (C.seen m) (C.seen m1) own own1 under1 one.result later1 turned1 c.at_once.result
-    c.if-done.true at_once may.called c.requires.runs
-    c.at_once.ensures) [ inl some ↦ one.ensures.woken some | inr some ↦ one.ensures.handed some ] in
+    let sm : m1 ≡ m = elim (why turn1 c.at_once.result c.if-done.true at_once may.called c.requires.runs c.at_once.ensures)
+    [ inl some ↦ one.ensures.woken some | inr some ↦ one.ensures.handed some ] in
     let is : C.seen m2 ≡ turned2.mine ++ (turned2.others ++ C.seen m) = turned2.is ∙ ap (λ l. turned2.mine ++ (turned2.others ++ l)) (ap C.seen sm) in
     rw (two.ensures.opening, one.ensures.opening)
     (moves_grown (C.opening m) Acts1 _ cpu turned2.mine turned2.others (C.seen m) (C.seen m2) (λ d both. one.ensures.acts d both.0) turned2.foreign
@@ -427,54 +317,38 @@ returns-then-at_once-clause-fits g c =
     (law.stands p.lower m c.requires.fits.0) c.requires.runs in
     let first = first_may homes cpu O (buffer_sections (C.seen m)) own talks (C.under_way p.lower) p.calling t call home c.requires.fits.1.calls
     c.requires.runs c.requires.hand c.requires.same c.requires.goes_on in
-    let talk = going (talk_of talks t) call in
     let may = first.0 in
     let one = c.turn-done in
     let m1 = one.new.m in
-    let own1 = C.own one.new.self.lower in
-    let under1 = C.under_way one.new.self.lower in
     let talks1 = one.new.self.talks.talks in
     let later1 = talk_of talks1 t in
-    let Acts0 : CpuId → Type 0 = λ d. C.ActsFor m d in
-    let turned1 = one.ensures.turned in
+    let turn1 = taken one.ensures.turned in
     let same1 : (u : Tid) → same_tid t u ≡ false → talk_of talks1 u ≡ talk_of talks u = λ u other. other_talk talks talks1 t u later1 one.ensures.talks other in
-    let sizes1 = sizes_of homes Acts0 O cpu t call talk (C.seen m) (C.seen m1) own own1 under1 one.result later1 turned1 talks talks1
-    one.ensures.talks c.requires.fits.1.sizes in
-    let others1 = others_after (C.opening m) Acts0 cpu t home call talk may.called (C.seen m) (C.seen m1) own own1 under1 one.result later1 turned1
-    talks talks1 refl same1 first.1 in
+    let sizes1 = sizes_of turn1 talks talks1 one.ensures.talks c.requires.fits.1.sizes in
+    let others1 = others_after turn1 home may.called talks talks1 refl same1 first.1 in
     let at_once = (ap (λ (s : Stage). is_at_once s c.at_once.result) (sym c.next_stage-stage.ensures) ∙ sym c.answers_at_once-at_once.ensures)
     ∙ c.if-at_once.true in
     let two = c.turn-last in
-    let m2 = two.new.m in
-    let own2 = C.own two.new.self.lower in
-    let under2 = C.under_way two.new.self.lower in
     let talks2 = two.new.self.talks.talks in
     let later2 = talk_of talks2 t in
     let next = going later1 call in
-    let next_is : going later1 call ≡ later1 = next_going homes Acts0 O cpu t call talk (C.seen m)
-    (C.seen m1) own own1 under1 one.result later1 turned1 c.at_once.result c.if-done.true at_once may.called in
-    let called1 = later_call homes Acts0 O cpu t call talk (C.seen m) (C.seen m1) own own1 under1 one.result later1 turned1 c.at_once.result
-    c.if-done.true at_once may.called in
+    let next_is : going later1 call ≡ later1 = next_going turn1 c.at_once.result c.if-done.true at_once may.called in
+    let called1 = later_call turn1 c.at_once.result c.if-done.true at_once may.called in
     let called2 : next.call ≡ Some call = ap (λ (x : Talk). x.call) next_is ∙ called1 in
-    let Acts1 : CpuId → Type 0 = λ d. C.ActsFor m1 d in
     let turned2 = rw (one.ensures.opening, one.ensures.cpu) at two.ensures.turned in
+    let turn2 = taken turned2 in
     let same2 : (u : Tid) → same_tid t u ≡ false → talk_of talks2 u ≡ talk_of talks1 u
     = λ u other. other_talk talks1 talks2 t u later2 two.ensures.talks other in
-    let sm : m1 ≡ m = elim (why homes Acts0 O cpu t call talk (C.seen m) (C.seen m1) own own1 under1 one.result later1 turned1 c.at_once.result
-    c.if-done.true at_once may.called c.requires.runs
-    c.at_once.ensures) [ inl some ↦ one.ensures.woken some | inr some ↦ one.ensures.handed some ] in (
+    let sm : m1 ≡ m = elim (why turn1 c.at_once.result c.if-done.true at_once may.called c.requires.runs c.at_once.ensures)
+    [ inl some ↦ one.ensures.woken some | inr some ↦ one.ensures.handed some ] in (
       rw c.told.ensures.lower two.ensures.fits,
       rw (c.told.ensures.lower, c.told.ensures.talks, c.told.ensures.calling, two.ensures.opening, two.ensures.cpu, one.ensures.opening, one.ensures.cpu)
           (record {
             boots = c.requires.fits.1.boots;
-            sizes =
-                sizes_of homes Acts1 O cpu t call next (C.seen m1) (C.seen m2) own1 own2 under2 two.result later2 turned2 talks1 talks2
-                two.ensures.talks sizes1;
+            sizes = sizes_of turn2 talks1 talks2 two.ensures.talks sizes1;
             calls =
-                finish (C.opening m) Acts1 cpu t home call next called2 (C.seen m1) (C.seen m2) own1 own2 under2 two.result later2 turned2 talks1
-                talks2 refl same2 others1
-                c.told.result (told_as homes Acts1 O cpu t call next (C.seen m1) (C.seen m2) own1 own2 under2 two.result later2 turned2
-                c.next_stage-next.result c.next_stage-next.ensures c.told.result c.told.ensures.answer);
+                finish turn2 home called2 talks1 talks2 refl same2 others1
+                c.told.result (told_as turn2 c.next_stage-next.result c.next_stage-next.ensures c.told.result c.told.ensures.answer);
           }),
     )
 
@@ -496,7 +370,6 @@ returns-then-at_once-clause-called g c =
     (law.stands p.lower m c.requires.fits.0) c.requires.runs in
     let first = first_may homes cpu O (buffer_sections (C.seen m)) own talks (C.under_way p.lower) p.calling t call home c.requires.fits.1.calls
     c.requires.runs c.requires.hand c.requires.same c.requires.goes_on in
-    let talk = going (talk_of talks t) call in
     let may = first.0 in
     let one = c.turn-done in
     let m1 = one.new.m in
@@ -504,8 +377,7 @@ returns-then-at_once-clause-called g c =
     let under1 = C.under_way one.new.self.lower in
     let talks1 = one.new.self.talks.talks in
     let later1 = talk_of talks1 t in
-    let Acts0 : CpuId → Type 0 = λ d. C.ActsFor m d in
-    let turned1 = one.ensures.turned in
+    let turn1 = taken one.ensures.turned in
     let at_once = (ap (λ (s : Stage). is_at_once s c.at_once.result) (sym c.next_stage-stage.ensures) ∙ sym c.answers_at_once-at_once.ensures)
     ∙ c.if-at_once.true in
     let two = c.turn-last in
@@ -515,32 +387,27 @@ returns-then-at_once-clause-called g c =
     let talks2 = two.new.self.talks.talks in
     let later2 = talk_of talks2 t in
     let next = going later1 call in
-    let next_is : going later1 call ≡ later1 = next_going homes Acts0 O cpu t call talk (C.seen m)
-    (C.seen m1) own own1 under1 one.result later1 turned1 c.at_once.result c.if-done.true at_once may.called in
-    let called1 = later_call homes Acts0 O cpu t call talk (C.seen m) (C.seen m1) own own1 under1 one.result later1 turned1 c.at_once.result
-    c.if-done.true at_once may.called in
+    let next_is : going later1 call ≡ later1 = next_going turn1 c.at_once.result c.if-done.true at_once may.called in
+    let called1 = later_call turn1 c.at_once.result c.if-done.true at_once may.called in
     let called2 : next.call ≡ Some call = ap (λ (x : Talk). x.call) next_is ∙ called1 in
     let Acts1 : CpuId → Type 0 = λ d. C.ActsFor m1 d in
     let turned2 = rw (one.ensures.opening, one.ensures.cpu) at two.ensures.turned in
+    let turn2 = taken turned2 in
     let same2 : (u : Tid) → same_tid t u ≡ false → talk_of talks2 u ≡ talk_of talks1 u
     = λ u other. other_talk talks1 talks2 t u later2 two.ensures.talks other in
-    let sm : m1 ≡ m = elim (why homes Acts0 O cpu t call talk (C.seen m) (C.seen m1) own own1 under1 one.result later1 turned1 c.at_once.result
-    c.if-done.true at_once may.called c.requires.runs
-    c.at_once.ensures) [ inl some ↦ one.ensures.woken some | inr some ↦ one.ensures.handed some ] in
+    let sm : m1 ≡ m = elim (why turn1 c.at_once.result c.if-done.true at_once may.called c.requires.runs c.at_once.ensures)
+    [ inl some ↦ one.ensures.woken some | inr some ↦ one.ensures.handed some ] in
     let turned2m = subst (λ log. Turned homes Acts1 O cpu t call next log (C.seen m2) own1 own2 under2 two.result later2) (ap C.seen sm) turned2 in
-    let effect1 = later_effect homes Acts0 O cpu t call talk (C.seen m) (C.seen m1) own own1 under1 one.result later1 turned1 c.at_once.result
-    c.if-done.true at_once may.called in
-    let may2 = next_may homes Acts0 O cpu t call talk (C.seen m) (C.seen m1) own own1 under1 one.result later1 turned1 c.at_once.result c.if-done.true
-    at_once may.called in
+    let effect1 = later_effect turn1 c.at_once.result c.if-done.true at_once may.called in
+    let may2 = next_may turn1 c.at_once.result c.if-done.true at_once may.called in
     let in_call2 = goes_called O (buffer_sections (C.seen m1)) t call later1 own1 under1 may2.goes in
     rw (two.ensures.opening, one.ensures.opening, c.told.ensures.talks)
-    (called_by (C.opening m) Acts1 cpu t home call next called2 (C.seen m) (C.seen m2) own1 own2 under2 two.result later2 turned2m talks1 talks2 refl
+    (called_by (taken turned2m) home called2 talks1 talks2 refl
     same2 _ (λ d both. one.ensures.acts d both.0) talks
     (ap (λ (x : Talk). x.effect) next_is ∙ effect1)
     (λ u other. apart_talk talks1 talks2 t u later2 two.ensures.talks other ∙ apart_talk talks talks1 t u later1 one.ensures.talks other)
     (subst (λ (x : Talk). called_at x.stage ≡ true) (sym next_is) in_call2) c.told.result
-    (told_as homes Acts1 O cpu t call next (C.seen m1) (C.seen m2) own1 own2 under2 two.result later2 turned2 c.next_stage-next.result
-    c.next_stage-next.ensures c.told.result c.told.ensures.answer))
+    (told_as turn2 c.next_stage-next.result c.next_stage-next.ensures c.told.result c.told.ensures.answer))
 
 pub returns-then-at_once-clause-others : goal.returns-then-at_once-clause-others
 returns-then-at_once-clause-others g c q other fits =
@@ -549,8 +416,6 @@ returns-then-at_once-clause-others g c q other fits =
     let m = c.args.m.now in
     let p = c.args.self.now in
     let cpu = C.cpu_of p.lower in
-    let talks = p.talks.talks in
-    let own = C.own p.lower in
     let acts = law.own_cpu p.lower m c.requires.fits.0 in
     let one = c.turn-done in
     let m1 = one.new.m in
@@ -593,16 +458,12 @@ returns-clause-follows g c stepwise =
     let may = first.0 in
     let one = c.turn-done in
     let m1 = one.new.m in
-    let own1 = C.own one.new.self.lower in
-    let under1 = C.under_way one.new.self.lower in
-    let talks1 = one.new.self.talks.talks in
-    let later1 = talk_of talks1 t in
     let Acts0 : CpuId → Type 0 = λ d. C.ActsFor m d in
-    let turned1 = one.ensures.turned in
+    let turn1 = taken one.ensures.turned in
     let table = table_of (queue_rules (lock_rules buffer_rules) (lock_moves buffer_rules)) in
     let in_call = goes_called O (buffer_sections (C.seen m)) t call talk own (C.under_way p.lower) may.goes in
     let marks = marks_of O (buffer_sections (C.seen m)) t call talk own (C.under_way p.lower) may.goes in
-    let free = exit_free homes Acts0 O cpu t call talk (C.seen m) (C.seen m1) own own1 under1 one.result later1 turned1 c.at_once.result marks
+    let free = exit_free turn1 c.at_once.result marks
     (elim c.else-done.either [
       | inl both ↦ inl
           (both.0, (ap (λ (s : Stage). is_at_once s c.at_once.result) (sym c.next_stage-stage.ensures) ∙ sym c.answers_at_once-at_once.ensures) ∙ both.1)
@@ -613,8 +474,7 @@ returns-clause-follows g c stepwise =
     rw (
       c.told-2.ensures.lower,
       c.told-2.ensures.talks,
-      (told_as homes Acts0 O cpu t call talk (C.seen m) (C.seen m1) own own1 under1 one.result later1 turned1 c.next_stage-stage.result
-          c.next_stage-stage.ensures c.told-2.result c.told-2.ensures.answer),
+      (told_as turn1 c.next_stage-stage.result c.next_stage-stage.ensures c.told-2.result c.told-2.ensures.answer),
     )
     (follows_for Acts0 _ (λ d both. both.0) table (C.opening m) cpu (plan_at homes cpu t call talk.stage talk (buffering own talks)) (C.acts m)
     (C.acts m1) _ done)
@@ -642,11 +502,11 @@ returns-then-at_once-clause-follows g c stepwise =
     let one = c.turn-done in
     let m1 = one.new.m in
     let own1 = C.own one.new.self.lower in
-    let under1 = C.under_way one.new.self.lower in
     let talks1 = one.new.self.talks.talks in
     let later1 = talk_of talks1 t in
     let Acts0 : CpuId → Type 0 = λ d. C.ActsFor m d in
     let turned1 = one.ensures.turned in
+    let turn1 = taken turned1 in
     let table = table_of (queue_rules (lock_rules buffer_rules) (lock_moves buffer_rules)) in
     let marks = marks_of O (buffer_sections (C.seen m)) t call talk own (C.under_way p.lower) may.goes in
     let at_once = (ap (λ (s : Stage). is_at_once s c.at_once.result) (sym c.next_stage-stage.ensures) ∙ sym c.answers_at_once-at_once.ensures)
@@ -654,17 +514,14 @@ returns-then-at_once-clause-follows g c stepwise =
     let two = c.turn-last in
     let m2 = two.new.m in
     let own2 = C.own two.new.self.lower in
-    let under2 = C.under_way two.new.self.lower in
     let talks2 = two.new.self.talks.talks in
-    let later2 = talk_of talks2 t in
-    let end = ended_of homes Acts0 O cpu t call talk (C.seen m) (C.seen m1) own own1 under1 one.result later1 turned1 c.if-done.true in
+    let end = ended_of turn1 c.if-done.true in
     let got1 : Left Buffering Reply = record { own = buffering own1 talks1; answer = if one.result then replied call talk talk.stage else None } in
     let next = going later1 call in
-    let next_is : going later1 call ≡ later1 = next_going homes Acts0 O cpu t call talk (C.seen m)
-    (C.seen m1) own own1 under1 one.result later1 turned1 c.at_once.result c.if-done.true at_once may.called in
+    let next_is : going later1 call ≡ later1 = next_going turn1 c.at_once.result c.if-done.true at_once may.called in
     let cpu1 = C.cpu_of one.new.self.lower in
-    let Acts1 : CpuId → Type 0 = λ d. C.ActsFor m1 d in
     let turned2 = rw (one.ensures.opening, one.ensures.cpu) at two.ensures.turned in
+    let turn2 = taken turned2 in
     let got2n : Left Buffering Reply = record { own = buffering own2 talks2; answer = if two.result then replied call next next.stage else None } in
     let second = follows_for (λ d. C.ActsFor m1 d) Acts0 (λ d a. one.ensures.acts d a) table (C.opening m1) cpu1
     (plan_of (homes_in (C.opening m1)) cpu1 t call next.stage next (buffering own1 talks1)) (C.acts m1) (C.acts m2) got2n (two.ensures.follows stepwise) in
@@ -683,8 +540,7 @@ returns-then-at_once-clause-follows g c stepwise =
     rw (
       c.told.ensures.lower,
       c.told.ensures.talks,
-      (told_as homes Acts1 O cpu t call next (C.seen m1) (C.seen m2) own1 own2 under2 two.result later2 turned2 c.next_stage-next.result
-          c.next_stage-next.ensures c.told.result c.told.ensures.answer),
+      (told_as turn2 c.next_stage-next.result c.next_stage-next.ensures c.told.result c.told.ensures.answer),
     )
     (follows_for Acts0 _ (λ d both. both.0) table (C.opening m) cpu (plan_at homes cpu t call talk.stage talk (buffering own talks)) (C.acts m)
     (C.acts m2) got2n both)

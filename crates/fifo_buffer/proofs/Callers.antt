@@ -1,0 +1,29 @@
+-- A thread that runs on a CPU and whose call takes a turn there: its CPU's part and the log before the turn.
+use Rattle.std.proofs.Common.{◌≡◌, ◌<◌, List, length, Option, Some}
+use Rattle.event_log.specs.declared.ids.CpuId.{CpuId}
+use Rattle.event_log.specs.declared.ids.LockId.{LockId}
+use Rattle.event_log.specs.declared.ids.Tid.{Tid}
+use Rattle.event_log.specs.declared.ids.TheConstants.{THREADS}
+use Rattle.layer_traits.specs.declared.buffer_edits.BufferOut.{BufferOut}
+use Rattle.layer_traits.specs.declared.calls.Call.{Call}
+use Rattle.layer_traits.specs.declared.queue_edits.QueueBlock.{QueueBlock}
+use Rattle.layer_traits.specs.BufferProtocol.{BufferLock}
+use Rattle.layer_traits.specs.CvLaw.{Waiting}
+use Rattle.layer_traits.specs.Places.{home_of}
+use Rattle.layer_traits.specs.QueueBlocks.{homes_in}
+use Rattle.fifo_buffer.specs.Turns.{BufferEvent}
+
+pub record Caller : Type 1 where
+  pub opening : LockId → Option (QueueBlock BufferLock)
+  pub ActsFor : CpuId → Type 0
+  pub c : CpuId
+  pub acts : ActsFor c
+  pub t : Tid
+  pub home : home_of (homes_in opening) t ≡ Some c
+  pub small : t.0 < THREADS
+  pub call : Call
+  pub own : Waiting BufferOut
+  pub slept_size : length own.lock.slept ≡ THREADS
+  pub waits_size : length own.waits ≡ THREADS
+  pub runs : own.lock.sleep.threads.current ≡ Some t
+  pub old : List BufferEvent
