@@ -160,8 +160,8 @@ planned_so plan s is caps homes guests limits = record {
       sym (listed_length (guests_for plan) plan.cpus 0) ∙ ap (λ (l : List (List (Option Guest))). length l) (sym guests) ∙ length-map s.cpus (λ p. p.guests);
 }
 
-pub planned_if : {E : Type 0} (plan : BootPlan) (r : Result Shown E) (caps : List ℕ) (homes : List CpuId) (guests : List (List (Option Guest))) (limits : List ℕ)
-    → IsPlan plan → caps ≡ plan.caps → homes ≡ homes_for plan → guests ≡ tables_for plan → limits ≡ replicate plan.cpus plan.trace
+pub planned_if : {E : Type 0} (plan : BootPlan) (r : Result Shown E) (caps : List ℕ) (homes : List CpuId) (guests : List (List (Option Guest)))
+    (limits : List ℕ) → IsPlan plan → caps ≡ plan.caps → homes ≡ homes_for plan → guests ≡ tables_for plan → limits ≡ replicate plan.cpus plan.trace
     → IfOk r (λ s. s.caps ≡ caps) → IfOk r (λ s. s.homes ≡ homes) → IfOk r (λ s. map (λ p. p.guests) s.cpus ≡ guests)
     → IfOk r (λ s. map (λ p. p.limit) s.cpus ≡ limits) → IfOk r (IsSetupFor (setup_for plan))
 planned_if plan (Ok s) caps homes guests limits is caps_are homes_are guests_are limits_are s_caps s_homes s_guests s_limits =
