@@ -1,0 +1,337 @@
+#!/usr/bin/env python3
+"""The step table as a small plain program, for lessons: it runs a plan under a schedule and prints what `mctower run` prints.
+
+    plans/kernel.py [--wrong RULE] PLAN [SCHEDULE]
+
+Without a schedule it takes the one in the first lines of the plan. With --wrong one rule of the table is left out, to see
+what breaks; --help names them. Nothing here is proved: it is the program to play with. Without --wrong it prints what
+`mctower run` prints, and tests/book.py holds the two against one another.
+"""
+import argparse
+import copy
+import re
+import sys
+import tomllib
+from collections import deque
+from pathlib import Path
+
+RECEIVERS, SENDERS = 0, 1
+WRONG = {
+    "look-always-hits": "a CPU enters a section without waiting for its turn",
+    "pend-keeps-the-hand": "who is sent home stays in the hand as well",
+    "wakes-where-it-is": "a woken thread joins the ready queue of the CPU that wakes it",
+    "release-frees-the-lock": "a release wakes the first sleeper and leaves the lock free",
+    "wait-frees-first": "a wait releases the lock in one section and joins the waiters in the next",
+    "take-skips-the-turn": "a receive takes a message though it is not the first in line",
+    "other-side-only": "a call that took effect signals the other side alone",
+}
+
+
+class Guest:
+    """A guest thread: its program, its line, its registers, the stage of its call, and its place."""
+
+    def __init__(self, home, program):
+        self.home, self.program = home, [line.split(" ") for line in program]
+        self.line, self.registers, self.stage, self.got, self.position = 0, [0] * 4, None, 0, 0
+        self.place = f"Ready({home})"
+
+    def instruction(self):
+        return self.program[self.line] if self.line < len(self.program) else ["exit"]
+
+    def call(self):
+        """The buffer and the side of the call at which the thread stands, or None."""
+        word = self.instruction()
+        side = {"send": SENDERS, "recv": RECEIVERS}.get(word[0])
+        return None if side is None else (int(word[1]), side)
+
+    def end_call(self):
+        word = self.instruction()
+        if word[0] == "recv":
+            self.registers[int(word[2][1:])] = self.got
+        self.line, self.stage = self.line + 1, None
+
+
+class Buffer:
+    """A buffer's block: what its lock guards."""
+
+    def __init__(self, capacity):
+        self.capacity, self.owner, self.items, self.effects = capacity, None, deque(), 0
+        self.sleepers, self.waiting, self.line = deque(), (deque(), deque()), (deque(), deque())
+        self.positions = [0, 0]
+
+    def may_go(self, side):
+        return len(self.items) < self.capacity if side == SENDERS else bool(self.items)
+
+
+class Cpu:
+    def __init__(self):
+        self.current, self.hand, self.ready, self.trace, self.begun = None, None, deque(), [], 0
+        self.section, self.ticket, self.block = None, 0, None  # the block: in its hands while it is inside
+
+
+class Kernel:
+    """What one step of a CPU does, with the name of the section that it works in."""
+
+    def __init__(self, plan, wrong=None):
+        self.wrong, self.room = wrong, plan["trace"]
+        self.cpus = [Cpu() for _ in range(plan["cpus"])]
+        self.guests = [Guest(thread["cpu"], thread["program"]) for thread in plan["thread"]]
+        self.blocks = {("buffer", b): Buffer(k) for b, k in enumerate(plan["buffers"])}
+        self.blocks |= {("pending", c): deque() for c in range(plan["cpus"])}
+        self.words = {lock: [0, 0] for lock in self.blocks}  # next, serving
+        self.entry = None
+        for number, guest in enumerate(self.guests):
+            self.cpus[guest.home].ready.append(number)
+
+    def step(self, c):
+        """Takes one step of a CPU, and tells its section and its part of it: '' where there is none."""
+        self.entry, cpu = None, self.cpus[c]
+        if cpu.section is None:
+            return self.begin(c, cpu)
+        name, lock = cpu.section
+        if cpu.block is None:
+            if self.wrong != "look-always-hits" and self.words[lock][1] != cpu.ticket:
+                return name, "waits"
+            cpu.block = copy.deepcopy(self.blocks[lock])
+            return name, "enters"
+        cpu.section, block, cpu.block = None, cpu.block, None
+        self.edit(c, cpu, name, block)
+        self.blocks[lock] = block
+        self.words[lock][1] += 1
+        return name, "ends"
+
+    def draw(self, cpu, name, lock):
+        cpu.section, cpu.ticket = (name, lock), self.words[lock][0]
+        self.words[lock][0] += 1
+        return name, "waits"
+
+    def halted(self, c):
+        """Why a CPU takes no step between its sections, or None."""
+        cpu = self.cpus[c]
+        if cpu.section is not None or cpu.hand is not None:
+            return None
+        if all(guest.place == "Ended" for guest in self.guests if guest.home == c):
+            return "AllEnded"
+        at_call = cpu.current is not None and self.guests[cpu.current].call() and self.guests[cpu.current].stage is None
+        return "TraceFull" if at_call and len(cpu.trace) + cpu.begun == self.room else None
+
+    def begin(self, c, cpu):
+        if cpu.hand is not None:
+            return self.draw(cpu, f"Pend t{cpu.hand}", ("pending", self.guests[cpu.hand].home))
+        if self.halted(c):
+            return "", ""
+        if cpu.current is None:
+            if not cpu.ready:
+                return self.draw(cpu, "Drain", ("pending", c))
+            cpu.current = cpu.ready.popleft()
+            self.guests[cpu.current].place = f"Running({c})"
+            return "switch", "alone"
+        guest = self.guests[cpu.current]
+        call = guest.call()
+        if call is None:
+            if guest.instruction()[0] == "yield":
+                return self.draw(cpu, "Yield", ("pending", c))
+            return self.compute(cpu, guest)
+        if guest.stage is None:
+            guest.stage, cpu.begun = "AcqQ", cpu.begun + 1
+        return self.draw(cpu, f"{self.name_of(guest.stage, call[1])} {call[0]}", ("buffer", call[0]))
+
+    @staticmethod
+    def name_of(stage, side):
+        signals = ("SigRecv", "SigSend")
+        names = {"Again": "AcqQ", "Try": ("TryTake", "TryPut")[side], "Other": signals[1 - side], "Own": signals[side]}
+        return names.get(stage, stage)
+
+    @staticmethod
+    def compute(cpu, guest):
+        word, registers = guest.instruction(), guest.registers
+        number = [int(piece.removeprefix("r")) for piece in word[1:]]
+        guest.line += 1
+        if word[0] == "set":
+            registers[number[0]] = number[1]
+        elif word[0] in ("add", "sub"):
+            other = registers[number[1]] if word[0] == "add" else -registers[number[1]]
+            registers[number[0]] = (registers[number[0]] + other) % 2**64
+        elif word[0] == "jnz":
+            guest.line = number[1] if registers[number[0]] else guest.line
+        else:
+            guest.place, cpu.current = "Ended", None
+        return word[0], "alone"
+
+    def edit(self, c, cpu, name, block):
+        """The edit of a section on its lock's block, which the CPU has in its hands."""
+        t = cpu.current
+        if name.startswith("Pend"):
+            self.send_home(cpu, block)
+            if t is not None and self.guests[t].stage == "Returns":
+                self.guests[t].end_call()
+        elif name in ("Drain", "Yield"):
+            self.drain(c, cpu, block)
+            if name == "Yield":
+                self.guests[t].line += 1
+                self.guests[t].place, cpu.current = f"Ready({c})", None
+                cpu.ready.append(t)
+        else:
+            self.edit_buffer(c, cpu, t, block)
+
+    def send_home(self, cpu, pending):
+        s = cpu.hand
+        if self.wrong != "pend-keeps-the-hand" or s in pending:
+            cpu.hand = None
+        self.guests[s].place = f"Pending({self.guests[s].home})"
+        pending.append(s)
+
+    def drain(self, c, cpu, pending):
+        for t in pending:
+            self.guests[t].place = f"Ready({c})"
+        cpu.ready.extend(pending)
+        pending.clear()
+
+    def edit_buffer(self, c, cpu, t, buffer):
+        guest = self.guests[t]
+        (b, side), stage = guest.call(), guest.stage
+        if stage in ("AcqQ", "Again"):
+            guest.stage = "Enter" if stage == "AcqQ" else "Try"
+            if buffer.owner is None:
+                buffer.owner = t
+            else:
+                buffer.sleepers.append(t)
+                self.sleep(cpu, guest, f"LockSleeper({b})")
+        elif stage == "Enter":
+            guest.stage, guest.position = "Try", buffer.positions[side]
+            buffer.positions[side] += 1
+            buffer.line[side].append(t)
+        elif stage == "Try":
+            self.attempt(c, cpu, guest, t, buffer)
+        elif stage == "Wait" and self.wrong == "wait-frees-first":
+            guest.stage = "Join"
+            self.release(c, cpu, buffer)
+        elif stage in ("Wait", "Join"):
+            buffer.waiting[side].append(t)
+            guest.stage = "Again"
+            self.sleep(cpu, guest, f"{('WaitRecv', 'WaitSend')[side]}({b})")
+            if stage == "Wait":
+                self.release(c, cpu, buffer)
+        elif stage in ("Other", "Own"):
+            self.signal(c, cpu, buffer, side if stage == "Own" else 1 - side)
+            guest.stage = "Own" if stage == "Other" and self.wrong != "other-side-only" else "RelQ"
+        else:
+            self.release(c, cpu, buffer)
+            guest.stage = "Returns"
+            if cpu.hand is None:
+                guest.end_call()
+
+    def attempt(self, c, cpu, guest, t, buffer):
+        b, side = guest.call()
+        in_turn = buffer.line[side][0] == t or (self.wrong == "take-skips-the-turn" and side == RECEIVERS)
+        if not in_turn or not buffer.may_go(side):
+            guest.stage = "Wait"
+            return
+        buffer.line[side].remove(t)
+        if side == SENDERS:
+            value = guest.registers[int(guest.instruction()[2][1:])]
+            buffer.items.append(value)
+        else:
+            value = guest.got = buffer.items.popleft()
+        self.entry = (c, t, ("recv", "send")[side], b, value, buffer.effects, guest.position)
+        buffer.effects += 1
+        guest.stage, cpu.begun = "Other", cpu.begun - 1
+        cpu.trace.append(self.entry)
+
+    @staticmethod
+    def sleep(cpu, guest, place):
+        guest.place, cpu.current = place, None
+
+    def wake(self, c, cpu, t):
+        guest = self.guests[t]
+        if guest.home == c or self.wrong == "wakes-where-it-is":
+            guest.place = f"Ready({c})"
+            cpu.ready.append(t)
+        else:
+            guest.place, cpu.hand = f"Hand({c})", t
+
+    def release(self, c, cpu, buffer):
+        first = buffer.sleepers.popleft() if buffer.sleepers else None
+        buffer.owner = None if self.wrong == "release-frees-the-lock" else first
+        if first is not None:
+            self.wake(c, cpu, first)
+
+    def signal(self, c, cpu, buffer, side):
+        line = buffer.line[side]
+        if line and line[0] in buffer.waiting[side] and buffer.may_go(side):
+            buffer.waiting[side].remove(line[0])
+            self.wake(c, cpu, line[0])
+
+    def rests(self, c):
+        cpu = self.cpus[c]
+        if self.blocks["pending", c]:
+            return False
+        if self.halted(c):
+            return all(guest.place == "Ended" for guest in self.guests if guest.home == c)
+        return cpu.current is None and not cpu.ready and cpu.hand is None and cpu.section is None
+
+    def gathered(self):
+        """The entries in the order that takes, at each point, the first trace whose next entry is its buffer's next."""
+        left, due, order = [deque(cpu.trace) for cpu in self.cpus], {}, []
+        while any(left):
+            trace = next((one for one in left if one and one[0][5] == due.get(one[0][3], 0)), None)
+            if trace is None:
+                return None
+            due[trace[0][3]] = trace[0][5] + 1
+            order.append(trace.popleft())
+        return order
+
+    def text(self):
+        """The trace text, or why there is none."""
+        order = self.gathered()
+        if order is None:
+            return "error: NoOrder(6)\n"
+        buffers = [block for lock, block in self.blocks.items() if lock[0] == "buffer"]
+        lines = ["mctower-trace 1", f"buffers {len(buffers)}"]
+        lines += [f"cap {b} {buffer.capacity}" for b, buffer in enumerate(buffers)]
+        lines += [f"e {cpu} {t} {kind} {b} {value} {op} {pos}" for cpu, t, kind, b, value, op, pos in order]
+        lines += [" ".join(["left", str(b), *map(str, buffer.items)]) for b, buffer in enumerate(buffers)]
+        return "\n".join(lines + ["end"]) + "\n"
+
+    def states(self):
+        """The state lines."""
+        lines = [f"cpu {c} {self.halted(c) or 'live'}" for c in range(len(self.cpus))]
+        lines += [f"thread {t} {guest.place}" for t, guest in enumerate(self.guests)]
+        quiet = "yes" if all(self.rests(c) for c in range(len(self.cpus))) else "no"
+        return "\n".join(lines + [f"quiet {quiet}"]) + "\n"
+
+
+def steps_of(schedule):
+    """The CPUs of a schedule's steps, in order."""
+    steps = []
+    for item in filter(None, schedule.split(",")):
+        cpu, _, times = item.partition("*")
+        steps += [int(cpu)] * int(times or 1)
+    return steps
+
+
+def schedule_in(plan):
+    """The schedule in the first lines of a plan, or none."""
+    kept = re.search(r"^# *mctower run --schedule '(.*)' <", plan, re.M)
+    return kept.group(1) if kept else ""
+
+
+def main():
+    rules = "\n".join(f"  {name:24}{what}" for name, what in WRONG.items())
+    parser = argparse.ArgumentParser(description=__doc__.splitlines()[0], epilog=f"rules:\n{rules}",
+                                     formatter_class=argparse.RawDescriptionHelpFormatter)
+    parser.add_argument("--wrong", choices=WRONG, metavar="RULE", help="leave out this rule")
+    parser.add_argument("plan", type=Path)
+    parser.add_argument("schedule", nargs="?")
+    asked = parser.parse_args()
+    plan = asked.plan.read_text()
+    kernel = Kernel(tomllib.loads(plan), asked.wrong)
+    for c in steps_of(schedule_in(plan) if asked.schedule is None else asked.schedule):
+        kernel.step(c)
+    sys.stdout.write(kernel.text())
+    sys.stdout.flush()
+    sys.stderr.write(kernel.states())
+
+
+if __name__ == "__main__":
+    main()

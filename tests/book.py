@@ -1,0 +1,121 @@
+#!/usr/bin/env python3
+"""Tries the book: runs every command of docs/book and compares what comes with what the page says, byte for byte; looks up
+each file, public name and clause that a page names; draws each picture again; holds plans/kernel.py against what each plan is
+expected to print. .ci/run calls it; it takes seconds.
+
+    tests/book.py [--write] [PROGRAM]
+
+A command is a line `$ ..` of a block marked `console`; the lines beneath it are what it prints, standard output and standard error
+together. Where a page is changed, --write puts what comes into the page and draws the pictures, to be read before it is kept.
+The last line is 'book: N passed, M failed'.
+"""
+import os
+import re
+import subprocess
+import sys
+from pathlib import Path
+
+ROOT = Path(__file__).resolve().parent.parent
+BOOK = ROOT / "docs/book"
+CRATES = [line.split(":")[0] for line in (ROOT / "crates.txt").read_text().splitlines() if ":" in line]
+BLOCK = re.compile(r"(?<=^```console\n)(.*?)(?=^```$)", re.M | re.S)
+FILE = re.compile(r"`((?:crates|plans|docs|tests|bench)/[\w./-]+)`")
+NAME = re.compile(r"(?:clause `(\w+)` of )?`(\w+)((?:::\w+)+)`")
+
+
+def outcome(command, program):
+    """What a command prints, run at the root with the program in front of the path."""
+    path = f"{program.parent}:{os.environ['PATH']}"
+    ran = subprocess.run(["bash", "-c", command], cwd=ROOT, env={**os.environ, "PATH": path, "MCTOWER": str(program)},
+                         stdout=subprocess.PIPE, stderr=subprocess.STDOUT, text=True, timeout=120)
+    return ran.stdout
+
+
+def commands(block):
+    """Each command of a block, with the text that the page shows beneath it."""
+    pieces = re.split(r"^\$ (.*)\n", block, flags=re.M)
+    return list(zip(pieces[1::2], pieces[2::2]))
+
+
+def tried(page, program, write, faults):
+    """Runs a page's commands; tells how many there were."""
+    text, count = page.read_text(), 0
+
+    def block(found):
+        nonlocal count
+        shown = []
+        for command, said in commands(found.group(1)):
+            count += 1
+            came = outcome(command, program)
+            if came != said and not write:
+                faults.append(f"{page.name}: `{command}` prints\n{came}and the page says\n{said}")
+            shown.append(f"$ {command}\n{came}")
+        return "".join(shown)
+
+    new = BLOCK.sub(block, text)
+    if write and new != text:
+        page.write_text(new)
+    return count
+
+
+def source_of(crate):
+    return {path: path.read_text() for path in (ROOT / "crates" / crate / "src").rglob("*.rt")}
+
+
+def looked_up(page, faults):
+    """Looks for each file, public name and clause that a page names; tells how many there were."""
+    text, count = page.read_text(), 0
+    for path in FILE.findall(text):
+        count += 1
+        if not (ROOT / path.rstrip("/.")).exists():
+            faults.append(f"{page.name}: there is no {path}")
+    for clause, crate, rest in NAME.findall(text):
+        if crate not in CRATES:
+            continue
+        count += 1
+        name = rest.split("::")[-1]
+        found = [src for src in source_of(crate).values() if re.search(rf"\b(fn|struct|enum|trait|type|const)\s+{name}\b", src)]
+        if not found:
+            faults.append(f"{page.name}: {crate} has no {name}")
+        elif clause and not any(re.search(rf"ensures {clause} ", src) for src in found):
+            faults.append(f"{page.name}: {crate}{rest} has no clause {clause}")
+    return count
+
+
+def drawn(picture, program, write, faults):
+    plan = ROOT / "plans" / f"{picture.stem}.toml"
+    came = outcome(f"plans/picture.py {plan.relative_to(ROOT)}", program)
+    if write:
+        picture.write_text(came)
+    elif picture.read_text() != came:
+        faults.append(f"pictures/{picture.name} is not what plans/picture.py draws: {came[:200]}")
+
+
+def modelled(plan, program, faults):
+    """Runs a plan by plans/kernel.py, beside what the program is expected to print."""
+    expected = plan.parent / "expected" / f"{plan.stem}.txt"
+    if outcome(f"plans/kernel.py {plan.relative_to(ROOT)}", program) != expected.read_text():
+        faults.append(f"plans/kernel.py does not print what {expected.relative_to(ROOT)} says")
+
+
+def main(words):
+    write = "--write" in words
+    named = [word for word in words if word != "--write"]
+    program = Path(named[0] if named else ROOT / "crates/mctower/out/mctower").resolve()
+    faults, count = [], 0
+    for page in sorted(BOOK.glob("*.md")):
+        count += tried(page, program, write, faults) + looked_up(page, faults)
+    for picture in sorted((BOOK / "pictures").glob("*.svg")):
+        count += 1
+        drawn(picture, program, write, faults)
+    for plan in sorted([*ROOT.glob("plans/*.toml"), *ROOT.glob("tests/rows/*.toml")]):
+        count += 1
+        modelled(plan, program, faults)
+    for fault in faults:
+        print("book:", fault)
+    print(f"book: {count - len(faults)} passed, {len(faults)} failed")
+    return 1 if faults or count == 0 else 0
+
+
+if __name__ == "__main__":
+    sys.exit(main(sys.argv[1:]))
