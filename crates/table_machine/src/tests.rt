@@ -5,11 +5,12 @@ ghost use Rattle.event_log.specs.WordsLog.{standing, Outside, Waiting, Inside};
 ghost use Rattle.event_log.specs.Sections.{block_after};
 ghost use Rattle.event_log.specs.Grants.{grant_standing};
 ghost use Rattle.layer_traits.specs.GrantProtocol.{grant_sections};
+ghost use Rattle.layer_traits.specs.OneLock.{AreDistinct};
 ghost use Rattle.layer_traits.specs.WordsProtocol.{sections};
 ghost use Rattle.table_machine.specs.Desks.{IsOver, new_desk, new_desks};
 ghost use Rattle.table_machine.specs.declared.tests.TheConstants.{LOCK, OTHER};
 
-use crate::{GrantShared, Key, Shared, meet};
+use crate::{GrantShared, Key, Shared, TableWords, TicketWords, WaiterWords, meet};
 use event_log::{BufId, CpuId, LockId, NoMemory};
 use layer_traits::{Edit, GrantWords, Words};
 use std::alloc::Global;
@@ -66,7 +67,7 @@ fn two_keys<R: Abort>(
 }
 
 /// Closes a table at which nothing was done.
-fn untouched(shared: Shared<AddOne>, keys: Vec<Key<AddOne>>) -> Vec<(LockId, u64)>
+fn untouched<K: TableWords>(shared: Shared<AddOne, K>, keys: Vec<Key<AddOne>>) -> Vec<(LockId, u64)>
     requires keys { keys.items ≡ new_desks shared shared.cpus }
 {
     shared.close(keys)
@@ -269,18 +270,33 @@ fn two_locks_are_held_at_once(rt: HostRuntime) -> Result<(), Fail> {
     Ok(())
 }
 
+/// Opens a table of two locks and two CPUs, and closes it again.
+fn opens_and_closes<K: TableWords>(
+    alloc: Global,
+    blocks: Vec<(LockId, u64)>,
+) -> Result<Vec<(LockId, u64)>, NoMemory>
+    requires distinct { AreDistinct blocks.items }
+{
+    let (shared, keys) = Shared::<AddOne, K>::open(alloc, blocks, 2)?;
+    Ok(untouched(shared, keys))
+}
+
 // Run with each allocation refused in turn: what is refused is `NoMemory`.
 #[test]
 fn a_refused_allocation_is_no_memory(rt: HostRuntime) {
-    let Ok(blocks) = vec![in rt.alloc(); (OTHER, 7), (LOCK, 40)] else {
-        return;
-    };
-    match Shared::<AddOne>::open(rt.alloc(), blocks, 2) {
-        Ok((shared, keys)) => {
-            let blocks = untouched(shared, keys);
-            assert_eq!(rt; blocks.as_slice(), [(OTHER, 7), (LOCK, 40)].as_slice());
+    for is_ticket in [true, false] {
+        let Ok(blocks) = vec![in rt.alloc(); (OTHER, 7), (LOCK, 40)] else {
+            return;
+        };
+        let closed = if is_ticket {
+            opens_and_closes::<TicketWords>(rt.alloc(), blocks)
+        } else {
+            opens_and_closes::<WaiterWords>(rt.alloc(), blocks)
+        };
+        match closed {
+            Ok(blocks) => assert_eq!(rt; blocks.as_slice(), [(OTHER, 7), (LOCK, 40)].as_slice()),
+            Err(error) => assert_eq!(rt; error, NoMemory),
         }
-        Err(error) => assert_eq!(rt; error, NoMemory),
     }
 }
 
