@@ -23,6 +23,7 @@ use Rattle.cpu.specs.declared.guests.Guest.{Guest}
 use Rattle.cpu.specs.Cpus.{ActsGrow, IsCpu, SeenGrows, of_cpu}
 use Rattle.cpu.specs.Claims.{CpuShown, Shown}
 use Rattle.cpu.specs.Systems.{IsAt, IsSystem, halted_in, own_reason, own_reason_in, reason_of, reason_or}
+use Rattle.cpu.proofs.CpuStates.{valid_cpu}
 use Rattle.cpu.proofs.GuestLists.{cpu_same}
 use Rattle.cpu.proofs.ListReads.{all_both, all_by, all_left, all_right, set_again, set_else, set_there}
 use Rattle.cpu.proofs.Schedules.{seen_stays}
@@ -81,7 +82,7 @@ pub cpu_frame : (homes homes2 : List CpuId) (buffers buffers2 : ℕ) (seen seen2
 cpu_frame homes homes2 buffers buffers2 seen seen2 own talks doing number guests trace limit capacity same_homes same_buffers same is =
     subst (λ (h : List CpuId). IsCpu h buffers2 seen2 own talks doing number guests trace limit capacity) (sym same_homes)
     (subst (λ (n : ℕ). IsCpu homes n seen2 own talks doing number guests trace limit capacity) (sym same_buffers)
-    (seen_stays homes buffers seen own talks doing number guests trace limit capacity is seen2 same))
+    (seen_stays (valid_cpu is) seen2 same))
 
 -- the system after a step of CPU k, which left y in its place
 pub system_step : {X N : Type 0} (One Two : X → Type 0) (number : X → CpuId) (Acts1 Acts2 : CpuId → Type 0) (IsStepwise : Type 0)

@@ -1,6 +1,6 @@
 -- A CPU and a system before their first step are as they are always to be.
 use Rattle.std.proofs.Common.{◌≡◌, ◌⊎◌, inl, inr, ℕ, zero, suc, ◌+◌, ◌^◌, ◌<◌, ◌≤◌, false, List, [], ◌∷◌, ◌++◌, length}
-use Rattle.std.proofs.Common.{map, cond, drop, replicate, Option, Some, None, refl, ap, sym, ◌∙◌, subst, arith}
+use Rattle.std.proofs.Common.{map, cond, drop, replicate, vec_capacity, Option, Some, None, refl, ap, sym, ◌∙◌, subst, arith}
 use Rattle.std.specs.Prelude.{slice_get, slice_index_or}
 use Rattle.std.specs.List.{AllByRecursion}
 use Rattle.std.proofs.lemmas.Bool.{cases_lt}
@@ -14,11 +14,13 @@ use Rattle.event_log.specs.declared.ids.Tid.{Tid}
 use Rattle.event_log.specs.declared.ids.TheConstants.{CPUS, THREADS}
 use Rattle.event_log.specs.Actions.{Action}
 use Rattle.guest.specs.Calls.{starts}
+use Rattle.layer_traits.specs.declared.ipc_layers.IpcLayer.{Ghosts}
 use Rattle.layer_traits.specs.declared.talks.Talk.{Talk}
-use Rattle.layer_traits.specs.BufferLaw.{Buffering, Doing, quiet, talk_of}
+use Rattle.layer_traits.specs.BufferLaw.{quiet, talk_of}
 use Rattle.layer_traits.specs.OnePlace.{cpu_at}
 use Rattle.layer_traits.specs.Openings.{AreOpenable}
-use Rattle.layer_traits.specs.Places.{Threads, at_boot}
+use Rattle.layer_traits.specs.Places.{at_boot}
+use Rattle.cpu.specs.declared.cpus.Cpu.{Cpu}
 use Rattle.cpu.specs.declared.guests.Guest.{Guest}
 use Rattle.cpu.specs.Guests.{HasCome, is_begun}
 use Rattle.cpu.specs.Boots.{AreGuests, IsBootedAs}
@@ -69,19 +71,20 @@ boots homes buffers number guests limit capacity are few reserved = record {
 }
 
 -- a CPU that was made so, in a machine that is fresh
-module _ {P M : Type 0} (Fits : P → M → Type 0) (IsFresh : M → CpuId → Type 0) (count : M → ℕ) (IsStepwise : Type 0) (buffers : ℕ) (homes : List CpuId)
-    (k : ℕ) (guests : List (Option Guest)) (most : ℕ) (part : P) (cpu : CpuId) (own : Buffering) (threads : Threads) (talks : List Talk) (doing : Option Doing)
-    (its : CpuId) (table : List (Option Guest)) (trace : List Entry) (limit capacity : ℕ)
-    (is : IsBootedAs Fits IsFresh count IsStepwise buffers homes k guests most part cpu own threads talks doing its table trace limit capacity) where
-  pub boots_as : (m : M) (homes2 : List CpuId) (seen : List Entry) → IsFresh m (cpu_at k) → count m ≡ buffers → homes2 ≡ homes → seen ≡ []
-      → AreGuests homes buffers (cpu_at k) guests → length homes ≤ THREADS
-      → Fits part m × (cpu ≡ its) × IsCpu homes2 (count m) seen threads talks doing its table trace limit capacity
-  boots_as m homes2 seen fresh counted same none are few = (
-    is.fits m fresh counted,
-    is.cpu_is ∙ sym is.booted.number_is,
-    rw (counted, same, none, is.threads_are, is.nobody_talks, is.nothing_done, is.booted.number_is, is.booted.guests_are, is.booted.nothing, is.booted.limit_is)
-        (boots homes buffers (cpu_at k) guests most capacity are few is.booted.reserved),
-  )
+pub boots_as : {P M : Type 0} (I : Ghosts P M) (m : M) (p : Cpu P M) (homes : List CpuId) (buffers k : ℕ) (guests : List (Option Guest)) (most : ℕ)
+    → IsBootedAs (λ q n. I.Fits q n) (λ n d. I.IsFresh n homes d) (λ n. length (I.caps n)) I.IsStepwise buffers homes k guests most p.part (I.cpu_of p.part)
+    (I.own p.part) (I.threads p.part) (I.talks p.part) (I.doing p.part) p.number p.guests.items p.trace.items p.limit (vec_capacity p.trace)
+    → I.IsFresh m homes (cpu_at k) → length (I.caps m) ≡ buffers → I.homes_of m ≡ homes → I.seen m ≡ [] → AreGuests homes buffers (cpu_at k) guests
+    → length homes ≤ THREADS
+    → I.Fits p.part m × (I.cpu_of p.part ≡ p.number) × IsCpu (I.homes_of m) (length (I.caps m)) (I.seen m) (I.threads p.part) (I.talks p.part)
+    (I.doing p.part) p.number p.guests.items p.trace.items p.limit (vec_capacity p.trace)
+boots_as I m p homes buffers k guests most is fresh counted same none are few = (
+  is.fits m fresh counted,
+  is.cpu_is ∙ sym is.booted.number_is,
+  subst (λ z. z) (λ i. IsCpu (sym same i) (sym counted i) (sym none i) (sym is.threads_are i) (sym is.nobody_talks i) (sym is.nothing_done i)
+      (sym is.booted.number_is i) (sym is.booted.guests_are i) (sym is.booted.nothing i) (sym is.booted.limit_is i) (vec_capacity p.trace))
+      (boots homes buffers (cpu_at k) guests most (vec_capacity p.trace) are few is.booted.reserved),
+)
 
 -- a system before its first step
 pub opens : {X N : Type 0} (IsOne : X → Type 0) (number : X → CpuId) (ActsFor : CpuId → Type 0) (IsStepwise : Type 0) (acts : List (Action N)) (cpus : List X)

@@ -1,6 +1,7 @@
 pub mod Wakeups
 pub mod Follow
 pub mod GuestLists
+pub mod CpuStates
 pub mod Steps
 pub mod Passing
 pub mod Schedules
@@ -17,6 +18,7 @@ pub mod TableRows
 pub mod TablePolls
 pub mod TablePasses
 pub mod TableCalls
+pub mod Layered
 pub mod TableHalts
 pub mod Sounding
 pub mod Started

@@ -5,7 +5,6 @@ use Rattle.std.proofs.lemmas.Bool.{cases_eq, ne_eqb}
 use Rattle.std.proofs.lemmas.List.{length-set}
 use Rattle.std.specs.List.{AllByRecursion}
 use Rattle.event_log.specs.declared.entries.Entry.{Entry}
-use Rattle.event_log.specs.declared.ids.CpuId.{CpuId}
 use Rattle.event_log.specs.declared.ids.Tid.{Tid}
 use Rattle.thread_blocks.specs.Queues.{is_in}
 use Rattle.guest.specs.declared.instructions.Instruction.{Instruction}
@@ -16,7 +15,6 @@ use Rattle.layer_traits.specs.declared.calls.Call.{Call}
 use Rattle.layer_traits.specs.declared.calls.Effect.{Effect}
 use Rattle.layer_traits.specs.declared.passes.Pass.{Pass}
 use Rattle.layer_traits.specs.declared.passes.Pass.TheVariants.{Switch, YieldNow, Drain, MakeReady, End}
-use Rattle.layer_traits.specs.declared.talks.Talk.{Talk}
 use Rattle.layer_traits.specs.Passes.{MayPass, as_list, pass_after}
 use Rattle.layer_traits.specs.Places.{Threads, home_of, one_if}
 use Rattle.layer_traits.specs.BufferLaw.{Calling, Doing, Passing, begun_of, talk_of}
@@ -30,6 +28,7 @@ use Rattle.cpu.specs.declared.guests.Todo.TheVariants.{Finish, PassOn, Compute, 
 use Rattle.cpu.specs.Guests.{HasCome, HasComeIn, after_pass, computed, is_begun, is_calling, is_ended, passed, todo_at, todo_of}
 use Rattle.cpu.specs.Cpus.{AllFollow, AreOver, IsCpu, IsOfHome, NamesBelow, begun_count, chosen, chosen_at, chosen_by, chosen_for}
 use Rattle.cpu.specs.Cpus.{chosen_idle, chosen_todo, doing_of, guest_at, is_begun_guest, of_cpu, of_thread, passed_by, with_guest}
+use Rattle.cpu.proofs.CpuStates.{ValidCpu}
 use Rattle.cpu.proofs.GuestLists.{at_other, at_same, count_with, guest_within}
 
 -- an instruction that asks for no call: the guest is in none
@@ -89,9 +88,9 @@ in_before u t (x ∷ q) other is = go (u.0 == x.0) refl (in_before u t q other)
     go true same more = rw same refl
     go false differs more = rw differs (more (rw differs at is))
 
-module _ (homes : List CpuId) (buffers : ℕ) (seen : List Entry) (own : Threads) (talks : List Talk) (doing : Option Doing) (number : CpuId)
-    (guests : List (Option Guest)) (trace : List Entry) (limit capacity : ℕ)
-    (is : IsCpu homes buffers seen own talks doing number guests trace limit capacity) where
+module _ (cpu : ValidCpu) where
+  open cpu use {homes, buffers, seen, own, talks, doing, number, guests, trace, limit, capacity, is}
+
   -- the guests stay
   guests_stay : (seen2 : List Entry) (own2 : Threads) (doing2 : Option Doing) → of_cpu number seen2 ≡ of_cpu number seen → own2.ended ≡ own.ended
       → ((d : Doing) → doing2 ≡ Some d → doing_of (chosen own2 guests) ≡ Some d) → ((u : Tid) → doing2 ≡ Some (Calling u) → ⊥)

@@ -1,40 +1,31 @@
 -- A system before its first step is the step table's at boot, and the setup that its plan says is its own.
-use Rattle.std.proofs.Common.{◌≡◌, ◌≢◌, ℕ, zero, suc, ◌+◌, ◌<◌, ◌≤◌, ◌==◌, Bool, true, false, List, [], ◌∷◌, length, map, replicate, Option, Some, None, refl}
+use Rattle.std.proofs.Common.{◌≡◌, ℕ, zero, suc, ◌+◌, Bool, true, false, List, [], ◌∷◌, length, map, replicate, Option, Some, None, refl}
 use Rattle.std.proofs.Common.{ap, sym, ◌∙◌, subst, arith}
 use Rattle.std.specs.Prelude.{IfOk, Result, Ok, Err, slice_get, slice_index_or, if◌then◌else◌}
 use Rattle.std.proofs.lemmas.Bool.{eq-eqb, eqb-false, eqb-true, ne_eqb}
-use Rattle.std.proofs.lemmas.List.{get_or-replicate, length-map}
+use Rattle.std.proofs.lemmas.List.{length-map}
 use Rattle.std.proofs.lemmas.Option.{get_or_from_slice_get, slice_get_within}
-use Rattle.event_log.specs.declared.entries.Entry.{Entry}
 use Rattle.event_log.specs.declared.ids.BufId.{BufId}
 use Rattle.event_log.specs.declared.ids.CpuId.{CpuId}
 use Rattle.event_log.specs.declared.ids.TheConstants.{THREADS}
-use Rattle.event_log.specs.declared.ids.Tid.{Tid}
-use Rattle.event_log.specs.Actions.{Action}
 use Rattle.event_log.specs.History.{same_cpu}
-use Rattle.guest.specs.declared.instructions.Instruction.{Instruction}
 use Rattle.guest.specs.State.{State, at_start}
-use Rattle.layer_traits.specs.declared.moves.Line.{Line}
-use Rattle.layer_traits.specs.declared.talks.Talk.{Talk}
-use Rattle.layer_traits.specs.BufferLaw.{Buffering, buffering_at_start, quiet, talk_of}
+use Rattle.layer_traits.specs.BufferLaw.{buffering_at_start, quiet}
 use Rattle.layer_traits.specs.OnePlace.{cpu_at}
-use Rattle.layer_traits.specs.Places.{Step, homed}
+use Rattle.layer_traits.specs.Places.{homed}
 use Rattle.boot.specs.Plan.{IsPlan, BootPlan, Task}
 use Rattle.cpu.specs.declared.guests.Guest.{Guest}
 use Rattle.cpu.specs.Guests.{new_guest}
 use Rattle.cpu.specs.Boots.{AreGuests, guests_for, homes_for, tables_for}
-use Rattle.cpu.specs.Claims.{CpuShown, Shown, shown_of}
+use Rattle.cpu.specs.Claims.{CpuShown, Shown}
 use Rattle.cpu.specs.Cpus.{guest_at}
 use Rattle.cpu.specs.Sound.{BootsByTable, IsReachedByTable, IsSetupFor, setup_for}
-use Rattle.cpu.specs.Systems.{whole_of}
-use Rattle.cpu.specs.Table.Setups.{Private, Setup, Thread, home_threads_from, new_thread, program_of, program_or, at_boot}
-use Rattle.cpu.specs.Table.Steps.{IsReached, Whole, boots, boots_from, cpu_numbered, whole_at_boot}
+use Rattle.cpu.specs.Table.Setups.{Private, Setup, home_threads_from, new_thread, program_or, at_boot}
+use Rattle.cpu.specs.Table.Steps.{IsReached, Whole, boots, boots_from, cpu_numbered}
 use Rattle.cpu.specs.Tables.{private, state_of, states}
 use Rattle.cpu.specs.Tower.Privates.{numbered, thread_from, thread_of, tid}
-use Rattle.cpu.specs.Tower.Views.{TowerName}
-use Rattle.cpu.proofs.GuestLists.{guest_within}
-use Rattle.cpu.proofs.ListReads.{listed_length, listed_there, map_twice, shown_at, shows_at, there_is}
-use Rattle.cpu.proofs.PlanGuests.{IsGuestOf, by_task}
+use Rattle.cpu.proofs.ListReads.{listed_length, listed_there, shown_at, shows_at}
+use Rattle.cpu.proofs.PlanGuests.{by_task}
 use Rattle.cpu.proofs.Tower.Passed.{alike_at}
 
 -- One CPU.

@@ -30,6 +30,7 @@ use Rattle.cpu.specs.declared.guests.Todo.TheVariants.{Finish, PassOn, Compute, 
 use Rattle.cpu.specs.Guests.{HasCome, HasComeIn, entries_of, fresh_effect, had, is_begun, is_calling, is_ended, polled, stage_after, todo_at, todo_of}
 use Rattle.cpu.specs.Cpus.{AllFollow, AreOver, IsCpu, IsOfHome, NamesBelow, begins_at, begun_count, is_begun_guest, chosen, chosen_at}
 use Rattle.cpu.specs.Cpus.{chosen_by, chosen_for, chosen_idle, chosen_todo, doing_of, fresh_at, guest_at, of_cpu, of_thread, with_guest}
+use Rattle.cpu.proofs.CpuStates.{ValidCpu}
 use Rattle.cpu.proofs.Follow.{answered_by, followed, had_going, may_talk, stays_settled}
 use Rattle.cpu.proofs.GuestLists.{at_other, at_same, count_with, cpu_grown, guest_within, reversed, room_kept, thread_other, thread_same}
 
@@ -115,10 +116,30 @@ named_buffer (ins.Add r q) s c buffers asks named = absurd cc
 named_buffer (ins.Sub r q) s c buffers asks named = absurd cc
 named_buffer (ins.Jnz r k) s c buffers asks named = absurd cc
 
-module _ (homes : List CpuId) (buffers : ℕ) (seen : List Entry) (own : Threads) (talks : List Talk) (doing : Option Doing) (number : CpuId)
-    (guests : List (Option Guest)) (trace : List Entry) (limit capacity : ℕ)
-    (is : IsCpu homes buffers seen own talks doing number guests trace limit capacity)
-    (t : Tid) (c : Call) (chose : chosen own guests ≡ Polls t c) where
+-- what one poll of a call leaves of a CPU, for whom the machine's holder acts
+pub record PolledCpu (ActsFor : CpuId → Type 0) (cpu : ValidCpu) (t : Tid) (c : Call) : Type 0 where
+  pub talks : List Talk
+  pub seen : List Entry
+  pub own : Threads
+  pub doing : Option Doing
+  pub guests : List (Option Guest)
+  pub trace : List Entry
+  pub capacity : ℕ
+  pub answer : Option Reply
+  pub acts : ActsFor cpu.number
+  pub home : home_of cpu.homes t ≡ Some cpu.number
+  pub called : Called ActsFor cpu.number t c cpu.talks talks cpu.seen seen answer
+  pub runs_on : RunsOn t cpu.own own answer
+  pub doing_is : doing ≡ still_calling t own.current answer
+  pub guests_is : guests ≡ with_guest cpu.guests t.0 (λ g. polled g ((talk_of talks t).effect) answer)
+  pub trace_is : trace ≡ cpu.trace ++ entries_of cpu.number t (buffer_of c) (fresh_at (guest_at cpu.guests t.0) ((talk_of talks t).effect))
+  -- a call began only where the trace had room for its entry, and the trace's own room is no less
+  pub strict : begins_at (guest_at cpu.guests t.0) ≡ true → length cpu.trace + begun_count cpu.guests < cpu.limit
+  pub capacity_is : cpu.capacity ≤ capacity
+
+module _ (cpu : ValidCpu) (t : Tid) (c : Call) (chose : chosen cpu.own cpu.guests ≡ Polls t c) where
+  open cpu use {homes, buffers, seen, own, talks, doing, number, guests, trace, limit, capacity, is}
+
   pub polls_at : PollsAt own guests t c
   polls_at = polls_is own guests t c chose
 
@@ -155,13 +176,10 @@ module _ (homes : List CpuId) (buffers : ℕ) (seen : List Entry) (own : Threads
   poll_number = let within = poll_within in let few = is.few in omega (arith, within, few)
 
   -- What one poll leaves.
-  module _ (ActsFor : CpuId → Type 0) (talks2 : List Talk) (seen2 : List Entry) (own2 : Threads) (doing2 : Option Doing) (guests2 : List (Option Guest))
-      (trace2 : List Entry) (capacity2 : ℕ) (answer : Option Reply) (acts : ActsFor number) (home : home_of homes t ≡ Some number)
-      (called : Called ActsFor number t c talks talks2 seen seen2 answer) (runs_on : RunsOn t own own2 answer)
-      (doing_is : doing2 ≡ still_calling t own2.current answer)
-      (guests_is : guests2 ≡ with_guest guests t.0 (λ g. polled g ((talk_of talks2 t).effect) answer))
-      (trace_is : trace2 ≡ trace ++ entries_of number t (buffer_of c) (fresh_at (guest_at guests t.0) ((talk_of talks2 t).effect)))
-      (strict : begins_at (guest_at guests t.0) ≡ true → length trace + begun_count guests < limit) (capacity_is : capacity ≤ capacity2) where
+  module _ (ActsFor : CpuId → Type 0) (after : PolledCpu ActsFor cpu t c) where
+    open after use {talks as talks2, seen as seen2, own as own2, doing as doing2, guests as guests2, trace as trace2, capacity as capacity2, answer}
+    open after use {acts, home, called, runs_on, doing_is, guests_is, trace_is, strict, capacity_is}
+
     abbrev left : Option Effect
     left = (talk_of talks2 t).effect
 

@@ -1,17 +1,14 @@
 -- The clauses of a CPU's calls on the table, from those of the layer: its part tells its threads and its talks.
-use Rattle.std.proofs.Common.{◌≡◌, ◌≢◌, ℕ, ◌<◌, Bool, true, false, List, ◌++◌, length, nat_lt, slice_get, Option}
+use Rattle.std.proofs.Common.{◌≡◌, ℕ, Bool, true, false, List, ◌++◌, slice_get, Option}
 use Rattle.std.proofs.Common.{Some, None, IsSome, is_some, option_map, if◌then◌else◌, refl, ap, sym, ◌∙◌, subst}
 use Rattle.std.proofs.lemmas.Bool.{lt-ltb}
 use Rattle.event_log.specs.declared.entries.Entry.{Entry}
-use Rattle.event_log.specs.declared.ids.BufId.{BufId}
 use Rattle.event_log.specs.declared.ids.CpuId.{CpuId}
 use Rattle.event_log.specs.declared.ids.LockId.{LockId}
 use Rattle.event_log.specs.declared.ids.Tid.{Tid}
-use Rattle.event_log.specs.History.{AreForeign}
 use Rattle.event_log.specs.Actions.{Action, phase}
 use Rattle.thread_blocks.proofs.Members.{same_tid_self}
 use Rattle.layer_traits.specs.declared.calls.Call.{Call}
-use Rattle.layer_traits.specs.declared.calls.Effect.{Effect}
 use Rattle.layer_traits.specs.declared.calls.Reply.{Reply}
 use Rattle.layer_traits.specs.declared.calls.Reply.TheVariants.{NoBuffer}
 use Rattle.layer_traits.specs.declared.passes.Pass.{Pass}
@@ -20,7 +17,7 @@ use Rattle.layer_traits.specs.declared.steps.Step.TheVariants.{Stepped, Halted}
 use Rattle.layer_traits.specs.declared.talks.Talk.{Talk}
 use Rattle.layer_traits.specs.Along.{IsStep}
 use Rattle.layer_traits.specs.Looks.{Tries}
-use Rattle.layer_traits.specs.Passes.{IsLocalPass, PassPolled, pass_after}
+use Rattle.layer_traits.specs.Passes.{PassPolled, pass_after}
 use Rattle.layer_traits.specs.Places.{AreMoves, Hand, Home, Asleep, Pend, Stands, Step, Threads, Where}
 use Rattle.layer_traits.specs.Places.{home_of, is_hand, is_home, is_thread, pending_by, where_is}
 use Rattle.layer_traits.specs.Plans.{Follows, Now, is_in_section}
@@ -41,12 +38,13 @@ use Rattle.cpu.specs.Tower.Views.{TowerBlock, TowerName, name_of, tower, view}
 use Rattle.cpu.specs.Tower.Privates.{threads_in}
 use Rattle.cpu.specs.Tower.Composed.{OpensAs, named}
 use Rattle.cpu.specs.Tables.{IsSetupOf, IsTabled, WentByTable, bare, private}
+use Rattle.cpu.proofs.CpuStates.{TabledCpu, Turn, ValidCpu, valid}
 use Rattle.cpu.proofs.Steps.{poll_buffer}
 use Rattle.event_log.proofs.Renaming.{phase_renamed}
 use Rattle.cpu.proofs.TableRows.{halted_same}
 use Rattle.cpu.proofs.TableHalts.{answers_so}
-use Rattle.cpu.proofs.TablePolls.{poll_steps, poll_tabled}
-use Rattle.cpu.proofs.TablePasses.{compute_steps, compute_tabled, halted_steps, pass_steps, pass_tabled, passed_if, threads_if}
+use Rattle.cpu.proofs.TablePolls.{TabledPoll, poll_steps, poll_tabled}
+use Rattle.cpu.proofs.TablePasses.{TabledPass, compute_steps, compute_tabled, halted_steps, pass_steps, pass_tabled, passed_if, threads_if}
 use Rattle.cpu.proofs.Tower.Passed.{boots_part}
 use Rattle.cpu.proofs.Tower.Polls.{look_is_step}
 
@@ -62,171 +60,216 @@ pub hand_known : (homes : List CpuId) (c : CpuId) (moves : List Step) (own : Thr
 hand_known homes c moves own stands lawful u has =
     away_known homes moves u lawful (hand_away c (where_is homes moves u) (sym (stands.hand u) ∙ (ap (is_thread u) has ∙ same_tid_self u)))
 
-module _ (homes : List CpuId) (caps : List ℕ) (buffers : ℕ) (seen : List Entry) (own : Buffering) (threads : Threads) (talks : List Talk)
-    (doing : Option Doing)
-    (cpu number : CpuId) (guests : List (Option Guest)) (trace : List Entry) (limit capacity : ℕ) (opening : LockId → Option TowerBlock)
-    (cpu_is : cpu ≡ number)
-    (tells : (threads_in own ≡ threads) × (own.talks ≡ talks))
-    (is : IsCpu homes buffers seen threads talks doing number guests trace limit capacity) (tabled : IsTabled homes caps number own doing guests opening)
-    (home : (u : Tid) → threads.current ≡ Some u → home_of homes u ≡ Some number) where
-  is_own : IsCpu homes buffers seen (threads_in own) own.talks doing number guests trace limit capacity
-  is_own = subst (λ x. x) (λ i. IsCpu homes buffers seen (sym tells.0 i) (sym tells.1 i) doing number guests trace limit capacity) is
+-- also where another machine has the same homes
+pub hand_kept : (homes now : List CpuId) (c : CpuId) (moves : List Step) (own : Threads) → now ≡ homes → Stands now c moves own → AreMoves now moves
+    → (u : Tid) → own.hand ≡ Some u → IsSome (slice_get homes u.0)
+hand_kept homes now c moves own same stands lawful u has = subst (λ h. IsSome (slice_get h u.0)) same (hand_known now c moves own stands lawful u has)
 
-  home_own : (u : Tid) → (threads_in own).current ≡ Some u → home_of homes u ≡ Some number
-  home_own u runs = home u (sym (ap (λ (x : Threads). x.current) tells.0) ∙ runs)
+-- a CPU whose part tells its whole state besides its threads and its talks, and its own number
+pub record ToldCpu : Type 0 where
+  pub cpu : ValidCpu
+  pub open cpu use *
+  pub caps : List ℕ
+  pub part : Buffering
+  pub opening : LockId → Option TowerBlock
+  pub part_of : CpuId
+  pub number_is : part_of ≡ number
+  pub tells : (threads_in part ≡ own) × (part.talks ≡ talks)
+  pub tabled : IsTabled homes caps number part doing guests opening
+  pub home : (u : Tid) → own.current ≡ Some u → home_of homes u ≡ Some number
+
+-- the machine's holder acts for such a CPU
+pub record ToldTurn (ActsFor : CpuId → Type 0) (told : ToldCpu) (old : List (Action TowerName)) : Type 0 where
+  pub inside : Bool
+  pub acts : ActsFor told.number
+  pub rests : told.doing ≡ None → inside ≡ false
+  pub busy : inside ≡ is_in_section (phase told.part_of old)
+  pub known : (u : Tid) → told.own.hand ≡ Some u → IsSome (slice_get told.homes u.0)
+
+-- what one poll of a call leaves of such a CPU
+pub record ToldPoll (ActsFor : CpuId → Type 0) (told : ToldCpu) (t : Tid) (c : Call) (old : List (Action TowerName)) : Type 0 where
+  pub homes : List CpuId
+  pub homes_are : homes ≡ told.homes
+  pub part : Buffering
+  pub own : Threads
+  pub talks : List Talk
+  pub tells : (threads_in part ≡ own) × (part.talks ≡ talks)
+  pub doing : Option Doing
+  pub guests : List (Option Guest)
+  pub trace : List Entry
+  pub new : List (Action TowerName)
+  pub result : Option Reply
+  pub known : (u : Tid) → own.hand ≡ Some u → IsSome (slice_get told.homes u.0)
+  pub follows : Follows ActsFor tower told.opening told.part_of (ipc_plan told.buffers homes told.part_of t c told.part) old new
+      (record { own = part; answer = result })
+  pub ended_is : own.ended ≡ told.own.ended
+  pub doing_is : doing ≡ still_calling t own.current result
+  pub guests_is : guests ≡ with_guest told.guests t.0 (λ x. polled x ((talk_of talks t).effect) result)
+  pub trace_is : trace ≡ told.trace ++ entries_of told.number t (buffer_of c) (fresh_at (guest_at told.guests t.0) ((talk_of talks t).effect))
+
+-- what one poll of a pass leaves of it
+pub record ToldPass (ActsFor : CpuId → Type 0) (told : ToldCpu) (pass : Pass) (old : List (Action TowerName)) : Type 0 where
+  pub homes : List CpuId
+  pub homes_are : homes ≡ told.homes
+  pub part : Buffering
+  pub own : Threads
+  pub tells : threads_in part ≡ own
+  pub doing : Option Doing
+  pub guests : List (Option Guest)
+  pub new : List (Action TowerName)
+  pub result : Option (Unit {0})
+  pub before : List Step
+  pub after : List Step
+  pub known : (u : Tid) → own.hand ≡ Some u → IsSome (slice_get told.homes u.0)
+  pub follows : Follows ActsFor tower told.opening told.part_of (fifo_pass_plan homes told.part_of pass told.part) old new
+      (record { own = part; answer = result })
+  pub passed : PassPolled told.homes ActsFor told.part_of pass result before after told.own own
+  pub doing_is : doing ≡ still_passing pass result
+  pub guests_is : guests ≡ (if is_some result then passed_by told.own.current told.guests pass else told.guests)
+
+module _ (told : ToldCpu) where
+  open told use {homes, caps, buffers, seen, part, own as threads, talks, doing, part_of, number, guests, trace, limit, capacity, opening}
+  open told use {number_is, tells, is, tabled, home}
+
+  abbrev tabled_cpu : TabledCpu
+  tabled_cpu = record {
+    state = told.state;
+    caps = caps;
+    own = part;
+    opening = opening;
+    is = subst (λ x. x) (λ i. IsCpu homes buffers seen (sym tells.0 i) (sym tells.1 i) doing number guests trace limit capacity) is;
+    tabled = tabled;
+    home = λ u runs. home u (sym (ap (λ (x : Threads). x.current) tells.0) ∙ runs);
+  }
 
   -- the table halts the CPU for the reason that it has
   pub halted_told : (setup : Setup) → IsSetupOf setup homes caps guests limit
-      → table_halted setup number (private own guests trace) ≡ halted_at threads guests trace limit
-  halted_told setup of =
-      halted_same homes caps buffers seen own doing number guests trace limit capacity opening is_own tabled setup of home_own
-      ∙ ap (λ (x : Threads). halted_at x guests trace limit) tells.0
-
-  known_own : ((u : Tid) → threads.hand ≡ Some u → IsSome (slice_get homes u.0)) → (u : Tid) → (threads_in own).hand ≡ Some u → IsSome (slice_get homes u.0)
-  known_own known u has = known u (sym (ap (λ (x : Threads). x.hand) tells.0) ∙ has)
+      → table_halted setup number (private part guests trace) ≡ halted_at threads guests trace limit
+  halted_told setup of = halted_same tabled_cpu setup of ∙ ap (λ (x : Threads). halted_at x guests trace limit) tells.0
 
   halted_own : (inside : Bool) (reason : Option Reason) → reason_in inside (halted_at threads guests trace limit) ≡ reason
-      → reason_in inside (halted_at (threads_in own) guests trace limit) ≡ reason
+      → reason_in inside (halted_at (threads_in part) guests trace limit) ≡ reason
   halted_own inside reason so = ap (λ (x : Threads). reason_in inside (halted_at x guests trace limit)) tells.0 ∙ so
 
-  module _ (ActsFor : CpuId → Type 0) (old : List (Action TowerName)) (inside : Bool) (acts : ActsFor number) (rests : doing ≡ None → inside ≡ false)
-      (busy : inside ≡ is_in_section (phase cpu old)) (known : (u : Tid) → threads.hand ≡ Some u → IsSome (slice_get homes u.0)) where
-    busy_own : inside ≡ is_in_section (phase number old)
-    busy_own = busy ∙ ap (λ d. is_in_section (phase d old)) cpu_is
+  module _ (ActsFor : CpuId → Type 0) (old : List (Action TowerName)) (turn : ToldTurn ActsFor told old) where
+    abbrev turn_own : Turn ActsFor tabled_cpu old
+    turn_own = record {
+      inside = turn.inside;
+      acts = turn.acts;
+      rests = turn.rests;
+      busy = turn.busy ∙ ap (λ d. is_in_section (phase d old)) number_is;
+      known = λ u has. turn.known u (sym (ap (λ (x : Threads). x.hand) tells.0) ∙ has);
+    }
 
     -- a poll of a call
-    module _ (t : Tid) (c : Call) (chose : chosen threads guests ≡ Polls t c) (live : reason_in inside (halted_at threads guests trace limit) ≡ None)
-        (hs : List CpuId)
-        (hs_are : hs ≡ homes) (own2 : Buffering) (threads2 : Threads) (talks2 : List Talk) (tells2 : (threads_in own2 ≡ threads2) × (own2.talks ≡ talks2))
-        (doing2 : Option Doing) (guests2 : List (Option Guest)) (trace2 : List Entry) (new : List (Action TowerName)) (result : Option Reply)
-        (known2 : (u : Tid) → threads2.hand ≡ Some u → IsSome (slice_get homes u.0))
-        (follows : Follows ActsFor tower opening cpu (ipc_plan buffers hs cpu t c own) old new (record { own = own2; answer = result }))
-        (ended_is : threads2.ended ≡ threads.ended) (doing_is : doing2 ≡ still_calling t threads2.current result)
-        (guests_is : guests2 ≡ with_guest guests t.0 (λ x. polled x ((talk_of talks2 t).effect) result))
-        (trace_is : trace2 ≡ trace ++ entries_of number t (buffer_of c) (fresh_at (guest_at guests t.0) ((talk_of talks2 t).effect))) where
-      chose_own : chosen (threads_in own) guests ≡ Polls t c
+    module _ (t : Tid) (c : Call) (chose : chosen threads guests ≡ Polls t c)
+        (live : reason_in turn.inside (halted_at threads guests trace limit) ≡ None) (after : ToldPoll ActsFor told t c old) where
+      chose_own : chosen (threads_in part) guests ≡ Polls t c
       chose_own = ap (λ (x : Threads). chosen x guests) tells.0 ∙ chose
 
-      known2_own : (u : Tid) → (threads_in own2).hand ≡ Some u → IsSome (slice_get homes u.0)
-      known2_own u has = known2 u (sym (ap (λ (x : Threads). x.hand) tells2.0) ∙ has)
+      abbrev poll_own : TabledPoll ActsFor tabled_cpu t c old
+      poll_own = record {
+        own = after.part;
+        doing = after.doing;
+        guests = after.guests;
+        trace = after.trace;
+        new = after.new;
+        result = after.result;
+        known = λ u has. after.known u (sym (ap (λ (x : Threads). x.hand) after.tells.0) ∙ has);
+        follows =
+            subst (λ p. Follows ActsFor tower opening number p old after.new (record { own = after.part; answer = after.result }))
+            (ap (λ b. if b then fifo_plan homes number t c part else Now (record { own = part; answer = Some NoBuffer }))
+            (lt-ltb (buffer_of c).0 buffers (poll_buffer (valid tabled_cpu) t c chose_own)))
+            (subst (λ x. x) (λ i. Follows ActsFor tower opening (number_is i) (ipc_plan buffers (after.homes_are i) (number_is i) t c part) old after.new
+            (record { own = after.part; answer = after.result })) after.follows);
+        ended_is = ap (λ (x : Threads). x.ended) after.tells.0 ∙ (after.ended_is ∙ sym (ap (λ (x : Threads). x.ended) tells.0));
+        doing_is = after.doing_is ∙ sym (ap (λ (x : Threads). still_calling t x.current after.result) after.tells.0);
+        guests_is = after.guests_is ∙ sym (ap (λ k. with_guest guests t.0 (λ x. polled x ((talk_of k t).effect) after.result)) after.tells.1);
+        trace_is = after.trace_is
+            ∙ sym (ap (λ k. trace ++ entries_of number t (buffer_of c) (fresh_at (guest_at guests t.0) ((talk_of k t).effect))) after.tells.1);
+      }
 
-      follows_own : Follows ActsFor tower opening number (fifo_plan homes number t c own) old new (record { own = own2; answer = result })
-      follows_own =
-          subst (λ p. Follows ActsFor tower opening number p old new (record { own = own2; answer = result }))
-          (ap (λ b. if b then fifo_plan homes number t c own else Now (record { own = own; answer = Some NoBuffer }))
-          (lt-ltb (buffer_of c).0 buffers (poll_buffer homes buffers seen
-          (threads_in own) own.talks doing number guests trace limit capacity is_own t c chose_own)))
-          (subst (λ x. x) (λ i. Follows ActsFor tower opening (cpu_is i) (ipc_plan buffers (hs_are i) (cpu_is i) t c own) old new
-          (record { own = own2; answer = result })) follows)
+      pub call_tabled : IsTabled homes caps number after.part after.doing after.guests opening
+      call_tabled = poll_tabled tabled_cpu t c chose_own ActsFor old turn_own (halted_own turn.inside None live) poll_own
 
-      ended_own : (threads_in own2).ended ≡ (threads_in own).ended
-      ended_own = ap (λ (x : Threads). x.ended) tells2.0 ∙ (ended_is ∙ sym (ap (λ (x : Threads). x.ended) tells.0))
-
-      doing_own : doing2 ≡ still_calling t (threads_in own2).current result
-      doing_own = doing_is ∙ sym (ap (λ (x : Threads). still_calling t x.current result) tells2.0)
-
-      guests_own : guests2 ≡ with_guest guests t.0 (λ x. polled x ((talk_of own2.talks t).effect) result)
-      guests_own = guests_is ∙ sym (ap (λ k. with_guest guests t.0 (λ x. polled x ((talk_of k t).effect) result)) tells2.1)
-
-      trace_own : trace2 ≡ trace ++ entries_of number t (buffer_of c) (fresh_at (guest_at guests t.0) ((talk_of own2.talks t).effect))
-      trace_own = trace_is ∙ sym (ap (λ k. trace ++ entries_of number t (buffer_of c) (fresh_at (guest_at guests t.0) ((talk_of k t).effect))) tells2.1)
-
-      pub call_tabled : IsTabled homes caps number own2 doing2 guests2 opening
-      call_tabled =
-          poll_tabled homes caps buffers seen own doing number guests trace limit capacity opening is_own
-          tabled t c chose_own ActsFor own2 doing2 guests2 trace2 old new
-          result inside acts rests busy_own (halted_own inside None live) home_own
-          (known_own known) known2_own follows_own ended_own doing_own guests_own trace_own
-
-      pub call_steps : WentByTable ActsFor homes caps number limit own own2 guests guests2 trace trace2 old new Stepped
-      call_steps setup of =
-          poll_steps homes caps buffers seen own doing number guests trace limit capacity opening is_own
-          tabled t c chose_own ActsFor own2 doing2 guests2 trace2 old new
-          result inside acts rests busy_own (halted_own inside None live) home_own
-          (known_own known) known2_own follows_own ended_own doing_own guests_own trace_own setup of
+      pub call_steps : WentByTable ActsFor homes caps number limit part after.part guests after.guests trace after.trace old after.new Stepped
+      call_steps setup of = poll_steps tabled_cpu t c chose_own ActsFor old turn_own (halted_own turn.inside None live) poll_own setup of
 
     -- a poll of a pass
-    module _ (pass : Pass) (chose : chosen threads guests ≡ Passes pass) (live : reason_in inside (halted_at threads guests trace limit) ≡ None)
-        (hs : List CpuId)
-        (hs_are : hs ≡ homes) (own2 : Buffering) (threads2 : Threads) (tells2 : threads_in own2 ≡ threads2) (doing2 : Option Doing)
-        (guests2 : List (Option Guest)) (new : List (Action TowerName)) (result : Option (Unit {0})) (before after : List Step)
-        (known2 : (u : Tid) → threads2.hand ≡ Some u → IsSome (slice_get homes u.0))
-        (follows : Follows ActsFor tower opening cpu (fifo_pass_plan hs cpu pass own) old new (record { own = own2; answer = result }))
-        (passed : PassPolled homes ActsFor cpu pass result before after threads threads2) (doing_is : doing2 ≡ still_passing pass result)
-        (guests_is : guests2 ≡ (if is_some result then passed_by threads.current guests pass else guests)) where
-      chose_pass : chosen (threads_in own) guests ≡ Passes pass
+    module _ (pass : Pass) (chose : chosen threads guests ≡ Passes pass)
+        (live : reason_in turn.inside (halted_at threads guests trace limit) ≡ None) (after : ToldPass ActsFor told pass old) where
+      chose_pass : chosen (threads_in part) guests ≡ Passes pass
       chose_pass = ap (λ (x : Threads). chosen x guests) tells.0 ∙ chose
 
-      known2_pass : (u : Tid) → (threads_in own2).hand ≡ Some u → IsSome (slice_get homes u.0)
-      known2_pass u has = known2 u (sym (ap (λ (x : Threads). x.hand) tells2) ∙ has)
-
-      follows_pass : Follows ActsFor tower opening number (fifo_pass_plan homes number pass own) old new (record { own = own2; answer = result })
-      follows_pass =
-          subst (λ x. x) (λ i. Follows ActsFor tower opening (cpu_is i) (fifo_pass_plan (hs_are i) (cpu_is i) pass own) old new
-          (record { own = own2; answer = result })) follows
-
       abbrev queue : List Tid
-      queue = pending_by (passed.others ++ before) cpu
+      queue = pending_by (after.passed.others ++ after.before) part_of
 
-      threads_own : threads_in own2 ≡ threads_if (threads_in own) pass queue result
+      threads_own : threads_in after.part ≡ threads_if (threads_in part) pass queue after.result
       threads_own =
-          go result (tells2 ∙ (passed.after ∙ sym (ap (λ x. if is_some result then pass_after pass queue x else x) tells.0)))
+          go after.result (after.tells ∙ (after.passed.after ∙ sym (ap (λ x. if is_some after.result then pass_after pass queue x else x) tells.0)))
         where
-          go : (r : Option (Unit {0})) → threads_in own2 ≡ (if is_some r then pass_after pass queue (threads_in own) else threads_in own)
-              → threads_in own2 ≡ threads_if (threads_in own) pass queue r
+          go : (r : Option (Unit {0})) → threads_in after.part ≡ (if is_some r then pass_after pass queue (threads_in part) else threads_in part)
+              → threads_in after.part ≡ threads_if (threads_in part) pass queue r
           go None now = now
           go (Some u) now = now
 
-      guests_pass : guests2 ≡ passed_if (threads_in own).current guests pass result
-      guests_pass = go result (guests_is ∙ sym (ap (λ (x : Threads). if is_some result then passed_by x.current guests pass else guests) tells.0))
+      guests_pass : after.guests ≡ passed_if (threads_in part).current guests pass after.result
+      guests_pass =
+          go after.result
+          (after.guests_is ∙ sym (ap (λ (x : Threads). if is_some after.result then passed_by x.current guests pass else guests) tells.0))
         where
-          go : (r : Option (Unit {0})) → guests2 ≡ (if is_some r then passed_by (threads_in own).current guests pass else guests)
-              → guests2 ≡ passed_if (threads_in own).current guests pass r
+          go : (r : Option (Unit {0})) → after.guests ≡ (if is_some r then passed_by (threads_in part).current guests pass else guests)
+              → after.guests ≡ passed_if (threads_in part).current guests pass r
           go None now = now
           go (Some u) now = now
 
-      pub passed_tabled : IsTabled homes caps number own2 doing2 guests2 opening
-      passed_tabled =
-          pass_tabled homes caps buffers seen own doing number guests trace limit capacity opening is_own
-          tabled home_own pass chose_pass ActsFor own2 doing2 guests2 old new
-          result queue follows_pass threads_own doing_is passed.at_once guests_pass
+      abbrev pass_own : TabledPass ActsFor tabled_cpu pass old
+      pass_own = record {
+        own = after.part;
+        doing = after.doing;
+        guests = after.guests;
+        new = after.new;
+        result = after.result;
+        queue = queue;
+        known = λ u has. after.known u (sym (ap (λ (x : Threads). x.hand) after.tells) ∙ has);
+        follows =
+            subst (λ x. x) (λ i. Follows ActsFor tower opening (number_is i) (fifo_pass_plan (after.homes_are i) (number_is i) pass part) old after.new
+            (record { own = after.part; answer = after.result })) after.follows;
+        threads_are = threads_own;
+        doing_is = after.doing_is;
+        at_once = after.passed.at_once;
+        guests_are = guests_pass;
+      }
 
-      pub passed_steps : WentByTable ActsFor homes caps number limit own own2 guests guests2 trace trace old new Stepped
-      passed_steps setup of =
-          pass_steps homes caps buffers seen own doing number guests trace limit capacity opening is_own
-          tabled home_own pass chose_pass ActsFor own2 doing2 guests2 old new
-          result queue follows_pass threads_own doing_is passed.at_once guests_pass setup of inside acts rests busy_own (halted_own inside None live)
-          (known_own known)
-          known2_pass
+      pub passed_tabled : IsTabled homes caps number after.part after.doing after.guests opening
+      passed_tabled = pass_tabled tabled_cpu pass chose_pass ActsFor old pass_own
+
+      pub passed_steps : WentByTable ActsFor homes caps number limit part after.part guests after.guests trace trace old after.new Stepped
+      passed_steps setup of = pass_steps tabled_cpu pass chose_pass ActsFor old pass_own setup of turn_own (halted_own turn.inside None live)
 
     -- an instruction of a thread's own
-    pub computed_steps : (t : Tid) → chosen threads guests ≡ Computes t → reason_in inside (halted_at threads guests trace limit) ≡ None
-        → WentByTable ActsFor homes caps number limit own own guests (with_guest guests t.0 computed) trace trace old old Stepped
+    pub computed_steps : (t : Tid) → chosen threads guests ≡ Computes t → reason_in turn.inside (halted_at threads guests trace limit) ≡ None
+        → WentByTable ActsFor homes caps number limit part part guests (with_guest guests t.0 computed) trace trace old old Stepped
     computed_steps t chose live setup of =
-        compute_steps homes caps buffers seen own doing number guests trace limit capacity opening is_own tabled home_own t
-        (ap (λ (x : Threads). chosen x guests) tells.0 ∙ chose) ActsFor old setup of inside rests busy_own (halted_own inside None live)
+        compute_steps tabled_cpu t (ap (λ (x : Threads). chosen x guests) tells.0 ∙ chose) ActsFor old turn_own (halted_own turn.inside None live) setup of
 
     -- no step
-    pub stopped_steps : (reason : Reason) → reason_in inside (halted_at threads guests trace limit) ≡ Some reason
-        → WentByTable ActsFor homes caps number limit own own guests guests trace trace old old (Halted reason)
+    pub stopped_steps : (reason : Reason) → reason_in turn.inside (halted_at threads guests trace limit) ≡ Some reason
+        → WentByTable ActsFor homes caps number limit part part guests guests trace trace old old (Halted reason)
     stopped_steps reason halted setup of =
-        halted_steps homes caps buffers seen own doing number guests trace limit capacity opening
-        is_own tabled home_own ActsFor old setup of inside reason busy_own
-        (halted_own inside (Some reason) halted)
+        halted_steps tabled_cpu ActsFor old setup of turn.inside reason turn_own.busy (halted_own turn.inside (Some reason) halted)
 
     -- what the table's step answers, by the CPU's own reason to take none
-    pub answers_step : (setup : Setup) → IsSetupOf setup homes caps guests limit
-        → (cpu_step setup number (private own guests trace) (named old)).answer ≡ step_answer (reason_in inside (halted_at threads guests trace limit))
+    pub answers_step : (setup : Setup) → IsSetupOf setup homes caps guests limit → (cpu_step setup number (private part guests trace) (named old)).answer
+        ≡ step_answer (reason_in turn.inside (halted_at threads guests trace limit))
     answers_step setup of =
-        answers_so setup number (private own guests trace) (named old) inside (halted_at (threads_in own) guests trace limit)
-        (busy_own ∙ sym (ap is_in_section (phase_renamed name_of number old)))
-        (halted_same homes caps buffers seen own doing number guests trace limit capacity opening is_own tabled setup of home_own)
-        ∙ ap (λ (x : Threads). step_answer (reason_in inside (halted_at x guests trace limit))) tells.0
+        answers_so setup number (private part guests trace) (named old) turn.inside (halted_at (threads_in part) guests trace limit)
+        (turn_own.busy ∙ sym (ap is_in_section (phase_renamed name_of number old)))
+        (halted_same tabled_cpu setup of)
+        ∙ ap (λ (x : Threads). step_answer (reason_in turn.inside (halted_at x guests trace limit))) tells.0
 
-  pub computed_tabled : (t : Tid) → chosen threads guests ≡ Computes t → IsTabled homes caps number own doing (with_guest guests t.0 computed) opening
-  computed_tabled t chose =
-      compute_tabled homes caps buffers seen own doing number guests trace limit capacity opening is_own tabled home_own t
-      (ap (λ (x : Threads). chosen x guests) tells.0 ∙ chose)
+  pub computed_tabled : (t : Tid) → chosen threads guests ≡ Computes t → IsTabled homes caps number part doing (with_guest guests t.0 computed) opening
+  computed_tabled t chose = compute_tabled tabled_cpu t (ap (λ (x : Threads). chosen x guests) tells.0 ∙ chose)
 
 -- a look
 pub looked_steps : (ActsFor : CpuId → Type 0) (homes : List CpuId) (caps : List ℕ) (cpu number : CpuId) (limit : ℕ) (own own2 : Buffering)

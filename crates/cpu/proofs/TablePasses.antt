@@ -1,12 +1,9 @@
 -- A poll of a pass, and an instruction of a thread's own, are steps of the table, and the CPU stays as the table asks.
-use Rattle.std.proofs.Common.{◌≡◌, ◌≢◌, ◌⊎◌, inl, inr, ℕ, ◌<◌, Bool, true, false, ◌||◌, List, [], ◌∷◌, ◌++◌, length, map, get_or}
+use Rattle.std.proofs.Common.{◌≡◌, ℕ, ◌<◌, Bool, true, false, ◌||◌, List, [], ◌∷◌, ◌++◌, length}
 use Rattle.std.proofs.Common.{slice_get, slice_set, Option, Some, None, IsSome, is_some, option_map, refl, ap, sym, ◌∙◌, subst, arith}
 use Rattle.std.proofs.lemmas.List.{map-set}
-use Rattle.event_log.specs.declared.entries.Entry.{Entry}
 use Rattle.event_log.specs.declared.ids.CpuId.{CpuId}
-use Rattle.event_log.specs.declared.ids.LockId.{LockId}
 use Rattle.event_log.specs.declared.ids.Tid.{Tid}
-use Rattle.event_log.specs.declared.ids.TheConstants.{THREADS}
 use Rattle.event_log.specs.Actions.{Action, phase}
 use Rattle.event_log.proofs.Renaming.{phase_renamed}
 use Rattle.guest.specs.declared.instructions.Instruction.{Instruction}
@@ -23,28 +20,26 @@ use Rattle.layer_traits.specs.declared.steps.Step.TheVariants.{Stepped, Halted}
 use Rattle.layer_traits.specs.declared.talks.Stage.TheVariants as at_stage
 use Rattle.layer_traits.specs.declared.talks.Talk.{Talk}
 use Rattle.layer_traits.specs.Along.{IsStep}
-use Rattle.layer_traits.specs.LockLaw.{slept_for}
-use Rattle.layer_traits.specs.Looks.{Tries}
 use Rattle.layer_traits.specs.Passes.{IsLocalPass, as_list, pass_after, switched}
-use Rattle.layer_traits.specs.Places.{Threads, home_of}
+use Rattle.layer_traits.specs.Places.{Threads}
 use Rattle.layer_traits.specs.Plans.{Left, Follows, is_in_section}
 use Rattle.layer_traits.specs.BufferLaw.{Buffering, Doing, Passing, begun_of, fifo_pass_plan, still_passing, talk_of}
 use Rattle.cpu.specs.declared.cpus.Choice.TheVariants.{Passes, Computes}
 use Rattle.cpu.specs.declared.guests.Guest.{Guest}
-use Rattle.cpu.specs.declared.guests.GuestStage.{GuestStage}
 use Rattle.cpu.specs.declared.guests.Todo.{Todo}
 use Rattle.cpu.specs.declared.guests.Todo.TheVariants.{Finish, PassOn, Compute, Calls}
-use Rattle.cpu.specs.Guests.{after_pass, computed, ended, is_calling, is_ended, passed, todo_at, todo_of}
-use Rattle.cpu.specs.Cpus.{IsCpu, chosen, chosen_at, chosen_by, chosen_for, chosen_todo, doing_of, guest_at}
+use Rattle.cpu.specs.Guests.{after_pass, computed, ended, is_calling, passed, todo_at, todo_of}
+use Rattle.cpu.specs.Cpus.{chosen, chosen_at, chosen_by, chosen_for, chosen_todo, doing_of, guest_at}
 use Rattle.cpu.specs.Cpus.{halted_at as cpu_halted, of_cpu, of_thread, passed_by, reason_in, with_guest}
-use Rattle.cpu.specs.Table.Setups.{Setup, Call as TableCall, Private, program_of, stands_at, thread_at}
-use Rattle.cpu.specs.Table.Choice.{Alone, Choice, Goes, at_instruction, at_ready, choice, ends, with_guest as with_state}
+use Rattle.cpu.specs.Table.Setups.{Setup, Call as TableCall, Private, thread_at}
+use Rattle.cpu.specs.Table.Choice.{Alone, Goes, at_instruction, at_ready, choice, ends, with_guest as with_state}
 use Rattle.cpu.specs.Table.Steps.{cpu_step, halted_at as table_halted}
-use Rattle.cpu.specs.Tower.Views.{TowerBlock, TowerName, name_of, tower}
-use Rattle.cpu.specs.Tower.Privates.{guest_at as state_at, guests_passed, private_of, private_passed, threads_in}
+use Rattle.cpu.specs.Tower.Views.{TowerName, name_of, tower}
+use Rattle.cpu.specs.Tower.Privates.{guests_passed, private_of, private_passed, threads_in}
 use Rattle.cpu.specs.Tower.Composed.{HandIsKnown, IsLine, OpensAs, named}
 use Rattle.cpu.specs.Tower.Standing.{IsPart}
-use Rattle.cpu.specs.Tables.{IsSetupOf, IsTabled, bare, private, state_of, states}
+use Rattle.cpu.specs.Tables.{IsSetupOf, IsTabled, private, state_of, states}
+use Rattle.cpu.proofs.CpuStates.{TabledCpu, Turn, valid}
 use Rattle.cpu.proofs.GuestLists.{guest_within}
 use Rattle.cpu.proofs.Schedules.{PassCase, computes_at, finish_exit, in_no_call, pass_case, switches, drains, sends_idle, sends_on, passes_on, finishes}
 use Rattle.cpu.proofs.TableRows.{call_is, call_of, guest_there, halted_same, stands_there, states_at, states_long}
@@ -109,11 +104,25 @@ abbrev pub threads_if : Threads → Pass → List Tid → Option (Unit {0}) → 
 threads_if threads pass queue None = threads
 threads_if threads pass queue (Some x) = pass_after pass queue threads
 
-module _ (homes : List CpuId) (caps : List ℕ) (buffers : ℕ) (seen : List Entry) (own : Buffering) (doing : Option Doing) (number : CpuId)
-    (guests : List (Option Guest)) (trace : List Entry) (limit capacity : ℕ) (opening : LockId → Option TowerBlock)
-    (is : IsCpu homes buffers seen (threads_in own) own.talks doing number guests trace limit capacity)
-    (tabled : IsTabled homes caps number own doing guests opening)
-    (home : (u : Tid) → (threads_in own).current ≡ Some u → home_of homes u ≡ Some number) where
+-- what one poll of a pass leaves of a CPU
+pub record TabledPass (ActsFor : CpuId → Type 0) (cpu : TabledCpu) (pass : Pass) (old : List (Action TowerName)) : Type 0 where
+  pub own : Buffering
+  pub doing : Option Doing
+  pub guests : List (Option Guest)
+  pub new : List (Action TowerName)
+  pub result : Option (Unit {0})
+  pub queue : List Tid
+  pub known : (u : Tid) → (threads_in own).hand ≡ Some u → IsSome (slice_get cpu.homes u.0)
+  pub follows : Follows ActsFor tower cpu.opening cpu.number (fifo_pass_plan cpu.homes cpu.number pass cpu.own) old new
+      (record { own = own; answer = result })
+  pub threads_are : threads_in own ≡ threads_if (threads_in cpu.own) pass queue result
+  pub doing_is : doing ≡ still_passing pass result
+  pub at_once : IsLocalPass pass → IsSome result
+  pub guests_are : guests ≡ passed_if (threads_in cpu.own).current cpu.guests pass result
+
+module _ (cpu : TabledCpu) where
+  open cpu use {homes, caps, seen, own, doing, number, guests, trace, limit, opening, is, tabled, home}
+
   abbrev p : Private
   p = private own guests trace
 
@@ -150,7 +159,7 @@ module _ (homes : List CpuId) (caps : List ℕ) (buffers : ℕ) (seen : List Ent
           absurd (cc no)
 
   abbrev Case : Pass → Type 0
-  Case pass = PassCase homes buffers seen (threads_in own) own.talks doing number guests trace limit capacity is pass
+  Case pass = PassCase (valid cpu) pass
 
   comes : (pass : Pass) → Case pass → chosen (threads_in own) guests ≡ Passes pass → ComesTo pass (threads_in own)
   comes Switch (switches runs has some) chose = (runs, has)
@@ -160,13 +169,13 @@ module _ (homes : List CpuId) (caps : List ℕ) (buffers : ℕ) (seen : List Ent
   comes YieldNow (passes_on t g runs has at asks) chose = (t, runs, has)
   comes End (finishes t g runs has at asks) chose = (t, runs, has)
 
-  module _ (pass : Pass) (chose : chosen (threads_in own) guests ≡ Passes pass) (ActsFor : CpuId → Type 0) (own2 : Buffering) (doing2 : Option Doing)
-      (guests2 : List (Option Guest)) (old new : List (Action TowerName)) (result : Option (Unit {0})) (queue : List Tid)
-      (follows : Follows ActsFor tower opening number (fifo_pass_plan homes number pass own) old new (record { own = own2; answer = result }))
-      (threads_are : threads_in own2 ≡ threads_if (threads_in own) pass queue result) (doing_is : doing2 ≡ still_passing pass result)
-      (at_once : IsLocalPass pass → IsSome result) (guests_are : guests2 ≡ passed_if (threads_in own).current guests pass result) where
+  module _ (pass : Pass) (chose : chosen (threads_in own) guests ≡ Passes pass) (ActsFor : CpuId → Type 0) (old : List (Action TowerName))
+      (after : TabledPass ActsFor cpu pass old) where
+    open after use {own as own2, doing as doing2, guests as guests2, new, result, queue}
+    open after use {known as known2, follows, threads_are, doing_is, at_once, guests_are}
+
     abbrev case_is : Case pass
-    case_is = pass_case homes buffers seen (threads_in own) own.talks doing number guests trace limit capacity is pass home chose
+    case_is = pass_case (valid cpu) pass home chose
 
     own_is : own2 ≡ with_threads own (threads_if (threads_in own) pass queue result)
     own_is =
@@ -200,7 +209,7 @@ module _ (homes : List CpuId) (caps : List ℕ) (buffers : ℕ) (seen : List Ent
             → IsTabled homes caps number own2 doing2 (passed_by (threads_in own).current guests pass) opening
         idle x same ended_same runs =
             subst (λ o. IsTabled homes caps number own2 doing2 (passed_by o guests pass) opening) (sym runs)
-            (tabled_same homes caps buffers seen own doing number guests trace limit capacity opening is tabled own2 doing2 part2
+            (tabled_same cpu own2 doing2 part2
             (λ u before. abbrev_same u x same ended_same before) quick2)
 
         by_case : (q : Pass) → pass ≡ q → Case q → threads_in own2 ≡ pass_after q queue (threads_in own)
@@ -211,13 +220,13 @@ module _ (homes : List CpuId) (caps : List ℕ) (buffers : ℕ) (seen : List Ent
         by_case (MakeReady s) same (sends_on _ t g runs has at) now = absurd (sends_alone s t g runs has at (chose ∙ ap Passes same))
         by_case YieldNow same (passes_on t g runs has at asks) now =
             subst (λ x. x) (λ i. IsTabled homes caps number own2 doing2 (passed_by (sym runs i) guests (sym same i)) opening)
-            (tabled_with homes caps buffers seen own doing number guests trace limit capacity opening is tabled t g passed own2 doing2 at part2
+            (tabled_with cpu t g passed own2 doing2 at part2
             (λ over. abbrev_same t _ now refl (tabled.ends t g at over)) (λ u other before. abbrev_same u _ now refl before) quick2)
         by_case End same (finishes t g runs has at asks) now =
             let ended_is : (threads_in own2).ended ≡ (threads_in own).ended ++ t ∷ []
             = ap (λ (y : Threads). y.ended) now ∙ ap (λ o. (threads_in own).ended ++ as_list o) runs in
             subst (λ x. x) (λ i. IsTabled homes caps number own2 doing2 (passed_by (sym runs i) guests (sym same i)) opening)
-            (tabled_with homes caps buffers seen own doing number guests trace limit capacity opening is tabled t g ended own2 doing2 at part2
+            (tabled_with cpu t g ended own2 doing2 at part2
             (λ over. subst (λ l. is_in t l ≡ true) (sym ended_is) (pushed_in t t (threads_in own).ended
             ∙ (ap (λ b. is_in t (threads_in own).ended || (b || false)) (same_tid_self t) ∙ or_true (is_in t (threads_in own).ended))))
             (λ u other before. subst (λ l. is_in u l ≡ true) (sym ended_is) (ended_more u t before)) quick2)
@@ -225,20 +234,20 @@ module _ (homes : List CpuId) (caps : List ℕ) (buffers : ℕ) (seen : List Ent
         go : (r : Option (Unit {0})) → threads_in own2 ≡ threads_if (threads_in own) pass queue r
             → IsTabled homes caps number own2 doing2 (passed_if (threads_in own).current guests pass r) opening
         go None same =
-            tabled_same homes caps buffers seen own doing number guests trace limit capacity opening is tabled own2 doing2 part2
+            tabled_same cpu own2 doing2 part2
             (λ u before. abbrev_same u _ same refl before) quick2
         go (Some x) same = by_case pass refl case_is same
 
-    module _ (setup : Setup) (of : IsSetupOf setup homes caps guests limit) (inside : Bool) (acts : ActsFor number) (rests : doing ≡ None → inside ≡ false)
-        (busy : inside ≡ is_in_section (phase number old)) (live : reason_in inside (cpu_halted (threads_in own) guests trace limit) ≡ None)
-        (known : (u : Tid) → (threads_in own).hand ≡ Some u → IsSome (slice_get homes u.0))
-        (known2 : (u : Tid) → (threads_in own2).hand ≡ Some u → IsSome (slice_get homes u.0)) where
+    module _ (setup : Setup) (of : IsSetupOf setup homes caps guests limit) (turn : Turn ActsFor cpu old)
+        (live : reason_in turn.inside (cpu_halted (threads_in own) guests trace limit) ≡ None) where
+      open turn use {inside, acts, rests, busy, known}
+
       opens : OpensAs setup number opening
       opens = opens_as setup homes caps number opening of.homes_are of.caps_are tabled.opens
 
       not_halted : is_in_section (phase number old) ≡ false → table_halted setup number p ≡ None
       not_halted outside =
-          halted_same homes caps buffers seen own doing number guests trace limit capacity opening is tabled setup of home
+          halted_same cpu setup of
           ∙ not_halted_so inside (is_in_section (phase number old)) (cpu_halted (threads_in own) guests trace limit) busy live outside
 
       -- a pass that touches nothing shared is not under way
@@ -364,12 +373,11 @@ module _ (homes : List CpuId) (caps : List ℕ) (buffers : ℕ) (seen : List Ent
         chosen_line : is_in_section (phase number old) ≡ false → choice setup number p ≡ at_instruction setup number p t (next_of g.program g.thread)
         chosen_line outside =
             choice_current setup number p t None has runs quiet (not_halted outside)
-            ∙ ap (at_instruction setup number p t) (stands_there homes caps buffers seen own doing number
-            guests trace limit capacity opening is tabled setup of t g at)
+            ∙ ap (at_instruction setup number p t) (stands_there cpu setup of t g at)
           where
             quiet : (thread_at p t).call ≡ None
             quiet =
-                call_of homes caps buffers seen own doing number guests trace limit capacity opening is tabled setup of t g at
+                call_of cpu setup of t g at
                 ∙ unbegun _ (talk_of own.talks t) between
 
         yield_step : pass ≡ YieldNow → todo_of g ≡ PassOn → Goal
@@ -439,7 +447,7 @@ module _ (homes : List CpuId) (caps : List ℕ) (buffers : ℕ) (seen : List Ent
 
   module _ (t : Tid) (chose : chosen (threads_in own) guests ≡ Computes t) where
     abbrev does : ((threads_in own).current ≡ Some t) × ((g : Guest) × (guest_at guests t.0 ≡ Some g) × (todo_of g ≡ Compute))
-    does = computes_at homes buffers seen (threads_in own) own.talks doing number guests trace limit capacity is t chose
+    does = computes_at (valid cpu) t chose
 
     abbrev g : Guest
     g = does.1.0
@@ -449,24 +457,23 @@ module _ (homes : List CpuId) (caps : List ℕ) (buffers : ℕ) (seen : List Ent
 
     pub compute_tabled : IsTabled homes caps number own doing (with_guest guests t.0 computed) opening
     compute_tabled =
-        tabled_with homes caps buffers seen own doing number guests trace limit capacity opening is tabled t g computed own doing at tabled.part
+        tabled_with cpu t g computed own doing at tabled.part
         (λ over. tabled.ends t g at over) (λ u other before. before) tabled.quick
 
-    pub compute_steps : (ActsFor : CpuId → Type 0) (old : List (Action TowerName)) (setup : Setup) (of : IsSetupOf setup homes caps guests limit)
-        (inside : Bool)
-        → (doing ≡ None → inside ≡ false) → inside ≡ is_in_section (phase number old)
-        → reason_in inside (cpu_halted (threads_in own) guests trace limit) ≡ None
+    pub compute_steps : (ActsFor : CpuId → Type 0) (old : List (Action TowerName)) (turn : Turn ActsFor cpu old)
+        → reason_in turn.inside (cpu_halted (threads_in own) guests trace limit) ≡ None
+        → (setup : Setup) (of : IsSetupOf setup homes caps guests limit)
         → IsStep ActsFor (cpu_step setup number) p (private own (with_guest guests t.0 computed) trace) (named old) (named old) Stepped
-    compute_steps ActsFor old setup of inside rests busy live =
+    compute_steps ActsFor old turn live setup of =
         let free : is_calling g.stage ≡ false = not_calling t g Compute at does.1.2 (λ c e. absurd (cc e)) in
         let between = free_between t g at free in
         let rest = at_rest _ _ _ _ _ _ (tabled.part.mine t does.0) between in
-        let outside : is_in_section (phase number old) ≡ false = sym busy ∙ rests (idle doing refl) in
-        let live_now = halted_same homes caps buffers seen own doing number guests trace limit capacity opening is tabled setup of home
-        ∙ not_halted_so inside (is_in_section (phase number old)) (cpu_halted (threads_in own) guests trace limit) busy live outside in
-        let quiet = call_of homes caps buffers seen own doing number guests trace limit capacity opening is tabled setup of t g at
+        let outside : is_in_section (phase number old) ≡ false = sym turn.busy ∙ turn.rests (idle doing refl) in
+        let live_now = halted_same cpu setup of
+        ∙ not_halted_so turn.inside (is_in_section (phase number old)) (cpu_halted (threads_in own) guests trace limit) turn.busy live outside in
+        let quiet = call_of cpu setup of t g at
         ∙ unbegun _ (talk_of own.talks t) between in
-        let there = guest_there homes caps buffers seen own doing number guests trace limit capacity opening is tabled t g at in
+        let there = guest_there own guests trace t g at in
         let i : Instruction = next_of g.program g.thread in
         let within : t.0 < length (states guests) = subst (λ n. t.0 < n) (sym (states_long guests)) (guest_within guests t.0 g at) in
         let next : private own (with_guest guests t.0 computed) trace ≡ with_state p t (after_local i g.thread)
@@ -475,8 +482,7 @@ module _ (homes : List CpuId) (caps : List ℕ) (buffers : ℕ) (seen : List Ent
         alone_is_step ActsFor setup number p (private own (with_guest guests t.0 computed) trace) (named old)
         (ap is_in_section (phase_renamed name_of number old) ∙ outside)
         (choice_current setup number p t None rest.hand does.0 quiet live_now
-        ∙ (ap (at_instruction setup number p t) (stands_there homes caps buffers seen own doing number
-        guests trace limit capacity opening is tabled setup of t g at)
+        ∙ (ap (at_instruction setup number p t) (stands_there cpu setup of t g at)
         ∙ (local_at setup number p t g.thread i does.1.2 ∙ (ap (λ x. Alone (with_state p t (after_local i x.guest))) there ∙ ap Alone (sym next)))))
       where
         idle : (d : Option Doing) → doing ≡ d → doing ≡ None
@@ -492,4 +498,4 @@ module _ (homes : List CpuId) (caps : List ℕ) (buffers : ℕ) (seen : List Ent
   halted_steps ActsFor old setup of true reason busy halted = absurd (cc halted)
   halted_steps ActsFor old setup of false reason busy halted =
       halted_is_step ActsFor setup number p (named old) reason (ap is_in_section (phase_renamed name_of number old) ∙ sym busy)
-      (halted_same homes caps buffers seen own doing number guests trace limit capacity opening is tabled setup of home ∙ halted)
+      (halted_same cpu setup of ∙ halted)

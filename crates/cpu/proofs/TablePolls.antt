@@ -1,6 +1,6 @@
 -- A poll of a call is a step of the table, and the CPU stays as the table asks.
-use Rattle.std.proofs.Common.{◌≡◌, ◌≢◌, ◌⊎◌, inl, inr, ℕ, ◌<◌, Bool, true, false, List, [], ◌∷◌, ◌++◌, length, map, get_or, slice_get}
-use Rattle.std.proofs.Common.{slice_set, Option, Some, None, IsSome, is_some, option_map, refl, ap, sym, ◌∙◌, subst, arith}
+use Rattle.std.proofs.Common.{◌≡◌, ◌≢◌, ◌⊎◌, inl, inr, ℕ, ◌<◌, Bool, true, false, List, ◌++◌, length, slice_get}
+use Rattle.std.proofs.Common.{slice_set, Option, Some, None, IsSome, is_some, option_map, refl, ap, sym, ◌∙◌, subst}
 use Rattle.std.proofs.lemmas.Bool.{cases_eq}
 use Rattle.std.proofs.lemmas.List.{append-nil, length-set, map-set}
 use Rattle.event_log.specs.declared.entries.Entry.{Entry}
@@ -25,25 +25,25 @@ use Rattle.layer_traits.specs.declared.talks.Stage.{Stage as TalkStage}
 use Rattle.layer_traits.specs.declared.talks.Stage.TheVariants as at_stage
 use Rattle.layer_traits.specs.declared.talks.Talk.{Talk}
 use Rattle.layer_traits.specs.Along.{IsStep}
-use Rattle.layer_traits.specs.LockLaw.{slept_for}
 use Rattle.layer_traits.specs.Passes.{IsLocalPass}
-use Rattle.layer_traits.specs.Places.{Threads, home_of}
-use Rattle.layer_traits.specs.Plans.{Left, Follows, is_in_section}
-use Rattle.layer_traits.specs.BufferLaw.{Buffering, Calling, Doing, Passing, begun_of, buffer_of, entry_of, fifo_plan, going, going_at, still_calling, talk_of}
+use Rattle.layer_traits.specs.Places.{home_of}
+use Rattle.layer_traits.specs.Plans.{Follows, is_in_section}
+use Rattle.layer_traits.specs.BufferLaw.{Buffering, Calling, Doing, Passing, begun_of, buffer_of, fifo_plan, going, going_at, still_calling, talk_of}
 use Rattle.cpu.specs.declared.cpus.Choice.TheVariants.{Polls}
 use Rattle.cpu.specs.declared.guests.Guest.{Guest}
 use Rattle.cpu.specs.declared.guests.GuestStage.{GuestStage}
 use Rattle.cpu.specs.declared.guests.GuestStage.TheVariants.{Between, Begun, Done, Ended}
 use Rattle.cpu.specs.declared.guests.Todo.TheVariants.{Calls}
-use Rattle.cpu.specs.Guests.{HasComeIn, after_answer, entries_of, fresh_effect, had, is_calling, is_ended, polled, stage_after, todo_at, todo_of}
-use Rattle.cpu.specs.Cpus.{IsCpu, chosen, doing_of, fresh_at, guest_at, halted_at as cpu_halted, of_cpu, of_thread, reason_in, with_guest}
-use Rattle.cpu.specs.Table.Setups.{Setup, Private, opening as table_opening, opening_buffer, program_of}
+use Rattle.cpu.specs.Guests.{HasComeIn, after_answer, entries_of, fresh_effect, had, is_calling, is_ended, polled, stage_after, todo_at}
+use Rattle.cpu.specs.Cpus.{chosen, doing_of, fresh_at, guest_at, halted_at as cpu_halted, of_cpu, of_thread, reason_in, with_guest}
+use Rattle.cpu.specs.Table.Setups.{Setup, opening as table_opening, opening_buffer}
 use Rattle.cpu.specs.Table.Steps.{cpu_step, halted_at as table_halted}
-use Rattle.cpu.specs.Tower.Views.{TowerBlock, TowerName, tower, view}
-use Rattle.cpu.specs.Tower.Privates.{guest_at as state_at, guests_after, private_after, private_of, threads_in, trace_after}
+use Rattle.cpu.specs.Tower.Views.{TowerBlock, TowerName, tower}
+use Rattle.cpu.specs.Tower.Privates.{guests_after, private_after, private_of, threads_in, trace_after}
 use Rattle.cpu.specs.Tower.Composed.{AsksFor, HandIsKnown, IsBeginning, IsGoing, IsUsed, OpensAs, named}
 use Rattle.cpu.specs.Tower.Standing.{IsPart}
 use Rattle.cpu.specs.Tables.{IsSetupOf, IsTabled, bare, private, state_of, states}
+use Rattle.cpu.proofs.CpuStates.{TabledCpu, Turn, valid}
 use Rattle.cpu.proofs.Follow.{had_going}
 use Rattle.cpu.proofs.GuestLists.{at_other, at_same, guest_within}
 use Rattle.cpu.proofs.Steps.{PollsAt, polls_at, poll_number, poll_talks}
@@ -149,10 +149,24 @@ calls_on t (Some u) (Some r) p is = absurd (cc is)
 pub not_halted_so : (inside b : Bool) (h : Option Reason) → inside ≡ b → reason_in inside h ≡ None → b ≡ false → h ≡ None
 not_halted_so inside b h same live outside = ap (λ x. reason_in x h) (sym outside ∙ sym same) ∙ live
 
-module _ (homes : List CpuId) (caps : List ℕ) (buffers : ℕ) (seen : List Entry) (own : Buffering) (doing : Option Doing) (number : CpuId)
-    (guests : List (Option Guest)) (trace : List Entry) (limit capacity : ℕ) (opening : LockId → Option TowerBlock)
-    (is : IsCpu homes buffers seen (threads_in own) own.talks doing number guests trace limit capacity)
-    (tabled : IsTabled homes caps number own doing guests opening) where
+-- what one poll of a call leaves of a CPU
+pub record TabledPoll (ActsFor : CpuId → Type 0) (cpu : TabledCpu) (t : Tid) (c : Call) (old : List (Action TowerName)) : Type 0 where
+  pub own : Buffering
+  pub doing : Option Doing
+  pub guests : List (Option Guest)
+  pub trace : List Entry
+  pub new : List (Action TowerName)
+  pub result : Option Reply
+  pub known : (u : Tid) → (threads_in own).hand ≡ Some u → IsSome (slice_get cpu.homes u.0)
+  pub follows : Follows ActsFor tower cpu.opening cpu.number (fifo_plan cpu.homes cpu.number t c cpu.own) old new (record { own = own; answer = result })
+  pub ended_is : (threads_in own).ended ≡ (threads_in cpu.own).ended
+  pub doing_is : doing ≡ still_calling t (threads_in own).current result
+  pub guests_is : guests ≡ with_guest cpu.guests t.0 (λ x. polled x ((talk_of own.talks t).effect) result)
+  pub trace_is : trace ≡ cpu.trace ++ entries_of cpu.number t (buffer_of c) (fresh_at (guest_at cpu.guests t.0) ((talk_of own.talks t).effect))
+
+module _ (cpu : TabledCpu) where
+  open cpu use {homes, caps, seen, own, doing, number, guests, trace, limit, opening, is, tabled, home}
+
   -- one thread's guest goes on
   pub tabled_with : (t : Tid) (g : Guest) (f : Guest → Guest) (own2 : Buffering) (doing2 : Option Doing) → guest_at guests t.0 ≡ Some g → IsPart own2
       → (is_ended (f g).stage ≡ true → is_in t (threads_in own2).ended ≡ true)
@@ -185,7 +199,7 @@ module _ (homes : List CpuId) (caps : List ℕ) (buffers : ℕ) (seen : List Ent
 
   module _ (t : Tid) (c : Call) (chose : chosen (threads_in own) guests ≡ Polls t c) where
     abbrev polls : PollsAt (threads_in own) guests t c
-    polls = polls_at homes buffers seen (threads_in own) own.talks doing number guests trace limit capacity is t c chose
+    polls = polls_at (valid cpu) t c chose
 
     abbrev g : Guest
     g = polls.guest
@@ -194,7 +208,7 @@ module _ (homes : List CpuId) (caps : List ℕ) (buffers : ℕ) (seen : List Ent
     talk = talk_of own.talks t
 
     abbrev small : t.0 < THREADS
-    small = poll_number homes buffers seen (threads_in own) own.talks doing number guests trace limit capacity is t c chose
+    small = poll_number (valid cpu) t c chose
 
     in_guests : t.0 < length (states guests)
     in_guests = subst (λ n. t.0 < n) (sym (states_long guests)) (guest_within guests t.0 g polls.at)
@@ -206,7 +220,7 @@ module _ (homes : List CpuId) (caps : List ℕ) (buffers : ℕ) (seen : List Ent
     going_so calls = record {
       current = polls.runs;
       begun = sym (ap (λ x. x.call) (goes_same talk.stage talk c calls))
-          ∙ poll_talks homes buffers seen (threads_in own) own.talks doing number guests trace limit capacity is t c chose;
+          ∙ poll_talks (valid cpu) t c chose;
       stands = in_call _ _ _ _ _ _ (tabled.part.mine t polls.runs) calls;
       in_guests = in_guests;
       in_talks = subst (λ n. t.0 < n) (sym tabled.part.talks) small;
@@ -262,17 +276,12 @@ module _ (homes : List CpuId) (caps : List ℕ) (buffers : ℕ) (seen : List Ent
             let none : is_some (begun_of talk) ≡ false = ap (λ s. is_some (begun_of (record talk { stage = s }))) between in
             absurd (cc (yes, begun, none))
 
-    module _ (ActsFor : CpuId → Type 0) (own2 : Buffering) (doing2 : Option Doing) (guests2 : List (Option Guest)) (trace2 : List Entry)
-        (old new : List (Action TowerName)) (result : Option Reply) (inside : Bool) (acts : ActsFor number)
-        (rests : doing ≡ None → inside ≡ false) (busy : inside ≡ is_in_section (phase number old))
-        (live : reason_in inside (cpu_halted (threads_in own) guests trace limit) ≡ None)
-        (home : (u : Tid) → (threads_in own).current ≡ Some u → home_of homes u ≡ Some number)
-        (known : (u : Tid) → (threads_in own).hand ≡ Some u → IsSome (slice_get homes u.0))
-        (known2 : (u : Tid) → (threads_in own2).hand ≡ Some u → IsSome (slice_get homes u.0))
-        (follows : Follows ActsFor tower opening number (fifo_plan homes number t c own) old new (record { own = own2; answer = result }))
-        (ended_is : (threads_in own2).ended ≡ (threads_in own).ended) (doing_is : doing2 ≡ still_calling t (threads_in own2).current result)
-        (guests_is : guests2 ≡ with_guest guests t.0 (λ x. polled x ((talk_of own2.talks t).effect) result))
-        (trace_is : trace2 ≡ trace ++ entries_of number t (buffer_of c) (fresh_at (guest_at guests t.0) ((talk_of own2.talks t).effect))) where
+    module _ (ActsFor : CpuId → Type 0) (old : List (Action TowerName)) (turn : Turn ActsFor cpu old)
+        (live : reason_in turn.inside (cpu_halted (threads_in own) guests trace limit) ≡ None) (after : TabledPoll ActsFor cpu t c old) where
+      open turn use {inside, acts, rests, busy, known}
+      open after use {own as own2, doing as doing2, guests as guests2, trace as trace2, new, result, known as known2}
+      open after use {follows, ended_is, doing_is, guests_is, trace_is}
+
       part2 : IsPart own2
       part2 = go (is_between talk.stage)
         where
@@ -314,14 +323,14 @@ module _ (homes : List CpuId) (caps : List ℕ) (buffers : ℕ) (seen : List Ent
             ∙ (ap (λ o. trace ++ entries_of number t (buffer_of c) (fresh_at o effect2)) polls.at
             ∙ trace_by number t (buffer_of c) trace g.stage g.program g.thread (of_thread t.0 (of_cpu number seen)) (begun_of talk) talk.effect
             (going talk c).effect effect2
-            follows_g (had_going talk c (poll_talks homes buffers seen (threads_in own) own.talks doing number guests trace limit capacity is t c chose)))
+            follows_g (had_going talk c (poll_talks (valid cpu) t c chose)))
 
         private_so : private_after setup number t c own (states guests) trace (record { own = own2; answer = result }) ≡ private own2 guests2 trace2
         private_so = λ i. private_of own2 (sym (ap states guests_is ∙ states_after result) i) (sym trace_so i)
 
         not_halted : is_in_section (phase number old) ≡ false → table_halted setup number (private own guests trace) ≡ None
         not_halted outside =
-            halted_same homes caps buffers seen own doing number guests trace limit capacity opening is tabled setup of home
+            halted_same cpu setup of
             ∙ not_halted_so inside (is_in_section (phase number old)) (cpu_halted (threads_in own) guests trace limit) busy live outside
 
         known_in : (o : Buffering) → ((u : Tid) → (threads_in o).hand ≡ Some u → IsSome (slice_get homes u.0)) → HandIsKnown setup o

@@ -1,12 +1,10 @@
 -- A CPU and the table's private state agree on each thread, and on why the CPU is halted.
-use Rattle.std.proofs.Common.{◌≡◌, ◌≢◌, ◌⊎◌, inl, inr, ℕ, zero, suc, ◌+◌, ◌<◌, ◌==◌, Bool, true, false, not, ◌&&◌, List, [], ◌∷◌, length, map}
+use Rattle.std.proofs.Common.{◌≡◌, ℕ, zero, suc, ◌+◌, ◌<◌, ◌==◌, Bool, true, false, not, ◌&&◌, List, [], ◌∷◌, length}
 use Rattle.std.proofs.Common.{cond, get_or, Option, Some, None, is_some, option_map, slice_get, if◌then◌else◌, refl, ap, sym, ◌∙◌, subst, arith}
 use Rattle.std.proofs.lemmas.List.Sums.{sum_by-cons}
 use Rattle.std.specs.List.{list_all}
 use Rattle.event_log.specs.declared.entries.Entry.{Entry}
-use Rattle.event_log.specs.declared.ids.BufId.{BufId}
 use Rattle.event_log.specs.declared.ids.CpuId.{CpuId}
-use Rattle.event_log.specs.declared.ids.LockId.{LockId}
 use Rattle.event_log.specs.declared.ids.Tid.{Tid}
 use Rattle.event_log.specs.History.{same_cpu}
 use Rattle.event_log.proofs.Same.{same_cpu_self, same_cpu_true}
@@ -18,25 +16,24 @@ use Rattle.layer_traits.specs.declared.calls.Call.{Call}
 use Rattle.layer_traits.specs.declared.calls.Effect.{Effect}
 use Rattle.layer_traits.specs.declared.steps.Reason.{Reason}
 use Rattle.layer_traits.specs.declared.steps.Reason.TheVariants.{AllEnded, TraceFull}
-use Rattle.layer_traits.specs.declared.talks.Talk.{Talk}
 use Rattle.layer_traits.specs.LockLaw.{slept_for}
 use Rattle.layer_traits.specs.Places.{home_of}
-use Rattle.layer_traits.specs.BufferLaw.{Buffering, Doing, begun_of, talk_of}
+use Rattle.layer_traits.specs.BufferLaw.{Buffering, begun_of, talk_of}
 use Rattle.cpu.specs.declared.guests.Guest.{Guest}
 use Rattle.cpu.specs.declared.guests.GuestStage.{GuestStage}
 use Rattle.cpu.specs.declared.guests.GuestStage.TheVariants.{Between, Begun, Done, Ended}
 use Rattle.cpu.specs.declared.guests.Todo.{Todo}
 use Rattle.cpu.specs.declared.guests.Todo.TheVariants.{Finish, PassOn, Compute, Calls}
-use Rattle.cpu.specs.Guests.{HasCome, HasComeIn, is_begun, is_calling, is_ended, todo_at, todo_of}
-use Rattle.cpu.specs.Cpus.{IsCpu, begins, begins_at, begun_count, chosen_at, chosen_by, chosen_for, chosen_idle}
+use Rattle.cpu.specs.Guests.{HasComeIn, is_begun, is_calling, is_ended, todo_at, todo_of}
+use Rattle.cpu.specs.Cpus.{begins, begins_at, begun_count, chosen_at, chosen_by, chosen_for}
 use Rattle.cpu.specs.Cpus.{chosen_todo, guest_at, halted_at as cpu_halted, is_begun_guest, is_over, of_cpu, of_thread}
 use Rattle.cpu.specs.Table.Setups.{Setup, Call as TableCall, Private, Thread, have_ended, home_threads}
-use Rattle.cpu.specs.Table.Setups.{home_threads_from, is_open_call, open_calls, program_of, stands_at, thread_at}
-use Rattle.cpu.specs.Table.Choice.{Choice, Halts, Goes, Alone, at_call, at_current, at_hand, at_instruction, at_ready}
+use Rattle.cpu.specs.Table.Setups.{home_threads_from, is_open_call, open_calls, stands_at, thread_at}
+use Rattle.cpu.specs.Table.Choice.{Choice, Halts, Goes, at_call, at_current, at_hand, at_instruction, at_ready}
 use Rattle.cpu.specs.Table.Steps.{halted_at as table_halted, halted_by}
-use Rattle.cpu.specs.Tower.Views.{TowerBlock}
-use Rattle.cpu.specs.Tower.Privates.{call_from, guest_at as state_at, is_kept, private_of, stage_from, thread_of, threads_in, tid}
-use Rattle.cpu.specs.Tables.{IsSetupOf, IsTabled, private, state_of, states}
+use Rattle.cpu.specs.Tower.Privates.{call_from, is_kept, stage_from, thread_of, threads_in, tid}
+use Rattle.cpu.specs.Tables.{IsSetupOf, private, state_of, states}
+use Rattle.cpu.proofs.CpuStates.{TabledCpu}
 use Rattle.cpu.proofs.Tower.Begins.{thread_here}
 use Rattle.cpu.proofs.GuestLists.{guest_within}
 
@@ -155,18 +152,18 @@ full_if : (b d : Bool) (q : Private) → b ≡ d → halted_by (if b then Halts 
 full_if true d q same = ap (λ x. if x then Some TraceFull else None) same
 full_if false d q same = ap (λ x. if x then Some TraceFull else None) same
 
-module _ (homes : List CpuId) (caps : List ℕ) (buffers : ℕ) (seen : List Entry) (own : Buffering) (doing : Option Doing) (number : CpuId)
-    (guests : List (Option Guest)) (trace : List Entry) (limit capacity : ℕ) (opening : LockId → Option TowerBlock)
-    (is : IsCpu homes buffers seen (threads_in own) own.talks doing number guests trace limit capacity)
-    (tabled : IsTabled homes caps number own doing guests opening) where
-  abbrev pub p : Private
-  p = private own guests trace
+-- a guest's thread as the table has it
+pub guest_there : (own : Buffering) (guests : List (Option Guest)) (trace : List Entry) (t : Tid) (g : Guest) → guest_at guests t.0 ≡ Some g
+    → thread_at (private own guests trace) t ≡ thread_of own t g.thread
+guest_there own guests trace t g at =
+    let within : t.0 < length (states guests) = subst (λ n. t.0 < n) (sym (states_long guests)) (guest_within guests t.0 g at) in
+    thread_here own (states guests) trace t within ∙ ap (thread_of own t) (states_at guests t.0 g at _)
 
-  -- a guest's thread as the table has it
-  pub guest_there : (t : Tid) (g : Guest) → guest_at guests t.0 ≡ Some g → thread_at p t ≡ thread_of own t g.thread
-  guest_there t g at =
-      let within : t.0 < length (states guests) = subst (λ n. t.0 < n) (sym (states_long guests)) (guest_within guests t.0 g at) in
-      thread_here own (states guests) trace t within ∙ ap (thread_of own t) (states_at guests t.0 g at _)
+module _ (cpu : TabledCpu) where
+  open cpu use {homes, caps, seen, own, number, guests, trace, limit, is, tabled, home}
+
+  abbrev p : Private
+  p = private own guests trace
 
   abbrev follows_at : (t : Tid) (g : Guest) → guest_at guests t.0 ≡ Some g
       → HasComeIn g.stage g.program g.thread (of_thread t.0 (of_cpu number seen)) (begun_of (talk_of own.talks t)) (talk_of own.talks t).effect
@@ -174,14 +171,14 @@ module _ (homes : List CpuId) (caps : List ℕ) (buffers : ℕ) (seen : List Ent
 
   open_at : (t : Tid) (g : Guest) → guest_at guests t.0 ≡ Some g → is_open_call (thread_at p t).call ≡ is_begun g.stage
   open_at t g at =
-      ap (λ (x : Thread). is_open_call x.call) (guest_there t g at)
+      ap (λ (x : Thread). is_open_call x.call) (guest_there own guests trace t g at)
       ∙ open_is g.stage g.program g.thread (of_thread t.0 (of_cpu number seen)) (begun_of (talk_of own.talks t)) (talk_of own.talks t).effect
       (λ call. call_from call (talk_of own.talks t).position (talk_of own.talks t).effect
       (stage_from (talk_of own.talks t).stage (slept_for own.cv.lock.slept t) (slept_for own.cv.waits t) (is_kept own t))) (λ c. refl) (follows_at t g at)
 
   ended_at : (t : Tid) (g : Guest) → guest_at guests t.0 ≡ Some g → (thread_at p t).ended ≡ is_ended g.stage
   ended_at t g at =
-      ap (λ (x : Thread). x.ended) (guest_there t g at)
+      ap (λ (x : Thread). x.ended) (guest_there own guests trace t g at)
       ∙ bool_same (is_in t (threads_in own).ended) (is_ended g.stage) (λ over. is.over t over g at) (λ over. tabled.ends t g at over)
 
   row : Rows number p homes guests 0
@@ -212,7 +209,7 @@ module _ (homes : List CpuId) (caps : List ℕ) (buffers : ℕ) (seen : List Ent
 
     -- the instruction at which a thread stands
     pub stands_there : (t : Tid) (g : Guest) → guest_at guests t.0 ≡ Some g → stands_at setup p t ≡ next_of g.program g.thread
-    stands_there t g at = (λ i. next_of (of.programs_are t g at i) (guest_there t g at i).guest)
+    stands_there t g at = (λ i. next_of (of.programs_are t g at i) (guest_there own guests trace t g at i).guest)
 
     abbrev full : Bool
     full = length trace + begun_count guests == limit
@@ -268,7 +265,7 @@ module _ (homes : List CpuId) (caps : List ℕ) (buffers : ℕ) (seen : List Ent
     pub call_of : (t : Tid) (g : Guest) → guest_at guests t.0 ≡ Some g
         → (thread_at p t).call ≡ option_map (λ call. call_from call (talk_of own.talks t).position (talk_of own.talks t).effect
         (stage_from (talk_of own.talks t).stage (slept_for own.cv.lock.slept t) (slept_for own.cv.waits t) (is_kept own t))) (begun_of (talk_of own.talks t))
-    call_of t g at = ap (λ (x : Thread). x.call) (guest_there t g at)
+    call_of t g at = ap (λ (x : Thread). x.call) (guest_there own guests trace t g at)
 
     current_rest : (t : Tid) (g : Guest) → guest_at guests t.0 ≡ Some g
         → halted_by (at_call setup number p t (thread_at p t).call) ≡ rest_by (Some t) None (threads_in own).ready
@@ -289,9 +286,8 @@ module _ (homes : List CpuId) (caps : List ℕ) (buffers : ℕ) (seen : List Ent
             ∙ ap (λ b. if begins (chosen_by t b None (todo_of g)) guests && full then Some TraceFull else None) (sym same)))
 
     -- the table's CPU is halted as this one is
-    pub halted_same : ((t : Tid) → (threads_in own).current ≡ Some t → home_of homes t ≡ Some number)
-        → table_halted setup number p ≡ cpu_halted (threads_in own) guests trace limit
-    halted_same home = by_hand (threads_in own).hand refl
+    pub halted_same : table_halted setup number p ≡ cpu_halted (threads_in own) guests trace limit
+    halted_same = by_hand (threads_in own).hand refl
       where
         by_ready : (ready : List Tid) → (threads_in own).ready ≡ ready → halted_by (at_ready p ready) ≡ rest_by None None ready
         by_ready [] queue = refl

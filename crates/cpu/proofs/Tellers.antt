@@ -8,12 +8,14 @@ use Rattle.event_log.specs.declared.ids.Tid.{Tid}
 use Rattle.event_log.specs.declared.ids.TheConstants.{CPUS}
 use Rattle.event_log.specs.Actions.{Action, Rests, phase}
 use Rattle.layer_traits.specs.declared.calls.Place.{Place}
+use Rattle.layer_traits.specs.declared.ipc_layers.IpcLayer.{Ghosts}
 use Rattle.layer_traits.specs.OnePlace.{cpu_at}
 use Rattle.layer_traits.specs.Owned.{IsHeld}
 use Rattle.layer_traits.specs.Places.{AreMoves, Step, home_of, where_is}
 use Rattle.layer_traits.specs.Plans.{is_in_section}
 use Rattle.layer_traits.specs.Told.{IsOwnPlace, MayTell, Tells}
 use Rattle.layer_traits.proofs.PlaceLemmas.{hand_home}
+use Rattle.cpu.specs.declared.cpus.Cpu.{Cpu}
 use Rattle.cpu.specs.Claims.{CpuShown}
 use Rattle.cpu.proofs.ListReads.{there_is}
 
@@ -26,34 +28,37 @@ inside_within n acts c rest known inside = go (cases_lt c.0 n)
     go (inl within) = within
     go (inr past) = let resting : is_in_section (phase c acts) ≡ false = ap is_in_section (rest past known) in absurd (cc (resting, inside))
 
-module _ {P X N : Type 0} (part : X → P) (number : X → CpuId) (Fits : P → Type 0) (cpu_of : P → CpuId)
-    (IsStepwise : Type 0) (acts : List (Action N)) (cpus : List X)
-    (each : (k : ℕ) (x : X) → slice_get cpus k ≡ Some x → (number x ≡ cpu_at k) × Fits (part x) × (cpu_of (part x) ≡ number x))
-    (rest : IsStepwise → (c : CpuId) → length cpus ≤ c.0 → c.0 < CPUS → phase c acts ≡ Rests) where
+module _ {P M : Type 0} (I : Ghosts P M) (m : M) (cpus : List (Cpu P M))
+    (each : (k : ℕ) (x : Cpu P M) → slice_get cpus k ≡ Some x → (x.number ≡ cpu_at k) × I.Fits x.part m × (I.cpu_of x.part ≡ x.number))
+    (rest : I.IsStepwise → (c : CpuId) → length cpus ≤ c.0 → c.0 < CPUS → phase c (I.acts m) ≡ Rests) where
+  -- whether a CPU has a section under way, where a poll is one action
+  abbrev IsInside : CpuId → Type 0
+  IsInside d = I.IsStepwise × (is_in_section (phase d (I.acts m)) ≡ true)
+
   -- what a CPU has in its hands, some part of the system's tells
-  pub held_here : {A : Type 0} (here : P → Option A) → IsHeld Fits cpu_of (λ d. IsStepwise × (is_in_section (phase d acts) ≡ true)) here
-      → ((k : ℕ) (x : X) → slice_get cpus k ≡ Some x → here (part x) ≡ None) → ⊥
+  pub held_here : {A : Type 0} (here : P → Option A) → IsHeld (λ p. I.Fits p m) (λ p. I.cpu_of p) IsInside here
+      → ((k : ℕ) (x : Cpu P M) → slice_get cpus k ≡ Some x → here x.part ≡ None) → ⊥
   held_here here held nobody =
-      let within = inside_within (length cpus) acts held.cpu (rest held.inside.0 held.cpu) held.known held.inside.1 in
+      let within = inside_within (length cpus) (I.acts m) held.cpu (rest held.inside.0 held.cpu) held.known held.inside.1 in
       let there = there_is cpus held.cpu.0 within in
       let is = each held.cpu.0 there.0 there.1 in
-      held.has (part there.0) (is.2 ∙ is.0) is.1 (nobody held.cpu.0 there.0 there.1)
+      held.has there.0.part (is.2 ∙ is.0) is.1 (nobody held.cpu.0 there.0 there.1)
 
   -- of a thread at home in the system some part is not silent
   pub place_here : (IsSilent : P → Type 0) (homes : List CpuId) (moves : List Step) (t : Tid) → AreMoves homes moves
       → ((u : Tid) (home : CpuId) → home_of homes u ≡ Some home → home.0 < length cpus)
-      → Tells Fits cpu_of (λ d. IsStepwise × (is_in_section (phase d acts) ≡ true)) IsSilent (home_of homes t) (where_is homes moves t)
-      → ((k : ℕ) (x : X) → slice_get cpus k ≡ Some x → IsSilent (part x)) → ⊥
+      → Tells (λ p. I.Fits p m) (λ p. I.cpu_of p) IsInside IsSilent (home_of homes t) (where_is homes moves t)
+      → ((k : ℕ) (x : Cpu P M) → slice_get cpus k ≡ Some x → IsSilent x.part) → ⊥
   place_here IsSilent homes moves t moved within tells silent =
       let there = there_is cpus tells.cpu.0 (may_within tells.may) in
       let is = each tells.cpu.0 there.0 there.1 in
-      tells.has (part there.0) (is.2 ∙ is.0) is.1 (silent tells.cpu.0 there.0 there.1)
+      tells.has there.0.part (is.2 ∙ is.0) is.1 (silent tells.cpu.0 there.0 there.1)
     where
-      may_within : MayTell (λ d. IsStepwise × (is_in_section (phase d acts) ≡ true)) (home_of homes t) (where_is homes moves t) tells.cpu
+      may_within : MayTell IsInside (home_of homes t) (where_is homes moves t) tells.cpu
           → tells.cpu.0 < length cpus
       may_within (inl home) = within t tells.cpu home
       may_within (inr (inl hand)) = let u = hand_home homes moves t tells.cpu moved hand in within u.0 tells.cpu u.1
-      may_within (inr (inr inside)) = inside_within (length cpus) acts tells.cpu (rest inside.1.0 tells.cpu) inside.0 inside.1.1
+      may_within (inr (inr inside)) = inside_within (length cpus) (I.acts m) tells.cpu (rest inside.1.0 tells.cpu) inside.0 inside.1.1
 
 -- a loop over the CPUs: what holds of those before and of this one holds of those up to here
 pub up_to : {X : Type 0} (P : X → Type 0) (xs : List X) (i : ℕ) (y : X) → i < length xs → y ≡ slice_index_or xs i y → P y

@@ -57,7 +57,8 @@ where
         (λ c. c.number) (λ c. I.ActsFor s.machine c) I.IsStepwise (I.acts s.machine) s.cpus.items (I.homes_of s.machine) (I.seen s.machine) s.room s.taken
         (I.room s.machine)
         ((s.threads ≡ length (I.homes_of s.machine)) × (I.IsStepwise
-        → IsReachedByTable (shown_of (I.caps s.machine) (I.homes_of s.machine) (I.seen s.machine) (I.lines s.machine) (I.owner s.machine) (I.moves s.machine) (I.acts s.machine)
+        → IsReachedByTable (shown_of (I.caps s.machine) (I.homes_of s.machine) (I.seen s.machine) (I.lines s.machine) (I.owner s.machine)
+        (I.moves s.machine) (I.acts s.machine)
         (map (λ c. cpu_shown (I.threads c.part) c.guests.items c.trace.items c.limit (I.is_inside c.part) (I.own c.part)) s.cpus.items) s.room s.taken))) };
 }
 

@@ -32,7 +32,9 @@ use Rattle.cpu.specs.Tower.Privates.{thread_of, threads_in}
 use Rattle.cpu.specs.Tower.Views.{TowerBlock, TowerName}
 use Rattle.cpu.proofs.ListReads.{all_reversed}
 use Rattle.cpu.proofs.Orders.{filter_reversed}
-use Rattle.cpu.proofs.TableRows.{guest_there, halted_same}
+use Rattle.cpu.proofs.CpuStates.{valid_cpu}
+use Rattle.cpu.proofs.TableCalls.{halted_told}
+use Rattle.cpu.proofs.TableRows.{guest_there}
 use Rattle.cpu_workers.specs.Orders.{FollowsProgram, HasFollowed}
 use Rattle.cpu_workers.specs.Working.{IsPlanned}
 
@@ -68,11 +70,17 @@ pub halts_so : (homes : List CpuId) (caps : List ℕ) (buffers : ℕ) (seen : Li
     → IsTabled homes caps number own doing guests opening → ((t : Tid) → threads.current ≡ Some t → home_of homes t ≡ Some number)
     → (setup : Setup) → IsSetupOf setup homes caps guests limit → table_halted setup number (private own guests trace) ≡ halted_at threads guests trace limit
 halts_so homes caps buffers seen own threads talks doing number guests trace limit capacity opening threads_are talks_are is tabled home setup of =
-    let is_own : IsCpu homes buffers seen (threads_in own) own.talks doing number guests trace limit capacity
-    = subst (λ x. x) (λ i. IsCpu homes buffers seen (sym threads_are i) (sym talks_are i) doing number guests trace limit capacity) is in
-    halted_same homes caps buffers seen own doing number guests trace limit capacity opening is_own tabled setup of
-    (λ t runs. home t (ap (λ (x : Threads). x.current) (sym threads_are) ∙ runs))
-    ∙ ap (λ (x : Threads). halted_at x guests trace limit) threads_are
+    halted_told (record {
+      cpu = valid_cpu is;
+      caps = caps;
+      part = own;
+      opening = opening;
+      part_of = number;
+      number_is = refl;
+      tells = (threads_are, talks_are);
+      tabled = tabled;
+      home = home;
+    }) setup of
 
 -- a step behind actions that are foreign to its holder is one behind other CPUs' actions
 pub step_behind : {P N : Type 0} (ActsFor : CpuId → Type 0) (cpu : CpuId) (table : P → List (Action N) → Outcome P N) (p q : P) (old new : List (Action N))
@@ -145,7 +153,7 @@ has_followed homes caps buffers seen own threads talks doing number guests trace
     is_own = subst (λ x. x) (λ i. IsCpu homes buffers seen (sym threads_are i) (sym talks_are i) doing number guests trace limit capacity) is
 
     thread_there : (t : Tid) (g : Guest) → guest_at guests t.0 ≡ Some g → thread_at (private own guests trace) t ≡ thread_of own t g.thread
-    thread_there t g at = guest_there homes caps buffers seen own doing number guests trace limit capacity opening is_own tabled t g at
+    thread_there t g at = guest_there own guests trace t g at
 
     entries : (t : Tid) → of_thread t.0 trace ≡ reverse (of_thread t.0 (of_cpu number seen))
     entries t = ap (λ (l : List Entry). of_thread t.0 l) is.kept ∙ filter_reversed (λ (e : Entry). e.thread.0 == t.0) (of_cpu number seen)

@@ -1,6 +1,7 @@
 use Rattle.std.proofs.Common.{ap, subst}
 use Rattle.event_log.specs.declared.ids.CpuId.{CpuId}
 use Rattle.layer_traits.specs.Looks.{Tries}
+use Rattle.cpu.proofs.CpuStates.{valid_cpu}
 use Rattle.cpu.proofs.Passing.{look_grows, others_same}
 use Rattle.cpu.proofs.Schedules.{seen_stays}
 use Rattle.cpu.proofs.TableCalls.{looked_steps}
@@ -14,7 +15,7 @@ returns-clause-is g c =
     let p = c.args.self.now in
     let acts = law.own_cpu p.part m c.requires.fits in
     rw (c.look.ensures.homes, c.look.ensures.caps, c.look.ensures.threads, c.look.ensures.talks, c.look.ensures.doing)
-    (seen_stays _ _ _ _ _ _ _ _ _ _ _ c.requires.is (I.seen c.look.new.m)
+    (seen_stays (valid_cpu c.requires.is) (I.seen c.look.new.m)
     (others_same (λ d. I.ActsFor m d) p.number (I.seen m) (I.seen c.look.new.m) c.look.ensures.seen
     (subst (λ (d : CpuId). I.ActsFor m d) c.requires.number acts)))
 

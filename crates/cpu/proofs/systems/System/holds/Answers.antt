@@ -1,4 +1,4 @@
-use Rattle.std.proofs.Common.{◌≡◌, ◌<◌, ◌^◌, length, map, reverse, refl, ap, sym, ◌∙◌, subst, arith, vec_capacity}
+use Rattle.std.proofs.Common.{◌≡◌, ◌<◌, ◌^◌, length, map, reverse, refl, ap, sym, ◌∙◌, subst, arith}
 use Rattle.std.specs.List.{AllByRecursion}
 use Rattle.std.proofs.lemmas.List.{length-map}
 use Rattle.event_log.specs.declared.entries.Entry.{Entry}
@@ -10,16 +10,14 @@ use Rattle.cpu.proofs.Onces.{once_of}
 use Rattle.cpu.proofs.Orders.{each_has, follow_programs, stay_home, traces_interleaved}
 use Rattle.cpu.specs.Sound.{SoundByTable}
 use Rattle.cpu.proofs.Sounding.{Told, shown_in, sound_of}
-use Rattle.std.specs.Prelude.{Some, slice_get}
+use Rattle.std.specs.Prelude.{Some}
 use Rattle.event_log.specs.declared.ids.CpuId.{CpuId}
 use Rattle.event_log.specs.declared.ids.LockId.TheVariants.{Pending}
-use Rattle.event_log.specs.declared.ids.Tid.{Tid}
 use Rattle.event_log.specs.Actions.{phase}
 use Rattle.event_log.proofs.Renaming.{phase_renamed}
 use Rattle.layer_traits.specs.OnePlace.{cpu_at}
-use Rattle.layer_traits.specs.Places.{Threads, home_of, pending_by}
+use Rattle.layer_traits.specs.Places.{Threads, pending_by}
 use Rattle.layer_traits.specs.Plans.{is_in_section}
-use Rattle.layer_traits.proofs.PlaceLemmas.{current_at}
 use Rattle.cpu.specs.declared.cpus.Cpu.{Cpu}
 use Rattle.cpu.specs.Cpus.{halted_at as own_halted_at}
 use Rattle.cpu.specs.Sound.{IsSetupFor}
@@ -32,7 +30,21 @@ use Rattle.cpu.specs.Tower.Views.{name_of}
 use Rattle.cpu.proofs.ListReads.{shown_at, shows_at}
 use Rattle.cpu.proofs.TableCalls.{halted_told}
 use Rattle.cpu.proofs.Telling.{has_buffer, pending_told}
+use Rattle.cpu.proofs.Layered.{PartLaws, layered, told_cpu}
+use Rattle.cpu.proofs.systems.System.holds.Given.{Over}
 use Rattle.cpu.proofs.systems.System.holds.Goals as goal
+
+laws : (g : Over) → PartLaws g.I.IpcLayer
+laws g =
+    let law = g.met.I.IpcLayer in
+    record {
+      own_cpu = law.own_cpu;
+      stands = law.stands;
+      moved = law.moved;
+      rests = law.rests;
+      busy = law.busy;
+      tells = law.tells;
+    }
 
 pub returns-clause-sound : goal.returns-clause-sound
 returns-clause-sound g c = λ step. subst (λ (s : Shown). SoundByTable s) c.self.view_is (sound_of _ (c.self.invariant.sound.1 step))
@@ -92,12 +104,8 @@ returns-clause-told g c = λ step.
           let at = (is.each j x there).holds in
           let number = (is.each j x there).number_is in
           let tells = law.tells step x.part in
-          let home : (t : Tid) → (I.threads x.part).current ≡ Some t → home_of (I.homes_of m) t ≡ Some x.number =
-          λ t runs. (current_at (I.homes_of m) (I.cpu_of x.part) (I.moves m) (I.threads x.part) (law.moved m zero acts)
-          (law.stands x.part m at.0) t runs).0 ∙ ap (λ (d : CpuId). Some d) at.1 in
-          let halted = halted_told (I.homes_of m) (I.caps m) (length (I.caps m)) (I.seen m) (I.own x.part) (I.threads x.part) (I.talks x.part)
-          (I.doing x.part) (I.cpu_of x.part) x.number x.guests.items x.trace.items x.limit (vec_capacity x.trace) (I.opening m) at.1 tells at.2 (at.3 step) home
-          setup (goes.goes.each j (shown x) (shows_at shown items j x there)) in
+          let cpu = layered (laws g) m x at.0 at.1 at.2 at.3 in
+          let halted = halted_told (told_cpu cpu step) setup (goes.goes.each j (shown x) (shows_at shown items j x there)) in
           let pending = pending_told setup machine x.number (I.opening m) (at.3 step).opens (caps setup goes) are in
           record {
             inside = ap is_in_section (phase_renamed name_of (cpu_at j) (I.acts m))

@@ -34,7 +34,7 @@ returns g c =
     let some : 0 < CPUS = let least = is.some in let most = is.most in omega (arith, least, most) in
     let first = there_is items 0 is.some in
     let told = g.met.I.Owned.place first.0.part m c.args.thread (is.each 0 first.0 first.1).holds.0 (rw (← c.self.view_is) at c.requires) in
-    absurd (place_here (λ x. x.part) (λ x. x.number) (λ p. I.Fits p m) (λ p. I.cpu_of p) I.IsStepwise (I.acts m) items
+    absurd (place_here I m items
     (λ k x at. let e = is.each k x at in (e.number_is, e.holds.0, e.holds.1)) is.rest (λ p. g.I.Owned.IsSilent p m c.args.thread) (I.homes_of m) (I.moves m)
     c.args.thread (law.moved m (record { 0 = 0 }) (is.acts_for (record { 0 = 0 }) some)) is.within told
     (up_to_end (λ x. g.I.Owned.IsSilent x.part m c.args.thread) items c.deref-at-items.result.now c.loop-at.at-index c.deref-at-items.ensures.value

@@ -54,7 +54,7 @@ assembled-requires g c =
     record {
       number_is = b.booted.number_is;
       holds =
-          let one = boots_as _ _ _ _ _ _ _ _ _ _ _ _ _ _ _ _ _ _ _ _ b m (I.homes_of m) (I.seen m) (e.fresh (cpu_at k) below)
+          let one = boots_as I m x homes (length c.args.caps.now) k (slice_index_or tables k []) c.args.limit b (e.fresh (cpu_at k) below)
           (ap (λ (l : List ℕ). length l) e.opened.caps_are)
           e.opened.homes_are e.opened.none_seen (c.requires.tables k (slice_index_or tables k [])
           (slice_get-get_or tables k [] (omega (arith, so_many, within))))

@@ -4,6 +4,7 @@ use Rattle.event_log.specs.declared.ids.Tid.{Tid}
 use Rattle.layer_traits.specs.Places.{home_of}
 use Rattle.layer_traits.proofs.PlaceLemmas.{current_at}
 use Rattle.cpu.specs.Table.Steps.{halted_at}
+use Rattle.cpu.proofs.CpuStates.{valid_cpu}
 use Rattle.cpu.proofs.Schedules.{current_within}
 use Rattle.cpu_workers.specs.Working.{IsPlanned, Working}
 use Rattle.cpu_workers.proofs.Planning.{halts_so, own_reason, planned}
@@ -20,7 +21,7 @@ halted-requires g c =
     let home : (t : Tid) → (I.threads p.part).current ≡ Some t → home_of (I.homes_of m) t ≡ Some p.number =
     λ t runs. (current_at (I.homes_of m) (I.cpu_of p.part) (I.moves m) (I.threads p.part) (law.moved m (I.cpu_of p.part) acts)
     (law.stands p.part m is.fits) t runs).0 ∙ ap (λ (d : CpuId). Some d) is.number in
-    current_within _ _ _ _ _ _ _ _ _ _ _ is.is home
+    current_within (valid_cpu is.is) home
 
 pub returns-clause-is : goal.returns-clause-is
 returns-clause-is g c = λ setup of.

@@ -1,0 +1,90 @@
+-- A CPU over a layer of message calls, by what the layer's laws say of its part, as the lemmas about its steps take it.
+use Rattle.std.proofs.Common.{◌≡◌, false, length, Some, None, ap, ◌∙◌, subst, vec_capacity}
+use Rattle.event_log.specs.declared.ids.CpuId.{CpuId}
+use Rattle.event_log.specs.declared.ids.Tid.{Tid}
+use Rattle.event_log.specs.Actions.{phase}
+use Rattle.layer_traits.specs.declared.ipc_layers.IpcLayer.{Ghosts}
+use Rattle.layer_traits.specs.Places.{AreMoves, Stands, home_of}
+use Rattle.layer_traits.specs.Plans.{is_in_section}
+use Rattle.layer_traits.proofs.PlaceLemmas.{current_at}
+use Rattle.cpu.specs.declared.cpus.Cpu.{Cpu}
+use Rattle.cpu.specs.Cpus.{IsCpu}
+use Rattle.cpu.specs.Tables.{IsTabled}
+use Rattle.cpu.specs.Tower.Privates.{threads_in}
+use Rattle.cpu.proofs.CpuStates.{valid_cpu}
+use Rattle.cpu.proofs.TableCalls.{ToldCpu, ToldTurn, hand_known}
+
+-- what always holds of a CPU whose part fits the machine; what names the whole state of a part is said of a layer whose polls are actions
+pub record IsLayered {P M : Type 0} (I : Ghosts P M) (m : M) (p : Cpu P M) : Type 0 where
+  pub number : I.cpu_of p.part ≡ p.number
+  pub acts : I.ActsFor m (I.cpu_of p.part)
+  pub stands : Stands (I.homes_of m) (I.cpu_of p.part) (I.moves m) (I.threads p.part)
+  pub moved : AreMoves (I.homes_of m) (I.moves m)
+  pub is : IsCpu (I.homes_of m) (length (I.caps m)) (I.seen m) (I.threads p.part) (I.talks p.part) (I.doing p.part) p.number p.guests.items p.trace.items
+      p.limit (vec_capacity p.trace)
+  pub rests : I.doing p.part ≡ None → I.is_inside p.part ≡ false
+  pub busy : I.IsStepwise → I.is_inside p.part ≡ is_in_section (phase (I.cpu_of p.part) (I.acts m))
+  pub tells : I.IsStepwise → (threads_in (I.own p.part) ≡ I.threads p.part) × ((I.own p.part).talks ≡ I.talks p.part)
+  pub table : I.IsStepwise
+      → IsTabled (I.homes_of m) (I.caps m) p.number (I.own p.part) (I.doing p.part) p.guests.items (I.opening m)
+
+-- the laws of a layer that say so
+pub record PartLaws {P M : Type 0} (I : Ghosts P M) : Type 0 where
+  pub own_cpu : (p : P) (m : M) → I.Fits p m → I.ActsFor m (I.cpu_of p)
+  pub stands : (p : P) (m : M) → I.Fits p m → Stands (I.homes_of m) (I.cpu_of p) (I.moves m) (I.threads p)
+  pub moved : (m : M) (c : CpuId) → I.ActsFor m c → AreMoves (I.homes_of m) (I.moves m)
+  pub rests : (p : P) (m : M) → I.Fits p m → I.doing p ≡ None → I.is_inside p ≡ false
+  pub busy : (p : P) (m : M) → I.Fits p m → I.IsStepwise → I.is_inside p ≡ is_in_section (phase (I.cpu_of p) (I.acts m))
+  pub tells : I.IsStepwise → (p : P) → (threads_in (I.own p) ≡ I.threads p) × ((I.own p).talks ≡ I.talks p)
+
+pub layered : {P M : Type 0} {I : Ghosts P M} (laws : PartLaws I) (m : M) (p : Cpu P M) → I.Fits p.part m → I.cpu_of p.part ≡ p.number
+    → IsCpu (I.homes_of m) (length (I.caps m)) (I.seen m) (I.threads p.part) (I.talks p.part) (I.doing p.part) p.number p.guests.items p.trace.items
+    p.limit (vec_capacity p.trace)
+    → (I.IsStepwise → IsTabled (I.homes_of m) (I.caps m) p.number (I.own p.part) (I.doing p.part) p.guests.items (I.opening m)) → IsLayered I m p
+layered {I} laws m p fits number is table =
+    let acts = laws.own_cpu p.part m fits in
+    record {
+      number = number;
+      acts = acts;
+      stands = laws.stands p.part m fits;
+      moved = laws.moved m (I.cpu_of p.part) acts;
+      is = is;
+      rests = laws.rests p.part m fits;
+      busy = laws.busy p.part m fits;
+      tells = λ step. laws.tells step p.part;
+      table = table;
+    }
+
+module _ {P M : Type 0} {I : Ghosts P M} {m : M} {p : Cpu P M} (at : IsLayered I m p) where
+  -- a thread that runs is at home with it
+  pub runs_home : (t : Tid) → (I.threads p.part).current ≡ Some t → home_of (I.homes_of m) t ≡ Some p.number
+  runs_home t runs =
+      (current_at (I.homes_of m) (I.cpu_of p.part) (I.moves m) (I.threads p.part) at.moved at.stands t runs).0
+      ∙ ap (λ (d : CpuId). Some d) at.number
+
+  -- the machine's holder acts for it
+  pub acts_for : I.ActsFor m p.number
+  acts_for = subst (λ (d : CpuId). I.ActsFor m d) at.number at.acts
+
+  module _ (step : I.IsStepwise) where
+    abbrev pub told_cpu : ToldCpu
+    told_cpu = record {
+      cpu = valid_cpu at.is;
+      caps = I.caps m;
+      part = I.own p.part;
+      opening = I.opening m;
+      part_of = I.cpu_of p.part;
+      number_is = at.number;
+      tells = at.tells step;
+      tabled = at.table step;
+      home = runs_home;
+    }
+
+    abbrev pub told_turn : ToldTurn (λ d. I.ActsFor m d) told_cpu (I.acts m)
+    told_turn = record {
+      inside = I.is_inside p.part;
+      acts = acts_for;
+      rests = at.rests;
+      busy = at.busy step;
+      known = hand_known (I.homes_of m) (I.cpu_of p.part) (I.moves m) (I.threads p.part) at.stands at.moved;
+    }
