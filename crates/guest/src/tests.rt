@@ -1,7 +1,7 @@
 //! Programs that are read and refused, and each instruction once.
 
 use crate::{GuestError, GuestFault, Instruction, Program, Register, Thread};
-use event_log::BufId;
+use event_log::{BufId, NoMemory};
 use std::test::Fail;
 
 /// The text of the refusal of a program, or `read`.
@@ -282,7 +282,13 @@ fn a_refused_allocation_is_no_memory_or_not_needed(rt: HostRuntime) {
     // Five lines, so that their vector has to grow again.
     let lines = ["set r0 7", "send 0 r0", "yield", "jnz r0 0", "exit"];
     match Program::read(rt.alloc(), &lines) {
-        Ok(program) => assert_eq!(rt; program.len(), 5),
+        Ok(program) => {
+            assert_eq!(rt; program.len(), 5);
+            match program.copy(rt.alloc()) {
+                Ok(copy) => assert_eq!(rt; copy.len(), 5),
+                Err(error) => assert_eq!(rt; error, NoMemory),
+            }
+        }
         Err(error) => assert_eq!(rt; error, GuestError::NoMemory),
     }
     match Program::read(rt.alloc(), &["set r0 7", "jnz r0 3", "exit"]) {
