@@ -113,7 +113,7 @@ impl<I: IpcLayer> Cpu<I> {
     }
 
     /// The entries of the CPU's calls that took effect, oldest first.
-    pub fn trace(&self) -> &[Entry]
+    pub(crate) fn trace(&self) -> &[Entry]
         ensures { result.now ≡ self.now.trace.items }
     {
         self.trace.as_slice()
@@ -338,7 +338,7 @@ impl<I: IpcLayer> Cpu<I> {
     /// Looks again for a section that waits at its lock, and tells whether it did. Where it tells
     /// `true` this was the CPU's step; where it tells `false` nothing has changed.
     #[inline(always)]
-    pub fn look(&mut self, m: &mut I::Machine) -> bool
+    pub(crate) fn look(&mut self, m: &mut I::Machine) -> bool
         requires fits { I.Fits self.old.part m.old }
         requires room { 0 < I.room m.old }
         requires number { I.cpu_of self.old.part ≡ self.old.number }

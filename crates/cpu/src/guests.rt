@@ -46,7 +46,7 @@ impl Guest {
     ghost use Rattle.cpu.specs.Guests.{todo_of, new_guest, computed, passed, ended, after_pass, fresh_effect, polled, is_calling};
 
     /// A guest before its first instruction.
-    pub fn new(program: Program) -> Guest
+    pub(crate) fn new(program: Program) -> Guest
         ensures { result ≡ new_guest program }
     {
         Guest {
@@ -58,7 +58,7 @@ impl Guest {
 
     /// What the guest does next.
     #[inline(always)]
-    pub fn todo(&self) -> Todo
+    pub(crate) fn todo(&self) -> Todo
         ensures { result ≡ todo_of self.now }
     {
         match self.thread.next(&self.program) {
@@ -77,7 +77,7 @@ impl Guest {
 
     /// Whether the guest is inside a message call.
     #[inline(always)]
-    pub fn is_calling(&self) -> bool
+    pub(crate) fn is_calling(&self) -> bool
         ensures { result ≡ is_calling self.now.stage }
     {
         match self.stage {
@@ -88,7 +88,7 @@ impl Guest {
 
     /// Does the guest's instruction, which shares nothing.
     #[inline(always)]
-    pub fn compute(&mut self)
+    pub(crate) fn compute(&mut self)
         ensures { self.new ≡ computed self.old }
     {
         self.thread.step_local(&self.program);
@@ -112,7 +112,7 @@ impl Guest {
 
     /// Notes that a pass is done which began while this guest's thread ran.
     #[inline(always)]
-    pub fn pass(&mut self, pass: Pass)
+    pub(crate) fn pass(&mut self, pass: Pass)
         ensures { self.new ≡ after_pass pass self.old }
     {
         match pass {
@@ -125,7 +125,7 @@ impl Guest {
     /// The effect that a poll of the guest's call had, where `effect` is what the call has had
     /// after it.
     #[inline(always)]
-    pub fn fresh(&self, effect: &Option<Effect>) -> Option<Effect>
+    pub(crate) fn fresh(&self, effect: &Option<Effect>) -> Option<Effect>
         ensures { result ≡ fresh_effect self.now.stage effect.now }
     {
         match self.stage {
@@ -137,7 +137,7 @@ impl Guest {
     /// Notes what a poll of the guest's call answered, where `effect` is what the call has had
     /// after it.
     #[inline(always)]
-    pub fn note(&mut self, effect: &Option<Effect>, answer: &Option<Reply>)
+    pub(crate) fn note(&mut self, effect: &Option<Effect>, answer: &Option<Reply>)
         ensures { self.new ≡ polled self.old effect.now answer.now }
     {
         self.stage = match (answer, effect) {
