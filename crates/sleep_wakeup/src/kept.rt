@@ -21,7 +21,7 @@ pub struct Kept<E, O> {
 
 /// The section's call on the scheduler.
 #[inline(always)]
-pub fn section<E: Copy + Drop>(buffer: BufId, edit: E) -> SchedCall<SleepEdit<E>>
+pub(crate) fn section<E: Copy + Drop>(buffer: BufId, edit: E) -> SchedCall<SleepEdit<E>>
     ensures { result ≡ due None buffer (as_edit edit) }
 {
     SchedCall::OnBuffer(buffer, SleepEdit { edit })
@@ -30,7 +30,7 @@ pub fn section<E: Copy + Drop>(buffer: BufId, edit: E) -> SchedCall<SleepEdit<E>
 /// Takes the scheduler's answer, after which the hand is this, and gives the outcome of the section
 /// if it has one now. It is kept while its caller goes on and a thread stands in the hand.
 #[inline(always)]
-pub fn told<E: Copy + Drop, O: Drop>(
+pub(crate) fn told<E: Copy + Drop, O: Drop>(
     kept: &mut Option<Kept<E, O>>,
     hand: Option<Tid>,
     buffer: BufId,
@@ -62,7 +62,7 @@ pub fn told<E: Copy + Drop, O: Drop>(
 
 /// Whether a call that is passed on is done.
 #[inline(always)]
-pub fn done<O: Drop>(answer: Option<SchedAnswer<O>>) -> Option<()>
+pub(crate) fn done<O: Drop>(answer: Option<SchedAnswer<O>>) -> Option<()>
     ensures { result ≡ done_of answer }
 {
     match answer {
