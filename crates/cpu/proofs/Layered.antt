@@ -1,8 +1,12 @@
 -- A CPU over a layer of message calls, by what the layer's laws say of its part, as the lemmas about its steps take it.
 use Rattle.std.proofs.Common.{◌≡◌, false, length, Some, None, ap, ◌∙◌, subst, vec_capacity}
+use borrow.Fn.World.{World}
+use denote.RattleType.{RattleType}
+use mir.Syntax.{Dict}
 use Rattle.event_log.specs.declared.ids.CpuId.{CpuId}
 use Rattle.event_log.specs.declared.ids.Tid.{Tid}
 use Rattle.event_log.specs.Actions.{phase}
+use Rattle.layer_traits.specs.contracts.ipc_layers.IpcLayer.TheBound.{Met}
 use Rattle.layer_traits.specs.declared.ipc_layers.IpcLayer.{Ghosts}
 use Rattle.layer_traits.specs.Places.{AreMoves, Stands, home_of}
 use Rattle.layer_traits.specs.Plans.{is_in_section}
@@ -37,6 +41,19 @@ pub record PartLaws {P M : Type 0} (I : Ghosts P M) : Type 0 where
   pub busy : (p : P) (m : M) → I.Fits p m → I.IsStepwise → I.is_inside p ≡ is_in_section (phase (I.cpu_of p) (I.acts m))
   pub tells : I.IsStepwise → (p : P) → (threads_in (I.own p) ≡ I.threads p) × ((I.own p).talks ≡ I.talks p)
 
+-- from all that a bound by the layer's trait gives
+pub laws_of : {world : World} {Part Machine : RattleType} {I : Ghosts Part.Denot Machine.Denot} {dict : Dict}
+    → Met {M = world.M} {𝓤 = world.𝓤} world.𝓛 world.𝓜 world.𝓡 world.𝓡.env Part Machine I dict → PartLaws I
+laws_of law = record {
+  own_cpu = law.own_cpu;
+  stands = law.stands;
+  moved = law.moved;
+  rests = law.rests;
+  busy = law.busy;
+  tells = law.tells;
+}
+
+-- a CPU whose part fits the machine
 pub layered : {P M : Type 0} {I : Ghosts P M} (laws : PartLaws I) (m : M) (p : Cpu P M) → I.Fits p.part m → I.cpu_of p.part ≡ p.number
     → IsCpu (I.homes_of m) (length (I.caps m)) (I.seen m) (I.threads p.part) (I.talks p.part) (I.doing p.part) p.number p.guests.items p.trace.items
     p.limit (vec_capacity p.trace)

@@ -10,21 +10,9 @@ use Rattle.cpu.proofs.Steps.{PolledCpu, noted_call, poll_buffer, poll_room, poll
 use Rattle.layer_traits.specs.QueueBlocks.{homes_in}
 use Rattle.cpu.proofs.TableCalls.{ToldPoll, call_steps, call_tabled, hand_kept}
 use Rattle.cpu.proofs.CpuStates.{valid_cpu}
-use Rattle.cpu.proofs.Layered.{PartLaws, acts_for, layered, runs_home, told_cpu, told_turn}
+use Rattle.cpu.proofs.Layered.{acts_for, laws_of, layered, runs_home, told_cpu, told_turn}
 use Rattle.cpu.proofs.cpus.Cpu.call.Given.{Over}
 use Rattle.cpu.proofs.cpus.Cpu.call.Goals as goal
-
-laws : (g : Over) → PartLaws g.I.IpcLayer
-laws g =
-    let law = g.met.I.IpcLayer in
-    record {
-      own_cpu = law.own_cpu;
-      stands = law.stands;
-      moved = law.moved;
-      rests = law.rests;
-      busy = law.busy;
-      tells = law.tells;
-    }
 
 pub poll-answer-requires-clause-same : goal.poll-answer-requires-clause-same
 poll-answer-requires-clause-same g c = poll_talks (valid_cpu c.requires.is) c.args.thread c.args.call c.requires.chosen
@@ -35,7 +23,7 @@ note_effect-requires g c = λ f some.
     let m = c.args.m.now in
     let p = c.args.self.now in
     let t = c.args.thread in
-    let cpu = layered (laws g) m p c.requires.fits c.requires.number c.requires.is c.requires.table in
+    let cpu = layered (laws_of g.met.I.IpcLayer) m p c.requires.fits c.requires.number c.requires.is c.requires.table in
     let runs = (polls_at (valid_cpu c.requires.is) t c.args.call c.requires.chosen).runs in
     let less = poll_buffer (valid_cpu c.requires.is) t c.args.call c.requires.chosen in
     let effect = c.effect-effect.ensures in
@@ -70,7 +58,7 @@ returns-clause-is g c =
     let m = c.args.m.now in
     let p = c.args.self.now in
     let t = c.args.thread in
-    let cpu = layered (laws g) m p c.requires.fits c.requires.number c.requires.is c.requires.table in
+    let cpu = layered (laws_of g.met.I.IpcLayer) m p c.requires.fits c.requires.number c.requires.is c.requires.table in
     let runs = (polls_at (valid_cpu c.requires.is) t c.args.call c.requires.chosen).runs in
     let less = poll_buffer (valid_cpu c.requires.is) t c.args.call c.requires.chosen in
     let effect = c.effect-effect.ensures in
@@ -116,7 +104,7 @@ returns-clause-grows g c = λ step.
 
 -- what the poll leaves of the CPU over the tower
 abbrev told_poll : (g : Over) (c : goal.After-note_effect g) (step : g.I.IpcLayer.IsStepwise)
-    → let cpu = layered (laws g) c.args.m.now c.args.self.now c.requires.fits c.requires.number c.requires.is c.requires.table in
+    → let cpu = layered (laws_of g.met.I.IpcLayer) c.args.m.now c.args.self.now c.requires.fits c.requires.number c.requires.is c.requires.table in
     ToldPoll (λ d. g.I.IpcLayer.ActsFor c.args.m.now d) (told_cpu cpu step) c.args.thread c.args.call (g.I.IpcLayer.acts c.args.m.now)
 told_poll g c step =
     let I = g.I.IpcLayer in
@@ -153,11 +141,11 @@ told_poll g c step =
 
 pub returns-clause-table : goal.returns-clause-table
 returns-clause-table g c = λ step.
-    let cpu = layered (laws g) c.args.m.now c.args.self.now c.requires.fits c.requires.number c.requires.is c.requires.table in
+    let cpu = layered (laws_of g.met.I.IpcLayer) c.args.m.now c.args.self.now c.requires.fits c.requires.number c.requires.is c.requires.table in
     rw (c.poll-answer.ensures.homes, c.poll-answer.ensures.caps, c.poll-answer.ensures.opening)
     (call_tabled (told_cpu cpu step) _ _ (told_turn cpu step) c.args.thread c.args.call c.requires.chosen c.requires.live (told_poll g c step))
 
 pub returns-clause-steps : goal.returns-clause-steps
 returns-clause-steps g c = λ step.
-    let cpu = layered (laws g) c.args.m.now c.args.self.now c.requires.fits c.requires.number c.requires.is c.requires.table in
+    let cpu = layered (laws_of g.met.I.IpcLayer) c.args.m.now c.args.self.now c.requires.fits c.requires.number c.requires.is c.requires.table in
     call_steps (told_cpu cpu step) _ _ (told_turn cpu step) c.args.thread c.args.call c.requires.chosen c.requires.live (told_poll g c step)

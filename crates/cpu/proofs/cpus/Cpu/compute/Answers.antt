@@ -8,21 +8,8 @@ use Rattle.layer_traits.specs.declared.steps.Step.TheVariants.{Stepped}
 use Rattle.cpu.specs.Tables.{IsTabled, WentByTable}
 use Rattle.cpu.proofs.TableCalls.{computed_steps, computed_tabled}
 use Rattle.cpu.proofs.CpuStates.{valid_cpu}
-use Rattle.cpu.proofs.Layered.{PartLaws, layered, told_cpu, told_turn}
-use Rattle.cpu.proofs.cpus.Cpu.compute.Given.{Over}
+use Rattle.cpu.proofs.Layered.{laws_of, layered, told_cpu, told_turn}
 use Rattle.cpu.proofs.cpus.Cpu.compute.Goals as goal
-
-laws : (g : Over) → PartLaws g.I.IpcLayer
-laws g =
-    let law = g.met.I.IpcLayer in
-    record {
-      own_cpu = law.own_cpu;
-      stands = law.stands;
-      moved = law.moved;
-      rests = law.rests;
-      busy = law.busy;
-      tells = law.tells;
-    }
 
 pub returns-clause-is : goal.returns-clause-is
 returns-clause-is g c =
@@ -51,7 +38,7 @@ returns-clause-table g c = λ step.
     let I = g.I.IpcLayer in
     let m = c.args.m.now in
     let p = c.args.self.now in
-    let cpu = layered (laws g) m p c.requires.fits c.requires.number c.requires.is c.requires.table in
+    let cpu = layered (laws_of g.met.I.IpcLayer) m p c.requires.fits c.requires.number c.requires.is c.requires.table in
     subst (λ (l : List (Option Guest)). IsTabled (I.homes_of m) (I.caps m) p.number (I.own p.part) (I.doing p.part) l (I.opening m))
     (sym c.note_compute.ensures) (computed_tabled (told_cpu cpu step) c.args.thread c.requires.chosen)
 
@@ -60,7 +47,7 @@ returns-clause-steps g c = λ step.
     let I = g.I.IpcLayer in
     let m = c.args.m.now in
     let p = c.args.self.now in
-    let cpu = layered (laws g) m p c.requires.fits c.requires.number c.requires.is c.requires.table in
+    let cpu = layered (laws_of g.met.I.IpcLayer) m p c.requires.fits c.requires.number c.requires.is c.requires.table in
     subst (λ (l : List (Option Guest)). WentByTable (λ d. I.ActsFor m d) (I.homes_of m) (I.caps m) p.number p.limit (I.own p.part) (I.own p.part)
     p.guests.items l p.trace.items p.trace.items (I.acts m) (I.acts m) Stepped) (sym c.note_compute.ensures)
     (computed_steps (told_cpu cpu step) _ _ (told_turn cpu step) c.args.thread c.requires.chosen c.requires.live)

@@ -9,28 +9,16 @@ use Rattle.cpu.proofs.Schedules.{current_within, may_pass, noted_done, noted_wai
 use Rattle.layer_traits.specs.QueueBlocks.{homes_in}
 use Rattle.cpu.proofs.TableCalls.{ToldPass, hand_kept, passed_steps, passed_tabled}
 use Rattle.cpu.proofs.CpuStates.{valid_cpu}
-use Rattle.cpu.proofs.Layered.{PartLaws, acts_for, layered, runs_home, told_cpu, told_turn}
+use Rattle.cpu.proofs.Layered.{acts_for, laws_of, layered, runs_home, told_cpu, told_turn}
 use Rattle.cpu.proofs.cpus.Cpu.pass.Given.{Over}
 use Rattle.cpu.proofs.cpus.Cpu.pass.Goals as goal
-
-laws : (g : Over) → PartLaws g.I.IpcLayer
-laws g =
-    let law = g.met.I.IpcLayer in
-    record {
-      own_cpu = law.own_cpu;
-      stands = law.stands;
-      moved = law.moved;
-      rests = law.rests;
-      busy = law.busy;
-      tells = law.tells;
-    }
 
 pub pass-done-requires-clause-may : goal.pass-done-requires-clause-may
 pass-done-requires-clause-may g c =
     let I = g.I.IpcLayer in
     let m = c.args.m.now in
     let p = c.args.self.now in
-    let cpu = layered (laws g) m p c.requires.fits c.requires.number c.requires.is c.requires.table in
+    let cpu = layered (laws_of g.met.I.IpcLayer) m p c.requires.fits c.requires.number c.requires.is c.requires.table in
     may_pass (valid_cpu c.requires.is) c.args.pass (runs_home cpu) c.requires.chosen
 
 pub note_pass-requires : goal.note_pass-requires
@@ -38,7 +26,7 @@ note_pass-requires g c = λ t runs.
     let I = g.I.IpcLayer in
     let m = c.args.m.now in
     let p = c.args.self.now in
-    let cpu = layered (laws g) m p c.requires.fits c.requires.number c.requires.is c.requires.table in
+    let cpu = layered (laws_of g.met.I.IpcLayer) m p c.requires.fits c.requires.number c.requires.is c.requires.table in
     current_within (valid_cpu c.requires.is) (runs_home cpu) t (sym c.current-runs.ensures ∙ runs)
 
 pub returns-then-is_some-clause-is : goal.returns-then-is_some-clause-is
@@ -46,7 +34,7 @@ returns-then-is_some-clause-is g c =
     let I = g.I.IpcLayer in
     let m = c.args.m.now in
     let p = c.args.self.now in
-    let cpu = layered (laws g) m p c.requires.fits c.requires.number c.requires.is c.requires.table in
+    let cpu = layered (laws_of g.met.I.IpcLayer) m p c.requires.fits c.requires.number c.requires.is c.requires.table in
     let some : is_some c.pass-done.result ≡ true = search rules in
     let told = c.pass-done.ensures.passed in
     rw (c.pass-done.ensures.homes, c.pass-done.ensures.caps, c.pass-done.ensures.talks)
@@ -73,7 +61,7 @@ returns-else-is_some-clause-is g c =
     let I = g.I.IpcLayer in
     let m = c.args.m.now in
     let p = c.args.self.now in
-    let cpu = layered (laws g) m p c.requires.fits c.requires.number c.requires.is c.requires.table in
+    let cpu = layered (laws_of g.met.I.IpcLayer) m p c.requires.fits c.requires.number c.requires.is c.requires.table in
     let none : is_some c.pass-done.result ≡ false = search rules in
     let told = c.pass-done.ensures.passed in
     rw (c.pass-done.ensures.homes, c.pass-done.ensures.caps, c.pass-done.ensures.talks)
@@ -92,7 +80,7 @@ returns-else-is_some-clause-grows g c = λ step.
 
 -- what a poll that ended the pass leaves of the CPU over the tower
 abbrev done_told : (g : Over) (c : goal.After-note_pass g) (step : g.I.IpcLayer.IsStepwise)
-    → let cpu = layered (laws g) c.args.m.now c.args.self.now c.requires.fits c.requires.number c.requires.is c.requires.table in
+    → let cpu = layered (laws_of g.met.I.IpcLayer) c.args.m.now c.args.self.now c.requires.fits c.requires.number c.requires.is c.requires.table in
     ToldPass (λ d. g.I.IpcLayer.ActsFor c.args.m.now d) (told_cpu cpu step) c.args.pass (g.I.IpcLayer.acts c.args.m.now)
 done_told g c step =
     let I = g.I.IpcLayer in
@@ -128,7 +116,7 @@ returns-then-is_some-clause-table g c = λ step.
     let I = g.I.IpcLayer in
     let m = c.args.m.now in
     let p = c.args.self.now in
-    let cpu = layered (laws g) m p c.requires.fits c.requires.number c.requires.is c.requires.table in
+    let cpu = layered (laws_of g.met.I.IpcLayer) m p c.requires.fits c.requires.number c.requires.is c.requires.table in
     rw (c.pass-done.ensures.homes, c.pass-done.ensures.caps, c.pass-done.ensures.opening)
     (passed_tabled (told_cpu cpu step) _ _ (told_turn cpu step) c.args.pass c.requires.chosen c.requires.live (done_told g c step))
 
@@ -137,12 +125,12 @@ returns-then-is_some-clause-steps g c = λ step.
     let I = g.I.IpcLayer in
     let m = c.args.m.now in
     let p = c.args.self.now in
-    let cpu = layered (laws g) m p c.requires.fits c.requires.number c.requires.is c.requires.table in
+    let cpu = layered (laws_of g.met.I.IpcLayer) m p c.requires.fits c.requires.number c.requires.is c.requires.table in
     passed_steps (told_cpu cpu step) _ _ (told_turn cpu step) c.args.pass c.requires.chosen c.requires.live (done_told g c step)
 
 -- and what one leaves that did not
 abbrev wait_told : (g : Over) (c : goal.Else-is_some g) (step : g.I.IpcLayer.IsStepwise)
-    → let cpu = layered (laws g) c.args.m.now c.args.self.now c.requires.fits c.requires.number c.requires.is c.requires.table in
+    → let cpu = layered (laws_of g.met.I.IpcLayer) c.args.m.now c.args.self.now c.requires.fits c.requires.number c.requires.is c.requires.table in
     ToldPass (λ d. g.I.IpcLayer.ActsFor c.args.m.now d) (told_cpu cpu step) c.args.pass (g.I.IpcLayer.acts c.args.m.now)
 wait_told g c step =
     let I = g.I.IpcLayer in
@@ -177,7 +165,7 @@ returns-else-is_some-clause-table g c = λ step.
     let I = g.I.IpcLayer in
     let m = c.args.m.now in
     let p = c.args.self.now in
-    let cpu = layered (laws g) m p c.requires.fits c.requires.number c.requires.is c.requires.table in
+    let cpu = layered (laws_of g.met.I.IpcLayer) m p c.requires.fits c.requires.number c.requires.is c.requires.table in
     rw (c.pass-done.ensures.homes, c.pass-done.ensures.caps, c.pass-done.ensures.opening)
     (passed_tabled (told_cpu cpu step) _ _ (told_turn cpu step) c.args.pass c.requires.chosen c.requires.live (wait_told g c step))
 
@@ -186,5 +174,5 @@ returns-else-is_some-clause-steps g c = λ step.
     let I = g.I.IpcLayer in
     let m = c.args.m.now in
     let p = c.args.self.now in
-    let cpu = layered (laws g) m p c.requires.fits c.requires.number c.requires.is c.requires.table in
+    let cpu = layered (laws_of g.met.I.IpcLayer) m p c.requires.fits c.requires.number c.requires.is c.requires.table in
     passed_steps (told_cpu cpu step) _ _ (told_turn cpu step) c.args.pass c.requires.chosen c.requires.live (wait_told g c step)

@@ -13,21 +13,8 @@ use Rattle.cpu.specs.Tower.Composed.{named}
 use Rattle.cpu.proofs.TableCalls.{answers_step}
 use Rattle.cpu.proofs.TableHalts.{some_same}
 use Rattle.cpu.proofs.CpuStates.{valid_cpu}
-use Rattle.cpu.proofs.Layered.{PartLaws, layered, runs_home, told_cpu, told_turn}
-use Rattle.cpu.proofs.systems.System.halted.Given.{Over}
+use Rattle.cpu.proofs.Layered.{laws_of, layered, runs_home, told_cpu, told_turn}
 use Rattle.cpu.proofs.systems.System.halted.Goals as goal
-
-laws : (g : Over) → PartLaws g.I.IpcLayer
-laws g =
-    let law = g.met.I.IpcLayer in
-    record {
-      own_cpu = law.own_cpu;
-      stands = law.stands;
-      moved = law.moved;
-      rests = law.rests;
-      busy = law.busy;
-      tells = law.tells;
-    }
 
 pub reason-requires : goal.reason-requires
 reason-requires g c =
@@ -40,7 +27,7 @@ reason-requires g c =
     let at = read_at shown items c.args.self.now.cpus c.from.result c.args.cpu.0 p (ap (λ (s : Shown). s.cpus) c.self.view_is) c.from.ensures c.requires
     c.index-at.ensures in
     let is = (c.self.invariant.each c.from.result p at).holds in
-    current_within (valid_cpu is.2) (runs_home (layered (laws g) m p is.0 is.1 is.2 is.3))
+    current_within (valid_cpu is.2) (runs_home (layered (laws_of g.met.I.IpcLayer) m p is.0 is.1 is.2 is.3))
 
 pub returns-clause-is : goal.returns-clause-is
 returns-clause-is g c =
@@ -66,7 +53,7 @@ returns-clause-table g c =
     let at = read_at shown items c.args.self.now.cpus c.from.result c.args.cpu.0 p (ap (λ (s : Shown). s.cpus) c.self.view_is) c.from.ensures c.requires
     c.index-at.ensures in
     let one = c.self.invariant.each c.from.result p at in
-    let cpu = layered (laws g) m p one.holds.0 one.holds.1 one.holds.2 one.holds.3 in
+    let cpu = layered (laws_of g.met.I.IpcLayer) m p one.holds.0 one.holds.1 one.holds.2 one.holds.3 in
     let there = shows_at shown items c.from.result p at in
     let there_now = subst (λ (k : ℕ). slice_get (map shown items) k ≡ Some (shown p)) c.from.ensures there in
     let number_is : p.number ≡ c.args.cpu = one.number_is ∙ ap (λ (j : ℕ). cpu_at j) c.from.ensures in

@@ -30,21 +30,8 @@ use Rattle.cpu.specs.Tower.Views.{name_of}
 use Rattle.cpu.proofs.ListReads.{shown_at, shows_at}
 use Rattle.cpu.proofs.TableCalls.{halted_told}
 use Rattle.cpu.proofs.Telling.{has_buffer, pending_told}
-use Rattle.cpu.proofs.Layered.{PartLaws, layered, told_cpu}
-use Rattle.cpu.proofs.systems.System.holds.Given.{Over}
+use Rattle.cpu.proofs.Layered.{laws_of, layered, told_cpu}
 use Rattle.cpu.proofs.systems.System.holds.Goals as goal
-
-laws : (g : Over) → PartLaws g.I.IpcLayer
-laws g =
-    let law = g.met.I.IpcLayer in
-    record {
-      own_cpu = law.own_cpu;
-      stands = law.stands;
-      moved = law.moved;
-      rests = law.rests;
-      busy = law.busy;
-      tells = law.tells;
-    }
 
 pub returns-clause-sound : goal.returns-clause-sound
 returns-clause-sound g c = λ step. subst (λ (s : Shown). SoundByTable s) c.self.view_is (sound_of _ (c.self.invariant.sound.1 step))
@@ -104,7 +91,7 @@ returns-clause-told g c = λ step.
           let at = (is.each j x there).holds in
           let number = (is.each j x there).number_is in
           let tells = law.tells step x.part in
-          let cpu = layered (laws g) m x at.0 at.1 at.2 at.3 in
+          let cpu = layered (laws_of g.met.I.IpcLayer) m x at.0 at.1 at.2 at.3 in
           let halted = halted_told (told_cpu cpu step) setup (goes.goes.each j (shown x) (shows_at shown items j x there)) in
           let pending = pending_told setup machine x.number (I.opening m) (at.3 step).opens (caps setup goes) are in
           record {
