@@ -35,7 +35,7 @@ use Rattle.plain_layers.specs.FifoTallies.{Tally, plain_tally}
 use Rattle.event_log.specs.Buffers.{items_of}
 use Rattle.layer_traits.specs.BufferEffects.{contents_of}
 use Rattle.layer_traits.specs.Locking.{line_for}
-use Rattle.plain_layers.specs.Wholes.{IsDoneWhole}
+use Rattle.plain_layers.specs.Wholes.{IsDoneWhole, asked}
 use Rattle.event_log.specs.declared.ids.BufId.{BufId}
 use Rattle.event_log.specs.declared.ids.CpuId.{CpuId}
 use Rattle.event_log.specs.declared.ids.LockId.{LockId}
@@ -111,36 +111,43 @@ lawful_rest : {E : Type 0} (P : List E → E → Type 0) (mine past : List E) �
 lawful_rest P [] past lawful = lawful
 lawful_rest P (e ∷ mine) past lawful = lawful_rest P mine past lawful.1
 
-module _ (opening : LockId → Option (QueueBlock PlainLocked)) (ActsFor Acts : CpuId → Type 0) (weaker : (d : CpuId) → Acts d → ActsFor d)
-    (all : (d : CpuId) → d.0 < CPUS → ActsFor d) (c : CpuId) (p : Pass) (result : Option (Unit {0})) (old new : List (QueueEvent Attempt))
-    (own own' : Threads) (known : IsLawful IsKnownEvent new)
-    (polled : SchedPolled (sleep_kernel attempts opening) ActsFor c (sched.Pass p) (done_if result) old new own own') where
-  nobody : (b : Bool) → new ≡ (if b then events_of c (pass_call (homes_in opening) c p) ++ (polled.others ++ old) else polled.others ++ old)
-      → polled.others ≡ []
-  nobody true is = no_foreign_events ActsFor all polled.others old
-      (lawful_rest IsKnownEvent (events_of c (pass_call (homes_in opening) c p)) (polled.others ++ old) (subst (IsLawful IsKnownEvent) is known)) polled.foreign
-  nobody false is = no_foreign_events ActsFor all polled.others old (subst (IsLawful IsKnownEvent) is known) polled.foreign
+-- a poll of a pass by who acts for every CPU
+pub record PolledAlone (opening : LockId → Option (QueueBlock PlainLocked)) (ActsFor : CpuId → Type 0) (c : CpuId) (p : Pass) (result : Option (Unit {0}))
+    (old new : List (QueueEvent Attempt)) (own own' : Threads) : Type 0 where
+  pub all : (d : CpuId) → d.0 < CPUS → ActsFor d
+  pub known : IsLawful IsKnownEvent new
+  pub polled : SchedPolled (sleep_kernel attempts opening) ActsFor c (sched.Pass p) (done_if result) old new own own'
 
-  same_sections : (b : Bool) → polled.others ≡ []
-      → new ≡ (if b then events_of c (pass_call (homes_in opening) c p) ++ (polled.others ++ old) else polled.others ++ old)
+module _ (opening : LockId → Option (QueueBlock PlainLocked)) (ActsFor : CpuId → Type 0) (c : CpuId) (p : Pass) (result : Option (Unit {0}))
+    (old new : List (QueueEvent Attempt)) (own own' : Threads) (alone : PolledAlone opening ActsFor c p result old new own own') where
+  nobody : (b : Bool) → new ≡ (if b then events_of c (pass_call (homes_in opening) c p) ++ (alone.polled.others ++ old) else alone.polled.others ++ old)
+      → alone.polled.others ≡ []
+  nobody true is = no_foreign_events ActsFor alone.all alone.polled.others old
+      (lawful_rest IsKnownEvent (events_of c (pass_call (homes_in opening) c p)) (alone.polled.others ++ old) (subst (IsLawful IsKnownEvent) is alone.known))
+      alone.polled.foreign
+  nobody false is = no_foreign_events ActsFor alone.all alone.polled.others old (subst (IsLawful IsKnownEvent) is alone.known) alone.polled.foreign
+
+  same_sections : (b : Bool) → alone.polled.others ≡ []
+      → new ≡ (if b then events_of c (pass_call (homes_in opening) c p) ++ (alone.polled.others ++ old) else alone.polled.others ++ old)
       → buffer_sections new ≡ buffer_sections old
   same_sections true none is =
-      ap buffer_sections is ∙ no_section (homes_in opening) c p (polled.others ++ old) ∙ ap (λ more. buffer_sections (more ++ old)) none
+      ap buffer_sections is ∙ no_section (homes_in opening) c p (alone.polled.others ++ old) ∙ ap (λ more. buffer_sections (more ++ old)) none
   same_sections false none is = ap buffer_sections is ∙ ap (λ more. buffer_sections (more ++ old)) none
 
   -- a pass adds no effect
-  pub passed_seen : OthersSeen Acts (entries_in (inner opening) (buffer_sections old)) (entries_in (inner opening) (buffer_sections new))
-  passed_seen = record {
+  pub passed_seen : (Acts : CpuId → Type 0)
+      → OthersSeen Acts (entries_in (inner opening) (buffer_sections old)) (entries_in (inner opening) (buffer_sections new))
+  passed_seen Acts = record {
     others = [];
     foreign = λ d acts. tt;
-    is = ap (entries_in (inner opening)) (same_sections _ (nobody _ polled.is) polled.is);
+    is = ap (entries_in (inner opening)) (same_sections _ (nobody _ alone.polled.is) alone.polled.is);
   }
 
   -- and is a pass in moves
-  pub passed_moves : PassPolled (homes_in opening) Acts c p result (moves_in (sleep_kernel attempts opening) old) (moves_in (sleep_kernel attempts opening) new)
-      own own'
-  passed_moves =
-      let moved = pass_polled (sleep_kernel attempts opening) ActsFor c p (done_if result) old new own own' polled in
+  pub passed_moves : (Acts : CpuId → Type 0) → ((d : CpuId) → Acts d → ActsFor d)
+      → PassPolled (homes_in opening) Acts c p result (moves_in (sleep_kernel attempts opening) old) (moves_in (sleep_kernel attempts opening) new) own own'
+  passed_moves Acts weaker =
+      let moved = pass_polled (sleep_kernel attempts opening) ActsFor c p (done_if result) old new own own' alone.polled in
       let same : is_some (done_if {O = Outcome Tried} result) ≡ is_some result = done_same (Outcome Tried) result in
       record {
         others = moved.others;
@@ -242,12 +249,12 @@ reply_none call None none = refl
 reply_none call (Some f) none = absurd (cc none)
 
 module _ (opening : LockId → Option (QueueBlock PlainLocked)) (c : CpuId) (b : BufId) (a : Attempt) (old new : List (QueueEvent Attempt)) (own : Threads)
-    (left : Sleeping Tried) (outcome : Outcome Tried) (done : IsDoneWhole (sleep_kernel attempts opening) c b a old new own left outcome) where
-  out_is : IsDoneWhole (sleep_kernel attempts opening) c b a old new own left outcome → out_at (sleep_kernel attempts opening) old b a ≡ Some outcome
+    (left : Sleeping Tried) (outcome : Outcome Tried) (done : IsDoneWhole (asked (sleep_kernel attempts opening) c b a) old new own left outcome) where
+  out_is : IsDoneWhole (asked (sleep_kernel attempts opening) c b a) old new own left outcome → out_at (sleep_kernel attempts opening) old b a ≡ Some outcome
   out_is (inl alone) = alone.out
   out_is (inr sending) = sending.out
 
-  sections_are : IsDoneWhole (sleep_kernel attempts opening) c b a old new own left outcome
+  sections_are : IsDoneWhole (asked (sleep_kernel attempts opening) c b a) old new own left outcome
       → buffer_sections new ≡ section c (Buffer b) a ∷ buffer_sections old
   sections_are (inl alone) = ap buffer_sections alone.seen
   sections_are (inr sending) = ap buffer_sections sending.seen
@@ -275,7 +282,7 @@ module _ (opening : LockId → Option (QueueBlock PlainLocked)) (c : CpuId) (b :
   pub done_kept : left.kept ≡ None
   done_kept = go done
     where
-      go : IsDoneWhole (sleep_kernel attempts opening) c b a old new own left outcome → left.kept ≡ None
+      go : IsDoneWhole (asked (sleep_kernel attempts opening) c b a) old new own left outcome → left.kept ≡ None
       go (inl alone) = ap (λ (s : Sleeping Tried). s.kept) alone.leaves
       go (inr sending) = ap (λ (s : Sleeping Tried). s.kept) sending.leaves
 
@@ -286,7 +293,7 @@ module _ (opening : LockId → Option (QueueBlock PlainLocked)) (c : CpuId) (b :
       K : Kernel Attempt PlainLocked (Outcome Tried)
       K = sleep_kernel attempts opening
 
-      go : IsDoneWhole (sleep_kernel attempts opening) c b a old new own left outcome
+      go : IsDoneWhole (asked (sleep_kernel attempts opening) c b a) old new own left outcome
           → MovesGrow Acts c (moves_in (sleep_kernel attempts opening) old) (moves_in (sleep_kernel attempts opening) new)
       go (inl alone) = record {
         others = [];
@@ -408,6 +415,6 @@ module _ (opening : LockId → Option (QueueBlock PlainLocked)) (c : CpuId) (b :
           ∙ ap (λ (e : Option Effect). (own_slept (if is_some e then None else line_for (Some outcome.out.side)) own).current) none
           ∙ slept_current outcome.out.side own
 
-      go : IsDoneWhole (sleep_kernel attempts opening) c b a old new own left outcome → left.threads.current ≡ None
+      go : IsDoneWhole (asked (sleep_kernel attempts opening) c b a) old new own left outcome → left.threads.current ≡ None
       go (inl alone) = ap (λ (s : Sleeping Tried). s.threads.current) alone.leaves ∙ asleep
       go (inr sending) = ap (λ (s : Sleeping Tried). s.threads.current) sending.leaves ∙ asleep

@@ -212,25 +212,31 @@ module _ {E B O : Type 0} (rules : Rules E B O) (mv : MoveRules E O) (wakes : Wa
       let was = done_block b e new answer there done in
       ap (λ o. option_map Answer (option_map (rules.answer e) o)) (sym (sound.blocks b) ∙ was.1) ∙ ap Some (sym was.3)
 
-module _ {E B O : Type 0} (rules : Rules E B O) (mv : MoveRules E O) (start : Opening B) (lists : Lists B) (cpus : ℕ) (homes : List CpuId) (buffers : ℕ)
-    (are : AreQueues cpus homes buffers) (opened : start.lists.value ≡ lists) (told : start.homes.value.items ≡ homes)
-    (empty : lists.pending.items ≡ replicate cpus []) where
+-- a machine opens with these lists and homes, and nobody is pending
+pub record OpensWith {B : Type 0} (start : Opening B) (lists : Lists B) (cpus : ℕ) (homes : List CpuId) : Type 0 where
+  pub buffers : ℕ
+  pub are : AreQueues cpus homes buffers
+  pub opened : start.lists.value ≡ lists
+  pub told : start.homes.value.items ≡ homes
+  pub empty : lists.pending.items ≡ replicate cpus []
+
+module _ {B : Type 0} (start : Opening B) (lists : Lists B) (cpus : ℕ) (homes : List CpuId) (opens : OpensWith start lists cpus homes) where
   queue_opens : (c : CpuId) → c.0 < cpus → opening_of start (Pending c) ≡ Some (Queue [] start.homes)
-  queue_opens c within = ap (λ l. option_map (λ queue. Queue queue start.homes) (slice_get l c.0)) (ap (λ x. x.pending.items) opened ∙ empty)
+  queue_opens c within = ap (λ l. option_map (λ queue. Queue queue start.homes) (slice_get l c.0)) (ap (λ x. x.pending.items) opens.opened ∙ opens.empty)
       ∙ ap (option_map (λ queue. Queue queue start.homes)) (repeated cpus c.0 [] within)
 
   pub queue_is_there : (c : CpuId) → c.0 < cpus → IsSome (opening_of start (Pending c))
   queue_is_there c within = subst (λ x. IsSome x) (sym (queue_opens c within)) refl
 
   pub homes_told : homes_in (opening_of start) ≡ homes
-  homes_told = ap homes_of (queue_opens (record { 0 = 0 }) are.some) ∙ told
+  homes_told = ap homes_of (queue_opens (record { 0 = 0 }) opens.are.some) ∙ opens.told
 
   abbrev nobody : List Tid
   nobody = []
 
   each_empty : (i : ℕ) (queue : List Tid) → slice_get start.lists.value.pending.items i ≡ Some queue → queue ≡ []
   each_empty i queue is =
-      let all : start.lists.value.pending.items ≡ replicate cpus [] = ap (λ x. x.pending.items) opened ∙ empty in
+      let all : start.lists.value.pending.items ≡ replicate cpus [] = ap (λ x. x.pending.items) opens.opened ∙ opens.empty in
       let there : slice_get (replicate cpus []) i ≡ Some queue = ap (λ l. slice_get l i) (sym all) ∙ is in
       let long = length-replicate cpus nobody in
       let within = slice_get_within (replicate cpus []) i queue there in
@@ -252,34 +258,34 @@ module _ {E B O : Type 0} (rules : Rules E B O) (mv : MoveRules E O) (start : Op
       go None = tt
       go (Some block) = tt
 
+  told_above : (o : Option B) → o ≡ above_of (option_map Above o)
+  told_above None = refl
+  told_above (Some block) = refl
+
+  -- each buffer opens with the block in its place
+  pub buffer_opens : (b : BufId) → inner (opening_of start) (Buffer b) ≡ slice_get lists.buffers.items b.0
+  buffer_opens b = sym (told_above (slice_get start.lists.value.buffers.items b.0)) ∙ ap (λ (x : Lists B). slice_get x.buffers.items b.0) opens.opened
+
   -- a machine opens sound
-  pub kernel_fresh : IsKernel rules mv start [] lists
-  kernel_fresh = record {
+  pub kernel_fresh : {E O : Type 0} (rules : Rules E B O) (mv : MoveRules E O) → IsKernel rules mv start [] lists
+  kernel_fresh rules mv = record {
     starts = record {
       kinds = kinds;
       queues = λ t home is.
           let at : home_of homes t ≡ Some home = ap (λ l. home_of l t) (sym homes_told) ∙ is in
-          let within = are.within t.0 home (slice_get_within homes t.0 home at) in
+          let within = opens.are.within t.0 home (slice_get_within homes t.0 home at) in
           let known : home.0 < cpus = subst (λ (c : CpuId). c.0 < cpus) (get_or_from_slice_get homes t.0 home home at) within in
           queue_is_there home known;
-      room = subst (λ l. length l ≤ THREADS) (sym homes_told) are.threads;
+      room = subst (λ l. length l ≤ THREADS) (sym homes_told) opens.are.threads;
     };
     lawful = tt;
     known = tt;
     queues = λ d.
-        ap (λ (x : Lists B). slice_get x.pending.items d.0) (sym opened)
+        ap (λ (x : Lists B). slice_get x.pending.items d.0) (sym opens.opened)
         ∙ go (slice_get start.lists.value.pending.items d.0) (each_empty d.0);
-    blocks = λ b. ap (λ (x : Lists B). slice_get x.buffers.items b.0) (sym opened) ∙ told_above (slice_get start.lists.value.buffers.items b.0);
+    blocks = λ b. sym (buffer_opens b);
   }
     where
       go : (o : Option (List Tid)) → ((queue : List Tid) → o ≡ Some queue → queue ≡ []) → o ≡ option_map (λ (queue : List Tid). nobody) o
       go None all = refl
       go (Some queue) all = ap Some (all queue refl)
-
-      told_above : (o : Option B) → o ≡ above_of (option_map Above o)
-      told_above None = refl
-      told_above (Some block) = refl
-
-  -- each buffer opens with the block in its place
-  pub buffer_opens : (b : BufId) → inner (opening_of start) (Buffer b) ≡ slice_get lists.buffers.items b.0
-  buffer_opens b = sym (kernel_fresh.blocks b)

@@ -16,7 +16,7 @@ use Rattle.layer_traits.specs.Plans.{Left}
 use Rattle.layer_traits.specs.Queues.{IsKnownEvent, Kernel, event, event_actor, out_at}
 use Rattle.layer_traits.specs.Scheds.{own_answered}
 use Rattle.layer_traits.specs.SleepLaw.{Deed, Does, MayDo, Sends, SleepPolled, Sleeping, Waits, left_with, must_send, seen_with}
-use Rattle.plain_layers.specs.Wholes.{DoneAlone, DoneSending}
+use Rattle.plain_layers.specs.Wholes.{Asked, DoneAlone, DoneSending}
 
 -- who acts for every CPU sees no event of another
 pub no_foreign_events : {E : Type 0} (ActsFor : CpuId → Type 0) → ((c : CpuId) → c.0 < CPUS → ActsFor c) → (others old : List (QueueEvent E))
@@ -34,34 +34,38 @@ apart : (A : Type 0) (x : A) → Some x ≡ None → ⊥
 apart A x is = cc
 
 -- what the first poll of a section leaves where it does not answer: the section is done, and its outcome is kept
-pub record Begun {E B O : Type 0} (k : Kernel E B (Outcome O)) (c : CpuId) (b : BufId) (e : E) (old new : List (QueueEvent E)) (own : Threads)
-    (outcome : Outcome O) (left : Sleeping O) : Type 0 where
-  pub out : out_at k old b e ≡ Some outcome
-  pub sends : must_send outcome (own_answered k.moves k.homes c (Some outcome) own) ≡ true
-  pub seen : new ≡ event c (OnBuffer b e) ∷ old
-  pub leaves : left ≡ record { threads = own_answered k.moves k.homes c (Some outcome) own; kept = Some outcome }
+pub record Begun {E B O : Type 0} (s : Asked E B O) (old new : List (QueueEvent E)) (own : Threads) (outcome : Outcome O) (left : Sleeping O) : Type 0 where
+  pub out : out_at s.kernel old s.buffer s.edit ≡ Some outcome
+  pub sends : must_send outcome (own_answered s.kernel.moves s.kernel.homes s.cpu (Some outcome) own) ≡ true
+  pub seen : new ≡ event s.cpu (OnBuffer s.buffer s.edit) ∷ old
+  pub leaves : left ≡ record { threads = own_answered s.kernel.moves s.kernel.homes s.cpu (Some outcome) own; kept = Some outcome }
 
-module _ {E B O : Type 0} (k : Kernel E B (Outcome O)) (ActsFor : CpuId → Type 0) (all : (c : CpuId) → c.0 < CPUS → ActsFor c) (c : CpuId) (b : BufId) (e : E)
-    (old new : List (QueueEvent E)) where
+module _ {E B O : Type 0} (s : Asked E B O) (ActsFor : CpuId → Type 0) (all : (c : CpuId) → c.0 < CPUS → ActsFor c) (old new : List (QueueEvent E)) where
+  -- the CPU's own threads after a section with this outcome
+  abbrev threads_after : Threads → Outcome O → Threads
+  threads_after own told = own_answered s.kernel.moves s.kernel.homes s.cpu (Some told) own
+
   -- a deed after no event of another
   record Alone (own : Sleeping O) (got : Left (Sleeping O) (Outcome O)) : Type 0 where
     deed : Deed O
-    may : MayDo k c b e deed old own
-    is : new ≡ seen_with k c b e deed old
-    leaves : got ≡ left_with k c b e deed own
+    may : MayDo s.kernel s.cpu s.buffer s.edit deed old own
+    is : new ≡ seen_with s.kernel s.cpu s.buffer s.edit deed old
+    leaves : got ≡ left_with s.kernel s.cpu s.buffer s.edit deed own
 
-  older : (deed : Deed O) (past : List (QueueEvent E)) → new ≡ seen_with k c b e deed past → IsLawful IsKnownEvent new → IsLawful IsKnownEvent past
+  older : (deed : Deed O) (past : List (QueueEvent E)) → new ≡ seen_with s.kernel s.cpu s.buffer s.edit deed past → IsLawful IsKnownEvent new
+      → IsLawful IsKnownEvent past
   older Waits past is known = subst (IsLawful IsKnownEvent) is known
   older (Does outcome) past is known = (subst (IsLawful IsKnownEvent) is known).1
   older (Sends t) past is known = (subst (IsLawful IsKnownEvent) is known).1
 
-  alone : (own : Sleeping O) (got : Left (Sleeping O) (Outcome O)) → IsLawful IsKnownEvent new → SleepPolled k ActsFor c b e old new own got → Alone own got
+  alone : (own : Sleeping O) (got : Left (Sleeping O) (Outcome O)) → IsLawful IsKnownEvent new
+      → SleepPolled s.kernel ActsFor s.cpu s.buffer s.edit old new own got → Alone own got
   alone own got known polled =
       let none = no_foreign_events ActsFor all polled.others old (older polled.deed (polled.others ++ old) polled.is known) polled.foreign in
       record {
         deed = polled.deed;
-        may = subst (λ more. MayDo k c b e polled.deed (more ++ old) own) none polled.may;
-        is = subst (λ more. new ≡ seen_with k c b e polled.deed (more ++ old)) none polled.is;
+        may = subst (λ more. MayDo s.kernel s.cpu s.buffer s.edit polled.deed (more ++ old) own) none polled.may;
+        is = subst (λ more. new ≡ seen_with s.kernel s.cpu s.buffer s.edit polled.deed (more ++ old)) none polled.is;
         leaves = polled.leaves;
       }
 
@@ -71,54 +75,54 @@ module _ {E B O : Type 0} (k : Kernel E B (Outcome O)) (ActsFor : CpuId → Type
 
   -- the first poll answers: the section is done
   pub first_answers : (own left : Sleeping O) (outcome : Outcome O) → own.kept ≡ None → IsLawful IsKnownEvent new
-      → SleepPolled k ActsFor c b e old new own (got left (Some outcome))
-      → DoneAlone k c b e old new own.threads left outcome
+      → SleepPolled s.kernel ActsFor s.cpu s.buffer s.edit old new own (got left (Some outcome))
+      → DoneAlone s old new own.threads left outcome
   first_answers own left outcome kept known polled = go was.deed was.may was.is was.leaves
     where
       was : Alone own (got left (Some outcome))
       was = alone own (got left (Some outcome)) known polled
 
-      go : (deed : Deed O) → MayDo k c b e deed old own → new ≡ seen_with k c b e deed old
-          → got left (Some outcome) ≡ left_with k c b e deed own → DoneAlone k c b e old new own.threads left outcome
+      go : (deed : Deed O) → MayDo s.kernel s.cpu s.buffer s.edit deed old own → new ≡ seen_with s.kernel s.cpu s.buffer s.edit deed old
+          → got left (Some outcome) ≡ left_with s.kernel s.cpu s.buffer s.edit deed own → DoneAlone s old new own.threads left outcome
       go Waits may is leaves = absurd (apart (Outcome O) outcome (ap (λ (l : Left (Sleeping O) (Outcome O)). l.answer) leaves))
       go (Sends t) may is leaves = absurd (something (Outcome O) (subst (λ o. IsSome o) kept may.0))
-      go (Does told) may is leaves = by_send (must_send told (own_answered k.moves k.homes c (Some told) own.threads)) refl leaves
+      go (Does told) may is leaves = by_send (must_send told (threads_after own.threads told)) refl leaves
         where
-          by_send : (s : Bool) → must_send told (own_answered k.moves k.homes c (Some told) own.threads) ≡ s
+          by_send : (b : Bool) → must_send told (threads_after own.threads told) ≡ b
               → got left (Some outcome)
-              ≡ (if s then record { own = record { threads = own_answered k.moves k.homes c (Some told) own.threads; kept = Some told }; answer = None }
-              else record { own = record { threads = own_answered k.moves k.homes c (Some told) own.threads; kept = None }; answer = Some told })
-              → DoneAlone k c b e old new own.threads left outcome
+              ≡ (if b then record { own = record { threads = threads_after own.threads told; kept = Some told }; answer = None }
+              else record { own = record { threads = threads_after own.threads told; kept = None }; answer = Some told })
+              → DoneAlone s old new own.threads left outcome
           by_send true sends leaves = absurd (apart (Outcome O) outcome (ap (λ (l : Left (Sleeping O) (Outcome O)). l.answer) leaves))
           by_send false stays leaves =
               let one : outcome ≡ told = ap (λ (l : Left (Sleeping O) (Outcome O)). unwrap_or l.answer told) leaves in
-              let own' : left ≡ record { threads = own_answered k.moves k.homes c (Some told) own.threads; kept = None }
+              let own' : left ≡ record { threads = threads_after own.threads told; kept = None }
               = ap (λ (l : Left (Sleeping O) (Outcome O)). l.own) leaves in
-              subst (λ o. DoneAlone k c b e old new own.threads left o) (sym one)
+              subst (λ o. DoneAlone s old new own.threads left o) (sym one)
               (record { out = may.1; stays = stays; seen = is; leaves = own' })
 
   -- the first poll does not answer: the section is done, and whom it woke is to be sent home
   pub first_sends : (own left : Sleeping O) → own.kept ≡ None → IsSome left.kept → IsLawful IsKnownEvent new
-      → SleepPolled k ActsFor c b e old new own (got left None)
-      → (outcome : Outcome O) × Begun k c b e old new own.threads outcome left
+      → SleepPolled s.kernel ActsFor s.cpu s.buffer s.edit old new own (got left None)
+      → (outcome : Outcome O) × Begun s old new own.threads outcome left
   first_sends own left kept keeps known polled = go was.deed was.may was.is was.leaves
     where
       was : Alone own (got left None)
       was = alone own (got left None) known polled
 
-      go : (deed : Deed O) → MayDo k c b e deed old own → new ≡ seen_with k c b e deed old
-          → got left None ≡ left_with k c b e deed own → (outcome : Outcome O) × Begun k c b e old new own.threads outcome left
+      go : (deed : Deed O) → MayDo s.kernel s.cpu s.buffer s.edit deed old own → new ≡ seen_with s.kernel s.cpu s.buffer s.edit deed old
+          → got left None ≡ left_with s.kernel s.cpu s.buffer s.edit deed own → (outcome : Outcome O) × Begun s old new own.threads outcome left
       go Waits may is leaves =
           let same : left ≡ own = ap (λ (l : Left (Sleeping O) (Outcome O)). l.own) leaves in
-          absurd (something (Outcome O) (subst (λ o. IsSome o) (ap (λ (s : Sleeping O). s.kept) same ∙ kept) keeps))
+          absurd (something (Outcome O) (subst (λ o. IsSome o) (ap (λ (x : Sleeping O). x.kept) same ∙ kept) keeps))
       go (Sends t) may is leaves = absurd (something (Outcome O) (subst (λ o. IsSome o) kept may.0))
-      go (Does told) may is leaves = by_send (must_send told (own_answered k.moves k.homes c (Some told) own.threads)) refl leaves
+      go (Does told) may is leaves = by_send (must_send told (threads_after own.threads told)) refl leaves
         where
-          by_send : (s : Bool) → must_send told (own_answered k.moves k.homes c (Some told) own.threads) ≡ s
+          by_send : (b : Bool) → must_send told (threads_after own.threads told) ≡ b
               → got left None
-              ≡ (if s then record { own = record { threads = own_answered k.moves k.homes c (Some told) own.threads; kept = Some told }; answer = None }
-              else record { own = record { threads = own_answered k.moves k.homes c (Some told) own.threads; kept = None }; answer = Some told })
-              → (outcome : Outcome O) × Begun k c b e old new own.threads outcome left
+              ≡ (if b then record { own = record { threads = threads_after own.threads told; kept = Some told }; answer = None }
+              else record { own = record { threads = threads_after own.threads told; kept = None }; answer = Some told })
+              → (outcome : Outcome O) × Begun s old new own.threads outcome left
           by_send false stays leaves = absurd (apart (Outcome O) told (sym (ap (λ (l : Left (Sleeping O) (Outcome O)). l.answer) leaves)))
           by_send true sends leaves = (
             told,
@@ -127,17 +131,17 @@ module _ {E B O : Type 0} (k : Kernel E B (Outcome O)) (ActsFor : CpuId → Type
 
   -- the second poll sends it home, and answers with the outcome of the section
   pub second_sends : (own left : Sleeping O) (kept outcome : Outcome O) → own.kept ≡ Some kept → IsLawful IsKnownEvent new
-      → SleepPolled k ActsFor c b e old new own (got left (Some outcome))
-      → (t : Tid) × (own.threads.hand ≡ Some t) × (outcome ≡ kept) × (new ≡ event c (Push (queue_for k.homes c t) t) ∷ old)
+      → SleepPolled s.kernel ActsFor s.cpu s.buffer s.edit old new own (got left (Some outcome))
+      → (t : Tid) × (own.threads.hand ≡ Some t) × (outcome ≡ kept) × (new ≡ event s.cpu (Push (queue_for s.kernel.homes s.cpu t) t) ∷ old)
       × (left ≡ record { threads = passed_on own.threads; kept = None })
   second_sends own left kept outcome keeps known polled = go was.deed was.may was.is was.leaves
     where
       was : Alone own (got left (Some outcome))
       was = alone own (got left (Some outcome)) known polled
 
-      go : (deed : Deed O) → MayDo k c b e deed old own → new ≡ seen_with k c b e deed old
-          → got left (Some outcome) ≡ left_with k c b e deed own
-          → (t : Tid) × (own.threads.hand ≡ Some t) × (outcome ≡ kept) × (new ≡ event c (Push (queue_for k.homes c t) t) ∷ old)
+      go : (deed : Deed O) → MayDo s.kernel s.cpu s.buffer s.edit deed old own → new ≡ seen_with s.kernel s.cpu s.buffer s.edit deed old
+          → got left (Some outcome) ≡ left_with s.kernel s.cpu s.buffer s.edit deed own
+          → (t : Tid) × (own.threads.hand ≡ Some t) × (outcome ≡ kept) × (new ≡ event s.cpu (Push (queue_for s.kernel.homes s.cpu t) t) ∷ old)
           × (left ≡ record { threads = passed_on own.threads; kept = None })
       go Waits may is leaves = absurd (apart (Outcome O) outcome (ap (λ (l : Left (Sleeping O) (Outcome O)). l.answer) leaves))
       go (Does told) may is leaves = absurd (apart (Outcome O) kept (sym keeps ∙ may.0))
@@ -150,20 +154,20 @@ module _ {E B O : Type 0} (k : Kernel E B (Outcome O)) (ActsFor : CpuId → Type
       )
 
 -- the two polls together
-pub both_polls : {E B O : Type 0} (k : Kernel E B (Outcome O)) (c : CpuId) (b : BufId) (e : E) (old between new : List (QueueEvent E)) (own : Threads)
-    (waits left : Sleeping O) (kept outcome : Outcome O) → Begun k c b e old between own kept waits
-    → (t : Tid) × (waits.threads.hand ≡ Some t) × (outcome ≡ kept) × (new ≡ event c (Push (queue_for k.homes c t) t) ∷ between)
+pub both_polls : {E B O : Type 0} (s : Asked E B O) (old between new : List (QueueEvent E)) (own : Threads)
+    (waits left : Sleeping O) (kept outcome : Outcome O) → Begun s old between own kept waits
+    → (t : Tid) × (waits.threads.hand ≡ Some t) × (outcome ≡ kept) × (new ≡ event s.cpu (Push (queue_for s.kernel.homes s.cpu t) t) ∷ between)
     × (left ≡ record { threads = passed_on waits.threads; kept = None })
-    → DoneSending k c b e old new own left outcome
-both_polls {O = O} k c b e old between new own waits left kept outcome begun sent =
+    → DoneSending s old new own left outcome
+both_polls {O = O} s old between new own waits left kept outcome begun sent =
     let passed : Threads → Sleeping O = λ x. record { threads = passed_on x; kept = None } in
-    let threads : waits.threads ≡ own_answered k.moves k.homes c (Some kept) own = ap (λ (s : Sleeping O). s.threads) begun.leaves in
-    subst (λ o. DoneSending k c b e old new own left o) (sym sent.2)
+    let threads : waits.threads ≡ own_answered s.kernel.moves s.kernel.homes s.cpu (Some kept) own = ap (λ (x : Sleeping O). x.threads) begun.leaves in
+    subst (λ o. DoneSending s old new own left o) (sym sent.2)
     (record {
       out = begun.out;
       sends = begun.sends;
       woken = sent.0;
       hand = ap (λ (x : Threads). x.hand) (sym threads) ∙ sent.1;
-      seen = sent.3 ∙ ap (λ l. event c (Push (queue_for k.homes c sent.0) sent.0) ∷ l) begun.seen;
+      seen = sent.3 ∙ ap (λ l. event s.cpu (Push (queue_for s.kernel.homes s.cpu sent.0) sent.0) ∷ l) begun.seen;
       leaves = sent.4 ∙ ap passed threads;
     })

@@ -43,13 +43,13 @@ table_shown rules opening past list Fits cpu_of IsInside lock table there =
     shown_at_home Fits cpu_of IsInside (opened list lock) (block_after rules.edited opening lock past) (table.blocks lock)
     (block_there rules.edited opening lock past there)
 
-module _ {P E B O : Type 0} (rules : Rules E B O) (mv : MoveRules E O) (start : Opening B) (past : List (QueueEvent E)) (lists : Lists B)
-    (Fits : P → Type 0) (cpu_of : P → CpuId) (IsInside : CpuId → Type 0) (sound : IsKernel rules mv start past lists) where
-  -- each buffer's block is at home
-  pub block_shown : (b : BufId) → IsSome (opening_of start (Buffer b))
+module _ {E B O : Type 0} (rules : Rules E B O) (mv : MoveRules E O) (start : Opening B) (past : List (QueueEvent E)) (lists : Lists B)
+    (sound : IsKernel rules mv start past lists) where
+  -- each buffer's block is at home, whatever the parts are
+  pub block_shown : {P : Type 0} (Fits : P → Type 0) (cpu_of : P → CpuId) (IsInside : CpuId → Type 0) (b : BufId) → IsSome (opening_of start (Buffer b))
       → IsShown Fits cpu_of IsInside (λ p. None) (slice_get lists.buffers.items b.0)
       (block_after rules.edited (inner (opening_of start)) (Buffer b) (buffer_sections past))
-  block_shown b there =
+  block_shown Fits cpu_of IsInside b there =
       shown_at_home Fits cpu_of IsInside (slice_get lists.buffers.items b.0)
       (block_after rules.edited (inner (opening_of start)) (Buffer b) (buffer_sections past)) (sound.blocks b)
       (block_there rules.edited (inner (opening_of start)) (Buffer b) (buffer_sections past) (go (slice_get start.lists.value.buffers.items b.0) there))
@@ -59,9 +59,9 @@ module _ {P E B O : Type 0} (rules : Rules E B O) (mv : MoveRules E O) (start : 
       go (Some block) some = refl
 
   -- and so is each pending queue
-  pub queue_shown : (d : CpuId) → IsSome (opening_of start (Pending d))
+  pub queue_shown : {P : Type 0} (Fits : P → Type 0) (cpu_of : P → CpuId) (IsInside : CpuId → Type 0) (d : CpuId) → IsSome (opening_of start (Pending d))
       → IsShown Fits cpu_of IsInside (λ p. None) (slice_get lists.pending.items d.0) (Some (pending_by (moves_in (kernel rules mv (opening_of start)) past) d))
-  queue_shown d there =
+  queue_shown Fits cpu_of IsInside d there =
       let queue = pending_by (moves_in (kernel rules mv (opening_of start)) past) d in
       shown_at_home Fits cpu_of IsInside (slice_get lists.pending.items d.0) (Some queue)
       (sound.queues d ∙ go queue (slice_get start.lists.value.pending.items d.0) there) refl

@@ -13,26 +13,35 @@ use Rattle.layer_traits.specs.Queues.{Kernel, event, out_at}
 use Rattle.layer_traits.specs.Scheds.{own_answered}
 use Rattle.layer_traits.specs.SleepLaw.{Sleeping, must_send}
 
-module _ {E B O : Type 0} (k : Kernel E B (Outcome O)) (c : CpuId) (b : BufId) (e : E) (old new : List (QueueEvent E)) (own : Threads)
-    (left : Sleeping O) (outcome : Outcome O) where
+-- a section that is asked of a machine: on what, by which CPU, at which buffer, and the edit
+pub record Asked (E B O : Type 0) : Type 1 where
+  pub kernel : Kernel E B (Outcome O)
+  pub cpu : CpuId
+  pub buffer : BufId
+  pub edit : E
+
+abbrev pub asked : {E B O : Type 0} → Kernel E B (Outcome O) → CpuId → BufId → E → Asked E B O
+asked kernel cpu buffer edit = record { kernel = kernel; cpu = cpu; buffer = buffer; edit = edit }
+
+module _ {E B O : Type 0} (s : Asked E B O) (old new : List (QueueEvent E)) (own : Threads) (left : Sleeping O) (outcome : Outcome O) where
   -- the CPU's own threads after the section
   abbrev pub own_done : Threads
-  own_done = own_answered k.moves k.homes c (Some outcome) own
+  own_done = own_answered s.kernel.moves s.kernel.homes s.cpu (Some outcome) own
 
   -- the section was done, and nobody had to be sent home
   pub record DoneAlone : Type 0 where
-    pub out : out_at k old b e ≡ Some outcome
+    pub out : out_at s.kernel old s.buffer s.edit ≡ Some outcome
     pub stays : must_send outcome own_done ≡ false
-    pub seen : new ≡ event c (OnBuffer b e) ∷ old
+    pub seen : new ≡ event s.cpu (OnBuffer s.buffer s.edit) ∷ old
     pub leaves : left ≡ record { threads = own_done; kept = None }
 
   -- the section was done, and then the thread that it woke was sent home
   pub record DoneSending : Type 0 where
-    pub out : out_at k old b e ≡ Some outcome
+    pub out : out_at s.kernel old s.buffer s.edit ≡ Some outcome
     pub sends : must_send outcome own_done ≡ true
     pub woken : Tid
     pub hand : own_done.hand ≡ Some woken
-    pub seen : new ≡ event c (Push (queue_for k.homes c woken) woken) ∷ event c (OnBuffer b e) ∷ old
+    pub seen : new ≡ event s.cpu (Push (queue_for s.kernel.homes s.cpu woken) woken) ∷ event s.cpu (OnBuffer s.buffer s.edit) ∷ old
     pub leaves : left ≡ record { threads = passed_on own_done; kept = None }
 
   -- one of the two

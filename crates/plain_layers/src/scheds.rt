@@ -151,9 +151,9 @@ impl<E: Moves> OwnedScheds<E> for PlainSched<E> {
         None
     }
 
-    ghost shown = { λ m c b acts there. block_shown E.rules E.moves m.opening (calls_in m) m.lists (λ (p : Self). Self.Fits p m)
-        (λ p. p.cpu) (λ d. ⊥ × (is_in_section (phase d (Self.acts m)) ≡ true)) acts.1 b there };
+    ghost shown = { λ m c b acts there. block_shown E.rules E.moves m.opening (calls_in m) m.lists acts.1 (λ (p : Self). Self.Fits p m)
+        (λ p. p.cpu) (λ d. ⊥ × (is_in_section (phase d (Self.acts m)) ≡ true)) b there };
 
-    ghost queues = { λ m c d acts there. queue_shown E.rules E.moves m.opening (calls_in m) m.lists (λ (p : Self). Self.Fits p m)
-        (λ p. p.cpu) (λ d. ⊥ × (is_in_section (phase d (Self.acts m)) ≡ true)) acts.1 d there };
+    ghost queues = { λ m c d acts there. queue_shown E.rules E.moves m.opening (calls_in m) m.lists acts.1 (λ (p : Self). Self.Fits p m)
+        (λ p. p.cpu) (λ d. ⊥ × (is_in_section (phase d (Self.acts m)) ≡ true)) d there };
 }

@@ -6,7 +6,7 @@ ghost use Rattle.event_log.specs.declared.ids.LockId.TheVariants.{Buffer};
 ghost use Rattle.event_log.specs.declared.ids.TheConstants.{CPUS};
 ghost use Rattle.layer_traits.specs.Plans.{IsWhole};
 ghost use Rattle.layer_traits.specs.SleepLaw.{MaySleep, sleep_kernel};
-ghost use Rattle.plain_layers.specs.Wholes.{IsDoneWhole};
+ghost use Rattle.plain_layers.specs.Wholes.{IsDoneWhole, asked};
 
 use event_log::BufId;
 use layer_traits::{Outcome, SleepLayer, Sleeps};
@@ -28,7 +28,7 @@ pub fn whole<E: Sleeps, S: SleepLayer<E>>(
     requires buffer { IsSome (S.opening m.old (Buffer buffer)) }
     requires room { 1 < S.room m.old }
     requires call { MaySleep (sleep_kernel E.rules (S.opening m.old)) (S.cpu_of part.old) (S.seen m.old) (S.own part.old).threads buffer edit }
-    ensures done { IsDoneWhole (sleep_kernel E.rules (S.opening m.old)) (S.cpu_of part.old) buffer edit (S.seen m.old) (S.seen m.new)
+    ensures done { IsDoneWhole (asked (sleep_kernel E.rules (S.opening m.old)) (S.cpu_of part.old) buffer edit) (S.seen m.old) (S.seen m.new)
         (S.own part.old).threads (S.own part.new) result }
     ensures fits { S.Fits part.new m.new }
     ensures cpu { S.cpu_of part.new ≡ S.cpu_of part.old }

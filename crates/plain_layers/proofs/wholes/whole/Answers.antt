@@ -1,5 +1,6 @@
 use Rattle.std.proofs.Common.{inl, inr, refl, ap, subst}
 use Rattle.layer_traits.specs.SleepLaw.{SleepPolled, Sleeping, sleep_kernel}
+use Rattle.plain_layers.specs.Wholes.{asked}
 use Rattle.plain_layers.proofs.WholeLemmas.{first_answers, first_sends, second_sends, both_polls}
 use Rattle.plain_layers.proofs.wholes.whole.Goals as goal
 
@@ -12,7 +13,7 @@ returns-in-Some-clause-done g c =
     let n = c.poll.new.m in
     let said = c.in-Some.ensures in
     let known = g.met.S.SleepLayer.known n (S.cpu_of part) (said.acts (S.cpu_of part) (g.met.S.SleepLayer.own_cpu part m c.requires.fits)) in
-    inl (first_answers (sleep_kernel g.E.Sleeps.rules (S.opening m)) (λ d. S.ActsFor m d) c.requires.all (S.cpu_of part) c.args.buffer c.args.edit
+    inl (first_answers (asked (sleep_kernel g.E.Sleeps.rules (S.opening m)) (S.cpu_of part) c.args.buffer c.args.edit) (λ d. S.ActsFor m d) c.requires.all
     (S.seen m) (S.seen n) (S.own part) (S.own c.poll.new.self) c.in-Some.outcome c.requires.kept known said.seen)
 
 -- the second sent the woken thread home
@@ -26,10 +27,11 @@ returns-in-None-clause-done g c =
     let said = c.in-None.ensures in
     let more = c.poll-in-None.ensures in
     let k = sleep_kernel g.E.Sleeps.rules (S.opening m) in
+    let section = asked k (S.cpu_of part) c.args.buffer c.args.edit in
     let acts = said.acts (S.cpu_of part) (g.met.S.SleepLayer.own_cpu part m c.requires.fits) in
     let known = g.met.S.SleepLayer.known n (S.cpu_of part) acts in
     let keeps = (said.prompt c.requires.whole refl).after in
-    let begun = first_sends k (λ d. S.ActsFor m d) c.requires.all (S.cpu_of part) c.args.buffer c.args.edit (S.seen m) (S.seen n)
+    let begun = first_sends section (λ d. S.ActsFor m d) c.requires.all (S.seen m) (S.seen n)
     (S.own part) (S.own p) c.requires.kept keeps known said.seen in
     let n' = c.poll-in-None.new.m in
     let p' = c.poll-in-None.new.self in
@@ -40,7 +42,7 @@ returns-in-None-clause-done g c =
     (record { own = S.own p'; answer = c.poll-in-None.result })) said.cpu kernels in
     let polled = subst (λ o. SleepPolled k (λ d. S.ActsFor n d) (S.cpu_of part) c.args.buffer c.args.edit (S.seen n) (S.seen n') (S.own p)
     (record { own = S.own p'; answer = o })) c.unwrap.ensures cpus in
-    let sent = second_sends k (λ d. S.ActsFor n d) (λ d small. said.acts d (c.requires.all d small)) (S.cpu_of part) c.args.buffer c.args.edit
+    let sent = second_sends section (λ d. S.ActsFor n d) (λ d small. said.acts d (c.requires.all d small))
     (S.seen n) (S.seen n') (S.own p) (S.own p') begun.0 c.unwrap.result (ap (λ (s : Sleeping g.row.E-Out.Denot). s.kept) begun.1.leaves) now_known polled in
-    inr (both_polls k (S.cpu_of part) c.args.buffer c.args.edit (S.seen m) (S.seen n) (S.seen n') (S.own part).threads (S.own p) (S.own p') begun.0
+    inr (both_polls section (S.seen m) (S.seen n) (S.seen n') (S.own part).threads (S.own p) (S.own p') begun.0
     c.unwrap.result begun.1 sent)

@@ -44,8 +44,8 @@ returns-clause-seen g c =
     let known = g.met.S.SleepLayer.known n (S.cpu_of lower) (said.acts (S.cpu_of lower) (g.met.S.SleepLayer.own_cpu lower m fits.0)) in
     subst (λ o. OthersSeen Acts (entries_in (inner (S.opening m)) (buffer_sections (S.seen m))) (entries_in (inner o) (buffer_sections (S.seen n))))
     (sym said.opening)
-    (passed_seen (S.opening m) (λ d. S.ActsFor m d) Acts (λ d acts. acts.0) fits.2.all (S.cpu_of lower) c.args.call c.pass.result (S.seen m) (S.seen n)
-    (S.own lower).threads (S.own c.pass.new.self).threads known said.seen)
+    (passed_seen (S.opening m) (λ d. S.ActsFor m d) (S.cpu_of lower) c.args.call c.pass.result (S.seen m) (S.seen n)
+    (S.own lower).threads (S.own c.pass.new.self).threads (record { all = fits.2.all; known = known; polled = said.seen }) Acts)
 
 pub returns-clause-passed : goal.returns-clause-passed
 returns-clause-passed g c =
@@ -60,8 +60,8 @@ returns-clause-passed g c =
     subst₂ (λ h o. PassPolled h Acts (S.cpu_of lower) c.args.call c.pass.result (moves_in (sleep_kernel attempts (S.opening m)) (S.seen m))
     (moves_in (sleep_kernel attempts o) (S.seen n)) (S.own lower).threads (S.own c.pass.new.self).threads)
     (sym (homes_viewed shown (S.opening m))) (sym said.opening)
-    (passed_moves (S.opening m) (λ d. S.ActsFor m d) Acts (λ d acts. acts.0) fits.2.all (S.cpu_of lower) c.args.call c.pass.result (S.seen m) (S.seen n)
-    (S.own lower).threads (S.own c.pass.new.self).threads known said.seen)
+    (passed_moves (S.opening m) (λ d. S.ActsFor m d) (S.cpu_of lower) c.args.call c.pass.result (S.seen m) (S.seen n)
+    (S.own lower).threads (S.own c.pass.new.self).threads (record { all = fits.2.all; known = known; polled = said.seen }) Acts (λ d acts. acts.0))
 
 pub returns-clause-fits : goal.returns-clause-fits
 returns-clause-fits g c =
