@@ -15,7 +15,6 @@ use Rattle.cpu.proofs.cpus.Cpu.pass.Goals as goal
 
 pub pass-done-requires-clause-may : goal.pass-done-requires-clause-may
 pass-done-requires-clause-may g c =
-    let I = g.I.IpcLayer in
     let m = c.args.m.now in
     let p = c.args.self.now in
     let cpu = layered (laws_of g.met.I.IpcLayer) m p c.requires.fits c.requires.number c.requires.is c.requires.table in
@@ -23,7 +22,6 @@ pass-done-requires-clause-may g c =
 
 pub note_pass-requires : goal.note_pass-requires
 note_pass-requires g c = λ t runs.
-    let I = g.I.IpcLayer in
     let m = c.args.m.now in
     let p = c.args.self.now in
     let cpu = layered (laws_of g.met.I.IpcLayer) m p c.requires.fits c.requires.number c.requires.is c.requires.table in
@@ -113,7 +111,6 @@ done_told g c step =
 
 pub returns-then-is_some-clause-table : goal.returns-then-is_some-clause-table
 returns-then-is_some-clause-table g c = λ step.
-    let I = g.I.IpcLayer in
     let m = c.args.m.now in
     let p = c.args.self.now in
     let cpu = layered (laws_of g.met.I.IpcLayer) m p c.requires.fits c.requires.number c.requires.is c.requires.table in
@@ -122,7 +119,6 @@ returns-then-is_some-clause-table g c = λ step.
 
 pub returns-then-is_some-clause-steps : goal.returns-then-is_some-clause-steps
 returns-then-is_some-clause-steps g c = λ step.
-    let I = g.I.IpcLayer in
     let m = c.args.m.now in
     let p = c.args.self.now in
     let cpu = layered (laws_of g.met.I.IpcLayer) m p c.requires.fits c.requires.number c.requires.is c.requires.table in
@@ -162,7 +158,6 @@ wait_told g c step =
 
 pub returns-else-is_some-clause-table : goal.returns-else-is_some-clause-table
 returns-else-is_some-clause-table g c = λ step.
-    let I = g.I.IpcLayer in
     let m = c.args.m.now in
     let p = c.args.self.now in
     let cpu = layered (laws_of g.met.I.IpcLayer) m p c.requires.fits c.requires.number c.requires.is c.requires.table in
@@ -171,7 +166,6 @@ returns-else-is_some-clause-table g c = λ step.
 
 pub returns-else-is_some-clause-steps : goal.returns-else-is_some-clause-steps
 returns-else-is_some-clause-steps g c = λ step.
-    let I = g.I.IpcLayer in
     let m = c.args.m.now in
     let p = c.args.self.now in
     let cpu = layered (laws_of g.met.I.IpcLayer) m p c.requires.fits c.requires.number c.requires.is c.requires.table in
