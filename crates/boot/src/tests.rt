@@ -361,6 +361,7 @@ fn a_plan_has_at_most_64_threads(rt: HostRuntime) -> Result<(), Fail> {
 const FIVE_THREADS: &str = "cpus = 1
 trace = 4
 buffers = [1, 2, 3, 4, 5]
+lock = \"ticket\"
 thread = [
     { cpu = 0, program = [\"set r0 7\", \"send 0 r0\", \"yield\", \"jnz r0 0\", \"exit\"] },
     { cpu = 0, program = [\"exit\"] },
