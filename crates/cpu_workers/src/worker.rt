@@ -157,7 +157,7 @@ where
     }
 
     /// Whether nobody runs on the CPU, is ready there or is to be sent home by it.
-    pub fn is_idle(&self) -> bool {
+    pub(crate) fn is_idle(&self) -> bool {
         let part = &self.cpu.part;
         part.current().is_none() && part.hand().is_none() && !part.has_ready()
     }
