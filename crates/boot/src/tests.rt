@@ -27,7 +27,8 @@ fn changed(rt: &HostRuntime, from: &str, to: &str) -> Result<String, Fail> {
 #[test]
 fn a_plan_is_read_whole(rt: HostRuntime) -> Result<(), Fail> {
     let plan =
-        "cpus = 2\ntrace = 65536\nbuffers = [1, 32]\nother = 1\n[[thread]]\ncpu = 1\nprogram = [\"recv 1 r2\"]\n[[thread]]\ncpu = 0\nname = \"b\"\nprogram = [\"yield\", \"exit\"]\n";
+        "cpus = 2\ntrace = 65536\nbuffers = [1, 32]\nother = 1\n[[thread]]\ncpu = 1\nprogram = [\"recv 1 r2\"]\n\
+         [[thread]]\ncpu = 0\nname = \"b\"\nprogram = [\"yield\", \"exit\"]\n";
     let boot = Boot::read(rt.alloc(), plan)?;
     assert_eq!(rt; boot.cpus(), 2);
     assert_eq!(rt; boot.trace(), 65536);

@@ -43,7 +43,8 @@ pub block_told : (setup : Setup) (opening : LockId → Option TowerBlock) (acts 
 block_told setup opening acts lock opens =
     ap (λ l. block_after edited (table_opening setup) lock l) (sections_in_renamed name_of acts)
     ∙ sym (opens_alike (λ l. option_map view (opening l)) (table_opening setup) lock opens (map _ (sections_in acts)))
-    ∙ block_viewed tower kernel name_of view answer_view tables_agree.edits tables_agree.answers opening lock (sections_in acts)
+    ∙ block_viewed tower kernel
+    (record { name = name_of; view = view; told = answer_view; edits = tables_agree.edits; answers = tables_agree.answers }) opening lock (sections_in acts)
 
 queue_viewed : (o : Option TowerBlock) (queue : List Tid) → option_map view o ≡ Some (OfPending [])
     → option_map view (with_queue queue o) ≡ Some (OfPending queue)

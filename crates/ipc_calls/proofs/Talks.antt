@@ -1,5 +1,5 @@
 -- Which call a thread may poll.
-use Rattle.std.proofs.Common.{◌≡◌, ℕ, zero, suc, List, replicate, slice_index_or, Some, refl, ap, sym, ◌∙◌, subst}
+use Rattle.std.proofs.Common.{◌≡◌, List, replicate, Some, refl, ap, sym, ◌∙◌, subst}
 use Rattle.event_log.specs.declared.ids.Tid.{Tid}
 use Rattle.event_log.specs.declared.ids.TheConstants.{THREADS}
 use Rattle.layer_traits.specs.declared.calls.Call.{Call}

@@ -158,17 +158,33 @@ unlined t home here none = no_line (option_and_then (line_among t) home) (option
 pub home_there : (homes : List CpuId) (t : Tid) → t.0 < length homes → (home : CpuId) × (home_of homes t ≡ Some home)
 home_there homes t there = (_, slice_get-get_or homes t.0 (record { 0 = 0 }) there)
 
+-- the threads of a machine as its parts see them: how they moved and in which lines they sleep, the own threads of each part's CPU, and
+-- what the machine and each part tell of pending queues and of lines, which is the truth
+pub record Watched (P : Type 0) : Type 1 where
+  pub Fits : P → Type 0
+  pub cpu_of : P → CpuId
+  pub IsInside : CpuId → Type 0
+  pub homes : List CpuId
+  pub moves : List Step
+  pub n : ℕ
+  pub lines : BufId → Line → List Tid
+  pub own : P → Threads
+  pub queue_at : CpuId → Option (List Tid)
+  pub queue_with : P → CpuId → Option (List Tid)
+  pub lines_at : BufId → Option (Line → List Tid)
+  pub lines_with : P → BufId → Option (Line → List Tid)
+  pub lawful : AreMoves homes moves
+  pub agree : LinesAgree n homes moves lines
+  pub stands : (q : P) → Fits q → Stands homes (cpu_of q) moves (own q)
+  pub queues : (t : Tid) (d : CpuId) → home_of homes t ≡ Some d
+      → IsTold Fits cpu_of IsInside (λ q. queue_with q d) (queue_at d) (pending_by moves d)
+  pub beds : (b : BufId) → b.0 < n → IsTold Fits cpu_of IsInside (λ q. lines_with q b) (lines_at b) (lines b)
+
 -- of each thread some part can tell where it stands
-module _ {P : Type 0} (Fits : P → Type 0) (cpu_of : P → CpuId) (IsInside : CpuId → Type 0) (homes : List CpuId) (moves : List Step) (n : ℕ)
-    (lines : BufId → Line → List Tid) (own : P → Threads)
-    (queue_at : CpuId → Option (List Tid)) (queue_with : P → CpuId → Option (List Tid))
-    (lines_at : BufId → Option (Line → List Tid)) (lines_with : P → BufId → Option (Line → List Tid))
-    (lawful : AreMoves homes moves) (agree : LinesAgree n homes moves lines)
-    (stands : (q : P) → Fits q → Stands homes (cpu_of q) moves (own q))
-    (queues : (t : Tid) (d : CpuId) → home_of homes t ≡ Some d
-    → IsTold Fits cpu_of IsInside (λ q. queue_with q d) (queue_at d) (pending_by moves d))
-    (beds : (b : BufId) → b.0 < n → IsTold Fits cpu_of IsInside (λ q. lines_with q b) (lines_at b) (lines b))
-    (t : Tid) (home : CpuId) (home_is : home_of homes t ≡ Some home) where
+module _ {P : Type 0} (watched : Watched P) (t : Tid) (home : CpuId) (home_is : home_of watched.homes t ≡ Some home) where
+  open watched use {Fits, cpu_of, IsInside, homes, moves, n, lines, own, queue_at, queue_with, lines_at, lines_with}
+  open watched use {lawful, agree, stands, queues, beds}
+
   abbrev IsSilent : P → Type 0
   IsSilent q = IsSilentOf t (own q) (home_of homes t) n queue_at (queue_with q) lines_at (lines_with q)
 

@@ -353,18 +353,30 @@ impl<B: OpensBuffers> Owned for Ipc<B> {
         let home = home_there (homes_in (B.opening m)) t there in
         let acts = B.own_cpu p.lower m fits.0 in
         let cpu = B.cpu_of p.lower in
-        place_tells (λ (q : Self). Self.Fits q m) (λ (q : Self). B.cpu_of q.lower) (λ d. B.IsStepwise × (is_in_section (phase d (B.acts m)) ≡ true))
-        (homes_in (B.opening m)) (B.moves m) (length (B.caps m)) (B.lines m) (λ (q : Self). (B.own q.lower).cv.lock.sleep.threads)
-        (B.queue_at m) (λ (q : Self). B.queue_with q.lower) (B.lines_at m) (λ (q : Self). B.lines_with q.lower)
-        (B.moved m cpu acts) (B.lists p.lower m fits.0) (λ q fit. B.stands q.lower m fit.0)
-        (λ u d at. told_under (λ (q : Self). q.lower) (λ q. B.Fits q m) (λ (q : Self). Self.Fits q m) (λ q. B.cpu_of q)
-        (λ (q : Self). B.cpu_of q.lower) (λ d. B.IsStepwise × (is_in_section (phase d (B.acts m)) ≡ true))
-        (λ d. B.IsStepwise × (is_in_section (phase d (B.acts m)) ≡ true)) (λ q. B.queue_with q d) (B.queue_at m d)
-        (pending_by (B.moves m) d) (λ q fit. fit.0) (λ q fit. refl) (λ d inside. inside)
-        (B.queues m cpu d acts ((B.opens m cpu acts).queues u d at)))
-        (λ b within. told_under (λ (q : Self). q.lower) (λ q. B.Fits q m) (λ (q : Self). Self.Fits q m) (λ q. B.cpu_of q)
-        (λ (q : Self). B.cpu_of q.lower) (λ d. B.IsStepwise × (is_in_section (phase d (B.acts m)) ≡ true))
-        (λ d. B.IsStepwise × (is_in_section (phase d (B.acts m)) ≡ true)) (λ q. B.lines_with q b) (B.lines_at m b)
-        (B.lines m b) (λ q fit. fit.0) (λ q fit. refl) (λ d inside. inside) (B.beds m cpu b acts within))
-        t home.0 home.1 };
+        place_tells (record {
+          Fits = λ (q : Self). Self.Fits q m;
+          cpu_of = λ (q : Self). B.cpu_of q.lower;
+          IsInside = λ d. B.IsStepwise × (is_in_section (phase d (B.acts m)) ≡ true);
+          homes = homes_in (B.opening m);
+          moves = B.moves m;
+          n = length (B.caps m);
+          lines = B.lines m;
+          own = λ (q : Self). (B.own q.lower).cv.lock.sleep.threads;
+          queue_at = B.queue_at m;
+          queue_with = λ (q : Self). B.queue_with q.lower;
+          lines_at = B.lines_at m;
+          lines_with = λ (q : Self). B.lines_with q.lower;
+          lawful = B.moved m cpu acts;
+          agree = B.lists p.lower m fits.0;
+          stands = λ q fit. B.stands q.lower m fit.0;
+          queues = λ u d at. told_under (λ (q : Self). q.lower) (λ q. B.Fits q m) (λ (q : Self). Self.Fits q m) (λ q. B.cpu_of q)
+              (λ (q : Self). B.cpu_of q.lower) (λ d. B.IsStepwise × (is_in_section (phase d (B.acts m)) ≡ true))
+              (λ d. B.IsStepwise × (is_in_section (phase d (B.acts m)) ≡ true)) (λ q. B.queue_with q d) (B.queue_at m d)
+              (pending_by (B.moves m) d) (λ q fit. fit.0) (λ q fit. refl) (λ d inside. inside)
+              (B.queues m cpu d acts ((B.opens m cpu acts).queues u d at));
+          beds = λ b within. told_under (λ (q : Self). q.lower) (λ q. B.Fits q m) (λ (q : Self). Self.Fits q m) (λ q. B.cpu_of q)
+              (λ (q : Self). B.cpu_of q.lower) (λ d. B.IsStepwise × (is_in_section (phase d (B.acts m)) ≡ true))
+              (λ d. B.IsStepwise × (is_in_section (phase d (B.acts m)) ≡ true)) (λ q. B.lines_with q b) (B.lines_at m b)
+              (B.lines m b) (λ q fit. fit.0) (λ q fit. refl) (λ d inside. inside) (B.beds m cpu b acts within);
+        }) t home.0 home.1 };
 }

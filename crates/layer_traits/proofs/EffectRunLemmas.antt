@@ -7,7 +7,7 @@ use Rattle.std.specs.Prelude.{nat_lt, slice_index}
 use Rattle.event_log.specs.declared.entries.Entry.{Entry}
 use Rattle.event_log.specs.declared.entries.Kind.TheVariants.{Close}
 use Rattle.event_log.specs.Buffers.{IsAllowedEffect, items_of}
-use Rattle.event_log.specs.Runs.{IsNext, IsRun, after_entry, count_of, count_of_kind, kind_eq}
+use Rattle.event_log.specs.Runs.{IsNext, IsRun, after_entry, kind_eq}
 use Rattle.event_log.proofs.RunLemmas.{run_more, run_none}
 use Rattle.layer_traits.specs.BufferEffects.{contents_of}
 use Rattle.layer_traits.specs.EffectRuns.{EffectsAreRun}

@@ -160,19 +160,29 @@ pub named_raised : {M N R S T A C : Type 0} (name : M → N) (f : Left S A → L
 named_raised name f (Now left) = refl
 named_raised name f (Act lock m react) = refl
 
-module _ {D E A B O : Type 0} (k : Kernel D A O) (j : Kernel E B O) (name : D → E) (view : A → B)
-    (edits : (d : D) (a : A) → view (k.rules.edited d a) ≡ j.rules.edited (name d) (view a))
-    (answers : (d : D) (a : A) → k.rules.answer d a ≡ j.rules.answer (name d) (view a))
-    (openings : (lock : LockId) → j.opening lock ≡ option_map view (k.opening lock)) (homes : j.homes ≡ k.homes)
-    (callers : (d : D) → j.moves.caller (name d) ≡ k.moves.caller d) (slept : j.moves.slept ≡ k.moves.slept) (woke : j.moves.woke ≡ k.moves.woke)
-    (allowed : (past : List (Section D)) (s : Section D) → k.rules.allowed k.opening past s
-    → j.rules.allowed j.opening (map (renamed_section name) past) (renamed_section name s)) where
+-- The kernel j of a layer wraps the kernel k beneath: j's edits go under a name of theirs, and its blocks are views of those beneath.
+-- What is edited, answered, opened and moved there is so here, and what is allowed there is allowed here.
+pub record Wraps {D E A B O : Type 0} (k : Kernel D A O) (j : Kernel E B O) (name : D → E) (view : A → B) : Type 0 where
+  pub edits : (d : D) (a : A) → view (k.rules.edited d a) ≡ j.rules.edited (name d) (view a)
+  pub answers : (d : D) (a : A) → k.rules.answer d a ≡ j.rules.answer (name d) (view a)
+  pub openings : (lock : LockId) → j.opening lock ≡ option_map view (k.opening lock)
+  pub homes : j.homes ≡ k.homes
+  pub callers : (d : D) → j.moves.caller (name d) ≡ k.moves.caller d
+  pub slept : j.moves.slept ≡ k.moves.slept
+  pub woke : j.moves.woke ≡ k.moves.woke
+  pub allowed : (past : List (Section D)) (s : Section D) → k.rules.allowed k.opening past s
+      → j.rules.allowed j.opening (map (renamed_section name) past) (renamed_section name s)
+
+module _ {D E A B O : Type 0} (k : Kernel D A O) (j : Kernel E B O) (name : D → E) (view : A → B) (wraps : Wraps k j name view) where
+  open wraps use {edits, answers, openings, homes, callers, slept, woke, allowed}
+
   -- the block of a lock is the view of the block beneath
   pub block_renamed : (lock : LockId) (past : List (Section D))
       → block_after j.rules.edited j.opening lock (map (renamed_section name) past) ≡ option_map view (block_after k.rules.edited k.opening lock past)
   block_renamed lock past =
       ap (λ (o : LockId → Option B). block_after j.rules.edited o lock (map (renamed_section name) past)) (λ i l. openings l i)
-      ∙ block_viewed (table_of k.rules) (table_of j.rules) name view (λ o. o) edits answers k.opening lock past
+      ∙ block_viewed (table_of k.rules) (table_of j.rules) (record { name = name; view = view; told = λ o. o; edits = edits; answers = answers })
+      k.opening lock past
 
   out_viewed : (d : D) (o : Option A) → option_map (j.rules.answer (name d)) (option_map view o) ≡ option_map (k.rules.answer d) o
   out_viewed d None = refl
@@ -347,7 +357,7 @@ module _ {D E A B O : Type 0} (k : Kernel D A O) (j : Kernel E B O) (name : D �
           ∙ ap (λ a. a ∷ map (renamed (renamed_edit name)) follows.past) (sym (next_action_renamed (renamed_edit name) cpu lock m follows.past));
     };
     moves = follows.moves ∙ ap react (sym (same_option (reply (table_of (queue_rules k.rules k.moves)) opening cpu lock m follows.past))
-        ∙ reply_viewed (table_of (queue_rules k.rules k.moves)) (table_of (queue_rules j.rules j.moves)) (renamed_edit name) (viewed_block view)
-        (λ r. r) queue_edits queue_answers opening
-        cpu lock m follows.past);
+        ∙ reply_viewed (table_of (queue_rules k.rules k.moves)) (table_of (queue_rules j.rules j.moves))
+        (record { name = renamed_edit name; view = viewed_block view; told = λ r. r; edits = queue_edits; answers = queue_answers })
+        opening cpu lock m follows.past);
   }

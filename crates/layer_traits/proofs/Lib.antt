@@ -1,5 +1,6 @@
 pub mod Seen
 pub mod OneLockLemmas
+pub mod GrantLemmas
 pub mod PlanLemmas
 pub mod Alone
 pub mod PlanRenaming

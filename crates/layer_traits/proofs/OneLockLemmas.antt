@@ -1,18 +1,22 @@
--- The words and the home of one lock, event by event.
-use Rattle.std.proofs.Common.{◌≡◌, ℕ, ◌+◌, ◌%◌, ◌^◌, Bool, true, false, List, [], ◌∷◌, ◌==◌, Option, Some, None, IsSome, option_map, if◌then◌else◌}
-use Rattle.std.proofs.Common.{refl, ap, sym, ◌∙◌, subst, arith}
+-- The home and the counts of one lock, event by event.
+use Rattle.std.proofs.Common.{◌≡◌, ℕ, ◌+◌, ◌%◌, ◌^◌, ◌<◌, ◌≤◌, Bool, true, false, List, [], ◌∷◌, ◌==◌, Option, Some, None, IsSome, option_map, if◌then◌else◌}
+use Rattle.std.proofs.Common.{refl, ap, sym, ◌∙◌, subst}
 use Rattle.event_log.specs.declared.ids.CpuId.{CpuId}
 use Rattle.event_log.specs.declared.ids.LockId.{LockId}
 use Rattle.event_log.specs.declared.events.Event.{Event}
 use Rattle.event_log.specs.declared.events.Event.TheVariants.{Draw, Look, Free}
+use Rattle.event_log.specs.declared.ids.TheConstants.{CPUS}
+use Rattle.event_log.specs.Actions.{acts_of, gives, phase, place}
 use Rattle.event_log.specs.History.{same_cpu, same_lock}
-use Rattle.event_log.specs.WordsLog.{IsLegalWords, MayFollow, Outside, Waiting, Inside, actor, left_by, standing, draws, frees, is_draw, is_free}
+use Rattle.event_log.specs.WordsLog.{IsLegalWords, MayFollow, Outside, Waiting, Inside, actor, left_by, standing, draws, frees, is_free}
 use Rattle.event_log.specs.Sections.{block_after}
+use Rattle.event_log.proofs.Exclusion.{is_at, near}
 use Rattle.event_log.proofs.Same.{same_cpu_self, same_cpu_true, same_lock_self}
-use Rattle.event_log.proofs.Tickets.{one_inside, standing_other}
+use Rattle.event_log.proofs.Tickets.{gives_acts, legal_acts, one_inside, phase_acts, same_rests, standing_other, ticket_at}
+use Rattle.event_log.proofs.Told.{TicketOf, phase_of}
 use Rattle.layer_traits.specs.declared.edits.Mark.{Mark}
-use Rattle.layer_traits.specs.OneLock.{SomeoneInside, NobodyInside, LockFits}
-use Rattle.layer_traits.specs.WordsProtocol.{sections}
+use Rattle.layer_traits.specs.OneLock.{SomeoneInside, NobodyInside, HomeFits}
+use Rattle.layer_traits.specs.WordsProtocol.{edit_of, sections}
 
 -- the lock whose word an event acts on
 abbrev pub event_lock : {M : Type 0} → Event M → LockId
@@ -22,6 +26,32 @@ event_lock (Free cpu lock mark) = lock
 
 pub standing_own : {M : Type 0} (e : Event M) (log : List (Event M)) → standing (actor e) (e ∷ log) ≡ left_by e
 standing_own e log = ap (λ b. if b then left_by e else standing (actor e) log) (same_cpu_self (actor e))
+
+-- an event at another lock counts nothing here
+pub counts_elsewhere : {M : Type 0} (Fit : ℕ → ℕ → Type 0) (e : Event M) (log : List (Event M)) (lock : LockId) → same_lock lock (event_lock e) ≡ false
+    → Fit (draws lock log) (frees lock log) → Fit (draws lock (e ∷ log)) (frees lock (e ∷ log))
+counts_elsewhere Fit (Draw cpu at ticket) log lock other fits =
+    subst (λ b. Fit (if b then draws lock log + 1 else draws lock log) (frees lock log)) (sym other) fits
+counts_elsewhere Fit (Look cpu at ticket read) log lock other fits = fits
+counts_elsewhere Fit (Free cpu at mark) log lock other fits =
+    subst (λ b. Fit (draws lock log) (if b then frees lock log + 1 else frees lock log)) (sym other) fits
+
+-- for a CPU that waits, words that tell which place is served tell whether its look hits
+pub serves_exactly : {E : Type 0} (log : List (Event (Mark E))) → IsLegalWords log → (cpu : CpuId) (lock : LockId) (ticket : ℕ)
+    → standing cpu log ≡ Waiting lock ticket → (served : Bool)
+    → ((spot : ℕ) → frees lock log ≤ spot → spot < frees lock log + CPUS → ticket ≡ spot % 2 ^ 64 → served ≡ (frees lock log == spot))
+    → served ≡ (frees lock log % 2 ^ 64 == ticket)
+serves_exactly log legal cpu lock ticket waiting served tells =
+    let acts = legal_acts edit_of log legal in
+    let there : is_at lock (phase cpu (acts_of edit_of log)) ≡ true =
+    ap (is_at lock) (phase_acts edit_of cpu log ∙ ap phase_of waiting) ∙ same_lock_self lock in
+    let spot = place cpu (acts_of edit_of log) in
+    let has : ticket ≡ spot % 2 ^ 64 = subst (λ s. TicketOf s spot) waiting (ticket_at edit_of log legal cpu) in
+    let count : gives lock (acts_of edit_of log) ≡ frees lock log = gives_acts edit_of lock log in
+    let close = near (acts_of edit_of log) acts cpu lock there in
+    let ahead : frees lock log ≤ spot = subst (λ n. n ≤ spot) count close.0 in
+    let behind : spot < frees lock log + CPUS = subst (λ n. spot < n + CPUS) count close.1 in
+    tells spot ahead behind has ∙ sym (same_rests (frees lock log) spot (frees lock log % 2 ^ 64) ticket ahead behind refl has)
 
 -- who is inside is not the CPU that acts, where that one was not inside, and so stays inside
 someone_stays : {M : Type 0} (lock : LockId) (e : Event M) (log : List (Event M)) → ((t : ℕ) → standing (actor e) log ≡ Inside lock t → ⊥)
@@ -47,9 +77,6 @@ not_here lock at t s other e =
     let same : same_lock lock at ≡ true = subst (λ l. same_lock lock l ≡ true) (sym one) (same_lock_self lock) in
     cc
 
-wraps : (d n : ℕ) → n ≡ d % 2 ^ 64 → (n + 1) % 2 ^ 64 ≡ (d + 1) % 2 ^ 64
-wraps d n e = omega arith
-
 module _ {E B : Type 0} (edited : E → B → B) (opening : LockId → Option B) (lock : LockId) where
   block_keeps : (e : Event (Mark E)) (log : List (Event (Mark E))) → is_free lock e ≡ false
       → block_after edited opening lock (sections (e ∷ log)) ≡ block_after edited opening lock (sections log)
@@ -59,76 +86,50 @@ module _ {E B : Type 0} (edited : E → B → B) (opening : LockId → Option B)
       let before = block_after edited opening lock (sections log) in
       ap (λ b. if b then option_map (edited mark.edit) before else before) other
 
-  -- an event that neither draws at this lock nor frees it, and by which nobody enters or leaves it
-  lock_stays : (e : Event (Mark E)) (log : List (Event (Mark E))) → is_draw lock e ≡ false → is_free lock e ≡ false
+  -- an event that does not free this lock, and by which nobody enters or leaves it
+  lock_stays : (e : Event (Mark E)) (log : List (Event (Mark E))) → is_free lock e ≡ false
       → ((t : ℕ) → standing (actor e) log ≡ Inside lock t → ⊥) → ((t : ℕ) → left_by e ≡ Inside lock t → ⊥)
-      → (next serving : ℕ) (home : Option B) → LockFits edited opening log lock next serving home → LockFits edited opening (e ∷ log) lock next serving home
-  lock_stays e log not_drawn not_freed was now next serving None fits = record {
-    next_is = fits.next_is ∙ sym (ap (λ b. (if b then draws lock log + 1 else draws lock log) % 2 ^ 64) not_drawn);
-    serving_is = fits.serving_is ∙ sym (ap (λ b. (if b then frees lock log + 1 else frees lock log) % 2 ^ 64) not_freed);
-    home_is = someone_stays lock e log was fits.home_is;
-  }
-  lock_stays e log not_drawn not_freed was now next serving (Some block) fits = record {
-    next_is = fits.next_is ∙ sym (ap (λ b. (if b then draws lock log + 1 else draws lock log) % 2 ^ 64) not_drawn);
-    serving_is = fits.serving_is ∙ sym (ap (λ b. (if b then frees lock log + 1 else frees lock log) % 2 ^ 64) not_freed);
-    home_is = (nobody_stays lock e log now fits.home_is.0, block_keeps e log not_freed ∙ fits.home_is.1);
-  }
+      → (home : Option B) → HomeFits edited opening log lock home → HomeFits edited opening (e ∷ log) lock home
+  lock_stays e log not_freed was now None fits = someone_stays lock e log was fits
+  lock_stays e log not_freed was now (Some block) fits = (nobody_stays lock e log now fits.0, block_keeps e log not_freed ∙ fits.1)
 
   -- an event at another lock changes nothing here
   pub elsewhere : (e : Event (Mark E)) (log : List (Event (Mark E))) → MayFollow log e → same_lock lock (event_lock e) ≡ false
-      → (next serving : ℕ) (home : Option B) → LockFits edited opening log lock next serving home → LockFits edited opening (e ∷ log) lock next serving home
-  elsewhere (Draw cpu at ticket) log may other = lock_stays (Draw cpu at ticket) log other refl (λ t h. absurd (cc (may.1, h))) (λ t h. absurd (cc h))
+      → (home : Option B) → HomeFits edited opening log lock home → HomeFits edited opening (e ∷ log) lock home
+  elsewhere (Draw cpu at ticket) log may other = lock_stays (Draw cpu at ticket) log refl (λ t h. absurd (cc (may.1, h))) (λ t h. absurd (cc h))
   elsewhere (Look cpu at ticket read) log may other =
-      lock_stays (Look cpu at ticket read) log refl refl (λ t h. absurd (cc (may.0, h))) (λ t h. entered (read == ticket) t h)
+      lock_stays (Look cpu at ticket read) log refl (λ t h. absurd (cc (may.0, h))) (λ t h. entered (read == ticket) t h)
     where
       entered : (b : Bool) (t : ℕ) → (if b then Inside at ticket else Waiting at ticket) ≡ Inside lock t → ⊥
       entered true t h = not_here lock at t ticket other h
       entered false t h = absurd (cc h)
   elsewhere (Free cpu at mark) log may other =
-      lock_stays (Free cpu at mark) log refl other (λ t h. not_here lock at t may.0 other (sym may.1 ∙ h)) (λ t h. absurd (cc h))
+      lock_stays (Free cpu at mark) log other (λ t h. not_here lock at t may.0 other (sym may.1 ∙ h)) (λ t h. absurd (cc h))
 
-  -- a draw adds one to `next`
-  pub drew : (cpu : CpuId) (ticket : ℕ) (log : List (Event (Mark E))) → standing cpu log ≡ Outside → (next serving : ℕ) (home : Option B)
-      → LockFits edited opening log lock next serving home → LockFits edited opening (Draw cpu lock ticket ∷ log) lock ((next + 1) % 2 ^ 64) serving home
-  drew cpu ticket log outside next serving None fits = record {
-    next_is = wraps (draws lock log) next fits.next_is ∙ sym (ap (λ b. (if b then draws lock log + 1 else draws lock log) % 2 ^ 64) (same_lock_self lock));
-    serving_is = fits.serving_is;
-    home_is = someone_stays lock (Draw cpu lock ticket) log (λ t h. absurd (cc (outside, h))) fits.home_is;
-  }
-  drew cpu ticket log outside next serving (Some block) fits = record {
-    next_is = wraps (draws lock log) next fits.next_is ∙ sym (ap (λ b. (if b then draws lock log + 1 else draws lock log) % 2 ^ 64) (same_lock_self lock));
-    serving_is = fits.serving_is;
-    home_is = (nobody_stays lock (Draw cpu lock ticket) log (λ t h. absurd (cc h)) fits.home_is.0, fits.home_is.1);
-  }
+  -- a draw leaves the home as it is
+  pub drew : (cpu : CpuId) (ticket : ℕ) (log : List (Event (Mark E))) → standing cpu log ≡ Outside → (home : Option B)
+      → HomeFits edited opening log lock home → HomeFits edited opening (Draw cpu lock ticket ∷ log) lock home
+  drew cpu ticket log outside = lock_stays (Draw cpu lock ticket) log refl (λ t h. absurd (cc (outside, h))) (λ t h. absurd (cc h))
 
-  -- a look that misses changes nothing
+  -- and so does a look that misses
   pub missed : (cpu : CpuId) (ticket read : ℕ) (log : List (Event (Mark E))) → standing cpu log ≡ Waiting lock ticket → (read == ticket) ≡ false
-      → (next serving : ℕ) (home : Option B)
-      → LockFits edited opening log lock next serving home → LockFits edited opening (Look cpu lock ticket read ∷ log) lock next serving home
+      → (home : Option B) → HomeFits edited opening log lock home → HomeFits edited opening (Look cpu lock ticket read ∷ log) lock home
   missed cpu ticket read log waiting misses =
-      lock_stays (Look cpu lock ticket read) log refl refl (λ t h. absurd (cc (waiting, h)))
+      lock_stays (Look cpu lock ticket read) log refl (λ t h. absurd (cc (waiting, h)))
       (λ t h. absurd (cc (subst (λ b. (if b then Inside lock ticket else Waiting lock ticket) ≡ Inside lock t) misses h)))
 
   -- a look that hits leaves the home empty
-  pub hit : (cpu : CpuId) (ticket read : ℕ) (log : List (Event (Mark E))) → (read == ticket) ≡ true → (next serving : ℕ) (home : Option B)
-      → LockFits edited opening log lock next serving home → LockFits edited opening (Look cpu lock ticket read ∷ log) lock next serving None
-  hit cpu ticket read log hits next serving home fits = record {
-    next_is = fits.next_is;
-    serving_is = fits.serving_is;
-    home_is = (cpu, ticket, standing_own (Look cpu lock ticket read) log ∙ ap (λ b. if b then Inside lock ticket else Waiting lock ticket) hits);
-  }
+  pub hit : (cpu : CpuId) (ticket read : ℕ) (log : List (Event (Mark E))) → (read == ticket) ≡ true
+      → HomeFits edited opening (Look cpu lock ticket read ∷ log) lock None
+  hit cpu ticket read log hits =
+      (cpu, ticket, standing_own (Look cpu lock ticket read) log ∙ ap (λ b. if b then Inside lock ticket else Waiting lock ticket) hits)
 
-  -- a free adds one to `serving`, and the edited block is home
+  -- a free brings the edited block home
   pub freed : (cpu : CpuId) (ticket : ℕ) (mark : Mark E) (log : List (Event (Mark E))) → IsLegalWords log → standing cpu log ≡ Inside lock ticket
       → (block : B) → option_map (edited mark.edit) (block_after edited opening lock (sections log)) ≡ Some block
-      → (next serving : ℕ) (home : Option B)
-      → LockFits edited opening log lock next serving home → LockFits edited opening (Free cpu lock mark ∷ log) lock next ((serving + 1) % 2 ^ 64) (Some block)
-  freed cpu ticket mark log legal inside block is next serving home fits = record {
-    next_is = fits.next_is;
-    serving_is = wraps (frees lock log) serving fits.serving_is
-        ∙ sym (ap (λ b. (if b then frees lock log + 1 else frees lock log) % 2 ^ 64) (same_lock_self lock));
-    home_is = (nobody, ap (λ b. if b then option_map (edited mark.edit) before else before) (same_lock_self lock) ∙ is);
-  }
+      → HomeFits edited opening (Free cpu lock mark ∷ log) lock (Some block)
+  freed cpu ticket mark log legal inside block is =
+      (nobody, ap (λ b. if b then option_map (edited mark.edit) before else before) (same_lock_self lock) ∙ is)
     where
       before : Option B
       before = block_after edited opening lock (sections log)
@@ -148,31 +149,30 @@ module _ {E B : Type 0} (edited : E → B → B) (opening : LockId → Option B)
 
   -- a look that hits finds the block at home
   pub hit_finds : (cpu : CpuId) (ticket read : ℕ) (log : List (Event (Mark E))) → IsLegalWords (Look cpu lock ticket read ∷ log) → (read == ticket) ≡ true
-      → (next serving : ℕ) (home : Option B) → LockFits edited opening log lock next serving home → IsSome home
-  hit_finds cpu ticket read log legal hits next serving (Some block) fits = refl
-  hit_finds cpu ticket read log legal hits next serving None fits =
-      absurd (go (same_cpu cpu fits.home_is.0) refl)
+      → (home : Option B) → HomeFits edited opening log lock home → IsSome home
+  hit_finds cpu ticket read log legal hits (Some block) fits = refl
+  hit_finds cpu ticket read log legal hits None fits =
+      absurd (go (same_cpu cpu fits.0) refl)
     where
       c : CpuId
-      c = fits.home_is.0
+      c = fits.0
 
       entered : standing cpu (Look cpu lock ticket read ∷ log) ≡ Inside lock ticket
       entered = standing_own (Look cpu lock ticket read) log ∙ ap (λ b. if b then Inside lock ticket else Waiting lock ticket) hits
 
       go : (b : Bool) → same_cpu cpu c ≡ b → ⊥
-      go true same = cc (legal.0.0, subst (λ d. standing d log ≡ Inside lock fits.home_is.1) (sym (same_cpu_true cpu c same)) fits.home_is.2)
+      go true same = cc (legal.0.0, subst (λ d. standing d log ≡ Inside lock fits.1) (sym (same_cpu_true cpu c same)) fits.2)
       go false other =
-          let there : standing c (Look cpu lock ticket read ∷ log) ≡ Inside lock fits.home_is.1
-          = standing_other (Look cpu lock ticket read) log c other ∙ fits.home_is.2 in
-          let one : c ≡ cpu = one_inside (Look cpu lock ticket read ∷ log) legal c cpu lock fits.home_is.1 ticket there entered in
+          let there : standing c (Look cpu lock ticket read ∷ log) ≡ Inside lock fits.1
+          = standing_other (Look cpu lock ticket read) log c other ∙ fits.2 in
+          let one : c ≡ cpu = one_inside (Look cpu lock ticket read ∷ log) legal c cpu lock fits.1 ticket there entered in
           cc (other, subst (λ d. same_cpu cpu d ≡ true) (sym one) (same_cpu_self cpu))
 
   -- where nobody is inside, the block is home
-  pub all_home : (log : List (Event (Mark E))) → NobodyInside lock log → (next serving : ℕ) (home : Option B)
-      → LockFits edited opening log lock next serving home → IsSome home
-  all_home log nobody next serving (Some block) fits = refl
-  all_home log nobody next serving None fits = absurd (nobody fits.home_is.0 fits.home_is.1 fits.home_is.2)
+  pub all_home : (log : List (Event (Mark E))) → NobodyInside lock log → (home : Option B) → HomeFits edited opening log lock home → IsSome home
+  all_home log nobody (Some block) fits = refl
+  all_home log nobody None fits = absurd (nobody fits.0 fits.1 fits.2)
 
-  -- before the first event the words are 0 and the block is home
-  pub fresh : (block : B) → opening lock ≡ Some block → LockFits edited opening [] lock 0 0 (Some block)
-  fresh block is = record { next_is = refl; serving_is = refl; home_is = (λ c t h. absurd (cc h), is) }
+  -- before the first event the block is home
+  pub fresh : (block : B) → opening lock ≡ Some block → HomeFits edited opening [] lock (Some block)
+  fresh block is = (λ c t h. absurd (cc h), is)

@@ -1,21 +1,29 @@
--- A layer that wraps its edits in those of the layer beneath: a poll that followed its plan there followed it here, under the layer's own names.
+-- A layer that wraps its edits in those of the layer beneath: its blocks and replies are views of those there, under the layer's own names.
 use Rattle.std.proofs.Common.{◌≡◌, Bool, true, false, List, [], ◌∷◌, ◌++◌, Option, Some, None, option_map, if◌then◌else◌, map, refl, ap, sym, ◌∙◌}
 use Rattle.event_log.specs.declared.ids.CpuId.{CpuId}
 use Rattle.event_log.specs.declared.ids.LockId.{LockId}
 use Rattle.event_log.specs.History.{same_lock}
-use Rattle.event_log.specs.Actions.{Action, Phase, Rests, Waits, Holds, phase, next_action, renamed}
+use Rattle.event_log.specs.Actions.{Action, Phase, Rests, Waits, Holds, phase, renamed}
 use Rattle.event_log.specs.Sections.{Section, renamed_section, sections_in, block_after}
-use Rattle.event_log.proofs.Renaming.{phase_renamed, next_action_renamed, others_renamed, sections_in_renamed}
-use Rattle.layer_traits.specs.Plans.{Table, Left, Plan, Now, Act, Follows, at_give, reply, lowered}
+use Rattle.event_log.proofs.Renaming.{phase_renamed, sections_in_renamed}
+use Rattle.layer_traits.specs.Plans.{Table, at_give, reply}
 
 pub map-append : {X Y : Type 0} (f : X → Y) (xs ys : List X) → map f (xs ++ ys) ≡ map f xs ++ map f ys
 map-append f [] ys = refl
 map-append f (x ∷ xs) ys = ap (λ l. f x ∷ l) (map-append f xs ys)
 
--- M, A and Q are the names, blocks and answers beneath, and N, B and R those of the layer
-module _ {M N A B Q R : Type 0} (low : Table M A Q) (high : Table N B R) (name : M → N) (view : A → B) (told : Q → R)
-    (edits : (m : M) (block : A) → view (low.edited m block) ≡ high.edited (name m) (view block))
-    (answers : (m : M) (block : A) → told (low.answer m block) ≡ high.answer (name m) (view block)) (opening : LockId → Option A) where
+-- A table stands on the one beneath: its names, blocks and answers are made of those there, and edits and answers agree. M, A and Q
+-- are the names, blocks and answers beneath, and N, B and R those of the layer.
+pub record StandsOn {M N A B Q R : Type 0} (low : Table M A Q) (high : Table N B R) : Type 0 where
+  pub name : M → N
+  pub view : A → B
+  pub told : Q → R
+  pub edits : (m : M) (block : A) → view (low.edited m block) ≡ high.edited (name m) (view block)
+  pub answers : (m : M) (block : A) → told (low.answer m block) ≡ high.answer (name m) (view block)
+
+module _ {M N A B Q R : Type 0} (low : Table M A Q) (high : Table N B R) (stands : StandsOn low high) (opening : LockId → Option A) where
+  open stands use {name, view, told, edits, answers}
+
   viewed_edit : (m : M) (block : Option A) → option_map (high.edited (name m)) (option_map view block) ≡ option_map view (option_map (low.edited m) block)
   viewed_edit m None = refl
   viewed_edit m (Some block) = ap Some (sym (edits m block))
@@ -56,23 +64,3 @@ module _ {M N A B Q R : Type 0} (low : Table M A Q) (high : Table N B R) (name :
       ∙ (ap (λ b. at_give (phase cpu past) (option_map (high.answer (name m)) b)) (sym (block_viewed lock (sections_in past)))
       ∙ (ap (λ l. at_give (phase cpu past) (answer l)) (sym (sections_in_renamed name past))
       ∙ ap (λ p. at_give p (answer (sections_in (map (renamed name) past)))) (sym (phase_renamed name cpu past)))))
-
-  -- a poll that followed the lowered plan beneath followed the plan here
-  pub follows_renamed : {S T : Type 0} (code : N → M) → ((n : N) → name (code n) ≡ n) → (ActsFor : CpuId → Type 0) (cpu : CpuId)
-      (plan : Plan N R S T) (old new : List (Action M)) (got : Left S T)
-      → Follows ActsFor low opening cpu (lowered code told plan) old new got
-      → Follows ActsFor high (λ l. option_map view (opening l)) cpu plan (map (renamed name) old) (map (renamed name) new) got
-  follows_renamed code codes ActsFor cpu (Now left) old new got follows = (ap (map (renamed name)) follows.0, follows.1)
-  follows_renamed code codes ActsFor cpu (Act lock n react) old new got follows = record {
-    past = map (renamed name) follows.past;
-    acted = record {
-      others = map (renamed name) follows.acted.others;
-      foreign = λ c acts. others_renamed name c follows.acted.others (follows.acted.foreign c acts);
-      joined = ap (map (renamed name)) follows.acted.joined ∙ map-append (renamed name) follows.acted.others old;
-      grows = ap (map (renamed name)) follows.acted.grows
-          ∙ (ap (λ a. a ∷ map (renamed name) follows.past) (sym (next_action_renamed name cpu lock (code n) follows.past))
-          ∙ ap (λ k. next_action cpu lock k (map (renamed name) follows.past) ∷ map (renamed name) follows.past) (codes n));
-    };
-    moves = follows.moves ∙ ap react (reply_viewed cpu lock (code n) follows.past
-        ∙ ap (λ k. reply high (λ l. option_map view (opening l)) cpu lock k (map (renamed name) follows.past)) (codes n));
-  }

@@ -17,6 +17,7 @@ use Rattle.event_log.proofs.Tickets.{phase_of, phase_acts, legal_acts, one_insid
 use Rattle.layer_traits.specs.declared.edits.Mark.{Mark}
 use Rattle.layer_traits.specs.Protocol.{StaysAllowed, IsKnown}
 use Rattle.layer_traits.specs.WordsProtocol.{MayCome, edit_of, sections}
+pub use Rattle.layer_traits.specs.WordsProtocol.{words_legal}
 
 pub sections-append : {E : Type 0} (more log : List (Event (Mark E))) → sections (more ++ log) ≡ sections more ++ sections log
 sections-append more log = sections_of-append edit_of more log
@@ -31,12 +32,7 @@ pub foreign_sections : {E : Type 0} (ActsFor : CpuId → Type 0) (more : List (E
 foreign_sections ActsFor more foreign = λ cpu acts. others_sections cpu more (foreign cpu acts)
 
 module _ {E : Type 0} (Allowed : List (Section E) → Section E → Type 0) where
-  -- a log that keeps the protocol is a legal words log
-  pub words_legal : (log : List (Event (Mark E))) → IsLawful (MayCome Allowed) log → IsLegalWords log
-  words_legal [] h = tt
-  words_legal (e ∷ past) h = (h.0.0, words_legal past h.1)
-
-  -- its sections are each allowed
+  -- the sections of a log that keeps the protocol are each allowed
   pub sections_allowed : (log : List (Event (Mark E))) → IsLawful (MayCome Allowed) log → IsLawful Allowed (sections log)
   sections_allowed [] h = tt
   sections_allowed (Draw cpu lock ticket ∷ past) h = sections_allowed past h.1

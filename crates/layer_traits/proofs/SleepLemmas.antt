@@ -19,8 +19,7 @@ HandKept (Some t) (Some outcome) = Unit {0}
 HandKept None (Some outcome) = ⊥
 HandKept (Some t) None = ⊥
 
-module _ {E B O : Type 0} (k : Kernel E B (Outcome O)) (ActsFor : CpuId → Type 0) (c : CpuId) (b : BufId) (e : E) (old new : List (QueueEvent E))
-    (own : Sleeping O) (own' : Threads) where
+module _ {E B O : Type 0} (k : Kernel E B (Outcome O)) (b : BufId) (e : E) where
   answer_is : (past : List (QueueEvent E)) (outcome : Outcome O) → option_map Answer (out_at k past b e) ≡ Some (Answer outcome)
       → out_at k past b e ≡ Some outcome
   answer_is past outcome answers = go (out_at k past b e) answers
@@ -37,10 +36,11 @@ module _ {E B O : Type 0} (k : Kernel E B (Outcome O)) (ActsFor : CpuId → Type
       go (Some out) some = cc
 
   -- what the scheduler's poll did is a poll here, and leaves what its answer tells
-  pub sleep_polled : (hand : Option Tid) (kept : Option (Outcome O)) (answer : Option (SchedAnswer (Outcome O))) → own.threads.hand ≡ hand → own.kept ≡ kept
+  pub sleep_polled : (ActsFor : CpuId → Type 0) (c : CpuId) (old new : List (QueueEvent E)) (own : Sleeping O) (own' : Threads)
+      (hand : Option Tid) (kept : Option (Outcome O)) (answer : Option (SchedAnswer (Outcome O))) → own.threads.hand ≡ hand → own.kept ≡ kept
       → HandKept hand kept
       → SchedPolled k ActsFor c (due hand b e) answer old new own.threads own' → SleepPolled k ActsFor c b e old new own (left_told kept own' answer)
-  sleep_polled None None None in_hand is_kept fits polled = record {
+  sleep_polled ActsFor c old new own own' None None None in_hand is_kept fits polled = record {
     others = polled.others;
     foreign = polled.foreign;
     deed = Waits;
@@ -48,8 +48,8 @@ module _ {E B O : Type 0} (k : Kernel E B (Outcome O)) (ActsFor : CpuId → Type
     is = polled.is;
     leaves = λ i. record { own = record { threads = polled.after i; kept = sym is_kept i }; answer = None };
   }
-  sleep_polled None None (Some Done) in_hand is_kept fits polled = absurd (no_answer (polled.others ++ old) polled.answers)
-  sleep_polled None None (Some (Answer outcome)) in_hand is_kept fits polled =
+  sleep_polled ActsFor c old new own own' None None (Some Done) in_hand is_kept fits polled = absurd (no_answer (polled.others ++ old) polled.answers)
+  sleep_polled ActsFor c old new own own' None None (Some (Answer outcome)) in_hand is_kept fits polled =
       let out : out_at k (polled.others ++ old) b e ≡ Some outcome = answer_is (polled.others ++ old) outcome polled.answers in
       record {
         others = polled.others;
@@ -59,7 +59,7 @@ module _ {E B O : Type 0} (k : Kernel E B (Outcome O)) (ActsFor : CpuId → Type
         is = polled.is;
         leaves = ap (left_done outcome) (polled.after ∙ ap (λ o. own_answered k.moves k.homes c o own.threads) out);
       }
-  sleep_polled (Some t) (Some outcome) None in_hand is_kept fits polled = record {
+  sleep_polled ActsFor c old new own own' (Some t) (Some outcome) None in_hand is_kept fits polled = record {
     others = polled.others;
     foreign = polled.foreign;
     deed = Waits;
@@ -67,7 +67,7 @@ module _ {E B O : Type 0} (k : Kernel E B (Outcome O)) (ActsFor : CpuId → Type
     is = polled.is;
     leaves = λ i. record { own = record { threads = polled.after i; kept = sym is_kept i }; answer = None };
   }
-  sleep_polled (Some t) (Some outcome) (Some Done) in_hand is_kept fits polled = record {
+  sleep_polled ActsFor c old new own own' (Some t) (Some outcome) (Some Done) in_hand is_kept fits polled = record {
     others = polled.others;
     foreign = polled.foreign;
     deed = Sends t;
@@ -75,9 +75,9 @@ module _ {E B O : Type 0} (k : Kernel E B (Outcome O)) (ActsFor : CpuId → Type
     is = polled.is;
     leaves = λ i. record { own = record { threads = polled.after i; kept = None }; answer = sym is_kept i };
   }
-  sleep_polled (Some t) (Some outcome) (Some (Answer out)) in_hand is_kept fits polled = let other = polled.answers in absurd cc
-  sleep_polled None (Some outcome) answer in_hand is_kept fits polled = absurd fits
-  sleep_polled (Some t) None answer in_hand is_kept fits polled = absurd fits
+  sleep_polled ActsFor c old new own own' (Some t) (Some outcome) (Some (Answer out)) in_hand is_kept fits polled = let other = polled.answers in absurd cc
+  sleep_polled ActsFor c old new own own' None (Some outcome) answer in_hand is_kept fits polled = absurd fits
+  sleep_polled ActsFor c old new own own' (Some t) None answer in_hand is_kept fits polled = absurd fits
 
 -- whether a pass is done, told as an answer of the scheduler
 pub done_same : (O : Type 0) (result : Option (Unit {0})) → is_some (done_if {O = O} result) ≡ is_some result

@@ -1,11 +1,9 @@
 -- A layer that wraps its edits in those of a sleeping layer beneath: a poll and a plan there are a poll and a plan here, under the
 -- layer's own names.
-use Rattle.std.proofs.Common.{◌≡◌, List, ◌∷◌, ◌++◌, Option, Some, None, option_map, map, refl, ap, sym, ◌∙◌, subst}
+use Rattle.std.proofs.Common.{◌≡◌, List, ◌∷◌, ◌++◌, Option, Some, None, refl, ap, sym, ◌∙◌, subst}
 use Rattle.event_log.specs.declared.ids.BufId.{BufId}
 use Rattle.event_log.specs.declared.ids.CpuId.{CpuId}
-use Rattle.event_log.specs.declared.ids.LockId.{LockId}
 use Rattle.event_log.specs.declared.ids.Tid.{Tid}
-use Rattle.event_log.specs.Sections.{Section, renamed_section}
 use Rattle.layer_traits.specs.declared.passes.Pass.{Pass}
 use Rattle.layer_traits.specs.declared.queues.QueueCall.TheVariants as queue
 use Rattle.layer_traits.specs.declared.queues.QueueEvent.{QueueEvent}
@@ -18,31 +16,25 @@ use Rattle.layer_traits.specs.Renaming.{named, renamed_edit, renamed_events, ren
 use Rattle.layer_traits.specs.Scheds.{sched_plan}
 use Rattle.layer_traits.specs.SleepLaw.{Deed, MayDo, SleepPolled, Sleeping, Waits, Does, Sends, due, left_done}
 use Rattle.layer_traits.specs.SleepLaw.{left_passed, left_told, left_with, pass_plan, seen_with, sleep_plan}
-use Rattle.layer_traits.proofs.KernelRenaming.{answered_renamed, events_append, events_others, named_raised, out_renamed, plan_renamed}
+use Rattle.layer_traits.proofs.KernelRenaming.{Wraps, answered_renamed, events_append, events_others, named_raised, out_renamed, plan_renamed}
 
-module _ {D E A B O : Type 0} (k : Kernel D A (Outcome O)) (j : Kernel E B (Outcome O)) (name : D → E) (view : A → B)
-    (edits : (d : D) (a : A) → view (k.rules.edited d a) ≡ j.rules.edited (name d) (view a))
-    (answers : (d : D) (a : A) → k.rules.answer d a ≡ j.rules.answer (name d) (view a))
-    (openings : (lock : LockId) → j.opening lock ≡ option_map view (k.opening lock)) (homes : j.homes ≡ k.homes)
-    (callers : (d : D) → j.moves.caller (name d) ≡ k.moves.caller d) (slept : j.moves.slept ≡ k.moves.slept) (woke : j.moves.woke ≡ k.moves.woke)
-    (allowed : (past : List (Section D)) (s : Section D) → k.rules.allowed k.opening past s
-    → j.rules.allowed j.opening (map (renamed_section name) past) (renamed_section name s)) where
+module _ {D E A B O : Type 0} (k : Kernel D A (Outcome O)) (j : Kernel E B (Outcome O)) (name : D → E) (view : A → B) (wraps : Wraps k j name view) where
   may_renamed : (c : CpuId) (b : BufId) (d : D) (deed : Deed O) (past : List (QueueEvent D)) (own : Sleeping O) → MayDo k c b d deed past own
       → MayDo j c b (name d) deed (renamed_events name past) own
   may_renamed c b d Waits past own may = tt
-  may_renamed c b d (Does outcome) past own may = (may.0, out_renamed k j name view edits answers openings homes callers slept woke allowed past b d ∙ may.1)
+  may_renamed c b d (Does outcome) past own may = (may.0, out_renamed k j name view wraps past b d ∙ may.1)
   may_renamed c b d (Sends t) past own may = may
 
   seen_renamed : (c : CpuId) (b : BufId) (d : D) (deed : Deed O) (past : List (QueueEvent D))
       → renamed_events name (seen_with k c b d deed past) ≡ seen_with j c b (name d) deed (renamed_events name past)
   seen_renamed c b d Waits past = refl
   seen_renamed c b d (Does outcome) past = refl
-  seen_renamed c b d (Sends t) past = ap (λ (h : List CpuId). event c (queue.Push (queue_for h c t) t) ∷ renamed_events name past) (sym homes)
+  seen_renamed c b d (Sends t) past = ap (λ (h : List CpuId). event c (queue.Push (queue_for h c t) t) ∷ renamed_events name past) (sym wraps.homes)
 
   left_renamed : (c : CpuId) (b : BufId) (d : D) (deed : Deed O) (own : Sleeping O) → left_with k c b d deed own ≡ left_with j c b (name d) deed own
   left_renamed c b d Waits own = refl
   left_renamed c b d (Does outcome) own =
-      ap (left_done outcome) (sym (answered_renamed k j name view edits answers openings homes callers slept woke allowed c (Some outcome) own.threads))
+      ap (left_done outcome) (sym (answered_renamed k j name view wraps c (Some outcome) own.threads))
   left_renamed c b d (Sends t) own = refl
 
   -- a poll beneath is a poll here
@@ -71,11 +63,11 @@ module _ {D E A B O : Type 0} (k : Kernel D A (Outcome O)) (j : Kernel E B (Outc
   sleep_plan_renamed h c b d own =
       named_raised (renamed_edit name) (λ l. left_told own.kept l.own l.answer) (sched_plan k.moves h c (due own.threads.hand b d) own.threads)
       ∙ (ap (raised (λ l. left_told own.kept l.own l.answer))
-      (plan_renamed k j name view edits answers openings homes callers slept woke allowed h c (due own.threads.hand b d) own.threads)
+      (plan_renamed k j name view wraps h c (due own.threads.hand b d) own.threads)
       ∙ ap (λ s. raised (λ l. left_told own.kept l.own l.answer) (sched_plan j.moves h c s own.threads)) (due_renamed own.threads.hand b d))
 
   pub pass_plan_renamed : (h : List CpuId) (c : CpuId) (p : Pass) (own : Sleeping O)
       → named (renamed_edit name) (pass_plan k.moves h c p own) ≡ pass_plan j.moves h c p own
   pass_plan_renamed h c p own =
       named_raised (renamed_edit name) (left_passed own.kept) (sched_plan k.moves h c (call.Pass p) own.threads)
-      ∙ ap (raised (left_passed own.kept)) (plan_renamed k j name view edits answers openings homes callers slept woke allowed h c (call.Pass p) own.threads)
+      ∙ ap (raised (left_passed own.kept)) (plan_renamed k j name view wraps h c (call.Pass p) own.threads)

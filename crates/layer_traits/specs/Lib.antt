@@ -3,6 +3,7 @@ pub mod WordsProtocol
 pub mod GrantProtocol
 pub mod Turns
 pub mod OneLock
+pub mod GrantsTold
 pub mod Plans
 pub mod Acted
 pub mod Along

@@ -1,10 +1,10 @@
--- The two words and the home block of one lock, read against a words log; the opening blocks as a list.
-use Rattle.std.specs.Prelude.{◌≡◌, ℕ, ◌%◌, ◌^◌, false, List, [], ◌∷◌, Option, Some, None, MatchOption, if◌then◌else◌}
+-- The home block of one lock, read against a words log; the opening blocks as a list.
+use Rattle.std.specs.Prelude.{◌≡◌, ℕ, false, List, [], ◌∷◌, Option, Some, None, MatchOption, if◌then◌else◌}
 use Rattle.event_log.specs.declared.ids.CpuId.{CpuId}
 use Rattle.event_log.specs.declared.ids.LockId.{LockId}
 use Rattle.event_log.specs.declared.events.Event.{Event}
 use Rattle.event_log.specs.History.{same_lock}
-use Rattle.event_log.specs.WordsLog.{draws, frees, standing, Inside}
+use Rattle.event_log.specs.WordsLog.{standing, Inside}
 use Rattle.event_log.specs.Sections.{block_after}
 use Rattle.layer_traits.specs.declared.edits.Mark.{Mark}
 use Rattle.layer_traits.specs.WordsProtocol.{sections}
@@ -17,13 +17,10 @@ SomeoneInside lock log = (cpu : CpuId) × (ticket : ℕ) × (standing cpu log �
 abbrev pub NobodyInside : {M : Type 0} → LockId → List (Event M) → Type 0
 NobodyInside lock log = (cpu : CpuId) (ticket : ℕ) → standing cpu log ≡ Inside lock ticket → ⊥
 
--- the words and the home of a lock are those that its log says: `next` counts the draws and `serving` the frees, modulo 2^64;
--- the home is empty exactly while a CPU is inside, and else it holds the block that the sections leave
-pub record LockFits {E B : Type 0} (edited : E → B → B) (opening : LockId → Option B) (log : List (Event (Mark E)))
-    (lock : LockId) (next serving : ℕ) (home : Option B) : Type 0 where
-  pub next_is : next ≡ draws lock log % 2 ^ 64
-  pub serving_is : serving ≡ frees lock log % 2 ^ 64
-  pub home_is : MatchOption home (SomeoneInside lock log) (λ block. NobodyInside lock log × (block_after edited opening lock (sections log) ≡ Some block))
+-- the home of a lock is empty exactly while a CPU is inside, and else it holds the block that the sections leave
+abbrev pub HomeFits : {E B : Type 0} → (E → B → B) → (LockId → Option B) → List (Event (Mark E)) → LockId → Option B → Type 0
+HomeFits edited opening log lock home =
+    MatchOption home (SomeoneInside lock log) (λ block. NobodyInside lock log × (block_after edited opening lock (sections log) ≡ Some block))
 
 -- the opening block of a lock in a list of locks with their blocks; None where the lock does not stand there
 abbrev pub opened : {B : Type 0} → List (LockId × B) → LockId → Option B

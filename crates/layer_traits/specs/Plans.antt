@@ -81,8 +81,3 @@ section_plan lock edit = Act lock edit answered
 abbrev pub raised : {N R S T A B : Type 0} → (Left S A → Left T B) → Plan N R S A → Plan N R T B
 raised f (Now left) = Now (f left)
 raised f (Act lock name react) = Act lock name (λ reply. f (react reply))
-
--- the same plan in the names and answers beneath: a section goes under the name that codes its own, and its answer there tells its own
-abbrev pub lowered : {N M Q R S A : Type 0} → (N → M) → (Q → R) → Plan N R S A → Plan M Q S A
-lowered code told (Now left) = Now left
-lowered code told (Act lock name react) = Act lock (code name) (λ reply. react (option_map told reply))

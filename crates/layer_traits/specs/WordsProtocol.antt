@@ -1,9 +1,10 @@
 -- The protocol in a words log: its Frees are the sections, each with the edit that its mark tells. Only locks of words and what lies
 -- beneath them need it.
-use Rattle.std.specs.Prelude.{List}
+use Rattle.std.specs.Prelude.{List, [], ◌∷◌}
 use Rattle.event_log.specs.declared.events.Event.{Event}
 use Rattle.event_log.specs.declared.events.Event.TheVariants.{Draw, Look, Free}
-use Rattle.event_log.specs.WordsLog.{MayFollow}
+use Rattle.event_log.specs.History.{IsLawful}
+use Rattle.event_log.specs.WordsLog.{IsLegalWords, MayFollow}
 use Rattle.event_log.specs.Sections.{Section, sections_of}
 use Rattle.layer_traits.specs.declared.edits.Mark.{Mark}
 
@@ -28,3 +29,9 @@ KeepsProtocol Allowed past (Free cpu lock mark) = Allowed (sections past) (recor
 -- an event may come: it may follow this past in a words log, and it keeps the protocol
 abbrev pub MayCome : {E : Type 0} → (List (Section E) → Section E → Type 0) → List (Event (Mark E)) → Event (Mark E) → Type 0
 MayCome Allowed past e = MayFollow past e × KeepsProtocol Allowed past e
+
+-- a log that keeps the protocol is a legal words log
+pub words_legal : {E : Type 0} (Allowed : List (Section E) → Section E → Type 0) (log : List (Event (Mark E))) → IsLawful (MayCome Allowed) log
+    → IsLegalWords log
+words_legal Allowed [] lawful = tt
+words_legal Allowed (e ∷ past) lawful = (lawful.0.0, words_legal Allowed past lawful.1)

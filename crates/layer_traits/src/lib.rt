@@ -37,6 +37,7 @@ mod sleeps;
 mod steps;
 mod stepwise;
 mod talks;
+mod told_grants;
 mod words;
 
 pub use buffer_blocks::BufferBlock;
@@ -74,4 +75,5 @@ pub use sleeps::{Leave, Outcome, Sleeps};
 pub use steps::{Reason, Step};
 pub use stepwise::{Prompt, Stepwise};
 pub use talks::{Stage, Talk};
+pub use told_grants::TellsGrants;
 pub use words::Words;

@@ -9,6 +9,9 @@ use event_log::{CpuId, Event, LockId};
 /// owned machine acts for all CPUs; a seat at shared words acts for its own CPU, and events of the
 /// others may come in at any call.
 ///
+/// A machine with other words meets this too, where it keeps its log as ticket locks would: a look
+/// reads in that log how often the lock was freed, whatever word the machine loads.
+///
 /// No call takes memory, and each succeeds.
 pub trait Words {
     ghost use Rattle.event_log.specs.declared.ids.CpuId.{CpuId};

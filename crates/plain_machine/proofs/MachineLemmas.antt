@@ -6,24 +6,20 @@ use Rattle.event_log.specs.declared.ids.LockId.{LockId}
 use Rattle.event_log.specs.declared.ids.TheConstants.{CPUS}
 use Rattle.event_log.specs.declared.events.Event.{Event}
 use Rattle.event_log.specs.declared.events.Event.TheVariants.{Draw, Look, Free}
-use Rattle.event_log.specs.Actions.{acts_of, gives, phase, place}
 use Rattle.event_log.specs.Grants.{ticket_in}
 use Rattle.event_log.specs.History.{same_lock}
-use Rattle.event_log.specs.WordsLog.{IsLegalWords, MayFollow, Outside, Waiting, Inside, draws, frees, standing}
+use Rattle.event_log.specs.WordsLog.{IsLegalWords, Outside, Waiting, Inside, draws, frees, standing}
 use Rattle.event_log.specs.Sections.{block_after}
-use Rattle.event_log.proofs.Exclusion.{is_at, near}
 use Rattle.event_log.proofs.Same.{same_lock_self, same_lock_true}
-use Rattle.event_log.proofs.Tickets.{gives_acts, legal_acts, phase_acts, same_rests, ticket_at}
-use Rattle.event_log.proofs.Told.{TicketOf, phase_of}
-use Rattle.layer_traits.proofs.OneLockLemmas.{event_lock, standing_own, elsewhere, drew, missed, hit, freed, hit_finds, fresh}
+use Rattle.layer_traits.proofs.OneLockLemmas.{counts_elsewhere, event_lock, standing_own, elsewhere, drew, missed, hit, freed, hit_finds, fresh, serves_exactly}
 use Rattle.layer_traits.proofs.Seen.{words_legal, sections_allowed}
 use Rattle.layer_traits.specs.declared.edits.Mark.{Mark}
-use Rattle.layer_traits.specs.OneLock.{LockFits, opened}
+use Rattle.layer_traits.specs.OneLock.{HomeFits, opened}
 use Rattle.layer_traits.specs.Protocol.{Rules, StaysAllowed, section}
-use Rattle.layer_traits.specs.WordsProtocol.{MayCome, edit_of, sections}
+use Rattle.layer_traits.specs.WordsProtocol.{MayCome, sections}
 use Rattle.plain_machine.proofs.TableLemmas.{cell_within, cell_put, cell_other}
 use Rattle.plain_machine.specs.declared.cells.Cell.{Cell}
-use Rattle.plain_machine.specs.Machine.{HasCell, HomeFits, IsSound, looked}
+use Rattle.plain_machine.specs.Machine.{HasCell, IsSound, looked}
 use Rattle.plain_machine.specs.Table.{cell_at, with_cell, worded_cell, looked_cell, given_cell, HasFresh, AreFresh}
 
 -- what a filled table has for each lock that opens
@@ -66,39 +62,33 @@ fresh_sound Fit rules blocks cells all = record {
       };
 }
 
--- an event at another lock counts nothing here
-pub counts_elsewhere : {M : Type 0} (Fit : ℕ → ℕ → Type 0) (e : Event M) (log : List (Event M)) (lock : LockId) → same_lock lock (event_lock e) ≡ false
-    → Fit (draws lock log) (frees lock log) → Fit (draws lock (e ∷ log)) (frees lock (e ∷ log))
-counts_elsewhere Fit (Draw cpu at ticket) log lock other fits =
-    subst (λ b. Fit (if b then draws lock log + 1 else draws lock log) (frees lock log)) (sym other) fits
-counts_elsewhere Fit (Look cpu at ticket read) log lock other fits = fits
-counts_elsewhere Fit (Free cpu at mark) log lock other fits =
-    subst (λ b. Fit (draws lock log) (if b then frees lock log + 1 else frees lock log)) (sym other) fits
+-- a machine that is sound, and one of its locks
+pub record AtLock (E B O K : Type 0) : Type 1 where
+  pub Fit : ℕ → ℕ → K → Type 0
+  pub rules : Rules E B O
+  pub opening : LockId → Option B
+  pub log : List (Event (Mark E))
+  pub cells : List (Option (Cell K B))
+  pub sound : IsSound Fit rules opening log cells
+  pub lock : LockId
+  pub exists : IsSome (opening lock)
 
--- a home is read off the words that the log says
-pub at_home : {E B : Type 0} (edited : E → B → B) (opening : LockId → Option B) (log : List (Event (Mark E))) (lock : LockId) (next serving : ℕ)
-    (home : Option B) → LockFits edited opening log lock next serving home → HomeFits edited opening log lock home
-at_home edited opening log lock next serving home fits = record { next_is = refl; serving_is = refl; home_is = fits.home_is }
+abbrev pub at_lock : {E B O K : Type 0} (Fit : ℕ → ℕ → K → Type 0) (rules : Rules E B O) (opening : LockId → Option B) (log : List (Event (Mark E)))
+    (cells : List (Option (Cell K B))) → IsSound Fit rules opening log cells → (lock : LockId) → IsSome (opening lock) → AtLock E B O K
+at_lock Fit rules opening log cells sound lock exists = record {
+  Fit = Fit;
+  rules = rules;
+  opening = opening;
+  log = log;
+  cells = cells;
+  sound = sound;
+  lock = lock;
+  exists = exists;
+}
 
--- for a CPU that waits, the words tell whether its look hits
-pub serves_exactly : {E : Type 0} (log : List (Event (Mark E))) → IsLegalWords log → (cpu : CpuId) (lock : LockId) (ticket : ℕ)
-    → standing cpu log ≡ Waiting lock ticket → (served : Bool)
-    → ((spot : ℕ) → frees lock log ≤ spot → spot < frees lock log + CPUS → ticket ≡ spot % 2 ^ 64 → served ≡ (frees lock log == spot))
-    → served ≡ (frees lock log % 2 ^ 64 == ticket)
-serves_exactly log legal cpu lock ticket waiting served tells =
-    let acts = legal_acts edit_of log legal in
-    let there : is_at lock (phase cpu (acts_of edit_of log)) ≡ true =
-    ap (is_at lock) (phase_acts edit_of cpu log ∙ ap phase_of waiting) ∙ same_lock_self lock in
-    let spot = place cpu (acts_of edit_of log) in
-    let has : ticket ≡ spot % 2 ^ 64 = subst (λ s. TicketOf s spot) waiting (ticket_at edit_of log legal cpu) in
-    let count : gives lock (acts_of edit_of log) ≡ frees lock log = gives_acts edit_of lock log in
-    let close = near (acts_of edit_of log) acts cpu lock there in
-    let ahead : frees lock log ≤ spot = subst (λ n. n ≤ spot) count close.0 in
-    let behind : spot < frees lock log + CPUS = subst (λ n. spot < n + CPUS) count close.1 in
-    tells spot ahead behind has ∙ sym (same_rests (frees lock log) spot (frees lock log % 2 ^ 64) ticket ahead behind refl has)
+module _ {E B O K : Type 0} (m : AtLock E B O K) where
+  open m use {Fit, rules, opening, log, cells, sound, lock, exists}
 
-module _ {E B O K : Type 0} (Fit : ℕ → ℕ → K → Type 0) (rules : Rules E B O) (opening : LockId → Option B) (log : List (Event (Mark E)))
-    (cells : List (Option (Cell K B))) (sound : IsSound Fit rules opening log cells) (lock : LockId) (exists : IsSome (opening lock)) where
   legal : IsLegalWords log
   legal = words_legal (rules.allowed opening) log sound.legal
 
@@ -145,8 +135,7 @@ module _ {E B O K : Type 0} (Fit : ℕ → ℕ → K → Type 0) (rules : Rules 
             cell = had.cell;
             is = cell_other cells lock after l other ∙ had.is;
             words = counts_elsewhere (λ taken given. Fit taken given had.cell.words) e log l there had.words;
-            home_is = at_home rules.edited opening (e ∷ log) l (draws l log % 2 ^ 64) (frees l log % 2 ^ 64) had.cell.home
-                (elsewhere rules.edited opening l e log may.0 there (draws l log % 2 ^ 64) (frees l log % 2 ^ 64) had.cell.home had.home_is);
+            home_is = elsewhere rules.edited opening l e log may.0 there had.cell.home had.home_is;
           }
 
   -- a draw gives the number of earlier draws
@@ -154,73 +143,78 @@ module _ {E B O K : Type 0} (Fit : ℕ → ℕ → K → Type 0) (rules : Rules 
       → IfSome (cell_at cells lock) (λ c. (words : K)
       × ((taken given : ℕ) → Fit taken given c.words → (ticket ≡ taken % 2 ^ 64) × Fit (taken + 1) given words)
       × (cells' ≡ with_cell cells lock (worded_cell c words)))
-      → (ticket ≡ draws lock log % 2 ^ 64) × IsSound Fit rules opening (Draw cpu lock ticket ∷ log) cells'
-  took cpu known outside ticket cells' did =
+      → (log' : List (Event (Mark E))) → log' ≡ Draw cpu lock (draws lock log % 2 ^ 64) ∷ log
+      → (log' ≡ Draw cpu lock ticket ∷ log) × IsSound Fit rules opening log' cells'
+  took cpu known outside ticket cells' did log' grew =
       let here = subst (λ o. IfSome o (λ c. (words : K)
       × ((taken given : ℕ) → Fit taken given c.words → (ticket ≡ taken % 2 ^ 64) × Fit (taken + 1) given words)
       × (cells' ≡ with_cell cells lock (worded_cell c words)))) cell_is did in
-      let law = here.1 (draws lock log) (frees lock log) cell_words in (
-        law.0,
-        subst (λ cs. IsSound Fit rules opening (Draw cpu lock ticket ∷ log) cs) (sym here.2)
+      let law = here.1 (draws lock log) (frees lock log) cell_words in
+      let is : log' ≡ Draw cpu lock ticket ∷ log = grew ∙ ap (λ t. Draw cpu lock t ∷ log) (sym law.0) in (
+        is,
+        subst (λ l. IsSound Fit rules opening l cells') (sym is) (subst (λ cs. IsSound Fit rules opening (Draw cpu lock ticket ∷ log) cs) (sym here.2)
             (step_sound (Draw cpu lock ticket) refl ((known, outside, law.0), tt) (worded_cell cell here.0)
             (subst (λ b. Fit (if b then draws lock log + 1 else draws lock log) (frees lock log) here.0) (sym (same_lock_self lock)) law.1)
-            (at_home rules.edited opening (Draw cpu lock ticket ∷ log) lock ((draws lock log % 2 ^ 64 + 1) % 2 ^ 64) (frees lock log % 2 ^ 64) cell.home
-            (drew rules.edited opening lock cpu ticket log outside (draws lock log % 2 ^ 64) (frees lock log % 2 ^ 64) cell.home cell_home))),
+            (drew rules.edited opening lock cpu ticket log outside cell.home cell_home))),
       )
 
-  look_may : (cpu : CpuId) (ticket : ℕ) → standing cpu log ≡ Waiting lock ticket
-      → MayCome (rules.allowed opening) log (Look cpu lock ticket (frees lock log % 2 ^ 64))
-  look_may cpu ticket waiting = ((waiting, refl), tt)
+  module _ (cpu : CpuId) (ticket : ℕ) (waiting : standing cpu log ≡ Waiting lock ticket) where
+    look_may : MayCome (rules.allowed opening) log (Look cpu lock ticket (frees lock log % 2 ^ 64))
+    look_may = ((waiting, refl), tt)
 
-  -- a look reads the number of earlier frees
-  look_sound : (cpu : CpuId) (ticket : ℕ) → standing cpu log ≡ Waiting lock ticket → (served : Bool) → served ≡ (frees lock log % 2 ^ 64 == ticket)
-      → IsSound Fit rules opening (looked cpu lock ticket log) (with_cell cells lock (looked_cell cell served))
-  look_sound cpu ticket waiting true is =
-      step_sound (Look cpu lock ticket (frees lock log % 2 ^ 64)) refl (look_may cpu ticket waiting) (looked_cell cell true) cell_words
-      (hit rules.edited opening lock cpu ticket (frees lock log % 2 ^ 64) log (sym is) (draws lock log % 2 ^ 64) (frees lock log % 2 ^ 64) cell.home cell_home)
-  look_sound cpu ticket waiting false is =
-      step_sound (Look cpu lock ticket (frees lock log % 2 ^ 64)) refl (look_may cpu ticket waiting) (looked_cell cell false) cell_words
-      (missed rules.edited opening lock cpu ticket (frees lock log % 2 ^ 64) log waiting (sym is) (draws lock log % 2 ^ 64) (frees lock log % 2 ^ 64) cell.home
-      cell_home)
+    -- a look reads the number of earlier frees
+    look_sound : (served : Bool) → served ≡ (frees lock log % 2 ^ 64 == ticket)
+        → IsSound Fit rules opening (looked cpu lock ticket log) (with_cell cells lock (looked_cell cell served))
+    look_sound true is = step_sound (Look cpu lock ticket (frees lock log % 2 ^ 64)) refl look_may (looked_cell cell true) cell_words
+        (hit rules.edited opening lock cpu ticket (frees lock log % 2 ^ 64) log (sym is))
+    look_sound false is = step_sound (Look cpu lock ticket (frees lock log % 2 ^ 64)) refl look_may (looked_cell cell false) cell_words
+        (missed rules.edited opening lock cpu ticket (frees lock log % 2 ^ 64) log waiting (sym is) cell.home cell_home)
 
-  -- a look gives the block exactly where it enters
-  look_finds : (cpu : CpuId) (ticket : ℕ) → standing cpu log ≡ Waiting lock ticket → (served : Bool) → served ≡ (frees lock log % 2 ^ 64 == ticket)
-      → MatchOption (if served then cell.home else None)
-      (standing cpu (looked cpu lock ticket log) ≡ Waiting lock ticket)
-      (λ block. (standing cpu (looked cpu lock ticket log) ≡ Inside lock ticket) × (block_after rules.edited opening lock (sections log) ≡ Some block))
-  look_finds cpu ticket waiting true is =
-      let entered : standing cpu (looked cpu lock ticket log) ≡ Inside lock ticket
-      = standing_own (Look cpu lock ticket (frees lock log % 2 ^ 64)) log ∙ ap (λ b. if b then Inside lock ticket else Waiting lock ticket) (sym is) in
-      found cell.home cell_home (hit_finds rules.edited opening lock cpu ticket (frees lock log % 2 ^ 64) log ((look_may cpu ticket waiting).0, legal) (sym is)
-      (draws lock log % 2 ^ 64) (frees lock log % 2 ^ 64) cell.home cell_home) entered
-    where
-      found : (home : Option B) → HomeFits rules.edited opening log lock home → IsSome home
-          → standing cpu (looked cpu lock ticket log) ≡ Inside lock ticket
-          → MatchOption home (standing cpu (looked cpu lock ticket log) ≡ Waiting lock ticket)
-          (λ block. (standing cpu (looked cpu lock ticket log) ≡ Inside lock ticket) × (block_after rules.edited opening lock (sections log) ≡ Some block))
-      found None fits some entered = absurd (cc some)
-      found (Some block) fits some entered = (entered, fits.home_is.1)
-  look_finds cpu ticket waiting false is =
-      standing_own (Look cpu lock ticket (frees lock log % 2 ^ 64)) log ∙ ap (λ b. if b then Inside lock ticket else Waiting lock ticket) (sym is)
+    -- a look gives the block exactly where it enters
+    look_finds : (served : Bool) → served ≡ (frees lock log % 2 ^ 64 == ticket)
+        → MatchOption (if served then cell.home else None)
+        (standing cpu (looked cpu lock ticket log) ≡ Waiting lock ticket)
+        (λ block. (standing cpu (looked cpu lock ticket log) ≡ Inside lock ticket) × (block_after rules.edited opening lock (sections log) ≡ Some block))
+    look_finds true is =
+        let entered : standing cpu (looked cpu lock ticket log) ≡ Inside lock ticket
+        = standing_own (Look cpu lock ticket (frees lock log % 2 ^ 64)) log ∙ ap (λ b. if b then Inside lock ticket else Waiting lock ticket) (sym is) in
+        found cell.home cell_home
+        (hit_finds rules.edited opening lock cpu ticket (frees lock log % 2 ^ 64) log (look_may.0, legal) (sym is) cell.home cell_home) entered
+      where
+        found : (home : Option B) → HomeFits rules.edited opening log lock home → IsSome home
+            → standing cpu (looked cpu lock ticket log) ≡ Inside lock ticket
+            → MatchOption home (standing cpu (looked cpu lock ticket log) ≡ Waiting lock ticket)
+            (λ block. (standing cpu (looked cpu lock ticket log) ≡ Inside lock ticket) × (block_after rules.edited opening lock (sections log) ≡ Some block))
+        found None fits some entered = absurd (cc some)
+        found (Some block) fits some entered = (entered, fits.1)
+    look_finds false is =
+        standing_own (Look cpu lock ticket (frees lock log % 2 ^ 64)) log ∙ ap (λ b. if b then Inside lock ticket else Waiting lock ticket) (sym is)
 
-  pub tried : (cpu : CpuId) (ticket : ℕ) → standing cpu log ≡ Waiting lock ticket → (found : Option B) (cells' : List (Option (Cell K B)))
-      → IfSome (cell_at cells lock) (λ c. (served : Bool)
-      × ((taken given spot : ℕ) → Fit taken given c.words → given ≤ spot → spot < given + CPUS → ticket ≡ spot % 2 ^ 64 → served ≡ (given == spot))
-      × (found ≡ (if served then c.home else None)) × (cells' ≡ with_cell cells lock (looked_cell c served)))
-      → MatchOption found (standing cpu (looked cpu lock ticket log) ≡ Waiting lock ticket)
-      (λ block. (standing cpu (looked cpu lock ticket log) ≡ Inside lock ticket) × (block_after rules.edited opening lock (sections log) ≡ Some block))
-      × IsSound Fit rules opening (looked cpu lock ticket log) cells'
-  tried cpu ticket waiting found cells' did =
-      let here = subst (λ o. IfSome o (λ c. (served : Bool)
-      × ((taken given spot : ℕ) → Fit taken given c.words → given ≤ spot → spot < given + CPUS → ticket ≡ spot % 2 ^ 64 → served ≡ (given == spot))
-      × (found ≡ (if served then c.home else None)) × (cells' ≡ with_cell cells lock (looked_cell c served)))) cell_is did in
-      let is : here.0 ≡ (frees lock log % 2 ^ 64 == ticket)
-      = serves_exactly log legal cpu lock ticket waiting here.0 (λ spot. here.1 (draws lock log) (frees lock log) spot cell_words) in (
-        subst (λ f. MatchOption f (standing cpu (looked cpu lock ticket log) ≡ Waiting lock ticket)
-            (λ block. (standing cpu (looked cpu lock ticket log) ≡ Inside lock ticket)
-            × (block_after rules.edited opening lock (sections log) ≡ Some block))) (sym here.2) (look_finds cpu ticket waiting here.0 is),
-        subst (λ cs. IsSound Fit rules opening (looked cpu lock ticket log) cs) (sym here.3) (look_sound cpu ticket waiting here.0 is),
-      )
+    pub tried : (found : Option B) (cells' : List (Option (Cell K B)))
+        → IfSome (cell_at cells lock) (λ c. (served : Bool)
+        × ((taken given spot : ℕ) → Fit taken given c.words → given ≤ spot → spot < given + CPUS → ticket ≡ spot % 2 ^ 64 → served ≡ (given == spot))
+        × (found ≡ (if served then c.home else None)) × (cells' ≡ with_cell cells lock (looked_cell c served)))
+        → (log' : List (Event (Mark E))) → log' ≡ Look cpu lock (ticket_in (standing cpu log)) (frees lock log % 2 ^ 64) ∷ log
+        → (log' ≡ looked cpu lock ticket log)
+        × MatchOption found (standing cpu log' ≡ Waiting lock ticket)
+        (λ block. (standing cpu log' ≡ Inside lock ticket) × (block_after rules.edited opening lock (sections log') ≡ Some block))
+        × IsSound Fit rules opening log' cells'
+    tried found cells' did log' grew =
+        let here = subst (λ o. IfSome o (λ c. (served : Bool)
+        × ((taken given spot : ℕ) → Fit taken given c.words → given ≤ spot → spot < given + CPUS → ticket ≡ spot % 2 ^ 64 → served ≡ (given == spot))
+        × (found ≡ (if served then c.home else None)) × (cells' ≡ with_cell cells lock (looked_cell c served)))) cell_is did in
+        let is : here.0 ≡ (frees lock log % 2 ^ 64 == ticket)
+        = serves_exactly log legal cpu lock ticket waiting here.0 (λ spot. here.1 (draws lock log) (frees lock log) spot cell_words) in
+        let same : log' ≡ looked cpu lock ticket log = grew ∙ ap (λ s. Look cpu lock (ticket_in s) (frees lock log % 2 ^ 64) ∷ log) waiting in (
+          same,
+          subst (λ l. MatchOption found (standing cpu l ≡ Waiting lock ticket)
+              (λ block. (standing cpu l ≡ Inside lock ticket) × (block_after rules.edited opening lock (sections l) ≡ Some block))) (sym same)
+              (subst (λ f. MatchOption f (standing cpu (looked cpu lock ticket log) ≡ Waiting lock ticket)
+              (λ block. (standing cpu (looked cpu lock ticket log) ≡ Inside lock ticket)
+              × (block_after rules.edited opening lock (sections log) ≡ Some block))) (sym here.2) (look_finds here.0 is)),
+          subst (λ l. IsSound Fit rules opening l cells') (sym same)
+              (subst (λ cs. IsSound Fit rules opening (looked cpu lock ticket log) cs) (sym here.3) (look_sound here.0 is)),
+        )
 
   -- a free brings the edited block home
   pub gave : (cpu : CpuId) (ticket : ℕ) (mark : Mark E) (block : B) → standing cpu log ≡ Inside lock ticket
@@ -228,14 +222,13 @@ module _ {E B O K : Type 0} (Fit : ℕ → ℕ → K → Type 0) (rules : Rules 
       → StaysAllowed (rules.allowed opening) (sections log) (section cpu lock mark.edit) → (cells' : List (Option (Cell K B)))
       → IfSome (cell_at cells lock) (λ c. (words : K) × ((taken given : ℕ) → Fit taken given c.words → Fit taken (given + 1) words)
       × (cells' ≡ with_cell cells lock (given_cell words block)))
-      → IsSound Fit rules opening (Free cpu lock mark ∷ log) cells'
-  gave cpu ticket mark block inside edited stays cells' did =
+      → (log' : List (Event (Mark E))) → log' ≡ Free cpu lock mark ∷ log → IsSound Fit rules opening log' cells'
+  gave cpu ticket mark block inside edited stays cells' did log' grew =
       let here = subst (λ o. IfSome o (λ c. (words : K) × ((taken given : ℕ) → Fit taken given c.words → Fit taken (given + 1) words)
       × (cells' ≡ with_cell cells lock (given_cell words block)))) cell_is did in
       let law = here.1 (draws lock log) (frees lock log) cell_words in
-      subst (λ cs. IsSound Fit rules opening (Free cpu lock mark ∷ log) cs) (sym here.2)
+      subst (λ l. IsSound Fit rules opening l cells') (sym grew) (subst (λ cs. IsSound Fit rules opening (Free cpu lock mark ∷ log) cs) (sym here.2)
       (step_sound (Free cpu lock mark) refl ((ticket, inside), stays [] tt (sections_allowed (rules.allowed opening) log sound.legal))
       (given_cell here.0 block)
       (subst (λ b. Fit (draws lock log) (if b then frees lock log + 1 else frees lock log) here.0) (sym (same_lock_self lock)) law)
-      (at_home rules.edited opening (Free cpu lock mark ∷ log) lock (draws lock log % 2 ^ 64) ((frees lock log % 2 ^ 64 + 1) % 2 ^ 64) (Some block)
-      (freed rules.edited opening lock cpu ticket mark log legal inside block edited (draws lock log % 2 ^ 64) (frees lock log % 2 ^ 64) cell.home cell_home)))
+      (freed rules.edited opening lock cpu ticket mark log legal inside block edited)))

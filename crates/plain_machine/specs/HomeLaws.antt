@@ -17,7 +17,7 @@ pub home_tells : {E B K : Type 0} (Fit : ℕ → ℕ → K → Type 0) (edited :
     → MatchOption (home_at cells lock) (SomeoneInside lock log) (λ block. block_after edited opening lock (sections log) ≡ Some block)
 home_tells {B = B} Fit edited opening log cells lock has =
     subst (λ c. MatchOption (home_in c) (SomeoneInside lock log) (λ block. block_after edited opening lock (sections log) ≡ Some block)) (sym has.is)
-    (go has.cell.home has.home_is.home_is)
+    (go has.cell.home has.home_is)
   where
     go : (home : Option B) → MatchOption home (SomeoneInside lock log)
         (λ block. NobodyInside lock log × (block_after edited opening lock (sections log) ≡ Some block))

@@ -1,5 +1,4 @@
 pub mod Table
 pub mod Fits
 pub mod Machine
-pub mod GrantsTold
 pub mod HomeLaws

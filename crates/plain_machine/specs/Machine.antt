@@ -10,7 +10,7 @@ use Rattle.event_log.specs.History.{IsLawful}
 use Rattle.event_log.specs.Log.{events_in, room_of}
 use Rattle.event_log.specs.WordsLog.{standing, draws, frees}
 use Rattle.layer_traits.specs.declared.edits.Mark.{Mark}
-use Rattle.layer_traits.specs.OneLock.{LockFits}
+use Rattle.layer_traits.specs.OneLock.{HomeFits}
 use Rattle.layer_traits.specs.Protocol.{Rules}
 use Rattle.layer_traits.specs.WordsProtocol.{MayCome}
 use Rattle.plain_machine.specs.declared.cells.Cell.{Cell}
@@ -43,10 +43,6 @@ told (note ∷ notes) marks = with_event note.act note.cpu note.lock marks (told
 -- the history that a log stores, newest first
 abbrev pub history : {M : Type 0} → Notes M → List (Event M)
 history log = told (reverse (events_in log.notes)) (reverse (events_in log.marks))
-
--- the home of a lock is empty exactly while a CPU is inside, and else it holds the block that the sections leave
-abbrev pub HomeFits : {E B : Type 0} → (E → B → B) → (LockId → Option B) → List (Event (Mark E)) → LockId → Option B → Type 0
-HomeFits edited opening log lock home = LockFits edited opening log lock (draws lock log % 2 ^ 64) (frees lock log % 2 ^ 64) home
 
 -- the past after a look of a CPU with its ticket: it reads the number of earlier frees
 abbrev pub looked : {M : Type 0} → CpuId → LockId → ℕ → List (Event M) → List (Event M)

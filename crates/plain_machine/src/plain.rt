@@ -1,12 +1,12 @@
 //! The owned machine.
 
-ghost use Rattle.std.specs.Prelude.{◌≡◌, ℕ, ◌+◌, ◌%◌, ◌^◌, ◌<◌, ◌∷◌, [], IsSome, IsNone, IfSome, IfOk, MatchOption, option_map, ◌↔◌};
+ghost use Rattle.std.specs.Prelude.{◌≡◌, ℕ, ◌%◌, ◌^◌, ◌<◌, [], IsSome, IsNone, IfSome, IfOk, option_map, ◌↔◌};
 
 use crate::cells::{self, Cell};
 use crate::notes::Notes;
 use crate::turn_words::{GrantLockWords, Granting, LockWords, TurnWords};
 use event_log::{CPUS, CpuId, LockId, NoMemory};
-use layer_traits::{Edit, GrantWords, Mark, OwnedGrantWords, OwnedWords, Words};
+use layer_traits::{Edit, GrantWords, Mark, OwnedWords, TellsGrants, Words};
 use std::alloc::Global;
 use std::snapshot::Snapshot;
 
@@ -26,14 +26,11 @@ pub type GrantPlain<E> = Plain<E, Granting>;
 
 impl<E: Edit, K: TurnWords> Plain<E, K> {
     ghost use Rattle.event_log.specs.Sections.{block_after};
-    ghost use Rattle.event_log.specs.WordsLog.{standing, Outside, Waiting, Inside};
-    ghost use Rattle.event_log.specs.declared.events.Event.TheVariants as event;
     ghost use Rattle.event_log.specs.declared.ids.CpuId.{CpuId};
     ghost use Rattle.event_log.specs.declared.ids.TheConstants.{CPUS};
     ghost use Rattle.layer_traits.specs.OneLock.{AreDistinct, SomeoneInside, opened};
-    ghost use Rattle.layer_traits.specs.Protocol.{StaysAllowed, section};
     ghost use Rattle.layer_traits.specs.WordsProtocol.{sections};
-    ghost use Rattle.plain_machine.specs.Machine.{IsServed, IsSound, history, looked, room_left};
+    ghost use Rattle.plain_machine.specs.Machine.{IsServed, history, room_left};
     ghost use Rattle.plain_machine.specs.Table.{home_at};
 
     /// A machine in which each lock has its block at home and nobody has been at its words, with
@@ -76,66 +73,6 @@ impl<E: Edit, K: TurnWords> Plain<E, K> {
     {
         cells::home(&self.cells, lock)
     }
-
-    // Takes a place in the line of `lock` for a CPU that is outside.
-    #[inline(always)]
-    fn join(&mut self, cpu: CpuId, lock: LockId) -> u64
-        requires cpu { cpu.0 < CPUS }
-        requires sound { IsSound K.Fit E.rules (opened self.old.opening.value.items) (history self.old.log) self.old.cells.items }
-        requires lock { IsSome (opened self.old.opening.value.items lock) }
-        requires room { 0 < room_left self.old.log }
-        requires outside { standing cpu (history self.old.log) ≡ Outside }
-        ensures history { history self.new.log ≡ event.Draw cpu lock result ∷ history self.old.log }
-        ensures sound { IsSound K.Fit E.rules (opened self.old.opening.value.items) (history self.new.log) self.new.cells.items }
-        ensures opening { self.new.opening ≡ self.old.opening }
-        ensures room { room_left self.old.log ≡ room_left self.new.log + 1 }
-    {
-        let ticket = cells::take(&mut self.cells, lock);
-        self.log.draw(cpu, lock);
-        ticket
-    }
-
-    // Looks at `lock` for a CPU that waits there with this ticket.
-    #[inline(always)]
-    fn enter(&mut self, cpu: CpuId, lock: LockId, ticket: u64) -> Option<E::Block>
-        requires cpu { cpu.0 < CPUS }
-        requires sound { IsSound K.Fit E.rules (opened self.old.opening.value.items) (history self.old.log) self.old.cells.items }
-        requires lock { IsSome (opened self.old.opening.value.items lock) }
-        requires room { 0 < room_left self.old.log }
-        requires waiting { standing cpu (history self.old.log) ≡ Waiting lock ticket }
-        ensures history { history self.new.log ≡ looked cpu lock ticket (history self.old.log) }
-        ensures hits { MatchOption result
-            (standing cpu (history self.new.log) ≡ Waiting lock ticket)
-            (λ block. (standing cpu (history self.new.log) ≡ Inside lock ticket)
-            × (block_after E.rules.edited (opened self.old.opening.value.items) lock (sections (history self.new.log)) ≡ Some block)) }
-        ensures sound { IsSound K.Fit E.rules (opened self.old.opening.value.items) (history self.new.log) self.new.cells.items }
-        ensures opening { self.new.opening ≡ self.old.opening }
-        ensures room { room_left self.old.log ≡ room_left self.new.log + 1 }
-    {
-        self.log.look(cpu, lock);
-        cells::look(&mut self.cells, lock, ticket)
-    }
-
-    // Gives `lock` on for a CPU that is inside, with its block edited.
-    #[inline(always)]
-    fn leave(&mut self, cpu: CpuId, lock: LockId, block: E::Block, mark: Mark<E>)
-        requires cpu { cpu.0 < CPUS }
-        requires sound { IsSound K.Fit E.rules (opened self.old.opening.value.items) (history self.old.log) self.old.cells.items }
-        requires lock { IsSome (opened self.old.opening.value.items lock) }
-        requires room { 0 < room_left self.old.log }
-        requires inside { (ticket : ℕ) × (standing cpu (history self.old.log) ≡ Inside lock ticket) }
-        requires edited { option_map (E.rules.edited mark.edit)
-            (block_after E.rules.edited (opened self.old.opening.value.items) lock (sections (history self.old.log))) ≡ Some block }
-        requires allowed { StaysAllowed (E.rules.allowed (opened self.old.opening.value.items)) (sections (history self.old.log))
-            (section cpu lock mark.edit) }
-        ensures history { history self.new.log ≡ event.Free cpu lock mark ∷ history self.old.log }
-        ensures sound { IsSound K.Fit E.rules (opened self.old.opening.value.items) (history self.new.log) self.new.cells.items }
-        ensures opening { self.new.opening ≡ self.old.opening }
-        ensures room { room_left self.old.log ≡ room_left self.new.log + 1 }
-    {
-        cells::give(&mut self.cells, lock, block);
-        self.log.free(cpu, lock, mark);
-    }
 }
 
 impl<E: Edit> Plain<E, LockWords> {
@@ -170,10 +107,9 @@ impl<E: Edit> Plain<E, Granting> {
     }
 }
 
-impl<E: Edit> Words for Plain<E, LockWords> {
+impl<E: Edit, K: TurnWords> Words for Plain<E, K> {
     ghost use Rattle.event_log.specs.declared.ids.TheConstants.{CPUS};
     ghost use Rattle.layer_traits.specs.OneLock.{opened};
-    ghost use Rattle.plain_machine.specs.Fits.{TicketsFit};
     ghost use Rattle.plain_machine.specs.Machine.{IsServed, history, room_left};
 
     type Edit = E;
@@ -186,7 +122,7 @@ impl<E: Edit> Words for Plain<E, LockWords> {
 
     ghost seen = { λ w. history w.log };
 
-    ghost ActsFor = { λ w c. IsServed TicketsFit E.rules (opened w.opening.value.items) (history w.log) w.cells.items c };
+    ghost ActsFor = { λ w c. IsServed K.Fit E.rules (opened w.opening.value.items) (history w.log) w.cells.items c };
 
     ghost room = { λ w. room_left w.log };
 
@@ -197,26 +133,29 @@ impl<E: Edit> Words for Plain<E, LockWords> {
 
     #[inline(always)]
     fn draw(&mut self, cpu: CpuId, lock: LockId) -> u64 {
-        self.join(cpu, lock)
+        let ticket = cells::take(&mut self.cells, lock);
+        self.log.draw(cpu, lock);
+        ticket
     }
 
     #[inline(always)]
     fn look(&mut self, cpu: CpuId, lock: LockId, ticket: u64) -> Option<E::Block> {
-        self.enter(cpu, lock, ticket)
+        self.log.look(cpu, lock);
+        cells::look(&mut self.cells, lock, ticket)
     }
 
     #[inline(always)]
     fn free(&mut self, cpu: CpuId, lock: LockId, block: E::Block, mark: Mark<E>) {
-        self.leave(cpu, lock, block, mark);
+        cells::give(&mut self.cells, lock, block);
+        self.log.free(cpu, lock, mark);
     }
 
     ghost legal = { λ w c acts. acts.1.legal };
 }
 
-impl<E: Edit> OwnedWords for Plain<E, LockWords> {
+impl<E: Edit, K: TurnWords> OwnedWords for Plain<E, K> {
     ghost use Rattle.event_log.specs.declared.ids.TheConstants.{CPUS};
     ghost use Rattle.layer_traits.specs.OneLock.{AreDistinct, opened};
-    ghost use Rattle.plain_machine.specs.Fits.{TicketsFit};
     ghost use Rattle.plain_machine.specs.HomeLaws.{home_tells};
     ghost use Rattle.plain_machine.specs.Machine.{history};
     ghost use Rattle.plain_machine.specs.Table.{home_at};
@@ -225,10 +164,10 @@ impl<E: Edit> OwnedWords for Plain<E, LockWords> {
 
     fn open(alloc: Global, blocks: Vec<(LockId, E::Block)>, room: usize) -> Result<Self, NoMemory>
         requires distinct { AreDistinct blocks.items }
-        ensures seen { IfOk result (λ w. ⟦<Plain<E> as Words>⟧.seen w ≡ []) }
-        ensures opening { IfOk result (λ w. ⟦<Plain<E> as Words>⟧.opening w ≡ opened blocks.items) }
-        ensures room { IfOk result (λ w. ⟦<Plain<E> as Words>⟧.room w ≡ room) }
-        ensures acts { IfOk result (λ w. (c : _) → c.0 < CPUS → ⟦<Plain<E> as Words>⟧.ActsFor w c) }
+        ensures seen { IfOk result (λ w. ⟦<Plain<E, K> as Words>⟧.seen w ≡ []) }
+        ensures opening { IfOk result (λ w. ⟦<Plain<E, K> as Words>⟧.opening w ≡ opened blocks.items) }
+        ensures room { IfOk result (λ w. ⟦<Plain<E, K> as Words>⟧.room w ≡ room) }
+        ensures acts { IfOk result (λ w. (c : _) → c.0 < CPUS → ⟦<Plain<E, K> as Words>⟧.ActsFor w c) }
     {
         Plain::open(alloc, blocks, room)
     }
@@ -237,81 +176,8 @@ impl<E: Edit> OwnedWords for Plain<E, LockWords> {
         self.home(lock)
     }
 
-    ghost blocks = { λ w c lock acts there. home_tells TicketsFit E.rules.edited (opened w.opening.value.items) (history w.log) w.cells.items lock
+    ghost blocks = { λ w c lock acts there. home_tells K.Fit E.rules.edited (opened w.opening.value.items) (history w.log) w.cells.items lock
         (acts.1.fits lock there) };
 }
 
-impl<E: Edit> GrantWords for Plain<E, Granting> {
-    ghost use Rattle.event_log.specs.declared.ids.TheConstants.{CPUS};
-    ghost use Rattle.layer_traits.specs.OneLock.{opened};
-    ghost use Rattle.plain_machine.specs.Fits.{GrantsFit};
-    ghost use Rattle.plain_machine.specs.GrantsTold.{grants_told, told_comes};
-    ghost use Rattle.plain_machine.specs.Machine.{IsServed, history, room_left};
-
-    type Edit = E;
-
-    type Mark = Mark<E>;
-
-    ghost edit_in = { λ mark. mark.edit };
-
-    ghost opening = { λ w. opened w.opening.value.items };
-
-    ghost seen = { λ w. grants_told (history w.log) };
-
-    ghost ActsFor = { λ w c. IsServed GrantsFit E.rules (opened w.opening.value.items) (history w.log) w.cells.items c };
-
-    ghost room = { λ w. room_left w.log };
-
-    #[inline(always)]
-    fn mark(edit: E) -> Mark<E> {
-        Mark { edit }
-    }
-
-    #[inline(always)]
-    fn take(&mut self, cpu: CpuId, lock: LockId) -> u64 {
-        self.join(cpu, lock)
-    }
-
-    #[inline(always)]
-    fn peek(&mut self, cpu: CpuId, lock: LockId, ticket: u64) -> Option<E::Block> {
-        self.enter(cpu, lock, ticket)
-    }
-
-    #[inline(always)]
-    fn give(&mut self, cpu: CpuId, lock: LockId, block: E::Block, mark: Mark<E>) {
-        self.leave(cpu, lock, block, mark);
-    }
-
-    ghost legal = { λ w c acts. told_comes (E.rules.allowed (opened w.opening.value.items)) (history w.log) acts.1.legal };
-}
-
-impl<E: Edit> OwnedGrantWords for Plain<E, Granting> {
-    ghost use Rattle.event_log.specs.declared.ids.TheConstants.{CPUS};
-    ghost use Rattle.layer_traits.specs.OneLock.{AreDistinct, opened};
-    ghost use Rattle.layer_traits.proofs.Seen.{words_legal};
-    ghost use Rattle.plain_machine.specs.Fits.{GrantsFit};
-    ghost use Rattle.plain_machine.specs.GrantsTold.{home_told};
-    ghost use Rattle.plain_machine.specs.HomeLaws.{home_tells};
-    ghost use Rattle.plain_machine.specs.Machine.{history};
-    ghost use Rattle.plain_machine.specs.Table.{home_at};
-
-    ghost block_at = { λ w lock. home_at w.cells.items lock };
-
-    fn open(alloc: Global, blocks: Vec<(LockId, E::Block)>, room: usize) -> Result<Self, NoMemory>
-        requires distinct { AreDistinct blocks.items }
-        ensures seen { IfOk result (λ w. ⟦<Plain<E, Granting> as GrantWords>⟧.seen w ≡ []) }
-        ensures opening { IfOk result (λ w. ⟦<Plain<E, Granting> as GrantWords>⟧.opening w ≡ opened blocks.items) }
-        ensures room { IfOk result (λ w. ⟦<Plain<E, Granting> as GrantWords>⟧.room w ≡ room) }
-        ensures acts { IfOk result (λ w. (c : _) → c.0 < CPUS → ⟦<Plain<E, Granting> as GrantWords>⟧.ActsFor w c) }
-    {
-        Plain::<E, Granting>::open(alloc, blocks, room)
-    }
-
-    fn block(&self, lock: LockId) -> Option<&E::Block> {
-        Plain::home(self, lock)
-    }
-
-    ghost blocks = { λ w c lock acts there. home_told E.rules.edited (opened w.opening.value.items) (history w.log)
-        (words_legal (E.rules.allowed (opened w.opening.value.items)) (history w.log) acts.1.legal) lock (home_at w.cells.items lock)
-        (home_tells GrantsFit E.rules.edited (opened w.opening.value.items) (history w.log) w.cells.items lock (acts.1.fits lock there)) };
-}
+impl<E: Edit> TellsGrants for Plain<E, Granting> {}

@@ -4,7 +4,7 @@ ghost use Rattle.std.specs.Prelude.{◌≡◌, ◌+◌, ◌%◌, ◌^◌, ◌<�
 ghost use Rattle.event_log.specs.Grants.{grant_standing};
 ghost use Rattle.event_log.specs.WordsLog.{standing, Outside};
 
-use crate::{GrantLockWords, GrantPlain, LockWords, Plain};
+use crate::{GrantLockWords, Granting, LockWords, Plain, TurnWords};
 use event_log::{BufId, CPUS, CpuId, LockId, NoMemory};
 use layer_traits::{Edit, GrantWords, Words};
 use std::alloc::Global;
@@ -44,16 +44,16 @@ fn one_block(alloc: Global, lock: LockId, number: u64) -> Result<Vec<(LockId, u6
 }
 
 /// A machine with one lock, whose block is this number.
-fn machine_with(
+fn machine_with<K: TurnWords>(
     alloc: Global,
     lock: LockId,
     number: u64,
     room: usize,
-) -> Result<Plain<AddOne>, NoMemory>
-    ensures acts { IfOk result (λ w. (c : _) → c.0 < CPUS → ⟦<Plain<AddOne> as Words>⟧.ActsFor w c) }
-    ensures exists { IfOk result (λ w. IsSome (⟦<Plain<AddOne> as Words>⟧.opening w lock)) }
-    ensures seen { IfOk result (λ w. ⟦<Plain<AddOne> as Words>⟧.seen w ≡ []) }
-    ensures room { IfOk result (λ w. ⟦<Plain<AddOne> as Words>⟧.room w ≡ room) }
+) -> Result<Plain<AddOne, K>, NoMemory>
+    ensures acts { IfOk result (λ w. (c : _) → c.0 < CPUS → ⟦<Plain<AddOne, K> as Words>⟧.ActsFor w c) }
+    ensures exists { IfOk result (λ w. IsSome (⟦<Plain<AddOne, K> as Words>⟧.opening w lock)) }
+    ensures seen { IfOk result (λ w. ⟦<Plain<AddOne, K> as Words>⟧.seen w ≡ []) }
+    ensures room { IfOk result (λ w. ⟦<Plain<AddOne, K> as Words>⟧.room w ≡ room) }
 {
     let blocks = one_block(alloc, lock, number)?;
     Plain::open(alloc, blocks, room)
@@ -73,22 +73,6 @@ fn add_one<W: Words<Edit = AddOne>>(words: &mut W, cpu: CpuId, lock: LockId) -> 
     let number = AddOne.apply(&mut block);
     words.free(cpu, lock, block, W::mark(AddOne));
     Some(number)
-}
-
-/// A machine with one lock that has grant words, whose block is this number.
-fn grant_machine_with(
-    alloc: Global,
-    lock: LockId,
-    number: u64,
-    room: usize,
-) -> Result<GrantPlain<AddOne>, NoMemory>
-    ensures acts { IfOk result (λ w. (c : _) → c.0 < CPUS → ⟦<GrantPlain<AddOne> as GrantWords>⟧.ActsFor w c) }
-    ensures exists { IfOk result (λ w. IsSome (⟦<GrantPlain<AddOne> as GrantWords>⟧.opening w lock)) }
-    ensures seen { IfOk result (λ w. ⟦<GrantPlain<AddOne> as GrantWords>⟧.seen w ≡ []) }
-    ensures room { IfOk result (λ w. ⟦<GrantPlain<AddOne> as GrantWords>⟧.room w ≡ room) }
-{
-    let blocks = one_block(alloc, lock, number)?;
-    Plain::open(alloc, blocks, room)
 }
 
 /// Takes a ticket, peeks once, and gives on if the peek hit: the number that stood there.
@@ -114,7 +98,7 @@ fn add_one_granted<W: GrantWords<Edit = AddOne>>(
 #[test]
 fn opens_with_the_block_at_home(rt: HostRuntime) -> Result<(), Fail> {
     let lock = LockId::Buffer(BufId(3));
-    let machine = machine_with(rt.alloc(), lock, 7, 0)?;
+    let machine = machine_with::<LockWords>(rt.alloc(), lock, 7, 0)?;
     let words = machine.words(lock);
     let home = machine.home(lock);
     assert_eq!(rt;
@@ -131,7 +115,7 @@ fn opens_with_the_block_at_home(rt: HostRuntime) -> Result<(), Fail> {
 #[test]
 fn a_section_adds_one(rt: HostRuntime) -> Result<(), Fail> {
     let lock = LockId::Pending(CpuId(3));
-    let mut machine = machine_with(rt.alloc(), lock, 40, 3)?;
+    let mut machine = machine_with::<LockWords>(rt.alloc(), lock, 40, 3)?;
     let number = add_one(&mut machine, CpuId(1), lock);
     let words = machine.words(lock);
     let home = machine.home(lock);
@@ -150,7 +134,7 @@ fn a_section_adds_one(rt: HostRuntime) -> Result<(), Fail> {
 #[test]
 fn a_granted_section_adds_one(rt: HostRuntime) -> Result<(), Fail> {
     let lock = LockId::Pending(CpuId(3));
-    let mut machine = grant_machine_with(rt.alloc(), lock, 40, 3)?;
+    let mut machine = machine_with::<Granting>(rt.alloc(), lock, 40, 3)?;
     let number = add_one_granted(&mut machine, CpuId(1), lock);
     let words = machine.words(lock);
     let home = machine.home(lock);
@@ -173,7 +157,7 @@ fn a_granted_section_adds_one(rt: HostRuntime) -> Result<(), Fail> {
 fn too_much_room_is_refused(rt: HostRuntime) -> Result<(), Fail> {
     let lock = LockId::Pending(CpuId(0));
     assert_eq!(rt;
-        machine_with(rt.alloc(), lock, 0, usize::MAX).err(),
+        machine_with::<LockWords>(rt.alloc(), lock, 0, usize::MAX).err(),
         Some(NoMemory)
     );
     Ok(())
@@ -183,7 +167,7 @@ fn too_much_room_is_refused(rt: HostRuntime) -> Result<(), Fail> {
 #[test]
 fn a_refused_allocation_is_no_memory(rt: HostRuntime) {
     let lock = LockId::Buffer(BufId(3));
-    match machine_with(rt.alloc(), lock, 7, 2) {
+    match machine_with::<LockWords>(rt.alloc(), lock, 7, 2) {
         Ok(machine) => assert_eq!(rt; machine.home(lock), Some(&7)),
         Err(error) => assert_eq!(rt; error, NoMemory),
     }

@@ -1,5 +1,5 @@
 -- A call that may begin here may begin beneath: what the owner may do it may do whatever others do, and who runs sleeps for no lock.
-use Rattle.std.proofs.Common.{◌≡◌, ◌≢◌, false, List, ◌++◌, Option, Some, None, map, refl, ap, ◌∙◌, subst}
+use Rattle.std.proofs.Common.{◌≡◌, ◌≢◌, false, List, ◌++◌, Option, Some, None, map, ap, ◌∙◌, subst}
 use Rattle.event_log.specs.declared.ids.BufId.{BufId}
 use Rattle.event_log.specs.declared.ids.CpuId.{CpuId}
 use Rattle.event_log.specs.declared.ids.LockId.{LockId}
@@ -24,15 +24,14 @@ use Rattle.layer_traits.specs.Scheds.{EditStays}
 use Rattle.layer_traits.specs.SleepLaw.{MaySleep}
 use Rattle.layer_traits.specs.Sleeping.{SleepState}
 use Rattle.layer_traits.proofs.CountLemmas.{not_counted}
-use Rattle.layer_traits.proofs.KernelRenaming.{homes_viewed, inner_viewed, stays_renamed}
+use Rattle.layer_traits.proofs.KernelRenaming.{stays_renamed}
 use Rattle.layer_traits.proofs.PlaceLemmas.{current_at}
 use Rattle.thread_blocks.specs.Queues.{is_in}
 use Rattle.queuing_lock.specs.declared.edits.QBlock.{QBlock}
 use Rattle.queuing_lock.specs.declared.edits.QLockEdit.{QLockEdit}
-use Rattle.queuing_lock.specs.Edits.{answers, edits}
 use Rattle.queuing_lock.specs.Nested.{as_section, edit_in, lock_of}
-use Rattle.queuing_lock.specs.NestedLaws.{allowed_here, beneath, here, inner_locks}
-use Rattle.queuing_lock.specs.Steady.{HasNothing, IsOwner, keeps_nothing, keeps_owned, kept_others}
+use Rattle.queuing_lock.specs.NestedLaws.{beneath, here, inner_locks, locks_wrap}
+use Rattle.queuing_lock.specs.Steady.{HasNothing, IsKept, IsOwner, keeps_nothing, keeps_owned, kept_others}
 
 module _ {F R B O : Type 0} (rules : LockRules F R B O) (opening : LockId → Option (QueueBlock (LockState B))) where
   -- who runs sleeps for no lock
@@ -51,6 +50,9 @@ module _ {F R B O : Type 0} (rules : LockRules F R B O) (opening : LockId → Op
   not_owner t None nothing = λ is. absurd cc
   not_owner t (Some state) nothing = nothing.0
 
+  abbrev owns : (t : Tid) (c : CpuId) (b : BufId) → home_of (homes_in opening) t ≡ Some c → IsKept rules opening
+  owns t c b at = record { t = t; P = IsOwner rules t; keeps = keeps_owned rules t; c = c; at_home = at; lock = Buffer b }
+
   -- the call stays the owner's, and an Acquire that of a thread which is not
   pub owners_stay : (c : CpuId) (b : BufId) (e : QEdit F R) (past : List (QueueEvent (QEdit F R))) → home_of (homes_in opening) (lock_caller rules e) ≡ Some c
       → is_in (lock_caller rules e) (line_in Sleepers (lock_after rules (inner opening) (Buffer b) (buffer_sections past))) ≡ false
@@ -60,14 +62,13 @@ module _ {F R B O : Type 0} (rules : LockRules F R B O) (opening : LockId → Op
       → IsOwners rules e (owner_of rules (inner opening) (buffer_sections (more ++ past)) (Buffer b))
   owners_stay c b (Acquire t) past at awake owners more others lawful =
       not_owner t (lock_after rules (inner opening) (Buffer b) (buffer_sections (more ++ past)))
-      (kept_others rules opening t (HasNothing rules t) (keeps_nothing rules t) c at (Buffer b) more past others lawful
+      (kept_others rules opening
+      (record { t = t; P = HasNothing rules t; keeps = keeps_nothing rules t; c = c; at_home = at; lock = Buffer b }) more past others lawful
       (nothing_at t (lock_after rules (inner opening) (Buffer b) (buffer_sections past)) owners awake))
   owners_stay c b (Inside f) past at awake owners more others lawful =
-      kept_others rules opening (rules.caller f) (IsOwner rules (rules.caller f)) (keeps_owned rules (rules.caller f)) c at
-      (Buffer b) more past others lawful owners
+      kept_others rules opening (owns (rules.caller f) c b at) more past others lawful owners
   owners_stay c b (Release r) past at awake owners more others lawful =
-      kept_others rules opening (rules.last_caller r) (IsOwner rules (rules.last_caller r)) (keeps_owned rules (rules.last_caller r)) c at
-      (Buffer b) more past others lawful owners
+      kept_others rules opening (owns (rules.last_caller r) c b at) more past others lawful owners
 
   -- so a call that may begin stays allowed
   pub stays_here : (c : CpuId) (b : BufId) (e : QEdit F R) (past : List (QueueEvent (QEdit F R))) (own : Threads)
@@ -96,8 +97,6 @@ module _ {F R B O : Type 0} (rules : LockRules F R B O) (opening : LockId → Op
         subst (λ (o : LockId → Option (LockState B)). LockAllowed rules o (map (renamed_section edit_in) (buffer_sections (more ++ past)))
         (record { cpu = c; lock = Buffer b; edit = e }))
         (inner_locks rules opening)
-        (stays_renamed (beneath rules opening) (here rules opening) edit_in lock_of (edits rules) (answers rules) (inner_viewed lock_of opening)
-        (homes_viewed lock_of opening) (λ d. refl) refl refl
-        (allowed_here rules opening) c past b (as_section e)
+        (stays_renamed (beneath rules opening) (here rules opening) edit_in lock_of (locks_wrap rules opening) c past b (as_section e)
         (stays_here rules (viewed lock_of opening) c b e (renamed_events edit_in past) own moving stands agree current may) more others lawful);
   }

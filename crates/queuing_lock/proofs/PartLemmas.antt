@@ -33,18 +33,17 @@ use Rattle.layer_traits.specs.Scheds.{SchedPolled}
 use Rattle.layer_traits.specs.SleepLaw.{MayCall, MaySleep, SleepPolled, Sleeping, pass_plan, sleep_plan}
 use Rattle.layer_traits.specs.Sleeping.{SleepState, sleep_moves, sleep_rules}
 use Rattle.layer_traits.proofs.CallLemmas.{follows_raised}
-use Rattle.layer_traits.proofs.KernelRenaming.{follows_named, homes_viewed, inner_viewed, polled_renamed}
+use Rattle.layer_traits.proofs.KernelRenaming.{follows_named, homes_viewed, polled_renamed}
 use Rattle.layer_traits.proofs.PlaceLemmas.{current_at}
 use Rattle.layer_traits.proofs.SleepRenaming.{pass_plan_renamed, sleep_plan_renamed, sleeps_renamed}
 use Rattle.queuing_lock.specs.declared.edits.QBlock.{QBlock}
 use Rattle.queuing_lock.specs.declared.edits.QLockEdit.{QLockEdit}
-use Rattle.queuing_lock.specs.Edits.{answers, edits}
 use Rattle.queuing_lock.specs.Nested.{as_section, busy_rules, edit_in, lock_of}
-use Rattle.queuing_lock.specs.NestedLaws.{allowed_here, beneath, here, locks_lawful, locks_lists, locks_moving, locks_stand}
+use Rattle.queuing_lock.specs.NestedLaws.{beneath, here, locks_lawful, locks_lists, locks_moving, locks_stand, locks_wrap}
 use Rattle.queuing_lock.specs.Parts.{KeptFits, SleptFits, kept_by}
 use Rattle.queuing_lock.proofs.KeptLemmas.{KeptIn, asks_none, kept_deed, kept_goes, may_beneath}
 use Rattle.queuing_lock.proofs.OwnerLemmas.{locks_may, runs_awake}
-use Rattle.queuing_lock.proofs.PollLemmas.{awaits_owner, slept_of_others, slept_polled, slept_queued}
+use Rattle.queuing_lock.proofs.PollLemmas.{SectionPoll, awaits_owner, slept_of_others, slept_polled, slept_queued}
 
 -- the call under way beneath is the one under way here
 pub under_is : {F R O : Type 0} (under : Option (SchedCall (QLockEdit F R))) (answer : Option O) (b : BufId) (e : QEdit F R)
@@ -67,19 +66,22 @@ pub pass_here : {F R B O : Type 0} (rules : LockRules F R B O) (opening : LockId
     → SchedPolled (beneath rules opening) ActsFor c (call.Pass p) answer old new own own'
     → SchedPolled (here rules opening) ActsFor c (call.Pass p) answer (renamed_events edit_in old) (renamed_events edit_in new) own own'
 pass_here rules opening ActsFor c p answer old new own own' polled =
-    polled_renamed (beneath rules opening) (here rules opening) edit_in lock_of (edits rules) (answers rules) (inner_viewed lock_of opening)
-    (homes_viewed lock_of opening) (λ d. refl) refl refl
-    (allowed_here rules opening) ActsFor c (call.Pass p) answer old new own own' polled
+    polled_renamed (beneath rules opening) (here rules opening) edit_in lock_of (locks_wrap rules opening) ActsFor c (call.Pass p) answer old new own own'
+    polled
 
 no_buffer : (x : Option BufId) → is_some x ≡ false → x ≡ None
 no_buffer None none = refl
 no_buffer (Some b) none = absurd cc
 
 -- what a part knows before a poll
-pub record Before {F R B O : Type 0} (rules : LockRules F R B O) (opening : LockId → Option (QueueBlock (SleepState (QBlock B)))) (c : CpuId) (b : BufId)
-    (e : QEdit F R)
-    (past : List (QueueEvent (QLockEdit F R))) (own : Sleeping (QOut O)) (under : Option (SchedCall (QLockEdit F R)))
-    (slept : List (Option BufId)) : Type 0 where
+pub record Before {F R B O : Type 0} (rules : LockRules F R B O) (opening : LockId → Option (QueueBlock (SleepState (QBlock B)))) : Type 0 where
+  pub c : CpuId
+  pub b : BufId
+  pub e : QEdit F R
+  pub past : List (QueueEvent (QLockEdit F R))
+  pub own : Sleeping (QOut O)
+  pub under : Option (SchedCall (QLockEdit F R))
+  pub slept : List (Option BufId)
   pub starts : StartsWell opening
   pub moving : AreMoves (homes_in opening) (moves_in (beneath rules opening) past)
   pub stands : Stands (homes_in opening) c (moves_in (beneath rules opening) past) own.threads
@@ -90,9 +92,10 @@ pub record Before {F R B O : Type 0} (rules : LockRules F R B O) (opening : Lock
   pub may : MayGo (slept_for slept (lock_caller rules e)) (option_map (renamed_sched edit_in) under) b e (lock_caller rules e)
       (MayLock rules (here rules opening) c (renamed_events edit_in past) own.threads.hand b e)
 
-module _ {F R B O : Type 0} (rules : LockRules F R B O) (opening : LockId → Option (QueueBlock (SleepState (QBlock B)))) (c : CpuId) (b : BufId) (e : QEdit F R)
-    (past : List (QueueEvent (QLockEdit F R))) (own : Sleeping (QOut O)) (under : Option (SchedCall (QLockEdit F R))) (slept : List (Option BufId))
-    (before : Before rules opening c b e past own under slept) where
+module _ {F R B O : Type 0} (rules : LockRules F R B O) (opening : LockId → Option (QueueBlock (SleepState (QBlock B))))
+    (before : Before rules opening) where
+  open before use {c, b, e, past, own, under, slept}
+
   moving_here : AreMoves (homes_in (viewed lock_of opening)) (moves_in (here rules opening) (renamed_events edit_in past))
   moving_here = locks_moving rules opening past before.moving
 
@@ -164,9 +167,8 @@ module _ {F R B O : Type 0} (rules : LockRules F R B O) (opening : LockId → Op
       -- the poll beneath is a poll here
       polled_here : SleepPolled (here rules opening) ActsFor c b e (renamed_events edit_in past) (renamed_events edit_in new) own got
       polled_here =
-          sleeps_renamed (beneath rules opening) (here rules opening) edit_in lock_of (edits rules) (answers rules) (inner_viewed lock_of opening)
-          (homes_viewed lock_of opening) (λ d. refl) refl refl
-          (allowed_here rules opening) ActsFor c b (as_section e) past new own got polled
+          sleeps_renamed (beneath rules opening) (here rules opening) edit_in lock_of (locks_wrap rules opening) ActsFor c b (as_section e) past new own got
+          polled
 
       pub locks : (under' : Option (SchedCall (QEdit F R))) (got' : Left (Locking O) (Outcome (QOut O)))
           → under' ≡ (if is_some got.answer then None else Some (call.OnBuffer b e))
@@ -184,19 +186,32 @@ module _ {F R B O : Type 0} (rules : LockRules F R B O) (opening : LockId → Op
           (polled_here.others ++ renamed_events edit_in past) own got polled_here.may polled_here.leaves kept_now
 
       module _ (acts : ActsFor c) (lawful : IsLawful (QueueAllowed (beneath rules opening)) new) where
+        abbrev section_poll : SectionPoll rules (viewed lock_of opening) c
+        section_poll = record {
+          ActsFor = ActsFor;
+          acts = acts;
+          b = b;
+          e = e;
+          old = renamed_events edit_in past;
+          new = renamed_events edit_in new;
+          own = own;
+          got = got;
+          polled = polled_here;
+          lawful = locks_lawful rules opening new lawful;
+          slept = slept;
+          none = none;
+          fits = before.fits;
+        }
+
         -- who slept owns or sleeps still
         pub slept_after : SleptFits rules (viewed lock_of opening) c (renamed_events edit_in new) slept
-        slept_after =
-            slept_polled rules (viewed lock_of opening) c ActsFor acts b e (renamed_events edit_in past) (renamed_events edit_in new) own got polled_here
-            (locks_lawful rules opening new lawful)
-            slept none before.fits
+        slept_after = slept_polled rules (viewed lock_of opening) c section_poll
 
         pub slept_told : (outcome : Outcome (QOut O)) → got.answer ≡ Some outcome
             → SleptFits rules (viewed lock_of opening) c (renamed_events edit_in new) (kept_by (lock_caller rules e) b slept outcome)
         slept_told outcome answer =
-            slept_queued rules (viewed lock_of opening) c ActsFor acts b e (renamed_events edit_in past) (renamed_events edit_in new) own got polled_here
-            (locks_lawful rules opening new lawful)
-            slept none before.fits outcome at_home (subst (λ h. length h ≤ THREADS) (sym (homes_viewed lock_of opening)) before.starts.room) answer kept_now
+            slept_queued rules (viewed lock_of opening) c section_poll outcome at_home
+            (subst (λ h. length h ≤ THREADS) (sym (homes_viewed lock_of opening)) before.starts.room) answer kept_now
 
 -- the part of another CPU agrees still
 pub others_after : {F R B O : Type 0} (rules : LockRules F R B O) (opening : LockId → Option (QueueBlock (SleepState (QBlock B)))) (c d : CpuId) → c ≢ d
@@ -207,9 +222,8 @@ pub others_after : {F R B O : Type 0} (rules : LockRules F R B O) (opening : Loc
     → SleptFits rules (viewed lock_of opening) c (renamed_events edit_in new) slept
 others_after rules opening c d apart ActsFor acts b e past new own got polled lawful slept fits =
     slept_of_others rules (viewed lock_of opening) c ActsFor d apart acts slept b e (renamed_events edit_in past) (renamed_events edit_in new) own got
-    (sleeps_renamed (beneath rules opening) (here rules opening) edit_in lock_of (edits rules) (answers rules) (inner_viewed lock_of opening)
-    (homes_viewed lock_of opening) (λ d. refl) refl refl
-    (allowed_here rules opening) ActsFor d b (as_section e) past new own got polled) (locks_lawful rules opening new lawful) fits
+    (sleeps_renamed (beneath rules opening) (here rules opening) edit_in lock_of (locks_wrap rules opening) ActsFor d b (as_section e) past new own
+    got polled) (locks_lawful rules opening new lawful) fits
 
 -- A poll that followed its plan beneath followed it here.
 
@@ -233,13 +247,9 @@ module _ {F R B O : Type 0} (rules : LockRules F R B O) (opening : LockId → Op
       (map (renamed (renamed_edit edit_in)) acts) (map (renamed (renamed_edit edit_in)) acts') got
       (subst (λ plan. Follows ActsFor (table_of (queue_rules (lock_rules rules) (lock_moves rules))) (viewed lock_of opening) c plan
       (map (renamed (renamed_edit edit_in)) acts) (map (renamed (renamed_edit edit_in)) acts') got)
-      (sleep_plan_renamed (beneath rules opening) (here rules opening) edit_in lock_of (edits rules) (answers rules) (inner_viewed lock_of opening)
-      (homes_viewed lock_of opening) (λ d. refl) refl refl
-      (allowed_here rules opening) (homes_in opening) c b (as_section e) own
+      (sleep_plan_renamed (beneath rules opening) (here rules opening) edit_in lock_of (locks_wrap rules opening) (homes_in opening) c b (as_section e) own
       ∙ ap (λ h. sleep_plan (lock_moves rules) h c b e own) (sym (homes_viewed lock_of opening)))
-      (follows_named (beneath rules opening) (here rules opening) edit_in lock_of (edits rules) (answers rules) (inner_viewed lock_of opening)
-      (homes_viewed lock_of opening) (λ d. refl) refl refl
-      (allowed_here rules opening) ActsFor opening c
+      (follows_named (beneath rules opening) (here rules opening) edit_in lock_of (locks_wrap rules opening) ActsFor opening c
       (sleep_plan (sleep_moves (busy_rules rules)) (homes_in opening) c b (as_section e) own) acts acts' got follows)))
 
   pub locks_pass_follow : (p : Pass) (own : Sleeping (QOut O)) (slept : List (Option BufId)) (got : Left (Sleeping (QOut O)) (Unit {0}))
@@ -254,10 +264,7 @@ module _ {F R B O : Type 0} (rules : LockRules F R B O) (opening : LockId → Op
       (map (renamed (renamed_edit edit_in)) acts) (map (renamed (renamed_edit edit_in)) acts') got
       (subst (λ plan. Follows ActsFor (table_of (queue_rules (lock_rules rules) (lock_moves rules))) (viewed lock_of opening) c plan
       (map (renamed (renamed_edit edit_in)) acts) (map (renamed (renamed_edit edit_in)) acts') got)
-      (pass_plan_renamed (beneath rules opening) (here rules opening) edit_in lock_of (edits rules) (answers rules) (inner_viewed lock_of opening)
-      (homes_viewed lock_of opening) (λ d. refl) refl refl
-      (allowed_here rules opening) (homes_in opening) c p own
+      (pass_plan_renamed (beneath rules opening) (here rules opening) edit_in lock_of (locks_wrap rules opening) (homes_in opening) c p own
       ∙ ap (λ h. pass_plan (lock_moves rules) h c p own) (sym (homes_viewed lock_of opening)))
-      (follows_named (beneath rules opening) (here rules opening) edit_in lock_of (edits rules) (answers rules) (inner_viewed lock_of opening)
-      (homes_viewed lock_of opening) (λ d. refl) refl refl
-      (allowed_here rules opening) ActsFor opening c (pass_plan (sleep_moves (busy_rules rules)) (homes_in opening) c p own) acts acts' got follows))
+      (follows_named (beneath rules opening) (here rules opening) edit_in lock_of (locks_wrap rules opening) ActsFor opening c
+      (pass_plan (sleep_moves (busy_rules rules)) (homes_in opening) c p own) acts acts' got follows))

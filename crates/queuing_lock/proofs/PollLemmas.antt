@@ -107,13 +107,28 @@ module _ {F R B O : Type 0} (rules : LockRules F R B O) where
       let one : lock_answer rules e state ≡ outcome = cc in
       queued_by e state small (ap (λ o. o.out) one ∙ queued)
 
+-- a poll of a section by a part of the CPU c, whose caller does not sleep for a lock, and those who did before it
+pub record SectionPoll {F R B O : Type 0} (rules : LockRules F R B O) (opening : LockId → Option (QueueBlock (LockState B))) (c : CpuId) : Type 1 where
+  pub ActsFor : CpuId → Type 0
+  pub acts : ActsFor c
+  pub b : BufId
+  pub e : QEdit F R
+  pub old : List (QueueEvent (QEdit F R))
+  pub new : List (QueueEvent (QEdit F R))
+  pub own : Sleeping (QOut O)
+  pub got : Left (Sleeping (QOut O)) (Outcome (QOut O))
+  pub polled : SleepPolled (lock_kernel rules opening) ActsFor c b e old new own got
+  pub lawful : IsLawful (QueueAllowed (lock_kernel rules opening)) new
+  pub slept : List (Option BufId)
+  pub none : slept_for slept (lock_caller rules e) ≡ None
+  pub fits : SleptFits rules opening c old slept
+
 module _ {F R B O : Type 0} (rules : LockRules F R B O) (opening : LockId → Option (QueueBlock (LockState B))) (c : CpuId) where
   -- A poll of a section, seen by the part that did it.
 
-  module _ (ActsFor : CpuId → Type 0) (acts : ActsFor c) (b : BufId) (e : QEdit F R) (old new : List (QueueEvent (QEdit F R))) (own : Sleeping (QOut O))
-      (got : Left (Sleeping (QOut O)) (Outcome (QOut O)))
-      (polled : SleepPolled (lock_kernel rules opening) ActsFor c b e old new own got) (lawful : IsLawful (QueueAllowed (lock_kernel rules opening)) new)
-      (slept : List (Option BufId)) (none : slept_for slept (lock_caller rules e) ≡ None) (fits : SleptFits rules opening c old slept) where
+  module _ (poll : SectionPoll rules opening c) where
+    open poll use {ActsFor, acts, b, e, old, new, own, got, polled, lawful, slept, none, fits}
+
     after : IsLawful (QueueAllowed (lock_kernel rules opening)) (seen_with (lock_kernel rules opening) c b e polled.deed (polled.others ++ old))
     after = subst (λ l. IsLawful (QueueAllowed (lock_kernel rules opening)) l) polled.is lawful
 

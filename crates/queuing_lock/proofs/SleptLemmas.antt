@@ -44,7 +44,9 @@ module _ {F R B O : Type 0} (rules : LockRules F R B O) (opening : LockId → Op
       → (slept : List (Option BufId)) → SleptFits rules opening c past slept → SleptFits rules opening c (more ++ past) slept
   slept_others more past others lawful slept fits t b is = record {
     here = (fits t b is).here;
-    awaits = kept_others rules opening t (HasOrAwaits t) (keeps_awaits rules t) c (fits t b is).here (Buffer b) more past others lawful (fits t b is).awaits;
+    awaits = kept_others rules opening
+        (record { t = t; P = HasOrAwaits t; keeps = keeps_awaits rules t; c = c; at_home = (fits t b is).here; lock = Buffer b })
+        more past others lawful (fits t b is).awaits;
   }
 
   -- the history went on by calls of others
@@ -69,7 +71,9 @@ module _ {F R B O : Type 0} (rules : LockRules F R B O) (opening : LockId → Op
   slept_deed b e Waits past slept lawful none fits = fits
   slept_deed b e (Does outcome) past slept lawful none fits = λ t at is. record {
     here = (fits t at is).here;
-    awaits = kept_by rules opening t (HasOrAwaits t) (keeps_awaits rules t) c (fits t at is).here (Buffer at) past c b e lawful.0.upper.owners
+    awaits = kept_by rules opening
+        (record { t = t; P = HasOrAwaits t; keeps = keeps_awaits rules t; c = c; at_home = (fits t at is).here; lock = Buffer at })
+        past c b e lawful.0.upper.owners
         (apart slept (lock_caller rules e) t at none is) (fits t at is).awaits;
   }
   slept_deed b e (Sends u) past slept lawful none fits = λ t at is. record { here = (fits t at is).here; awaits = (fits t at is).awaits }

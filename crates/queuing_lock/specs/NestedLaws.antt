@@ -26,7 +26,7 @@ use Rattle.layer_traits.specs.Queues.{Kernel, QueueAllowed, buffer_sections, mov
 use Rattle.layer_traits.specs.Renaming.{renamed_edit, renamed_events, renamed_sched, viewed}
 use Rattle.layer_traits.specs.SleepLaw.{sleep_kernel}
 use Rattle.layer_traits.specs.Sleeping.{SleepState, line_at, sleep_edited}
-use Rattle.layer_traits.proofs.KernelRenaming.{block_renamed, homes_viewed, inner_viewed, lawful_renamed, moves_renamed, sections_renamed}
+use Rattle.layer_traits.proofs.KernelRenaming.{Wraps, block_renamed, homes_viewed, inner_viewed, lawful_renamed, moves_renamed, sections_renamed}
 use Rattle.queuing_lock.specs.declared.edits.QBlock.{QBlock}
 use Rattle.queuing_lock.specs.declared.edits.QLockEdit.{QLockEdit}
 use Rattle.queuing_lock.specs.Edits.{answers, edits}
@@ -51,18 +51,26 @@ module _ {F R B O : Type 0} (rules : LockRules F R B O) (opening : LockId → Op
       subst (λ (o : LockId → Option (LockState B)). LockAllowed rules o (map (renamed_section edit_in) past) (renamed_section edit_in s))
       (sym inner_locks) allowed
 
+  pub locks_wrap : Wraps beneath here edit_in lock_of
+  locks_wrap = record {
+    edits = edits rules;
+    answers = answers rules;
+    openings = inner_viewed lock_of opening;
+    homes = homes_viewed lock_of opening;
+    callers = λ d. refl;
+    slept = refl;
+    woke = refl;
+    allowed = allowed_here;
+  }
+
   pub locks_lawful : (past : List (QueueEvent (QLockEdit F R))) → IsLawful (QueueAllowed beneath) past
       → IsLawful (QueueAllowed here) (renamed_events edit_in past)
   locks_lawful past lawful =
-      lawful_renamed beneath here edit_in lock_of (edits rules) (answers rules) (inner_viewed lock_of opening) (homes_viewed lock_of opening)
-      (λ d. refl) refl refl
-      allowed_here past lawful
+      lawful_renamed beneath here edit_in lock_of locks_wrap past lawful
 
   pub same_moves : (past : List (QueueEvent (QLockEdit F R))) → moves_in here (renamed_events edit_in past) ≡ moves_in beneath past
   same_moves past =
-      moves_renamed beneath here edit_in lock_of (edits rules) (answers rules) (inner_viewed lock_of opening) (homes_viewed lock_of opening)
-      (λ d. refl) refl refl
-      allowed_here past
+      moves_renamed beneath here edit_in lock_of locks_wrap past
 
   -- the threads stand here as they stand beneath
   pub locks_stand : (c : CpuId) (past : List (QueueEvent (QLockEdit F R))) (own : Threads) → Stands (homes_in opening) c (moves_in beneath past) own
@@ -80,9 +88,7 @@ module _ {F R B O : Type 0} (rules : LockRules F R B O) (opening : LockId → Op
       ≡ option_map lock_of (block_after (sleep_edited (busy_rules rules)) (inner opening) lock (buffer_sections past))
   lock_is lock past =
       ap (lock_after rules (inner (viewed lock_of opening)) lock) (sections_renamed edit_in past)
-      ∙ block_renamed beneath here edit_in lock_of (edits rules) (answers rules) (inner_viewed lock_of opening) (homes_viewed lock_of opening)
-      (λ d. refl) refl refl
-      allowed_here lock (buffer_sections past)
+      ∙ block_renamed beneath here edit_in lock_of locks_wrap lock (buffer_sections past)
 
   line_seen : (line : Line) (o : Option (SleepState (QBlock B))) → line_in line (option_map lock_of o) ≡ line_at line o
   line_seen Sleepers None = refl

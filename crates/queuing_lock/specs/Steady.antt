@@ -30,9 +30,18 @@ abbrev pub Keeps : {F R B O : Type 0} → LockRules F R B O → Tid → (Option 
 Keeps rules t P = (e : QEdit _ _) (state : LockState _) → IsOwners rules e state.owner → (lock_caller rules e ≡ t → ⊥) → P (Some state)
     → P (Some (lock_edited rules e state))
 
-module _ {F R B O : Type 0} (rules : LockRules F R B O) (opening : LockId → Option (QueueBlock (LockState B))) (t : Tid) (P : Option (LockState B) → Type 0)
-    (keeps : Keeps rules t P)
-    (c : CpuId) (at_home : home_of (homes_in opening) t ≡ Some c) (lock : LockId) where
+-- a thread of a CPU, and what is true of a lock and stays so while other threads call
+pub record IsKept {F R B O : Type 0} (rules : LockRules F R B O) (opening : LockId → Option (QueueBlock (LockState B))) : Type 1 where
+  pub t : Tid
+  pub P : Option (LockState B) → Type 0
+  pub keeps : Keeps rules t P
+  pub c : CpuId
+  pub at_home : home_of (homes_in opening) t ≡ Some c
+  pub lock : LockId
+
+module _ {F R B O : Type 0} (rules : LockRules F R B O) (opening : LockId → Option (QueueBlock (LockState B))) (kept : IsKept rules opening) where
+  open kept use {t, P, keeps, c, at_home, lock}
+
   kept_section : (b : BufId) (e : QEdit F R) (before at : Option (LockState B)) → (lock ≡ Buffer b → before ≡ at) → IsOwners rules e (owner_in at)
       → (lock_caller rules e ≡ t → ⊥)
       → (same : Bool) → same_lock lock (Buffer b) ≡ same → P before → P (if same then option_map (lock_edited rules e) before else before)

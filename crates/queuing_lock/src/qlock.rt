@@ -165,6 +165,7 @@ impl<F: Locked, S: OwnedSleeps<QLockEdit<F, F::Release>>> OwnedQLocks<F> for QLo
     ghost use Rattle.std.specs.Prelude.{option_map};
     ghost use Rattle.event_log.specs.declared.ids.LockId.TheVariants.{Buffer, Pending};
     ghost use Rattle.layer_traits.proofs.KernelRenaming.{there_viewed};
+    ghost use Rattle.layer_traits.proofs.OwnedLemmas.{parts_on};
     ghost use Rattle.queuing_lock.specs.Nested.{lock_of};
     ghost use Rattle.queuing_lock.specs.OwnedLaws.{locks_queues, locks_shown};
 
@@ -224,11 +225,13 @@ impl<F: Locked, S: OwnedSleeps<QLockEdit<F, F::Release>>> OwnedQLocks<F> for QLo
         self.lower.pends_here(d, t)
     }
 
-    ghost shown = { λ m c b acts there. locks_shown F.rules (S.opening m) (S.seen m) (λ (p : Self). p.lower) (λ p. S.Fits p m) (λ (p : Self). Self.Fits p m)
-        (λ p. S.cpu_of p) S.IsStepwise (S.acts m) (λ p fits. fits.0) b (λ p. S.state_with p b) (S.state_at m b)
+    ghost shown = { λ m c b acts there. locks_shown F.rules (S.opening m) (S.seen m)
+        (parts_on (λ (p : Self). p.lower) (λ p. S.Fits p m) (λ (p : Self). Self.Fits p m) (λ p. S.cpu_of p) S.IsStepwise (S.acts m) (λ p fits. fits.0))
+        b (λ p. S.state_with p b) (S.state_at m b)
         (S.shown m c b acts (there_viewed lock_of (S.opening m) (Buffer b) there)) };
 
-    ghost queues = { λ m c d acts there. locks_queues F.rules (S.opening m) (S.seen m) (λ (p : Self). p.lower) (λ p. S.Fits p m) (λ (p : Self). Self.Fits p m)
-        (λ p. S.cpu_of p) S.IsStepwise (S.acts m) (λ p fits. fits.0) d (λ p. S.queue_with p d) (S.queue_at m d)
+    ghost queues = { λ m c d acts there. locks_queues F.rules (S.opening m) (S.seen m)
+        (parts_on (λ (p : Self). p.lower) (λ p. S.Fits p m) (λ (p : Self). Self.Fits p m) (λ p. S.cpu_of p) S.IsStepwise (S.acts m) (λ p fits. fits.0))
+        d (λ p. S.queue_with p d) (S.queue_at m d)
         (S.queues m c d acts (there_viewed lock_of (S.opening m) (Pending d) there)) };
 }

@@ -76,9 +76,24 @@ can_read_queue d None there kind truth queue is x tells = absurd cc
 can_read_queue d (Some (Queue old homes)) there kind truth queue is x tells = (queue, ap (option_and_then queue_in) (sym tells ∙ is), refl)
 can_read_queue d (Some (Above block)) there kind truth queue is x tells = absurd kind
 
-module _ {P E B O : Type 0} (rules : Rules E B O) (mv : MoveRules E O) (opening : LockId → Option (QueueBlock B)) (past : List (Section (QueueEdit E)))
-    (starts : StartsWell opening) (lawful : IsLawful (SectionAllowed rules mv opening) past)
-    (Fits : P → Type 0) (cpu_of : P → CpuId) (IsInside : CpuId → Type 0) where
+-- lawful sections over the blocks of a boot, and who tells of blocks: the parts that fit, the CPU of each, and when a CPU is in a section
+pub record Tellers (P : Type 0) {E B O : Type 0} (rules : Rules E B O) (mv : MoveRules E O) (opening : LockId → Option (QueueBlock B)) : Type 1 where
+  pub past : List (Section (QueueEdit E))
+  pub starts : StartsWell opening
+  pub lawful : IsLawful (SectionAllowed rules mv opening) past
+  pub Fits : P → Type 0
+  pub cpu_of : P → CpuId
+  pub IsInside : CpuId → Type 0
+
+abbrev pub tellers : {P E B O : Type 0} (rules : Rules E B O) (mv : MoveRules E O) (opening : LockId → Option (QueueBlock B))
+    (past : List (Section (QueueEdit E))) → StartsWell opening → IsLawful (SectionAllowed rules mv opening) past → (P → Type 0) → (P → CpuId)
+    → (CpuId → Type 0) → Tellers P rules mv opening
+tellers rules mv opening past starts lawful Fits cpu_of IsInside =
+    record { past = past; starts = starts; lawful = lawful; Fits = Fits; cpu_of = cpu_of; IsInside = IsInside }
+
+module _ {P E B O : Type 0} (rules : Rules E B O) (mv : MoveRules E O) (opening : LockId → Option (QueueBlock B)) (those : Tellers P rules mv opening) where
+  open those use {past, starts, lawful, Fits, cpu_of, IsInside}
+
   -- what is told of a buffer's lock is told of the buffer
   pub buffer_shown : (b : BufId) (here : P → Option (QueueBlock B)) (home : Option (QueueBlock B))
       → IsShown Fits cpu_of IsInside here home (block_after (queue_edited rules.edited) opening (Buffer b) past)

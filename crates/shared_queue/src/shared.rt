@@ -109,7 +109,7 @@ impl<E: Moves, L: OwnedLocks<QueueEdit<E>>> OwnedQueues<E> for SharedQueues<L> {
     ghost use Rattle.layer_traits.specs.Plans.{is_in_section};
     ghost use Rattle.layer_traits.specs.QueueBlocks.{StartsWell};
     ghost use Rattle.layer_traits.specs.QueueRules.{IsProperCall, queue_edited};
-    ghost use Rattle.shared_queue.specs.OwnedLaws.{above_in, queue_in, buffer_shown, queue_shown};
+    ghost use Rattle.shared_queue.specs.OwnedLaws.{above_in, queue_in, buffer_shown, queue_shown, tellers};
 
     ghost block_at = { λ m b. option_and_then above_in (L.block_at m (Buffer b)) };
 
@@ -147,18 +147,20 @@ impl<E: Moves, L: OwnedLocks<QueueEdit<E>>> OwnedQueues<E> for SharedQueues<L> {
         }
     }
 
-    ghost shown = { λ m c b acts there. buffer_shown E.rules E.moves (L.opening m) (L.seen m) acts.1 (L.lawful m c acts.0)
+    ghost shown = { λ m c b acts there. buffer_shown E.rules E.moves (L.opening m)
+        (tellers E.rules E.moves (L.opening m) (L.seen m) acts.1 (L.lawful m c acts.0)
         (λ (p : Self). L.Fits p.lower m × StartsWell (L.opening m) × IsProperCall (L.under_way p.lower)) (λ p. L.cpu_of p.lower)
-        (λ d. L.IsStepwise × (is_in_section (phase d (L.acts m)) ≡ true)) b (λ p. L.block_with p.lower (Buffer b)) (L.block_at m (Buffer b))
+        (λ d. L.IsStepwise × (is_in_section (phase d (L.acts m)) ≡ true))) b (λ p. L.block_with p.lower (Buffer b)) (L.block_at m (Buffer b))
         (shown_under (λ (p : Self). p.lower) (λ p. L.Fits p m) (λ p. L.Fits p.lower m × StartsWell (L.opening m) × IsProperCall (L.under_way p.lower))
         (λ p. L.cpu_of p) (λ p. L.cpu_of p.lower) (λ d. L.IsStepwise × (is_in_section (phase d (L.acts m)) ≡ true))
         (λ d. L.IsStepwise × (is_in_section (phase d (L.acts m)) ≡ true))
         (λ p. L.block_with p (Buffer b)) (L.block_at m (Buffer b)) (block_after (queue_edited E.rules.edited) (L.opening m) (Buffer b) (L.seen m))
         (λ p fits. fits.0) (λ p fits. refl) (λ d inside. inside) (L.shown m c (Buffer b) acts.0 there)) };
 
-    ghost queues = { λ m c d acts there. queue_shown E.rules E.moves (L.opening m) (L.seen m) acts.1 (L.lawful m c acts.0)
+    ghost queues = { λ m c d acts there. queue_shown E.rules E.moves (L.opening m)
+        (tellers E.rules E.moves (L.opening m) (L.seen m) acts.1 (L.lawful m c acts.0)
         (λ (p : Self). L.Fits p.lower m × StartsWell (L.opening m) × IsProperCall (L.under_way p.lower)) (λ p. L.cpu_of p.lower)
-        (λ d. L.IsStepwise × (is_in_section (phase d (L.acts m)) ≡ true)) E.wakes_sleepers d there (λ p. L.block_with p.lower (Pending d))
+        (λ d. L.IsStepwise × (is_in_section (phase d (L.acts m)) ≡ true))) E.wakes_sleepers d there (λ p. L.block_with p.lower (Pending d))
         (L.block_at m (Pending d))
         (shown_under (λ (p : Self). p.lower) (λ p. L.Fits p m) (λ p. L.Fits p.lower m × StartsWell (L.opening m) × IsProperCall (L.under_way p.lower))
         (λ p. L.cpu_of p) (λ p. L.cpu_of p.lower) (λ d. L.IsStepwise × (is_in_section (phase d (L.acts m)) ≡ true))

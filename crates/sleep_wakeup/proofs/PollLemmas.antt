@@ -31,7 +31,7 @@ use Rattle.sleep_wakeup.specs.declared.edits.SleepBlock.{SleepBlock}
 use Rattle.sleep_wakeup.specs.declared.edits.SleepEdit.{SleepEdit}
 use Rattle.sleep_wakeup.specs.declared.kept.Kept.{Kept}
 use Rattle.sleep_wakeup.specs.Nested.{edit_in, nested_moves, nested_rules, state_of, states}
-use Rattle.sleep_wakeup.specs.NestedLaws.{allowed_here, beneath, here, nested_stays}
+use Rattle.sleep_wakeup.specs.NestedLaws.{beneath, here, nested_stays, nested_wraps}
 use Rattle.sleep_wakeup.specs.Parts.{KeptFits, answer_told, as_edit, done_of, kept_told, must_wait, outcome_in, own_of, under_of}
 
 -- where nobody sleeps at the opening here, nobody does beneath
@@ -135,9 +135,8 @@ module _ {E B O : Type 0} (rules : SleepRules E B O) (opening : LockId → Optio
       → SchedPolled (beneath rules opening) ActsFor c s answer old new threads threads'
       → SchedPolled (here rules opening) ActsFor c (renamed_sched edit_in s) answer (renamed_events edit_in old) (renamed_events edit_in new) threads threads'
   nested_polled ActsFor c s answer old new threads threads' polled =
-      polled_renamed (beneath rules opening) (here rules opening) edit_in state_of (λ d a. refl) (λ d a. refl) (inner_viewed state_of opening)
-      (homes_viewed state_of opening) (λ d. refl) refl refl
-      (allowed_here rules opening) ActsFor c s answer old new threads threads' polled
+      polled_renamed (beneath rules opening) (here rules opening) edit_in state_of (nested_wraps rules opening) ActsFor c s answer old new threads threads'
+      polled
 
   -- the poll of the call that is due is a poll of the section
   pub nested_sleeps : (ActsFor : CpuId → Type 0) (c : CpuId) (b : BufId) (e : E) (answer : Option (SchedAnswer (Outcome O)))
@@ -147,7 +146,7 @@ module _ {E B O : Type 0} (rules : SleepRules E B O) (opening : LockId → Optio
       → SleepPolled (here rules opening) ActsFor c b e (renamed_events edit_in old) (renamed_events edit_in new) (own_of kept threads)
       (left_told (outcome_in kept) threads' answer)
   nested_sleeps ActsFor c b e answer old new threads threads' kept hand is fits polled =
-      sleep_polled (here rules opening) ActsFor c b e (renamed_events edit_in old) (renamed_events edit_in new) (own_of kept threads) threads' hand
+      sleep_polled (here rules opening) b e ActsFor c (renamed_events edit_in old) (renamed_events edit_in new) (own_of kept threads) threads' hand
       (outcome_in kept) answer (sym is) refl fits
       (subst (λ s. SchedPolled (here rules opening) ActsFor c s answer (renamed_events edit_in old) (renamed_events edit_in new) threads threads')
       (due_renamed hand b e)
@@ -180,13 +179,10 @@ module _ {E B O : Type 0} (rules : SleepRules E B O) (opening : LockId → Optio
   nested_follows ActsFor c s acts acts' threads threads' answer follows =
       subst (λ plan. Follows ActsFor (table_of (queue_rules (sleep_rules rules) (sleep_moves rules))) (viewed state_of opening) c plan
       (map (renamed (renamed_edit edit_in)) acts) (map (renamed (renamed_edit edit_in)) acts') (left threads' answer))
-      (plan_renamed (beneath rules opening) (here rules opening) edit_in state_of (λ d a. refl) (λ d a. refl) (inner_viewed state_of opening)
-      (homes_viewed state_of opening) (λ d. refl) refl refl
-      (allowed_here rules opening) (homes_in opening) c s threads
+      (plan_renamed (beneath rules opening) (here rules opening) edit_in state_of (nested_wraps rules opening) (homes_in opening) c s threads
       ∙ ap (λ homes. sched_plan (sleep_moves rules) homes c (renamed_sched edit_in s) threads) (sym (homes_viewed state_of opening)))
-      (follows_named (beneath rules opening) (here rules opening) edit_in state_of (λ d a. refl) (λ d a. refl) (inner_viewed state_of opening)
-      (homes_viewed state_of opening) (λ d. refl) refl refl
-      (allowed_here rules opening) ActsFor opening c (sched_plan (nested_moves rules) (homes_in opening) c s threads) acts acts' (left threads' answer) follows)
+      (follows_named (beneath rules opening) (here rules opening) edit_in state_of (nested_wraps rules opening) ActsFor opening c
+      (sched_plan (nested_moves rules) (homes_in opening) c s threads) acts acts' (left threads' answer) follows)
 
   pub nested_sleep_follows : (ActsFor : CpuId → Type 0) (c : CpuId) (b : BufId) (e : E) (acts acts' : List (Action (QueueEdit (SleepEdit E))))
       (kept : Option (Kept E O)) (threads threads' : Threads)

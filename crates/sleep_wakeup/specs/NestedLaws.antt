@@ -28,7 +28,7 @@ use Rattle.layer_traits.specs.Scheds.{EditStays}
 use Rattle.layer_traits.specs.SleepLaw.{MaySleep, sleep_kernel}
 use Rattle.layer_traits.specs.Sleeping.{IsAwake, NobodySleeps, SleepRules, SleepState, line_at, sleep_answer, sleep_edited, sleep_moves, sleep_rules}
 use Rattle.layer_traits.proofs.CallLemmas.{asleep_place, moves_append, moves_lawful, moves_others, moves_over, sections_asleep, upper_lawful}
-use Rattle.layer_traits.proofs.KernelRenaming.{homes_viewed, inner_viewed, lawful_renamed, moves_renamed, sections_renamed, stays_renamed}
+use Rattle.layer_traits.proofs.KernelRenaming.{Wraps, homes_viewed, inner_viewed, lawful_renamed, moves_renamed, sections_renamed, stays_renamed}
 use Rattle.layer_traits.proofs.ListsLemmas.{lists_agree, section_wakes}
 use Rattle.layer_traits.proofs.PlaceLemmas.{current_at, stands_others}
 use Rattle.layer_traits.proofs.PlanRenaming.{block_viewed}
@@ -52,7 +52,8 @@ module _ {E B O : Type 0} (rules : SleepRules E B O) (opening : LockId → Optio
   state_after : (lock : LockId) (past : List (Section (SleepEdit E)))
       → block_after (sleep_edited rules) (states opening) lock (above past) ≡ option_map state_of (block_after (nested_edited rules) opening lock past)
   state_after lock past =
-      block_viewed (table_of (nested_rules rules)) (table_of (sleep_rules rules)) edit_in state_of (λ (o : Outcome O). o) edits (λ d a. refl) opening lock past
+      block_viewed (table_of (nested_rules rules)) (table_of (sleep_rules rules))
+      (record { name = edit_in; view = state_of; told = λ (o : Outcome O). o; edits = edits; answers = λ d a. refl }) opening lock past
 
   answer_seen : (d : SleepEdit E) (o : Option (SleepBlock B))
       → option_map (sleep_answer rules (edit_in d)) (option_map state_of o) ≡ option_map (nested_answer rules d) o
@@ -112,16 +113,26 @@ module _ {E B O : Type 0} (rules : SleepRules E B O) (opening : LockId → Optio
       subst (λ (o : LockId → Option (SleepState B)). rules.allowed o (map (renamed_section edit_in) past) (renamed_section edit_in s))
       (sym inner_states) allowed.upper
 
+  pub nested_wraps : Wraps beneath here edit_in state_of
+  nested_wraps = record {
+    edits = λ d a. refl;
+    answers = λ d a. refl;
+    openings = inner_viewed state_of opening;
+    homes = homes_viewed state_of opening;
+    callers = λ d. refl;
+    slept = refl;
+    woke = refl;
+    allowed = allowed_here;
+  }
+
   pub nested_lawful : (past : List (QueueEvent (SleepEdit E))) → IsLawful (QueueAllowed beneath) past
       → IsLawful (QueueAllowed here) (renamed_events edit_in past)
   nested_lawful past lawful =
-      lawful_renamed beneath here edit_in state_of (λ d a. refl) (λ d a. refl) (inner_viewed state_of opening) (homes_viewed state_of opening)
-      (λ d. refl) refl refl allowed_here past lawful
+      lawful_renamed beneath here edit_in state_of nested_wraps past lawful
 
   pub same_moves : (past : List (QueueEvent (SleepEdit E))) → moves_in here (renamed_events edit_in past) ≡ moves_in beneath past
   same_moves past =
-      moves_renamed beneath here edit_in state_of (λ d a. refl) (λ d a. refl) (inner_viewed state_of opening) (homes_viewed state_of opening)
-      (λ d. refl) refl refl allowed_here past
+      moves_renamed beneath here edit_in state_of nested_wraps past
 
   -- the threads stand here as they stand beneath
   pub nested_stands : (c : CpuId) (past : List (QueueEvent (SleepEdit E))) (own : Threads) → Stands (homes_in opening) c (moves_in beneath past) own
@@ -168,9 +179,7 @@ module _ {E B O : Type 0} (rules : SleepRules E B O) (opening : LockId → Optio
     };
     upper = subst (λ (o : LockId → Option (SleepState B)). rules.allowed o (map (renamed_section edit_in) (buffer_sections (more ++ past)))
         (record { cpu = c; lock = Buffer b; edit = e })) inner_states
-        (stays_renamed beneath here edit_in state_of (λ d a. refl) (λ d a. refl) (inner_viewed state_of opening) (homes_viewed state_of opening)
-        (λ d. refl) refl refl allowed_here
-        c past b (as_edit e) may.stays more others legal);
+        (stays_renamed beneath here edit_in state_of nested_wraps c past b (as_edit e) may.stays more others legal);
   }
     where
       moving : AreMoves (homes_in opening) (moves_in beneath (more ++ past))

@@ -149,6 +149,7 @@ impl<E: Sleeps, S: OwnedScheds<SleepEdit<E>>> OwnedSleeps<E> for Sleeper<E, S> {
     ghost use Rattle.std.specs.Prelude.{option_map};
     ghost use Rattle.event_log.specs.declared.ids.LockId.TheVariants.{Buffer, Pending};
     ghost use Rattle.layer_traits.proofs.KernelRenaming.{there_viewed};
+    ghost use Rattle.layer_traits.proofs.OwnedLemmas.{parts_on};
     ghost use Rattle.sleep_wakeup.specs.Nested.{state_of};
     ghost use Rattle.sleep_wakeup.specs.OwnedLaws.{nested_queues, nested_shown};
 
@@ -198,11 +199,13 @@ impl<E: Sleeps, S: OwnedScheds<SleepEdit<E>>> OwnedSleeps<E> for Sleeper<E, S> {
         self.lower.pends_here(d, t)
     }
 
-    ghost shown = { λ m c b acts there. nested_shown E.rules (S.opening m) (S.seen m) (λ (p : Self). p.lower) (λ p. S.Fits p m) (λ (p : Self). Self.Fits p m)
-        (λ p. S.cpu_of p) S.IsStepwise (S.acts m) (λ p fits. fits.0) b (λ p. S.block_with p b) (S.block_at m b)
+    ghost shown = { λ m c b acts there. nested_shown E.rules (S.opening m) (S.seen m)
+        (parts_on (λ (p : Self). p.lower) (λ p. S.Fits p m) (λ (p : Self). Self.Fits p m) (λ p. S.cpu_of p) S.IsStepwise (S.acts m) (λ p fits. fits.0))
+        b (λ p. S.block_with p b) (S.block_at m b)
         (S.shown m c b acts (there_viewed state_of (S.opening m) (Buffer b) there)) };
 
-    ghost queues = { λ m c d acts there. nested_queues E.rules (S.opening m) (S.seen m) (λ (p : Self). p.lower) (λ p. S.Fits p m) (λ (p : Self). Self.Fits p m)
-        (λ p. S.cpu_of p) S.IsStepwise (S.acts m) (λ p fits. fits.0) d (λ p. S.queue_with p d) (S.queue_at m d)
+    ghost queues = { λ m c d acts there. nested_queues E.rules (S.opening m) (S.seen m)
+        (parts_on (λ (p : Self). p.lower) (λ p. S.Fits p m) (λ (p : Self). Self.Fits p m) (λ p. S.cpu_of p) S.IsStepwise (S.acts m) (λ p fits. fits.0))
+        d (λ p. S.queue_with p d) (S.queue_at m d)
         (S.queues m c d acts (there_viewed state_of (S.opening m) (Pending d) there)) };
 }

@@ -4,14 +4,14 @@ use Rattle.std.proofs.lemmas.List.{map-append}
 use Rattle.event_log.specs.declared.ids.CpuId.{CpuId}
 use Rattle.event_log.specs.declared.ids.LockId.{LockId}
 use Rattle.event_log.specs.declared.events.Event.{Event}
-use Rattle.event_log.specs.declared.events.Event.TheVariants.{Draw, Look, Free}
+use Rattle.event_log.specs.declared.events.Event.TheVariants.{Draw}
 use Rattle.event_log.specs.declared.grants.GrantEvent.{GrantEvent}
 use Rattle.event_log.specs.declared.grants.GrantEvent.TheVariants.{Take, Peek, Give}
-use Rattle.event_log.specs.Actions.{Action, Take as TakePlace, Waits, Holds, doer, phase, place, act_of, acts_of}
-use Rattle.event_log.specs.Grants.{IsLegalGrants, grant_actor, grant_standing, left_by_grant, act_of_grant, acts_of_grants}
+use Rattle.event_log.specs.Actions.{Waits, Holds, doer, phase, place, act_of, acts_of}
+use Rattle.event_log.specs.Grants.{IsLegalGrants, grant_actor, grant_standing, act_of_grant, acts_of_grants}
 use Rattle.event_log.specs.History.{Adds, AreOthers, same_cpu}
 use Rattle.event_log.specs.Sections.{block_after, sections_in}
-use Rattle.event_log.specs.WordsLog.{IsLegalWords, Standing, Waiting, Inside, actor, standing}
+use Rattle.event_log.specs.WordsLog.{IsLegalWords, Waiting, Inside, actor, standing}
 use Rattle.event_log.proofs.GrantWords.{grant_ticket_at, phase_grants}
 use Rattle.event_log.proofs.Same.{same_cpu_self}
 use Rattle.event_log.proofs.Tickets.{doer_is, phase_acts, ticket_at}
@@ -52,7 +52,8 @@ module _ {E : Type 0} (ActsFor : CpuId → Type 0) (old new : List (Event (Mark 
 pub waits_by_ticket : {E : Type 0} (log : List (Event (Mark E))) → IsLegalWords log → (cpu : CpuId) (lock : LockId) (ticket : ℕ)
     → phase cpu (acts_of edit_of log) ≡ Waits lock → ticket ≡ place cpu (acts_of edit_of log) % 2 ^ 64 → standing cpu log ≡ Waiting lock ticket
 waits_by_ticket log legal cpu lock ticket waits is =
-    waiting_with (standing cpu log) lock (place cpu (acts_of edit_of log)) ticket (sym (phase_acts edit_of cpu log) ∙ waits) (ticket_at edit_of log legal cpu) is
+    waiting_with (standing cpu log) lock (place cpu (acts_of edit_of log)) ticket (sym (phase_acts edit_of cpu log)
+    ∙ waits) (ticket_at edit_of log legal cpu) is
 
 -- what a look found, in terms of the line
 pub look_enters : {E B : Type 0} (edited : E → B → B) (opening : LockId → Option B) (log : List (Event (Mark E))) (cpu : CpuId) (lock : LockId) (ticket : ℕ)

@@ -1,9 +1,9 @@
 -- What one action at the locks does to the stages of sections and to the history of sections.
-use Rattle.std.proofs.Common.{◌≡◌, ◌≢◌, ℕ, ◌%◌, ◌^◌, ◌==◌, Bool, true, false, List, [], ◌∷◌, ◌++◌, Option, Some, None, IsSome, MatchOption, option_map}
+use Rattle.std.proofs.Common.{◌≡◌, ◌≢◌, ℕ, ◌%◌, ◌^◌, Bool, true, false, List, [], ◌∷◌, ◌++◌, Option, Some, None, IsSome, MatchOption, option_map}
 use Rattle.std.proofs.Common.{refl, ap, sym, ◌∙◌, subst, if◌then◌else◌}
 use Rattle.event_log.specs.declared.ids.CpuId.{CpuId}
 use Rattle.event_log.specs.declared.ids.LockId.{LockId}
-use Rattle.event_log.specs.Actions.{Action, Take, Try, Give, Rests, Waits, Holds, AreLegal, action_in, doer, gives, phase, place}
+use Rattle.event_log.specs.Actions.{Action, Take, Try, Give, Rests, Waits, Holds, AreLegal, action_in, doer, phase, place}
 use Rattle.event_log.specs.History.{Adds, Grows, AreOthers, same_cpu, same_lock}
 use Rattle.event_log.specs.Sections.{section_actor, block_after, sections_in}
 use Rattle.event_log.proofs.Exclusion.{one_holds, phase_own}
@@ -83,9 +83,26 @@ hit_found lock edit ticket (Some block) stage is = is
 pub grown_by_none : {E : Type 0} (ActsFor : CpuId → Type 0) (by : E → CpuId) (past : List E) → Grows ActsFor by past past
 grown_by_none ActsFor by past = record { others = []; foreign = λ c acts. tt; is = refl }
 
--- one action of a CPU came after foreign ones, and left the opening blocks as they were
-module _ {E B O : Type 0} (rules : Rules E B O) (opening opening' : LockId → Option B) (same : opening' ≡ opening) (ActsFor : CpuId → Type 0) (cpu : CpuId)
-    (old new : List (Action E)) (legal : AreLegal new) where
+-- the actions before and after a step of a CPU; the opening blocks stay as they were
+pub record Stepped (E B : Type 0) : Type 1 where
+  pub opening : LockId → Option B
+  pub opening' : LockId → Option B
+  pub same : opening' ≡ opening
+  pub ActsFor : CpuId → Type 0
+  pub cpu : CpuId
+  pub old : List (Action E)
+  pub new : List (Action E)
+  pub legal : AreLegal new
+
+abbrev pub stepped : {E B : Type 0} (opening opening' : LockId → Option B) → opening' ≡ opening → (CpuId → Type 0) → CpuId
+    → (old new : List (Action E)) → AreLegal new → Stepped E B
+stepped opening opening' same ActsFor cpu old new legal =
+    record { opening = opening; opening' = opening'; same = same; ActsFor = ActsFor; cpu = cpu; old = old; new = new; legal = legal }
+
+-- a step in which one action of the CPU came after foreign ones
+module _ {E B O : Type 0} (rules : Rules E B O) (step : Stepped E B) where
+  open step use {opening, opening', same, ActsFor, cpu, old, new, legal}
+
   grown : (a : Action E) (adds : Adds ActsFor doer a old new) → AreLegal (a ∷ (adds.others ++ old))
   grown a adds = subst (λ l. AreLegal l) adds.is legal
 

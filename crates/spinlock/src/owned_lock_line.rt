@@ -101,5 +101,6 @@ impl<W: OwnedGrantWords> OwnedLockLine<ByGrant> for W {
         <W as OwnedGrantWords>::block(self, lock)
     }
 
-    ghost blocks = { λ m c lock acts there. grants_blocks W.Edit.rules.edited (W.opening m) (W.seen m) lock (W.block_at m lock) (W.blocks m c lock acts there) };
+    ghost blocks = { λ m c lock acts there. grants_blocks W.Edit.rules.edited (W.opening m) (W.seen m) lock (W.block_at m lock)
+        (W.blocks m c lock acts there) };
 }

@@ -32,14 +32,48 @@ desk_of cpu table me = record { cpu = cpu; table = table; start = me.0.start; se
 abbrev pub board_of : {B : Type 0} → TableId → List (LockId × B) → ℕ → Board B
 board_of table start cpus = record { table = table; start = start; cpus = cpus }
 
+-- a key and a word of a table of locks: which table the key is of and which is asked, the blocks that the latter opened with, and the
+-- token of the key
+pub record AtWord {E B O : Type 0} (R : Rules E B O) (K : WordKind) : Type 0 where
+  pub law : IsWordKind K
+  pub table : TableId
+  pub z : TableId
+  pub start : List (LockId × B)
+  pub n : ℕ
+  pub id : ℕ
+  pub word : ℕ
+  pub words_are : z.words ≡ word_count (length start)
+  pub cpu : CpuId
+  pub kept : ℕ
+  pub me : Me (Home E B) (View E B)
+  pub key : IsKey R cpu kept me
+
+abbrev pub at_word : {E B O : Type 0} (R : Rules E B O) (K : WordKind) → IsWordKind K → (table z : TableId) (start : List (LockId × B)) (n id word : ℕ)
+    → z.words ≡ word_count (length start) → (cpu : CpuId) (kept : ℕ) (me : Me (Home E B) (View E B)) → IsKey R cpu kept me → AtWord R K
+at_word R K law table z start n id word words_are cpu kept me key = record {
+  law = law;
+  table = table;
+  z = z;
+  start = start;
+  n = n;
+  id = id;
+  word = word;
+  words_are = words_are;
+  cpu = cpu;
+  kept = kept;
+  me = me;
+  key = key;
+}
+
 module _ {E B O : Type 0} (R : Rules E B O) where
   -- a key's token, at the opening blocks of its table
   pub me_is : (cpu : CpuId) (kept : ℕ) (me : Me (Home E B) (View E B)) (start : List (LockId × B)) → IsKey R cpu kept me → me.0.start ≡ start
       → me ≡ (mine start cpu me.0.seen, me.1)
   me_is cpu kept me start key st = ap (λ (v : View E B). (v, me.1)) (key.view ∙ ap (λ (s : List (LockId × B)). mine s cpu me.0.seen) st)
 
-  module _ (K : WordKind) (law : IsWordKind K) (table z : TableId) (start : List (LockId × B)) (n id word : ℕ)
-      (words_are : z.words ≡ word_count (length start)) (cpu : CpuId) (kept : ℕ) (me : Me (Home E B) (View E B)) (key : IsKey R cpu kept me) where
+  module _ (K : WordKind) (at : AtWord R K) where
+    open at use {law, table, z, start, n, id, word, words_are, cpu, kept, me, key}
+
     draw_plain : (lock : LockId) → IsOf (board_of z start n) (desk_of cpu table me) → IsSome (opened me.0.start lock) → standing cpu me.0.seen ≡ Outside
         → word ≡ word_at (rank_of start lock) 0
         → (table ≡ z) × (word < z.words) × Allows (Kept K R n start) z.slots id me word (λ m. (m + 1) % 2 ^ 64) (Drew R (step z.slots word 1 0 none) me)
@@ -110,10 +144,12 @@ module _ {E B O : Type 0} (R : Rules E B O) where
       went cpu kept found v w (Draw cpu lock found) key moves
       (subst (λ st. Carries v.0.start st w.1) (sym stands) (told.held ∙ nothing)) (subst (λ st. Remembers found st) (sym stands) refl)
 
-  pub draw_tells : (cpu : CpuId) (kept : ℕ) (table : TableId) (v w : Me (Home E B) (View E B)) (slots word found : ℕ) (lock : LockId) (d : Desk E B) (b : Board B)
+  pub draw_tells : (cpu : CpuId) (kept : ℕ) (table : TableId) (v w : Me (Home E B) (View E B)) (slots word found : ℕ) (lock : LockId) (d : Desk E B)
+      (b : Board B)
       → desk_of cpu table v ≡ d → IsKey R cpu kept v
       → IsOf b d → IsSome (opened d.start lock) → standing d.cpu d.seen ≡ Outside → word ≡ word_at (rank_of b.start lock) 0
-      → Drew R (step slots word 1 0 none) v found w → (d.start ≡ w.0.start) × Adds (IsCpu d.cpu) actor (Draw d.cpu lock found) d.seen w.0.seen × IsKey R cpu found w
+      → Drew R (step slots word 1 0 none) v found w → (d.start ≡ w.0.start) × Adds (IsCpu d.cpu) actor (Draw d.cpu lock found) d.seen w.0.seen
+      × IsKey R cpu found w
   draw_tells cpu kept table v w slots word found lock d b d_is key of exists out word_is told =
       let P : Desk E B → Type 0 = λ d. IsOf b d → IsSome (opened d.start lock) → standing d.cpu d.seen ≡ Outside
       → (d.start ≡ w.0.start) × Adds (IsCpu d.cpu) actor (Draw d.cpu lock found) d.seen w.0.seen × IsKey R cpu found w in

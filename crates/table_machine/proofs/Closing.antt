@@ -1,5 +1,6 @@
 -- What is known once all keys are back.
-use Rattle.std.proofs.Common.{◌≡◌, ℕ, zero, suc, ◌%◌, ◌^◌, ◌<◌, ◌≤◌, inl, inr, ⊎_elim, List, [], ◌∷◌, ◌++◌, length, map, slice_get, Some, IsSome, is_some, if◌then◌else◌}
+use Rattle.std.proofs.Common.{◌≡◌, ℕ, zero, suc, ◌<◌, ◌≤◌, inl, inr, ⊎_elim, List, [], ◌∷◌, ◌++◌, length, map, slice_get, Some, IsSome}
+use Rattle.std.proofs.Common.{is_some, if◌then◌else◌}
 use Rattle.std.proofs.Common.{refl, ap, sym, ◌∙◌, subst, append_assoc, lt_of_not-le, arith}
 use mathlib.Core.Option.{none, some}
 use native.Mathlib.Decide.{dec_le}
@@ -11,16 +12,15 @@ use Rattle.event_log.specs.declared.ids.CpuId.{CpuId}
 use Rattle.event_log.specs.declared.ids.LockId.{LockId}
 use Rattle.event_log.specs.declared.events.Event.{Event}
 use Rattle.event_log.specs.History.{AreOthers, IsLawful, own_events}
-use Rattle.event_log.specs.WordsLog.{actor, draws, frees, standing, left_by, Outside}
+use Rattle.event_log.specs.WordsLog.{actor, standing, left_by, Outside}
 use Rattle.event_log.specs.Sections.{block_after}
 use Rattle.layer_traits.specs.declared.edits.Mark.{Mark}
 use Rattle.layer_traits.specs.Protocol.{Rules}
 use Rattle.layer_traits.specs.WordsProtocol.{MayCome, sections}
-use Rattle.layer_traits.specs.OneLock.{LockFits, NobodyInside, opened, AreDistinct}
+use Rattle.layer_traits.specs.OneLock.{HomeFits, NobodyInside, opened, AreDistinct}
 use Rattle.table_machine.specs.declared.views.Home.{Home}
 use Rattle.table_machine.specs.declared.views.View.{View}
 use Rattle.table_machine.specs.Kinds.{WordKind}
-use Rattle.table_machine.specs.Layout.{rank_of}
 use Rattle.table_machine.specs.Views.{viewed, Has, IsSince}
 use Rattle.table_machine.specs.Rule.{home_block, Kept}
 use Rattle.table_machine.specs.Plays.{Met}
@@ -119,17 +119,17 @@ module _ {E B O : Type 0} (R : Rules E B O) where
             let rank = rank_at board.start i o distinct (there_for board.start i o at) in
             let stands = kept.shows.each o.0 rank.1 in
             let nobody : NobodyInside o.0 log = λ c t inside. absurd (let out = outside c in cc (out, inside)) in
-            let found = home_of stands.home (all_home R.edited (opened board.start) o.0 log nobody _ _ (home_block stands.home) stands.is) in
+            let found = home_of stands.home (all_home R.edited (opened board.start) o.0 log nobody (home_block stands.home) stands.is) in
             let block_there : home_block stands.home ≡ Some found.1 = ap home_block found.2 ∙ found.3 in
-            let folds = (subst (λ x. LockFits R.edited (opened board.start) log o.0
-            (draws o.0 log % 2 ^ 64) (frees o.0 log % 2 ^ 64) x) block_there stands.is).home_is.1 in
+            let folds = (subst (λ x. HomeFits R.edited (opened board.start) log o.0 x) block_there stands.is).1 in
             let home_at : get_elem? s.homes i ≡ some (some found.0) =
             subst (λ k. get_elem? s.homes k ≡ some (some found.0)) rank.0 (stands.at ∙ ap some found.2) in
             (found.0, found.1, final.4 i found.0 home_at, found.3, folds));
       }
 
   -- a key is taken in
-  pub absorb_tells : (start : List (LockId × B)) (cpu : CpuId) (ticket : ℕ) (table : TableId) (v u w o : Me (Home E B) (View E B)) (slots found : ℕ) (d : Desk E B)
+  pub absorb_tells : (start : List (LockId × B)) (cpu : CpuId) (ticket : ℕ) (table : TableId) (v u w o : Me (Home E B) (View E B)) (slots found : ℕ)
+      (d : Desk E B)
       → desk_of cpu table o ≡ d → IsKey R cpu ticket o → standing d.cpu d.seen ≡ Outside
       → u ≡ (joined v.0 o.0, v.1) → Met R (step slots 0 0 0 none) u found w
       → (desks : List (Desk E B)) → Gathered start v.0 desks → Gathered start w.0 (desks ++ d ∷ [])
@@ -179,7 +179,8 @@ module _ {E B O : Type 0} (R : Rules E B O) where
       (there.0, there.2, ap is_some there.3)
 
   -- the same, as the table is seen from outside
-  pub settles_at : (K : WordKind) (z : TableId) (start : List (LockId × B)) (n : ℕ) (board : Board B) (v : View E B) (desks : List (Desk E B)) (id : ℕ) (words : List ℕ)
+  pub settles_at : (K : WordKind) (z : TableId) (start : List (LockId × B)) (n : ℕ) (board : Board B) (v : View E B) (desks : List (Desk E B)) (id : ℕ)
+      (words : List ℕ)
       (homes : List (Home E B)) → board_of z start n ≡ board
       → AreDistinct start → Gathered board.start v desks → Covers board.cpus desks → Final (Seen (Kept K R n start) id v) words homes
       → Settled R board desks homes

@@ -1,10 +1,8 @@
 -- What the looks and the frees of a key ask of the table, and what they tell.
-use Rattle.std.proofs.Common.{◌≡◌, ◌==◌, ℕ, ◌+◌, ◌<◌, ◌%◌, ◌^◌, inl, inr, true, false, if◌then◌else◌, List, [], ◌∷◌, Some, IsSome, option_map, refl, ap, sym}
-use Rattle.std.proofs.Common.{length}
-use Rattle.std.proofs.Common.{◌∙◌, subst, eq-eqb, ne_eqb}
-use mathlib.Core.Option.{none}
+use Rattle.std.proofs.Common.{◌≡◌, ℕ, ◌<◌, inl, inr, true, false, List, [], ◌∷◌, Some, IsSome, option_map, refl, ap, sym}
+use Rattle.std.proofs.Common.{◌∙◌, subst}
 use Rattle.atomic_table.specs.Seated.{TableId}
-use Rattle.atomic_table.specs.Table.{Me, step, Allows, rest}
+use Rattle.atomic_table.specs.Table.{Me, Allows, rest}
 use Rattle.event_log.specs.declared.ids.CpuId.{CpuId}
 use Rattle.event_log.specs.declared.ids.LockId.{LockId}
 use Rattle.event_log.specs.declared.events.Event.TheVariants.{Look, Free}
@@ -16,15 +14,15 @@ use Rattle.layer_traits.specs.WordsProtocol.{sections, mark_of}
 use Rattle.layer_traits.specs.OneLock.{opened}
 use Rattle.table_machine.specs.declared.views.Home.{Home}
 use Rattle.table_machine.specs.declared.views.View.{View}
-use Rattle.table_machine.specs.Kinds.{WordKind, IsWordKind, given_on}
-use Rattle.table_machine.specs.Layout.{rank_of, word_at, word_count}
+use Rattle.table_machine.specs.Kinds.{WordKind, given_on}
+use Rattle.table_machine.specs.Layout.{rank_of, word_at}
 use Rattle.table_machine.specs.Views.{mine, owner, IsCpu}
 use Rattle.table_machine.specs.Rule.{Kept}
 use Rattle.table_machine.specs.Plays.{Moves, Hits, Misses, Looked, Freed}
 use Rattle.table_machine.specs.Desks.{Board, Desk, IsOf, Carries, IsKey, Remembers}
 use Rattle.table_machine.proofs.Showing.{within_table}
 use Rattle.table_machine.proofs.Stepping.{looks_allowed, frees_allowed}
-use Rattle.table_machine.proofs.Asking.{desk_of, board_of, went, me_is, stands_after}
+use Rattle.table_machine.proofs.Asking.{AtWord, desk_of, board_of, went, me_is, stands_after}
 
 lock_in : Standing → LockId → LockId
 lock_in Outside other = other
@@ -59,8 +57,9 @@ module _ {E B O : Type 0} (R : Rules E B O) where
     pub adds : Adds (IsCpu d.cpu) actor (Free d.cpu lock (mark_of edit)) d.seen w.0.seen
     pub key : IsKey R cpu kept w
 
-  module _ (K : WordKind) (law : IsWordKind K) (table z : TableId) (start : List (LockId × B)) (n id word : ℕ)
-      (words_are : z.words ≡ word_count (length start)) (cpu : CpuId) (kept : ℕ) (me : Me (Home E B) (View E B)) (key : IsKey R cpu kept me) where
+  module _ (K : WordKind) (at : AtWord R K) where
+    open at use {law, table, z, start, n, id, word, words_are, cpu, kept, me, key}
+
     look_plain : (lock : LockId) (ticket : ℕ) → IsOf (board_of z start n) (desk_of cpu table me) → IsSome (opened me.0.start lock)
         → standing cpu me.0.seen ≡ Waiting lock ticket → word ≡ word_at (rank_of start lock) (K.looks_at ticket)
         → (table ≡ z) × (word < z.words) × Allows (Kept K R n start) z.slots id me word (λ m. m) (Looked K R me)
@@ -71,7 +70,8 @@ module _ {E B O : Type 0} (R : Rules E B O) where
         ∙ ap (λ (h : List (ℕ × Home E B)). (mine start cpu me.0.seen, h)) nothing in (
           of.0,
           subst (λ (w : ℕ). w < z.words) (sym word_is)
-              (subst (λ (w : ℕ). word_at (rank_of start lock) (K.looks_at ticket) < w) (sym words_are) (within_table K law R.edited start lock (K.looks_at ticket) there (law.looks_within ticket))),
+              (subst (λ (w : ℕ). word_at (rank_of start lock) (K.looks_at ticket) < w) (sym words_are)
+              (within_table K law R.edited start lock (K.looks_at ticket) there (law.looks_within ticket))),
           subst (λ (m : Me (Home E B) (View E B)). Allows (Kept K R n start) z.slots id m word (λ m. m) (Looked K R m)) (sym me_at)
               (subst (λ (w : ℕ). Allows (Kept K R n start) z.slots id (mine start cpu me.0.seen, []) w (λ m. m)
               (Looked K R (mine start cpu me.0.seen, []))) (sym word_is)
@@ -110,7 +110,8 @@ module _ {E B O : Type 0} (R : Rules E B O) where
         subst (λ s. StaysAllowed (R.allowed (opened s)) (sections me.0.seen) (section cpu lock edit)) of.1 stays in (
           now_is ∙ of.0,
           subst (λ (w : ℕ). w < z.words) (sym word_is)
-              (subst (λ (w : ℕ). word_at (rank_of start lock) (K.gives_at kept) < w) (sym words_are) (within_table K law R.edited start lock (K.gives_at kept) there (law.gives_within kept))),
+              (subst (λ (w : ℕ). word_at (rank_of start lock) (K.gives_at kept) < w) (sym words_are)
+              (within_table K law R.edited start lock (K.gives_at kept) there (law.gives_within kept))),
           subst (λ (m : Me (Home E B) (View E B)). Allows (Kept K R n start) z.slots id m word f (λ _. Freed R m)) (sym v_at)
               (subst (λ (w : ℕ). Allows (Kept K R n start) z.slots id (mine start cpu me.0.seen, (rank_of start lock, x) ∷ []) w f
               (λ _. Freed R (mine start cpu me.0.seen, (rank_of start lock, x) ∷ [])))
@@ -119,7 +120,8 @@ module _ {E B O : Type 0} (R : Rules E B O) where
               (λ m. f_is m ∙ ap (λ (t : ℕ). given_on (K.stores t) m) ticket_is))),
         )
 
-    pub free_asks : (d : Desk E B) (b : Board B) (lock : LockId) (ticket : ℕ) (block : B) (edit : E) (now : TableId) (v : Me (Home E B) (View E B)) (rank : ℕ) (f : ℕ → ℕ)
+    pub free_asks : (d : Desk E B) (b : Board B) (lock : LockId) (ticket : ℕ) (block : B) (edit : E) (now : TableId) (v : Me (Home E B) (View E B))
+        (rank : ℕ) (f : ℕ → ℕ)
         → desk_of cpu table me ≡ d → board_of z start n ≡ b → IsOf b d → IsSome (opened d.start lock) → standing d.cpu d.seen ≡ Inside lock ticket
         → option_map (R.edited edit) (block_after R.edited (opened d.start) lock (sections d.seen)) ≡ Some block
         → StaysAllowed (R.allowed (opened d.start)) (sections d.seen) (section d.cpu lock edit)

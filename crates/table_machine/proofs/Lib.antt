@@ -12,4 +12,3 @@ pub mod Closing
 pub mod Returning
 pub mod Elements
 pub mod Fresh
-pub mod Telling

@@ -47,7 +47,8 @@ module _ {E B O : Type 0} (R : Rules E B O) where
     pub grows : Grows (IsCpu d.cpu) actor d.seen w.0.seen
     pub key : IsKey R cpu ticket w
 
-  meet_plain : (cpu : CpuId) (ticket : ℕ) (table : TableId) (v w : Me (Home E B) (View E B)) (o : View E B) (slots found : ℕ) → IsKey R cpu ticket v → o.cpus ≡ []
+  meet_plain : (cpu : CpuId) (ticket : ℕ) (table : TableId) (v w : Me (Home E B) (View E B)) (o : View E B) (slots found : ℕ) → IsKey R cpu ticket v
+      → o.cpus ≡ []
       → Met R (step slots 0 0 0 none) (joined v.0 o, v.1) found w → MeetDone (desk_of cpu table v) cpu ticket o.seen w
   meet_plain cpu ticket table v w o slots found key nobody met =
       let cpus_are : o.cpus ++ v.0.cpus ≡ cpu ∷ [] = ap (λ (l : List CpuId). l ++ v.0.cpus) nobody ∙ ap (λ (u : View E B). u.cpus) key.view in
@@ -69,7 +70,8 @@ module _ {E B O : Type 0} (R : Rules E B O) where
         };
       }
 
-  pub meet_tells : (cpu : CpuId) (ticket : ℕ) (table : TableId) (v u w : Me (Home E B) (View E B)) (o : View E B) (slots found : ℕ) (d : Desk E B) → desk_of cpu table v ≡ d
+  pub meet_tells : (cpu : CpuId) (ticket : ℕ) (table : TableId) (v u w : Me (Home E B) (View E B)) (o : View E B) (slots found : ℕ) (d : Desk E B)
+      → desk_of cpu table v ≡ d
       → IsKey R cpu ticket v → o.cpus ≡ []
       → u ≡ (joined v.0 o, v.1) → Met R (step slots 0 0 0 none) u found w → MeetDone d cpu ticket o.seen w
   meet_tells cpu ticket table v u w o slots found d d_is key nobody u_is met =

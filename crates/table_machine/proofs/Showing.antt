@@ -1,5 +1,6 @@
 -- How the words and the slots change with a step.
-use Rattle.std.proofs.Common.{length-set, ◌≡◌, ◌≢◌, ℕ, zero, suc, ◌+◌, ◌%◌, ◌^◌, ◌<◌, ◌≤◌, ◌==◌, if◌then◌else◌, Bool, true, false, List, [], ◌∷◌, length, set, get_or, map, replicate, Option, Some}
+use Rattle.std.proofs.Common.{length-set, ◌≡◌, ◌≢◌, ℕ, zero, suc, ◌+◌, ◌<◌, ◌≤◌, ◌==◌, if◌then◌else◌, Bool, true, false, List, [], ◌∷◌}
+use Rattle.std.proofs.Common.{length, set, get_or, map, replicate, Option, Some}
 use Rattle.std.proofs.Common.{None, IsSome, slice_index, refl, ap, sym, ◌∙◌, subst, arith, get_or-set_same, get_or-set_other}
 use Rattle.std.proofs.lemmas.Bool.{eqb-true, eqb-false}
 use mathlib.Core.Option.{Option as Maybe, none, some}
@@ -12,9 +13,8 @@ use Rattle.event_log.specs.declared.ids.TheConstants.{CPUS}
 use Rattle.event_log.proofs.Same.{same_lock_true, same_lock_self}
 use Rattle.layer_traits.specs.declared.edits.Mark.{Mark}
 use Rattle.layer_traits.specs.OneLock.{opened}
-use Rattle.layer_traits.proofs.OneLockLemmas.{event_lock, elsewhere, fresh}
+use Rattle.layer_traits.proofs.OneLockLemmas.{counts_elsewhere, event_lock, elsewhere, fresh}
 use Rattle.table_machine.specs.declared.views.Home.{Home}
-use Rattle.plain_machine.proofs.MachineLemmas.{at_home, counts_elsewhere}
 use Rattle.table_machine.specs.Kinds.{WordKind, IsWordKind, first_words}
 use Rattle.table_machine.specs.Layout.{AreFirst, rank_of, word_at, words_of, word_count}
 use Rattle.table_machine.specs.Rule.{home_block, fresh_home, ShowsLock, Shows}
@@ -139,8 +139,7 @@ module _ (K : WordKind) (law : IsWordKind K) {E B : Type 0} (edited : E → B �
                 (λ i small. get_or-set_other words (word_at (rank_of start (event_lock e)) word) (word_at k i) x 0
                 (locks_apart k (rank_of start (event_lock e)) i word away small within))
                 (counts_elsewhere (λ taken given. K.Fit taken given (words_of words k)) e log lock other old.words_are);
-            is = at_home edited (opened start) (e ∷ log) lock (draws lock log % 2 ^ 64) (frees lock log % 2 ^ 64) (home_block old.home)
-                (elsewhere edited (opened start) lock e log may other (draws lock log % 2 ^ 64) (frees lock log % 2 ^ 64) (home_block old.home) old.is);
+            is = elsewhere edited (opened start) lock e log may other (home_block old.home) old.is;
           }
 
   -- before the first event the words are as at the start, and each slot has the opening block

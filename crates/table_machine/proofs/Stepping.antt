@@ -1,6 +1,6 @@
 -- Each atomic step keeps the rule, and tells what it tells.
 use Rattle.std.proofs.Common.{length-set, ◌≡◌, ◌==◌, ℕ, ◌+◌, ◌<◌, ◌%◌, ◌^◌, ◌⊎◌, inl, inr, ⊎_elim, Bool, true, false, if◌then◌else◌, List, [], ◌∷◌, ◌++◌}
-use Rattle.std.proofs.Common.{length, set, Some, IsSome, option_map, slice_index, refl, ap, sym, ◌∙◌, subst, arith, get_or-set_same, get_or-set_other}
+use Rattle.std.proofs.Common.{length, set, Some, IsSome, option_map, slice_index, refl, ap, sym, ◌∙◌, subst, arith}
 use Rattle.std.proofs.Common.{lt_of_lt_of_le, ne_eqb}
 use mathlib.Core.Option.{Option as Maybe, none, some}
 use lib.ListN.{get_elem?}
@@ -23,7 +23,7 @@ use Rattle.event_log.specs.Sections.{block_after}
 use Rattle.layer_traits.specs.declared.edits.Mark.{Mark}
 use Rattle.layer_traits.specs.Protocol.{Rules, StaysAllowed, section}
 use Rattle.layer_traits.specs.WordsProtocol.{MayCome, edit_of, sections, mark_of}
-use Rattle.layer_traits.specs.OneLock.{LockFits, opened}
+use Rattle.layer_traits.specs.OneLock.{HomeFits, opened}
 use Rattle.table_machine.specs.declared.views.Home.{Home}
 use Rattle.table_machine.specs.declared.views.View.{View}
 use Rattle.table_machine.specs.Kinds.{WordKind, IsWordKind, given_on}
@@ -31,9 +31,8 @@ use Rattle.table_machine.specs.Layout.{rank_of, word_at, words_of}
 use Rattle.table_machine.specs.Views.{viewed, mine, Has, IsSince}
 use Rattle.table_machine.specs.Rule.{home_block, ShowsLock, Shows, Kept}
 use Rattle.table_machine.specs.Plays.{Moves, Drew, Looked, Freed, Met, Entered}
-use Rattle.layer_traits.proofs.OneLockLemmas.{standing_own, drew, missed, hit, freed, hit_finds}
+use Rattle.layer_traits.proofs.OneLockLemmas.{standing_own, drew, missed, hit, freed, hit_finds, serves_exactly}
 use Rattle.layer_traits.proofs.Seen.{words_legal, sections_allowed, sections-append, others_sections}
-use Rattle.plain_machine.proofs.MachineLemmas.{at_home, serves_exactly}
 use Rattle.table_machine.proofs.Logs.{standing_since, inside_keeps, ends_nil}
 use Rattle.table_machine.proofs.Finding.{rank_below}
 use Rattle.table_machine.proofs.Seeing.{sees_moved, sees_less, sees_new, sees_join, one_event, owns_viewed}
@@ -107,9 +106,7 @@ module _ (K : WordKind) {E B O : Type 0} (R : Rules E B O) (n : ℕ) (start : Li
         words_are = subst (λ b. K.Fit (if b then draws lock kept.log + 1 else draws lock kept.log) (frees lock kept.log) (words_of (set s.words i x) k))
             (sym (same_lock_self lock))
             (law.took (draws lock kept.log) (frees lock kept.log) (words_of s.words k) (words_of (set s.words i x) k) old.words_are wrote.0 wrote.1);
-        is = at_home R.edited (opened start) (e ∷ kept.log) lock ((draws lock kept.log % 2 ^ 64 + 1) % 2 ^ 64) (frees lock kept.log % 2 ^ 64)
-            (home_block old.home)
-            (drew R.edited (opened start) lock cpu t kept.log outside (draws lock kept.log % 2 ^ 64) (frees lock kept.log % 2 ^ 64) (home_block old.home) old.is);
+        is = drew R.edited (opened start) lock cpu t kept.log outside (home_block old.home) old.is;
       } in
       let shows = shows_step K law R.edited start s.words s.homes kept.log kept.shows e may.0 0 x (omega arith) s.homes kept.shows.home_length
       (λ j other. refl) here in (
@@ -165,7 +162,7 @@ module _ (K : WordKind) {E B O : Type 0} (R : Rules E B O) (n : ℕ) (start : Li
         home = old.home;
         at = old.at;
         words_are = old.words_are;
-        is = missed R.edited (opened start) lock cpu ticket read kept.log may.0.0 misses (draws lock kept.log % 2 ^ 64) read (home_block old.home) old.is;
+        is = missed R.edited (opened start) lock cpu ticket read kept.log may.0.0 misses (home_block old.home) old.is;
       } in
       let shows = shows_step K law R.edited start s.words s.homes kept.log kept.shows e may.0 (K.looks_at ticket) found (law.looks_within ticket) s.homes
       kept.shows.home_length (λ j away. refl) (loaded s i s.homes (e ∷ kept.log) lock here) in (
@@ -196,7 +193,6 @@ module _ (K : WordKind) {E B O : Type 0} (R : Rules E B O) (n : ℕ) (start : Li
       let k : ℕ = rank_of start lock in
       let i : ℕ = word_at k (K.looks_at ticket) in
       let number : ℕ = slice_index s.words i in
-      let next : ℕ = draws lock kept.log % 2 ^ 64 in
       let read : ℕ = frees lock kept.log % 2 ^ 64 in
       let e : Event (Mark E) = Look cpu lock ticket read in
       let may : MayCome (R.allowed (opened start)) kept.log e = look_may s kept id cpu seen lock ticket now waits in
@@ -205,19 +201,19 @@ module _ (K : WordKind) {E B O : Type 0} (R : Rules E B O) (n : ℕ) (start : Li
       let old = kept.shows.each lock exists in
       let found = home_of old.home
       (hit_finds R.edited (opened start) lock cpu ticket read kept.log (words_legal (R.allowed (opened start)) (e ∷ kept.log) legal) same
-      next read (home_block old.home) old.is) in
+      (home_block old.home) old.is) in
       let y : Home E B = found.0 in
       let b : B = found.1 in
       let block_there : home_block old.home ≡ Some b = ap home_block found.2 ∙ found.3 in
       let folds : block_after R.edited (opened start) lock (sections kept.log) ≡ Some b =
-      (subst (λ o. LockFits R.edited (opened start) kept.log lock next read o) block_there old.is).home_is.1 in
+      (subst (λ o. HomeFits R.edited (opened start) kept.log lock o) block_there old.is).1 in
       let within : k < length s.homes = subst (λ m. k < m) (sym kept.shows.home_length) (rank_below start lock exists) in
       let homes : List (Maybe (Home E B)) = set s.homes k none in
       let here : ShowsLock K R.edited start s.words homes (e ∷ kept.log) lock = record {
         home = none;
         at = set_here s.homes k none within;
         words_are = old.words_are;
-        is = hit R.edited (opened start) lock cpu ticket read kept.log same next read (home_block old.home) old.is;
+        is = hit R.edited (opened start) lock cpu ticket read kept.log same;
       } in
       let shows = shows_step K law R.edited start s.words s.homes kept.log kept.shows e may.0 (K.looks_at ticket) number (law.looks_within ticket) homes
       (length-set s.homes k none ∙ kept.shows.home_length) (λ j away. set_else s.homes k j none away) (loaded s i homes (e ∷ kept.log) lock here) in (
@@ -268,7 +264,8 @@ module _ (K : WordKind) {E B O : Type 0} (R : Rules E B O) (n : ℕ) (start : Li
       has ∙ ap (λ n. n % 2 ^ 64) (served ∙ gives_acts edit_of lock log)
 
   -- a CPU that is inside gives the lock on, by a store or by adding 1, whichever the words want
-  pub frees_allowed : IsWordKind K → (slots id : ℕ) (cpu : CpuId) (seen : List (Event (Mark E))) (lock : LockId) (ticket : ℕ) (edit : E) (block : B) (y : Home E B)
+  pub frees_allowed : IsWordKind K → (slots id : ℕ) (cpu : CpuId) (seen : List (Event (Mark E))) (lock : LockId) (ticket : ℕ) (edit : E) (block : B)
+      (y : Home E B)
       → IsSome (opened start lock)
       → standing cpu seen ≡ Inside lock ticket → y.block ≡ Some block → y.edit ≡ Some edit
       → option_map (R.edited edit) (block_after R.edited (opened start) lock (sections seen)) ≡ Some block
@@ -281,8 +278,6 @@ module _ (K : WordKind) {E B O : Type 0} (R : Rules E B O) (n : ℕ) (start : Li
       let word : ℕ = K.gives_at ticket in
       let i : ℕ = word_at k word in
       let x : ℕ = f (slice_index s.words i) in
-      let next : ℕ = draws lock kept.log % 2 ^ 64 in
-      let serving : ℕ = frees lock kept.log % 2 ^ 64 in
       let e : Event (Mark E) = Free cpu lock (mark_of edit) in
       let now = known_seat s kept id cpu seen at in
       let more : List (Event (Mark E)) = now.since.more in
@@ -313,9 +308,8 @@ module _ (K : WordKind) {E B O : Type 0} (R : Rules E B O) (n : ℕ) (start : Li
             (sym (same_lock_self lock))
             (law.gave (draws lock kept.log) (frees lock kept.log) (words_of s.words k) (words_of (set s.words i x) k) old.words_are ticket
             (served_ticket kept.log legal_log cpu lock ticket inside) (wrote.0 ∙ f_is (slice_index s.words i)) wrote.1);
-        is = at_home R.edited (opened start) (e ∷ kept.log) lock next ((serving + 1) % 2 ^ 64) y.block
-            (subst (λ o. LockFits R.edited (opened start) (e ∷ kept.log) lock next ((serving + 1) % 2 ^ 64) o) (sym has_block)
-            (freed R.edited (opened start) lock cpu ticket (mark_of edit) kept.log legal_log inside block block_is next serving (home_block old.home) old.is));
+        is = subst (λ o. HomeFits R.edited (opened start) (e ∷ kept.log) lock o) (sym has_block)
+            (freed R.edited (opened start) lock cpu ticket (mark_of edit) kept.log legal_log inside block block_is);
       } in
       let shows = shows_step K law R.edited start s.words s.homes kept.log kept.shows e may.0 word x (law.gives_within ticket) homes
       (length-set s.homes k (some y) ∙ kept.shows.home_length) (λ j away. set_else s.homes k j (some y) away) here in (

@@ -33,7 +33,8 @@ pub record Drew {E B O : Type 0} (rules : Rules E B O) (at : Step (Home E B)) (v
     pub held : w.1 ≡ v.1
 
 -- a look by whose number the ticket is not served
-pub record Misses (kind : WordKind) {E B : Type 0} (lock : LockId) (ticket : ℕ) (v : Me (Home E B) (View E B)) (found : ℕ) (w : Me (Home E B) (View E B)) : Type 0 where
+pub record Misses (kind : WordKind) {E B : Type 0} (lock : LockId) (ticket : ℕ) (v : Me (Home E B) (View E B)) (found : ℕ)
+    (w : Me (Home E B) (View E B)) : Type 0 where
   pub other : kind.serves ticket found ≡ false
   pub waits : standing (owner v.0.cpus) w.0.seen ≡ Waiting lock ticket
   pub held : w.1 ≡ v.1
@@ -51,7 +52,8 @@ pub record Hits (kind : WordKind) {E B O : Type 0} (rules : Rules E B O) (lock :
 
 -- a Look for the ticket that this CPU waits with: in the log it reads how often the lock was freed. The block is taken exactly where
 -- the ticket is served by the number that was found.
-pub record Looked (kind : WordKind) {E B O : Type 0} (rules : Rules E B O) (v : Me (Home E B) (View E B)) (found : ℕ) (w : Me (Home E B) (View E B)) : Type 0 where
+pub record Looked (kind : WordKind) {E B O : Type 0} (rules : Rules E B O) (v : Me (Home E B) (View E B)) (found : ℕ)
+    (w : Me (Home E B) (View E B)) : Type 0 where
   pub lock : LockId
   pub ticket : ℕ
   pub waits : standing (owner v.0.cpus) v.0.seen ≡ Waiting lock ticket

@@ -1,5 +1,5 @@
 -- The rule of the table: there is one legal log.
-use Rattle.std.specs.Prelude.{◌≡◌, ℕ, ◌%◌, ◌^◌, ◌≤◌, List, length, IsSome, Option, Some, None}
+use Rattle.std.specs.Prelude.{◌≡◌, ℕ, ◌≤◌, List, length, IsSome, Option, Some, None}
 use mathlib.Core.Option.{Option as Maybe, none, some}
 use lib.ListN.{get_elem?}
 use Rattle.atomic_table.specs.Table.{State}
@@ -12,7 +12,7 @@ use Rattle.event_log.specs.WordsLog.{actor, draws, frees}
 use Rattle.layer_traits.specs.declared.edits.Mark.{Mark}
 use Rattle.layer_traits.specs.Protocol.{Rules}
 use Rattle.layer_traits.specs.WordsProtocol.{MayCome}
-use Rattle.layer_traits.specs.OneLock.{LockFits, opened}
+use Rattle.layer_traits.specs.OneLock.{HomeFits, opened}
 use Rattle.table_machine.specs.declared.views.View.{View}
 use Rattle.table_machine.specs.declared.views.Home.{Home}
 use Rattle.table_machine.specs.Kinds.{WordKind}
@@ -34,7 +34,7 @@ pub record ShowsLock (kind : WordKind) {E B : Type 0} (edited : E → B → B) (
   pub home : Maybe (Home E B)
   pub at : get_elem? homes (rank_of start lock) ≡ some home
   pub words_are : kind.Fit (draws lock log) (frees lock log) (words_of words (rank_of start lock))
-  pub is : LockFits edited (opened start) log lock (draws lock log % 2 ^ 64) (frees lock log % 2 ^ 64) (home_block home)
+  pub is : HomeFits edited (opened start) log lock (home_block home)
 
 -- all words and slots are the replay of the log
 pub record Shows (kind : WordKind) {E B : Type 0} (edited : E → B → B) (start : List (LockId × B)) (words : List ℕ) (homes : List (Maybe (Home E B)))
@@ -44,7 +44,8 @@ pub record Shows (kind : WordKind) {E B : Type 0} (edited : E → B → B) (star
   pub each : (lock : LockId) → IsSome (opened start lock) → ShowsLock kind edited start words homes log lock
 
 -- there is one legal log of the CPUs of this table: the words and slots are its replay, the views are fronts of it
-pub record Kept (kind : WordKind) {E B O : Type 0} (rules : Rules E B O) (cpu_count : ℕ) (start : List (LockId × B)) (s : State (Home E B) (View E B)) : Type 0 where
+pub record Kept (kind : WordKind) {E B O : Type 0} (rules : Rules E B O) (cpu_count : ℕ) (start : List (LockId × B))
+    (s : State (Home E B) (View E B)) : Type 0 where
   pub few : cpu_count ≤ CPUS
   pub log : List (Event (Mark E))
   pub legal : IsLawful (MayCome (rules.allowed (opened start))) log

@@ -13,7 +13,7 @@ use crate::keys::Key;
 use crate::shared::Shared;
 use crate::table_words::{TableWords, TicketWords, WaiterWords};
 use event_log::{CpuId, LockId};
-use layer_traits::{Edit, GrantWords, Mark, Words};
+use layer_traits::{Edit, Mark, TellsGrants, Words};
 use std::marker::Model;
 
 /// A CPU at a table: it may draw, look and free there. Each call lengthens the log that the seat
@@ -68,7 +68,7 @@ impl<'a, E: Edit, K: TableWords> Seat<'a, E, K> {
     }
 }
 
-impl<'a, E: Edit> Words for Seat<'a, E, TicketWords> {
+impl<'a, E: Edit, K: TableWords> Words for Seat<'a, E, K> {
     ghost use Rattle.std.specs.Prelude.{◌≡◌, ℕ};
     ghost use Rattle.event_log.specs.History.{IsLawful};
     ghost use Rattle.layer_traits.specs.WordsProtocol.{MayCome, edit_of};
@@ -110,48 +110,7 @@ impl<'a, E: Edit> Words for Seat<'a, E, TicketWords> {
     ghost legal = { λ s c acts. acts.1 };
 }
 
-impl<'a, E: Edit> GrantWords for Seat<'a, E, WaiterWords> {
-    ghost use Rattle.std.specs.Prelude.{◌≡◌, ℕ};
-    ghost use Rattle.event_log.specs.History.{IsLawful};
-    ghost use Rattle.layer_traits.specs.WordsProtocol.{MayCome, edit_of};
-    ghost use Rattle.layer_traits.specs.OneLock.{opened};
-    ghost use Rattle.plain_machine.specs.GrantsTold.{grants_told, told_comes};
-    ghost use Rattle.table_machine.specs.Desks.{site_of};
-
-    type Edit = E;
-
-    type Mark = Mark<E>;
-
-    ghost edit_in = { edit_of };
-
-    ghost opening = { λ s. opened s.start };
-
-    ghost seen = { λ s. grants_told s.seen };
-
-    ghost ActsFor = { λ s c. (c ≡ s.cpu) × IsLawful (MayCome (E.rules.allowed (opened s.start))) s.seen };
-
-    ghost room = { λ s. 1 };
-
-    ghost site = { λ s. site_of s.table };
-
-    fn mark(edit: E) -> Mark<E> {
-        Mark { edit }
-    }
-
-    fn take(&mut self, _cpu: CpuId, lock: LockId) -> u64 {
-        self.key.draw(self.shared, lock)
-    }
-
-    fn peek(&mut self, _cpu: CpuId, lock: LockId, ticket: u64) -> Option<E::Block> {
-        self.key.look(self.shared, lock, ticket)
-    }
-
-    fn give(&mut self, _cpu: CpuId, lock: LockId, block: E::Block, mark: Mark<E>) {
-        self.key.free(self.shared, lock, block, mark.edit)
-    }
-
-    ghost legal = { λ s c acts. told_comes (E.rules.allowed (opened s.start)) s.seen acts.1 };
-}
+impl<'a, E: Edit> TellsGrants for Seat<'a, E, WaiterWords> {}
 
 /// Brings the second seat's view up to the first's: afterwards the second's log begins with all
 /// that the first has seen, and each still has all that it had seen. It may come at any moment, in

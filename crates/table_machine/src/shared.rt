@@ -38,7 +38,8 @@ impl<E: Edit, K: TableWords> Model for Shared<E, K> {
 
     ghost view = { λ s. record { table = s.table.shared.table_id; start = s.table.shared.key.blocks.value.items; cpus = s.table.shared.key.cpus } };
 
-    ghost invariant = { λ s. (IsLaidOut s.table.shared.key.blocks.value.items s.table.shared.table_id.words s.table.shared.table_id.slots s.ranks.items s.locks.items)
+    ghost invariant = { λ s. (IsLaidOut s.table.shared.key.blocks.value.items s.table.shared.table_id.words s.table.shared.table_id.slots
+        s.ranks.items s.locks.items)
         × (s.blocks.items ≡ []) × (length s.table.shared.key.blocks.value.items ≤ vec_capacity s.blocks)
         × AreDistinct s.table.shared.key.blocks.value.items };
 }

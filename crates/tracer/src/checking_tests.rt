@@ -27,7 +27,8 @@ fn with_line(alloc: Global, text: &[u8], at: usize, lines: &[u8]) -> Result<Vec<
 }
 
 const CLOSED: &[u8; 163] =
-    b"mctower-trace 2\nbuffers 1\ncap 0 1\ne 0 0 send 0 7 0 0\ne 0 0 close 0 - 1 0\ne 0 0 sendc 0 7 2 1\ne 0 0 recv 0 7 3 0\ne 0 0 recvc 0 - 4 1\ne 0 0 close 0 - 5 1\nleft 0\nend\n";
+    b"mctower-trace 2\nbuffers 1\ncap 0 1\ne 0 0 send 0 7 0 0\ne 0 0 close 0 - 1 0\ne 0 0 sendc 0 7 2 1\n\
+      e 0 0 recv 0 7 3 0\ne 0 0 recvc 0 - 4 1\ne 0 0 close 0 - 5 1\nleft 0\nend\n";
 
 #[test]
 fn the_three_texts(rt: HostRuntime) -> Result<(), Fail> {

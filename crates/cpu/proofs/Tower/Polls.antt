@@ -102,7 +102,9 @@ module _ {A : Type 0} (polled : Polled) (way : Way A polled) (got : Left Bufferi
   answer_is : option_map answer_view (reply tower opening c line.lock line.name past)
       ≡ reply kernel (table_opening setup) c line.lock (name_of line.name) (named past)
   answer_is =
-      reply_viewed tower kernel name_of view answer_view tables_agree.edits tables_agree.answers opening c line.lock line.name past
+      reply_viewed tower kernel
+      (record { name = name_of; view = view; told = answer_view; edits = tables_agree.edits; answers = tables_agree.answers })
+      opening c line.lock line.name past
       ∙ ap (λ o. at_give (phase c (named past)) (option_map (kernel.answer (name_of line.name)) o))
       (opens_alike (λ l. option_map view (opening l)) (table_opening setup) line.lock (opens line.lock line.used) (sections_in (named past)))
 

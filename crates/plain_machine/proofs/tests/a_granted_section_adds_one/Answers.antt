@@ -18,4 +18,5 @@ home-home-requires-clause-acts g c =
     (record { 0 = 0 }, c.add_one_granted-number.ensures.acts (record { 0 = 0 }) (c.in_ok-machine.ensures.acts (record { 0 = 0 }) (lit< tt)))
 
 pub home-home-requires-clause-lock : goal.home-home-requires-clause-lock
-home-home-requires-clause-lock g c = subst (λ o. IsSome (o (Pending (record { 0 = 3 })))) (sym c.add_one_granted-number.ensures.opening) c.in_ok-machine.ensures.exists
+home-home-requires-clause-lock g c = subst (λ o. IsSome (o (Pending (record { 0 = 3 })))) (sym c.add_one_granted-number.ensures.opening)
+    c.in_ok-machine.ensures.exists

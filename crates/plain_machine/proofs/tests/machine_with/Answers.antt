@@ -11,5 +11,5 @@ exists_in (Ok w) opening items lock n is opens =
 exists_in (Err e) opening items lock n is opens = tt
 
 pub returns-clause-exists : goal.returns-clause-exists
-returns-clause-exists c = exists_in c.open.result (λ w. opened w.opening.value.items) c.in_ok-blocks.blocks.items c.args.lock c.args.number
+returns-clause-exists g c = exists_in c.open.result (λ w. opened w.opening.value.items) c.in_ok-blocks.blocks.items c.args.lock c.args.number
     c.in_ok-blocks.ensures c.open.ensures.opening

@@ -1,4 +1,3 @@
-use Rattle.std.proofs.Common.{◌≡◌, ◌≤◌, ap, sym, ◌∙◌}
 use Rattle.table_machine.specs.Layout.{AreFirst}
 use Rattle.table_machine.proofs.open.first_words.Given as goal
 

@@ -1,10 +1,10 @@
 use Rattle.std.proofs.Common.{◌%◌, ◌^◌, ap, sym, ◌∙◌}
 use Rattle.layer_traits.specs.OneLock.{opened}
-use Rattle.layer_traits.proofs.Seen.{words_legal}
+use Rattle.layer_traits.specs.WordsProtocol.{words_legal}
+use Rattle.layer_traits.proofs.GrantLemmas.{tickets_told, words_told}
 use Rattle.plain_machine.specs.Fits.{GrantsFit}
 use Rattle.plain_machine.specs.Machine.{history}
-use Rattle.plain_machine.proofs.GrantLemmas.{tickets_told, words_told}
-use Rattle.plain_machine.proofs.MachineLemmas.{shown_words}
+use Rattle.plain_machine.proofs.MachineLemmas.{at_lock, shown_words}
 use Rattle.plain_machine.proofs.plain.Plain+E+Granting.words.Goals as goal
 
 pub returns-clause-next : goal.returns-clause-next
@@ -13,7 +13,8 @@ returns-clause-next g c =
     let rules = g.E.Edit.rules in
     let opening = opened w.opening.value.items in
     let sound = c.requires.acts.1.1 in
-    let fits = shown_words GrantsFit rules opening (history w.log) w.cells.items sound c.args.lock c.requires.lock c.words-granting.result c.words-granting.ensures in
+    let fits = shown_words (at_lock GrantsFit rules opening (history w.log) w.cells.items sound c.args.lock c.requires.lock)
+    c.words-granting.result c.words-granting.ensures in
     fits.0 ∙ ap (λ n. n % 2 ^ 64) (sym (tickets_told (history w.log) (words_legal (rules.allowed opening) (history w.log) sound.legal) c.args.lock))
 
 pub returns-clause-words : goal.returns-clause-words
@@ -22,5 +23,6 @@ returns-clause-words g c =
     let rules = g.E.Edit.rules in
     let opening = opened w.opening.value.items in
     let sound = c.requires.acts.1.1 in
-    let fits = shown_words GrantsFit rules opening (history w.log) w.cells.items sound c.args.lock c.requires.lock c.words-granting.result c.words-granting.ensures in
+    let fits = shown_words (at_lock GrantsFit rules opening (history w.log) w.cells.items sound c.args.lock c.requires.lock)
+    c.words-granting.result c.words-granting.ensures in
     words_told (history w.log) (words_legal (rules.allowed opening) (history w.log) sound.legal) c.args.lock c.words-granting.result.lock.words fits.3

@@ -56,7 +56,14 @@ returns-then-has-clause-seen g c =
     let own = S.own self.lower in
     let under = S.under_way self.lower in
     let acts = met.own_cpu self.lower m c.requires.fits.0 in
-    let before : Before rules (S.opening m) cpu b e (S.seen m) own under slept = record {
+    let before : Before rules (S.opening m) = record {
+      c = cpu;
+      b = b;
+      e = e;
+      past = S.seen m;
+      own = own;
+      under = under;
+      slept = slept;
       starts = met.opens m cpu acts;
       moving = met.moving m cpu acts;
       stands = met.stands self.lower m c.requires.fits.0;
@@ -74,7 +81,7 @@ returns-then-has-clause-seen g c =
     (renamed_events edit_in (S.seen m)) (renamed_events edit_in (S.seen m))
     (record { sleep = own; slept = slept }) (option_map (renamed_sched edit_in) under)
     (locking own l (Some (record { out = Acquired; slept = false; woke = None })))) (sym over)
-    (handed rules (S.opening m) cpu b e (S.seen m) own under slept before (λ d. S.ActsFor m d) some)
+    (handed rules (S.opening m) before (λ d. S.ActsFor m d) some)
 
 -- it calls beneath
 
@@ -92,7 +99,14 @@ poll-requires-clause-call g c =
     let own = S.own self.lower in
     let under = S.under_way self.lower in
     let acts = met.own_cpu self.lower m c.requires.fits.0 in
-    let before : Before rules (S.opening m) cpu b e (S.seen m) own under slept = record {
+    let before : Before rules (S.opening m) = record {
+      c = cpu;
+      b = b;
+      e = e;
+      past = S.seen m;
+      own = own;
+      under = under;
+      slept = slept;
       starts = met.opens m cpu acts;
       moving = met.moving m cpu acts;
       stands = met.stands self.lower m c.requires.fits.0;
@@ -104,7 +118,7 @@ poll-requires-clause-call g c =
     } in
     let awake : is_some (slept_for slept (lock_caller rules e)) ≡ false
     = ap (λ t. is_some (slept_for slept t)) (sym c.caller-t.ensures) ∙ (sym c.has.ensures ∙ c.if-has.false) in
-    owed rules (S.opening m) cpu b e (S.seen m) own under slept before awake
+    owed rules (S.opening m) before awake
 
 pub told-requires : goal.told-requires
 told-requires g c =
@@ -120,7 +134,14 @@ told-requires g c =
     let own = S.own self.lower in
     let under = S.under_way self.lower in
     let acts = met.own_cpu self.lower m c.requires.fits.0 in
-    let before : Before rules (S.opening m) cpu b e (S.seen m) own under slept = record {
+    let before : Before rules (S.opening m) = record {
+      c = cpu;
+      b = b;
+      e = e;
+      past = S.seen m;
+      own = own;
+      under = under;
+      slept = slept;
       starts = met.opens m cpu acts;
       moving = met.moving m cpu acts;
       stands = met.stands self.lower m c.requires.fits.0;
@@ -130,7 +151,7 @@ told-requires g c =
       caller = c.requires.caller;
       may = c.requires.call;
     } in
-    subst (λ t. t.0 < THREADS) (sym c.caller-t.ensures) (caller_small rules (S.opening m) cpu b e (S.seen m) own under slept before)
+    subst (λ t. t.0 < THREADS) (sym c.caller-t.ensures) (caller_small rules (S.opening m) before)
 
 -- the call goes on
 
@@ -148,7 +169,14 @@ returns-in-None-clause-fits g c =
     let own = S.own self.lower in
     let under = S.under_way self.lower in
     let acts = met.own_cpu self.lower m c.requires.fits.0 in
-    let before : Before rules (S.opening m) cpu b e (S.seen m) own under slept = record {
+    let before : Before rules (S.opening m) = record {
+      c = cpu;
+      b = b;
+      e = e;
+      past = S.seen m;
+      own = own;
+      under = under;
+      slept = slept;
       starts = met.opens m cpu acts;
       moving = met.moving m cpu acts;
       stands = met.stands self.lower m c.requires.fits.0;
@@ -169,9 +197,9 @@ returns-in-None-clause-fits g c =
     (met.lawful n cpu (said.acts cpu acts)) in (
       said.fits,
       transport (λ i. SleptFits rules (viewed lock_of (sym said.opening i)) (sym said.cpu i) (renamed_events edit_in (S.seen n)) slept)
-          (slept_after rules (S.opening m) cpu b e (S.seen m) own under slept before awake (λ d. S.ActsFor m d) (S.seen n) got said.seen acts lawful),
+          (slept_after rules (S.opening m) before awake (λ d. S.ActsFor m d) (S.seen n) got said.seen acts lawful),
       subst (λ u. KeptFits u (S.own part).kept (S.own part).threads.hand) (sym (under_is (S.under_way part) c.poll.result b e said.call))
-          (kept_after rules (S.opening m) cpu b e (S.seen m) own under slept before awake (λ d. S.ActsFor m d) (S.seen n) got said.seen),
+          (kept_after rules (S.opening m) before awake (λ d. S.ActsFor m d) (S.seen n) got said.seen),
     )
 
 pub returns-in-None-clause-seen : goal.returns-in-None-clause-seen
@@ -188,7 +216,14 @@ returns-in-None-clause-seen g c =
     let own = S.own self.lower in
     let under = S.under_way self.lower in
     let acts = met.own_cpu self.lower m c.requires.fits.0 in
-    let before : Before rules (S.opening m) cpu b e (S.seen m) own under slept = record {
+    let before : Before rules (S.opening m) = record {
+      c = cpu;
+      b = b;
+      e = e;
+      past = S.seen m;
+      own = own;
+      under = under;
+      slept = slept;
       starts = met.opens m cpu acts;
       moving = met.moving m cpu acts;
       stands = met.stands self.lower m c.requires.fits.0;
@@ -209,7 +244,7 @@ returns-in-None-clause-seen g c =
     (met.lawful n cpu (said.acts cpu acts)) in
     let leaves : locking (S.own part) slept None ≡ left_after (lock_caller rules e) b slept (S.own part) c.poll.result
     = ap (left_after (lock_caller rules e) b slept (S.own part)) (sym c.in-None.is) in
-    locks rules (S.opening m) cpu b e (S.seen m) own under slept before awake (λ d. S.ActsFor m d) (S.seen n) got said.seen
+    locks rules (S.opening m) before awake (λ d. S.ActsFor m d) (S.seen n) got said.seen
     (option_map (renamed_sched edit_in) (S.under_way part))
     (locking (S.own part) slept None) (under_is (S.under_way part) c.poll.result b e said.call) leaves
 
@@ -253,7 +288,14 @@ returns-in-None-clause-follows g c = λ step.
     let own = S.own self.lower in
     let under = S.under_way self.lower in
     let acts = met.own_cpu self.lower m c.requires.fits.0 in
-    let before : Before rules (S.opening m) cpu b e (S.seen m) own under slept = record {
+    let before : Before rules (S.opening m) = record {
+      c = cpu;
+      b = b;
+      e = e;
+      past = S.seen m;
+      own = own;
+      under = under;
+      slept = slept;
       starts = met.opens m cpu acts;
       moving = met.moving m cpu acts;
       stands = met.stands self.lower m c.requires.fits.0;
@@ -278,7 +320,7 @@ returns-in-None-clause-follows g c = λ step.
     (lock_plan (lock_moves rules) (homes_in (viewed lock_of (S.opening m))) cpu b e (record { sleep = own; slept = slept }))
     (map (renamed (renamed_edit edit_in)) (S.acts m)) (map (renamed (renamed_edit edit_in)) (S.acts n)) l) (sym leaves)
     (locks_follow rules (S.opening m) (λ d. S.ActsFor m d) cpu (S.acts m) (S.acts n) b e own slept got
-    (none rules (S.opening m) cpu b e (S.seen m) own under slept before awake) (said.follows step))
+    (none rules (S.opening m) before awake) (said.follows step))
 
 -- the section answers
 
@@ -296,7 +338,14 @@ returns-in-Some-clause-fits g c =
     let own = S.own self.lower in
     let under = S.under_way self.lower in
     let acts = met.own_cpu self.lower m c.requires.fits.0 in
-    let before : Before rules (S.opening m) cpu b e (S.seen m) own under slept = record {
+    let before : Before rules (S.opening m) = record {
+      c = cpu;
+      b = b;
+      e = e;
+      past = S.seen m;
+      own = own;
+      under = under;
+      slept = slept;
       starts = met.opens m cpu acts;
       moving = met.moving m cpu acts;
       stands = met.stands self.lower m c.requires.fits.0;
@@ -321,10 +370,10 @@ returns-in-Some-clause-fits g c =
       said.fits,
       transport (λ i. SleptFits rules (viewed lock_of (sym said.opening i)) (sym said.cpu i) (renamed_events edit_in (S.seen n)) c.told.new.self.buffers)
           (subst (λ l. SleptFits rules (viewed lock_of (S.opening m)) cpu (renamed_events edit_in (S.seen n)) l) (sym keeps)
-          (slept_told rules (S.opening m) cpu b e (S.seen m) own under slept before awake (λ d. S.ActsFor m d)
+          (slept_told rules (S.opening m) before awake (λ d. S.ActsFor m d)
           (S.seen n) got said.seen acts lawful outcome c.in-Some.is)),
       subst (λ u. KeptFits u (S.own part).kept (S.own part).threads.hand) (sym (under_is (S.under_way part) c.poll.result b e said.call))
-          (kept_after rules (S.opening m) cpu b e (S.seen m) own under slept before awake (λ d. S.ActsFor m d) (S.seen n) got said.seen),
+          (kept_after rules (S.opening m) before awake (λ d. S.ActsFor m d) (S.seen n) got said.seen),
     )
 
 pub returns-in-Some-clause-seen : goal.returns-in-Some-clause-seen
@@ -341,7 +390,14 @@ returns-in-Some-clause-seen g c =
     let own = S.own self.lower in
     let under = S.under_way self.lower in
     let acts = met.own_cpu self.lower m c.requires.fits.0 in
-    let before : Before rules (S.opening m) cpu b e (S.seen m) own under slept = record {
+    let before : Before rules (S.opening m) = record {
+      c = cpu;
+      b = b;
+      e = e;
+      past = S.seen m;
+      own = own;
+      under = under;
+      slept = slept;
       starts = met.opens m cpu acts;
       moving = met.moving m cpu acts;
       stands = met.stands self.lower m c.requires.fits.0;
@@ -367,7 +423,7 @@ returns-in-Some-clause-seen g c =
     = (λ i. locking (S.own part) (keeps i) (c.told.ensures.told i))
     ∙ (sym (told_is (lock_caller rules e) b slept (S.own part) outcome.out outcome)
     ∙ ap (left_after (lock_caller rules e) b slept (S.own part)) (sym c.in-Some.is)) in
-    locks rules (S.opening m) cpu b e (S.seen m) own under slept before awake (λ d. S.ActsFor m d) (S.seen n) got said.seen
+    locks rules (S.opening m) before awake (λ d. S.ActsFor m d) (S.seen n) got said.seen
     (option_map (renamed_sched edit_in) (S.under_way part))
     (locking (S.own part) c.told.new.self.buffers c.told.result) (under_is (S.under_way part) c.poll.result b e said.call) leaves
 
@@ -411,7 +467,14 @@ returns-in-Some-clause-follows g c = λ step.
     let own = S.own self.lower in
     let under = S.under_way self.lower in
     let acts = met.own_cpu self.lower m c.requires.fits.0 in
-    let before : Before rules (S.opening m) cpu b e (S.seen m) own under slept = record {
+    let before : Before rules (S.opening m) = record {
+      c = cpu;
+      b = b;
+      e = e;
+      past = S.seen m;
+      own = own;
+      under = under;
+      slept = slept;
       starts = met.opens m cpu acts;
       moving = met.moving m cpu acts;
       stands = met.stands self.lower m c.requires.fits.0;
@@ -441,4 +504,4 @@ returns-in-Some-clause-follows g c = λ step.
     (lock_plan (lock_moves rules) (homes_in (viewed lock_of (S.opening m))) cpu b e (record { sleep = own; slept = slept }))
     (map (renamed (renamed_edit edit_in)) (S.acts m)) (map (renamed (renamed_edit edit_in)) (S.acts n)) l) (sym leaves)
     (locks_follow rules (S.opening m) (λ d. S.ActsFor m d) cpu (S.acts m) (S.acts n) b e own slept got
-    (none rules (S.opening m) cpu b e (S.seen m) own under slept before awake) (said.follows step))
+    (none rules (S.opening m) before awake) (said.follows step))

@@ -1,4 +1,4 @@
-use Rattle.std.proofs.Common.{◌≡◌, Some, option_map, sym, subst, ◌∙◌}
+use Rattle.std.proofs.Common.{sym, subst, ◌∙◌}
 use Rattle.event_log.specs.Actions.{Give, doer}
 use Rattle.event_log.specs.Grants.{acts_of_grants, grant_standing}
 use Rattle.event_log.specs.History.{Adds}

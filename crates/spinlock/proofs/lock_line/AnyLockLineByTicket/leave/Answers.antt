@@ -1,4 +1,4 @@
-use Rattle.std.proofs.Common.{◌≡◌, Some, option_map, ap, sym, subst, ◌∙◌}
+use Rattle.std.proofs.Common.{◌≡◌, Some, option_map, sym, subst, ◌∙◌}
 use Rattle.event_log.specs.Actions.{Give, doer, acts_of}
 use Rattle.event_log.specs.History.{Adds}
 use Rattle.event_log.specs.Sections.{block_after}

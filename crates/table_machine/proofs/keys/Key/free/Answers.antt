@@ -1,11 +1,13 @@
 use Rattle.std.proofs.Common.{◌+◌, ◌%◌, ◌^◌, ap, sym, ◌∙◌}
 use Rattle.table_machine.specs.Kinds.{given_on}
 use Rattle.table_machine.specs.Layout.{rank_of, word_at}
+use Rattle.table_machine.proofs.Asking.{at_word}
 use Rattle.table_machine.proofs.Holding.{free_asks, free_tells}
 use Rattle.table_machine.proofs.keys.Key.free.Goals as goal
 
 pub store-requires : goal.store-requires
-store-requires g c = free_asks g.E.Edit.rules g.K.TableWords.kind g.met.K.TableWords.lawful _ _ _ _ _ _ c.shared.invariant.0.words_are _ _ _ c.self.invariant
+store-requires g c = free_asks g.E.Edit.rules g.K.TableWords.kind
+    (at_word _ _ g.met.K.TableWords.lawful _ _ _ _ _ _ c.shared.invariant.0.words_are _ _ _ c.self.invariant)
     c.args.self.now c.args.shared.now c.args.lock c.requires.inside.0 c.args.block c.args.edit _ _ _ (λ _. c.in-Some.number) c.self.view_is c.shared.view_is
     c.requires.of c.requires.lock c.requires.inside.1 c.requires.edited c.requires.allowed
     (c.word-word.ensures ∙ ap (λ w. word_at (rank_of c.args.shared.now.start c.args.lock) w) c.gives_at.ensures) c.rank-rank.ensures.rank
@@ -17,8 +19,9 @@ returns-in-Some-clause-adds g c =
     c.requires.inside.1 c.exchange-empty.ensures.3 c.store.ensures.2).adds
 
 pub fetch_add-requires : goal.fetch_add-requires
-fetch_add-requires g c = free_asks g.E.Edit.rules g.K.TableWords.kind g.met.K.TableWords.lawful _ _ _ _ _ _ c.shared.invariant.0.words_are _ _ _
-    c.self.invariant c.args.self.now c.args.shared.now c.args.lock c.requires.inside.0 c.args.block c.args.edit _ _ _ (λ m. (m + 1) % 2 ^ 64) c.self.view_is
+fetch_add-requires g c = free_asks g.E.Edit.rules g.K.TableWords.kind
+    (at_word _ _ g.met.K.TableWords.lawful _ _ _ _ _ _ c.shared.invariant.0.words_are _ _ _ c.self.invariant)
+    c.args.self.now c.args.shared.now c.args.lock c.requires.inside.0 c.args.block c.args.edit _ _ _ (λ m. (m + 1) % 2 ^ 64) c.self.view_is
     c.shared.view_is c.requires.of c.requires.lock c.requires.inside.1 c.requires.edited c.requires.allowed
     (c.word-word.ensures ∙ ap (λ w. word_at (rank_of c.args.shared.now.start c.args.lock) w) c.gives_at.ensures) c.rank-rank.ensures.rank
     (λ m. ap (λ o. given_on o m) (sym c.in-None.is ∙ c.stores.ensures)) c.exchange-empty.ensures.0 c.exchange-empty.ensures.3

@@ -18,7 +18,8 @@ pub load-requires : goal.load-requires
 load-requires g c =
     let of = one_table c.self.inside.token.table_id c.shared.inside.table.shared.table_id _ _ _ c.self.inside.token.me c.args.self.now c.args.shared.now
     c.self.view_is c.shared.view_is c.requires.of in
-    meet_asks g.E.Edit.rules g.K.TableWords.kind c.self.inside.token.table_id _ _ _ _ _ _ _ c.self.inside.token.me c.join_seat.new.seat.me c.args.notes.me.0 c.shared.invariant.0 of
+    meet_asks g.E.Edit.rules g.K.TableWords.kind c.self.inside.token.table_id _ _ _ _ _ _ _ c.self.inside.token.me c.join_seat.new.seat.me
+    c.args.notes.me.0 c.shared.invariant.0 of
     c.join_seat.ensures.0 c.join_seat.ensures.2
 
 pub invariant_of-self : goal.invariant_of-self

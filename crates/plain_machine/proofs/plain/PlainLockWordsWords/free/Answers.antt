@@ -1,5 +1,0 @@
-use Rattle.std.proofs.Common.{[]}
-use Rattle.plain_machine.proofs.plain.PlainLockWordsWords.free.Goals as goal
-
-pub returns-clause-adds : goal.returns-clause-adds
-returns-clause-adds g c = record { others = []; foreign = λ cpu acts. tt; is = c.leave.ensures.history }
