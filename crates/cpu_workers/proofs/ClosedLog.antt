@@ -82,7 +82,7 @@ module _ {D E A B : Type 0} (low : D → A → A) (high : E → B → B) (name :
       ≡ option_map (viewed_block sees) (block_after (queue_edited low) opening at past)
   block_seen opening at past =
       block_viewed (record { edited = queue_edited low; answer = λ e b. tt }) (record { edited = queue_edited high; answer = λ e b. tt })
-      (renamed_edit name) (viewed_block sees) (λ (u : Unit {0}). u) edits_seen (λ e b. refl) opening at past
+      (record { name = renamed_edit name; view = viewed_block sees; told = λ (u : Unit {0}). u; edits = edits_seen; answers = λ e b. refl }) opening at past
 
 -- The blocks that are given back.
 

@@ -21,11 +21,9 @@ use Rattle.sleep_wakeup.proofs.edits.SleepBlock.TheSendSync as sleep_block
 use Rattle.queuing_lock.proofs.edits.QBlock.TheSendSync as lock_block
 use Rattle.layer_traits.proofs.buffer_blocks.BufferBlock.TheSendSync as buffer_block
 use Rattle.spinlock.specs.contracts.turn.Turn as turn
-use Rattle.spinlock.specs.contracts.lock_line.ByTicket as by_ticket
 use Rattle.spinlock.proofs.turn.Turn.TheSendSync as turn_crosses
 use Rattle.table_machine.specs.contracts.seats.Seat as table_seat
 use Rattle.table_machine.proofs.seats.Seat.TheSendSync as seat_crosses
-use Rattle.table_machine.specs.contracts.table_words.TicketWords as ticket
 use Rattle.layer_traits.specs.contracts.queue_edits.QueueEdit as edit_row
 use Rattle.sleep_wakeup.specs.contracts.edits.SleepEdit as sleep_edit_row
 use Rattle.queuing_lock.specs.contracts.edits.QLockEdit as lock_edit_row
@@ -57,7 +55,8 @@ block_send B s = recorded_send (block.the_field B).row _ _ (block.the_type B).to
 pub block_sync : (B : RattleType) → IsSync B → IsSync (block.the_row B)
 block_sync B s = recorded_sync (block.the_field B).row _ _ (block.the_type B).to_one (field_sync B s)
 
-seat_part : (a : NamedLft) (E K B O : RattleType) (g : _) (h : _) (k : _) → IsSend E → IsSend B → IsSync B → IsSend (as_row (table_seat.the_field a E K B O g h k))
+seat_part : (a : NamedLft) (E K B O : RattleType) (g : _) (h : _) (k : _) → IsSend E → IsSend B → IsSync B
+    → IsSend (as_row (table_seat.the_field a E K B O g h k))
 seat_part a E K B O g h k e s y = seat_crosses.the_send a E K B O g h k e s y
 
 edit_send : IsSend (edit_row.the_row (sleep_edit_row.the_row (lock_edit_row.the_row (cv_edit_row.the_row buffer_edit_row.the_row) cv_leave_row.the_row)))
@@ -66,18 +65,23 @@ edit_send = queue_edit.the_send _ (sleep_edit.the_send _ (lock_edit.the_send _ _
 tower_block_send : IsSend (block.the_row (sleep_block_row.the_row (lock_block_row.the_row buffer_block_row.the_row)))
 tower_block_send = block_send _ (sleep_block.the_send _ (lock_block.the_send _ buffer_block.the_send))
 
-pub tower_seat_send : (a : NamedLft) → IsSend (seat.the_row a)
-tower_seat_send a = view_send _ _ _ _ _ (declared_send (inside.the_type a) (
-  seat_part a _ ticket.the_row _
-      (queue_answer.the_row (outcome.the_row (lock_out.the_row (cv_out.the_row buffer_out.the_row)))) _ (record { is_clone = λ _ _. Unit {0}; is_infallible = λ _. Unit {0} }) _
+abbrev answer : RattleType
+answer = queue_answer.the_row (outcome.the_row (lock_out.the_row (cv_out.the_row buffer_out.the_row)))
+
+abbrev edit : RattleType
+edit = edit_row.the_row (sleep_edit_row.the_row (lock_edit_row.the_row (cv_edit_row.the_row buffer_edit_row.the_row) cv_leave_row.the_row))
+
+abbrev guarded : RattleType
+guarded = block.the_row (sleep_block_row.the_row (lock_block_row.the_row buffer_block_row.the_row))
+
+-- a seat goes from thread to thread, whatever its words are
+pub tower_seat_send : (a : NamedLft) (K : RattleType) (k : _) → IsSend (seat.the_row a K k)
+tower_seat_send a K k = view_send _ _ _ _ _ (declared_send (inside.the_type a K k) (
+  seat_part a _ K _ answer _ (record { is_clone = λ _ _. Unit {0}; is_infallible = λ _. Unit {0} }) _
       edit_send tower_block_send (block_sync _ (sleep_block.the_sync _ (lock_block.the_sync _ buffer_block.the_sync))),
   tt,
 ))
 
-abbrev answer : RattleType
-answer = queue_answer.the_row (outcome.the_row (lock_out.the_row (cv_out.the_row buffer_out.the_row)))
-
-pub ticket_send : (a : NamedLft) → IsSend (turn.the_row (seat.the_row a) by_ticket.the_row
-    (edit_row.the_row (sleep_edit_row.the_row (lock_edit_row.the_row (cv_edit_row.the_row buffer_edit_row.the_row) cv_leave_row.the_row)))
-    (block.the_row (sleep_block_row.the_row (lock_block_row.the_row buffer_block_row.the_row))) answer)
-ticket_send a = turn_crosses.the_send _ _ _ _ _ (tower_seat_send a) edit_send tower_block_send
+-- and so does a lock over it
+pub turn_send : (a : NamedLft) (K : RattleType) (k : _) (By : RattleType) → IsSend (turn.the_row (seat.the_row a K k) By edit guarded answer)
+turn_send a K k By = turn_crosses.the_send _ _ _ _ _ (tower_seat_send a K k) edit_send tower_block_send

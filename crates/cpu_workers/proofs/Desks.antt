@@ -1,5 +1,6 @@
 -- The workers of a plan at one table of words: what each leaves there, and that the table may be closed.
-use Rattle.std.proofs.Common.{◌≡◌, ℕ, zero, suc, ◌+◌, ◌<◌, ◌≤◌, true, false, All, List, [], ◌∷◌, ◌++◌, length, map, drop, get_or, add-one, drop-cons, Option, Some, None, refl, ap, sym, ◌∙◌, subst, arith}
+use Rattle.std.proofs.Common.{◌≡◌, ℕ, zero, suc, ◌+◌, ◌<◌, ◌≤◌, true, false, All, List, [], ◌∷◌, ◌++◌, length, map, drop, get_or}
+use Rattle.std.proofs.Common.{add-one, drop-cons, Option, Some, None, refl, ap, sym, ◌∙◌, subst, arith}
 use Rattle.std.specs.Prelude.{IfOk, Result, Ok, Err, slice_get, if◌then◌else◌}
 use Rattle.std.proofs.lemmas.List.{length-map}
 use Rattle.std.proofs.lemmas.Option.{get_or_from_slice_get, slice_get_within}
@@ -27,6 +28,7 @@ use Rattle.cpu.specs.Tower.Composed.{named}
 use Rattle.cpu.specs.Tower.Views.{TowerName, name_of}
 use Rattle.cpu.proofs.Booting.{at_end}
 use Rattle.cpu.proofs.ListReads.{shows_at, there_is}
+use Rattle.cpu_workers.specs.declared.seating.Left.{Left}
 use Rattle.cpu_workers.specs.declared.stops.Stop.{Stop}
 use Rattle.cpu_workers.specs.Closing.{Key, tower_rules}
 use Rattle.cpu_workers.specs.Seating.{Block, Edit, HasLeft, HaveLeft, IsReady, OpensPlan, tower_acts}
@@ -46,14 +48,15 @@ desks_are_of {E} board n k d within =
     subst (λ (x : Desk _ _). IsOf board x) (sym (get_or_from_slice_get (new_desks board n) k there.0 d there.1))
     (subst (λ (x : Desk _ _). IsOf board x) (sym is) (refl, refl))
 
--- such a key is one for a worker before its first turn
-pub ready_at : (plan : BootPlan) (board : Board Block) (k : ℕ) (key : Key) → key ≡ new_desk board k → OpensPlan plan (opened board.start)
-    → IsReady ((cpu_at k ≡ key.cpu) × IsLawful (MayCome (tower_rules.allowed (opened key.start))) key.seen) (standing (cpu_at k) key.seen ≡ Outside)
-    (sections_in (acts_of edit_of key.seen) ≡ []) (acts_of edit_of key.seen ≡ []) (OpensPlan plan (opened key.start))
-ready_at plan board k key is opens =
-    subst (λ (x : Key). IsReady ((cpu_at k ≡ x.cpu) × IsLawful (MayCome (tower_rules.allowed (opened x.start))) x.seen) (standing (cpu_at k) x.seen ≡ Outside)
-    (sections_in (acts_of edit_of x.seen) ≡ []) (acts_of edit_of x.seen ≡ []) (OpensPlan plan (opened x.start))) (sym is)
-    (record { acts = (refl, tt); rests = refl; unseen = refl; idle = refl; opens = opens })
+-- such a key is one for a worker before its first turn, however the machine tells its actions and that a CPU is outside
+pub ready_at : (plan : BootPlan) (board : Board Block) (k : ℕ) (key : Key) (IsOutside : Key → Type 0) (acts : Key → List (Action Edit))
+    → IsOutside (new_desk board k) → acts (new_desk board k) ≡ [] → key ≡ new_desk board k → OpensPlan plan (opened board.start)
+    → IsReady ((cpu_at k ≡ key.cpu) × IsLawful (MayCome (tower_rules.allowed (opened key.start))) key.seen) (IsOutside key)
+    (sections_in (acts key) ≡ []) (acts key ≡ []) (OpensPlan plan (opened key.start))
+ready_at plan board k key IsOutside acts outside none is opens =
+    subst (λ (x : Key). IsReady ((cpu_at k ≡ x.cpu) × IsLawful (MayCome (tower_rules.allowed (opened x.start))) x.seen) (IsOutside x)
+    (sections_in (acts x) ≡ []) (acts x ≡ []) (OpensPlan plan (opened x.start))) (sym is)
+    (record { acts = (refl, tt); rests = outside; unseen = ap sections_in none; idle = none; opens = opens })
 
 -- What is left.
 
@@ -79,46 +82,58 @@ stopped : (plan : BootPlan) (May : CpuId → ℕ → Type 0) (turns : ℕ) (c : 
 stopped plan May turns c acts site trace taken stop left =
     let once = map (renamed (renamed_edit slept_edit)) acts in
     rests_so (phase c acts)
-    (ap is_in_section (sym (phase_renamed name_of c (tower_acts acts) ∙ (phase_renamed (renamed_edit lock_call) c once ∙ phase_renamed (renamed_edit slept_edit) c acts)))
+    (ap is_in_section
+    (sym (phase_renamed name_of c (tower_acts acts) ∙ (phase_renamed (renamed_edit lock_call) c once ∙ phase_renamed (renamed_edit slept_edit) c acts)))
     ∙ ap (λ (l : List (Action TowerName)). is_in_section (phase c (named l))) left.apart.acts_are
     ∙ ap (λ (d : CpuId). is_in_section (phase d (named left.last.acts))) (sym (left.ran.same.cpu ∙ left.at_boot.cpu_is))
     ∙ left.ran.rests)
 
-module _ (plan : BootPlan) (May : CpuId → ℕ → Type 0) (turns : ℕ) (board : Board Block) {X : Type 0} (left : List X) (key : X → Key) (trace : X → List Entry)
-    (taken : X → ℕ) (stop : X → Stop) where
+-- what a seat has seen is lawful, and so its actions are those of the words log, whatever words it tells
+abbrev pub SameActs : (Key → List (Action Edit)) → Type 0
+SameActs acts = (key : Key) → IsLawful (MayCome (tower_rules.allowed (opened key.start))) key.seen → acts key ≡ acts_of edit_of key.seen
+
+module _ (plan : BootPlan) (May : CpuId → ℕ → Type 0) (turns : ℕ) (board : Board Block) (left : List (Left Key)) (acts : Key → List (Action Edit))
+    (same : SameActs acts) where
   -- the workers at the seats of a new table have left this
   pub have_left : (seats : List Key) → seats ≡ new_desks board plan.cpus → length left ≡ length seats
-      → ((k : ℕ) (x : X) (m : Key) → slice_get left k ≡ Some x → slice_get seats k ≡ Some m → site_of (key x).table ≡ site_of m.table)
-      → ((k : ℕ) (x : X) → slice_get left k ≡ Some x → (cpu_at k ≡ (key x).cpu) × IsLawful (MayCome (tower_rules.allowed (opened (key x).start))) (key x).seen)
-      → ((k : ℕ) (x : X) → slice_get left k ≡ Some x → HasLeft plan May turns (cpu_at k) (tower_acts (acts_of edit_of (key x).seen)) (site_of (key x).table)
-      (trace x) (taken x) (stop x))
-      → HaveLeft plan May turns board (map key left) (map trace left) (map taken left) (map stop left)
+      → ((k : ℕ) (x : Left Key) (m : Key) → slice_get left k ≡ Some x → slice_get seats k ≡ Some m → site_of x.machine.table ≡ site_of m.table)
+      → ((k : ℕ) (x : Left Key) → slice_get left k ≡ Some x
+      → (cpu_at k ≡ x.machine.cpu) × IsLawful (MayCome (tower_rules.allowed (opened x.machine.start))) x.machine.seen)
+      → ((k : ℕ) (x : Left Key) → slice_get left k ≡ Some x
+      → HasLeft plan May turns (cpu_at k) (tower_acts (acts x.machine)) (site_of x.machine.table) x.trace.items x.did.taken x.did.stop)
+      → HaveLeft plan May turns board (map (λ x. x.machine) left) (map (λ x. x.trace.items) left) (map (λ x. x.did.taken) left) (map (λ x. x.did.stop) left)
   have_left seats new count site owns has =
       let many : length left ≡ plan.cpus = count ∙ ap length new ∙ length_new Edit board plan.cpus in
       record {
-        count = length-map left key ∙ many;
-        traces_count = length-map left trace ∙ many;
+        count = length-map left _ ∙ many;
+        traces_count = length-map left _ ∙ many;
+        taken_count = length-map left _ ∙ many;
+        stops_count = length-map left _ ∙ many;
         each = λ c below.
             let there = there_is left c.0 (subst (λ n. c.0 < n) (sym many) below) in
             let x = there.0 in
             let seat = there_is seats c.0 (subst (λ n. c.0 < n) (sym (sym count ∙ many)) below) in
             let is : seat.0 ≡ new_desk board c.0 = desks_at board plan.cpus c.0 seat.0 (subst (λ (l : List Key). slice_get l c.0 ≡ Some seat.0) new seat.1) in
-            let cpu : (key x).cpu ≡ c = sym (owns c.0 x there.1).0 in
-            let gone = has c.0 x there.1 in
-            let outside : standing c (key x).seen ≡ Outside = (rests_outside (key x).seen c).1 (stopped plan May turns c (acts_of edit_of (key x).seen) _ _ _ _ gone) in (
-              key x,
-              trace x,
-              taken x,
-              stop x,
-              shows_at key left c.0 x there.1,
-              shows_at trace left c.0 x there.1,
-              shows_at taken left c.0 x there.1,
-              shows_at stop left c.0 x there.1,
+            let own = owns c.0 x there.1 in
+            let cpu : x.machine.cpu ≡ c = sym own.0 in
+            let gone = subst
+            (λ (l : List (Action Edit)). HasLeft plan May turns c (tower_acts l) (site_of x.machine.table) x.trace.items x.did.taken x.did.stop)
+            (same x.machine own.1) (has c.0 x there.1) in
+            let outside : standing c x.machine.seen ≡ Outside =
+            (rests_outside x.machine.seen c).1 (stopped plan May turns c (acts_of edit_of x.machine.seen) _ _ _ _ gone) in (
+              x.machine,
+              x.trace.items,
+              x.did.taken,
+              x.did.stop,
+              shows_at (λ y. y.machine) left c.0 x there.1,
+              shows_at (λ y. y.trace.items) left c.0 x there.1,
+              shows_at (λ y. y.did.taken) left c.0 x there.1,
+              shows_at (λ y. y.did.stop) left c.0 x there.1,
               record {
                 cpu_is = cpu;
                 over = record {
-                  table = one_site (key x).table board.table (site c.0 x seat.0 there.1 seat.1 ∙ ap (λ (d : Key). site_of d.table) is);
-                  outside = subst (λ (d : CpuId). standing d (key x).seen ≡ Outside) (sym cpu) outside;
+                  table = one_site x.machine.table board.table (site c.0 x seat.0 there.1 seat.1 ∙ ap (λ (d : Key). site_of d.table) is);
+                  outside = subst (λ (d : CpuId). standing d x.machine.seen ≡ Outside) (sym cpu) outside;
                 };
                 left = gone;
               },

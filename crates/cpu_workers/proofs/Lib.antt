@@ -9,3 +9,4 @@ pub mod Seated
 pub mod Desks
 pub mod Told
 pub mod Crossing
+pub mod Acting

@@ -224,6 +224,7 @@ module _ (setup : Setup) (May : CpuId → ℕ → Type 0) (turns : ℕ) (board :
 
   told : (c : CpuId) (acts_seen : List (Action TowerName)) (line : Line) → HasSeen setup (May c) turns c acts_seen line → TellsTrue setup (May c) turns c line
   told c acts_seen line seen = record {
+    room = seen.room;
     stays = seen.stays;
     calls = λ t home. let follows = seen.follows t home in (follows.state, follows.calls);
     ended = λ is t home. let follows = seen.follows t home in
@@ -265,6 +266,9 @@ module _ (setup : Setup) (May : CpuId → ℕ → Type 0) (turns : ℕ) (board :
       let long = ap (λ (l : List Entry). length l) (trace_read (cpu_at k) one.1 one.4) in omega (arith, room, long))
       (subst (λ (n : ℕ). n * setup.trace_room < 2 ^ 64) (sym count) few) in
       record {
+        traces_count = come.traces;
+        taken_count = come.taken;
+        stops_count = come.stops;
         order = all.order;
         keeps = all.keeps;
         run = subst (λ (l : List (List Message)). IsRun setup.caps all.order l) contents_are all.run;

@@ -30,26 +30,52 @@ use Rattle.cpu_workers.specs.Reports.{Both, HasRun}
 use Rattle.cpu_workers.specs.Seating.{HasLeft, IsApart, IsAtBoot}
 use Rattle.cpu_workers.specs.Working.{Charge, IsPlanned, Working}
 
-module _ (homes : List CpuId) (buffers : ℕ) (number : CpuId) (guests : List (Option Guest)) (most : ℕ) (its : CpuId) (table : List (Option Guest))
-    (trace : List Entry) (limit capacity : ℕ) (are : AreGuests homes buffers number guests)
-    (made : IsBooted number guests most its table trace limit capacity) where
-  pub boots_over : (homes2 : List CpuId) (count : ℕ) (seen : List Entry) (threads : Threads) (talks : List Talk) (doing : Option Doing)
-      → length homes ≤ THREADS → homes2 ≡ homes → count ≡ buffers → seen ≡ [] → threads ≡ at_boot homes number → talks ≡ replicate THREADS quiet → doing ≡ None
-      → IsCpu homes2 count seen threads talks doing its table trace limit capacity
-  boots_over homes2 count seen threads talks doing few same counted none threads_are talks_are nothing =
+-- what a CPU was made with, and what it is
+pub record Made : Type 0 where
+  pub homes : List CpuId
+  pub buffers : ℕ
+  pub number : CpuId
+  pub guests : List (Option Guest)
+  pub most : ℕ
+  pub its : CpuId
+  pub table : List (Option Guest)
+  pub trace : List Entry
+  pub limit : ℕ
+  pub capacity : ℕ
+
+abbrev pub made_of : List CpuId → ℕ → CpuId → List (Option Guest) → ℕ → CpuId → List (Option Guest) → List Entry → ℕ → ℕ → Made
+made_of homes buffers number guests most its table trace limit capacity = record {
+  homes = homes;
+  buffers = buffers;
+  number = number;
+  guests = guests;
+  most = most;
+  its = its;
+  table = table;
+  trace = trace;
+  limit = limit;
+  capacity = capacity;
+}
+
+module _ (x : Made) (are : AreGuests x.homes x.buffers x.number x.guests)
+    (made : IsBooted x.number x.guests x.most x.its x.table x.trace x.limit x.capacity) where
+  pub boots_over : (homes : List CpuId) (count : ℕ) (seen : List Entry) (threads : Threads) (talks : List Talk) (doing : Option Doing)
+      → length x.homes ≤ THREADS → homes ≡ x.homes → count ≡ x.buffers → seen ≡ [] → threads ≡ at_boot x.homes x.number
+      → talks ≡ replicate THREADS quiet → doing ≡ None → IsCpu homes count seen threads talks doing x.its x.table x.trace x.limit x.capacity
+  boots_over homes count seen threads talks doing few same counted none threads_are talks_are nothing =
       rw (same, counted, none, threads_are, talks_are, nothing, made.number_is, made.guests_are, made.nothing, made.limit_is)
-      (boots homes buffers number guests most capacity are few made.reserved)
+      (boots x.homes x.buffers x.number x.guests x.most x.capacity are few made.reserved)
 
-  pub tabled_over : (homes2 : List CpuId) (caps : List ℕ) (own : Buffering) (doing : Option Doing) (opening : LockId → Option TowerBlock) → homes2 ≡ homes
-      → own ≡ buffering_at_start homes number → doing ≡ None → OpensSo caps homes number opening
-      → IsTabled homes2 caps its own doing table opening
-  tabled_over homes2 caps own doing opening same own_is nothing opens =
-      rw (same, own_is, nothing, made.number_is, made.guests_are) (boots_tabled homes caps number guests buffers opening are opens)
+  pub tabled_over : (homes : List CpuId) (caps : List ℕ) (own : Buffering) (doing : Option Doing) (opening : LockId → Option TowerBlock) → homes ≡ x.homes
+      → own ≡ buffering_at_start x.homes x.number → doing ≡ None → OpensSo caps x.homes x.number opening
+      → IsTabled homes caps x.its own doing x.table opening
+  tabled_over homes caps own doing opening same own_is nothing opens =
+      rw (same, own_is, nothing, made.number_is, made.guests_are) (boots_tabled x.homes caps x.number x.guests x.buffers opening are opens)
 
-  pub private_over : (own : Buffering) (p : Private) → p ≡ private own table trace → own ≡ buffering_at_start homes number
-      → (setup : Setup) → setup.homes ≡ homes → p ≡ boot_of setup number
+  pub private_over : (own : Buffering) (p : Private) → p ≡ private own x.table x.trace → own ≡ buffering_at_start x.homes x.number
+      → (setup : Setup) → setup.homes ≡ x.homes → p ≡ boot_of setup x.number
   private_over own p is own_is setup same =
-      is ∙ (λ i. private (own_is i) (made.guests_are i) (made.nothing i)) ∙ private_boots setup homes buffers number guests same are
+      is ∙ (λ i. private (own_is i) (made.guests_are i) (made.nothing i)) ∙ private_boots setup x.homes x.buffers x.number x.guests same are
 
 -- The workers of a plan.
 
@@ -70,7 +96,8 @@ planned_by plan is c homes caps guests limit homes_are caps_are guests_are limit
   room_is = sym limit_is;
   programs_are = λ t program at.
       let back = program_back guests t.0 program at in
-      let of = by_task plan.cpus (length plan.caps) plan.tasks is.tasks.each c t.0 back.0 (ap (λ (l : List (Option Guest)). guest_at l t.0) (sym guests_are) ∙ back.1) in
+      let of = by_task plan.cpus (length plan.caps) plan.tasks is.tasks.each c t.0 back.0
+      (ap (λ (l : List (Option Guest)). guest_at l t.0) (sym guests_are) ∙ back.1) in
       ap program_or (shows_at (λ (task : Task). task.program) plan.tasks t.0 of.task of.there) ∙ ap (λ (x : Guest). x.program) of.is ∙ back.2;
 }
 

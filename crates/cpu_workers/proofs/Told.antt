@@ -43,6 +43,8 @@ lawful_so plan May turns traces taken stops blocks is of = report_is_lawful May 
       };
       come = record {
         traces = of.left.traces_count;
+        taken = of.left.taken_count;
+        stops = of.left.stops_count;
         each = λ c below.
             let one = of.left.each c below in
             let line : Line = record { trace = one.1; taken = one.2; stop = one.3 } in (

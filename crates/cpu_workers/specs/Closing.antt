@@ -30,7 +30,7 @@ use Rattle.layer_traits.specs.Plans.{is_in_section}
 use Rattle.layer_traits.specs.Protocol.{Rules}
 use Rattle.layer_traits.specs.QueueBlocks.{StartsWell, homes_in, inner}
 use Rattle.layer_traits.specs.QueueRules.{queue_rules}
-use Rattle.layer_traits.specs.Renaming.{renamed_edit, viewed}
+use Rattle.layer_traits.specs.Renaming.{renamed_edit, viewed, viewed_block}
 use Rattle.layer_traits.specs.WordsProtocol.{edit_of}
 use Rattle.sleep_wakeup.specs.declared.edits.SleepBlock.{SleepBlock}
 use Rattle.sleep_wakeup.specs.declared.edits.SleepEdit.{SleepEdit}
@@ -82,9 +82,13 @@ acts_in log = map (renamed (renamed_edit lock.edit_in)) (map (renamed (renamed_e
 abbrev pub seen_above : (LockId → Option (QueueBlock LockBlock)) → LockId → Option TowerBlock
 seen_above opening = viewed lock_of (viewed state_of opening)
 
+-- a block of the tower's locks, as the step table has blocks
+abbrev pub block_shown : Option (QueueBlock LockBlock) → Option Block
+block_shown o = option_map view (option_map (viewed_block lock_of) (option_map (viewed_block state_of) o))
+
 -- the block of each lock in a list of locks with their blocks, as the step table has blocks
 abbrev pub blocks_told : List (LockId × QueueBlock LockBlock) → LockId → Option Block
-blocks_told blocks lock = option_map view (seen_above (opened blocks) lock)
+blocks_told blocks lock = block_shown (opened blocks lock)
 
 -- a table that opened with the locks of this setup: a queue for each of its CPUs, with the homes of its threads, and its buffers, each empty
 -- under a free lock with nobody asleep; there is a CPU, and all traces together have less than 2^64 entries
@@ -114,9 +118,11 @@ pub record HasSeen (setup : Setup) (May : ℕ → Type 0) (turns : ℕ) (c : Cpu
   pub follows : (t : Tid) → home_of setup.homes t ≡ Some c
       → FollowsProgram (program_of setup t) (of_thread t.0 line.trace) (thread_at last t).ended
 
--- the report has a line for each worker that came back with the key of its CPU
+-- the report has a line for each worker that came back with the key of its CPU, and no more lines
 pub record HaveCome (setup : Setup) (May : CpuId → ℕ → Type 0) (turns : ℕ) (keys : List Key) (r : Shown) : Type 0 where
   pub traces : length r.traces ≡ setup.cpus
+  pub taken : length r.taken ≡ setup.cpus
+  pub stops : length r.stops ≡ setup.cpus
   pub each : (c : CpuId) → c.0 < setup.cpus → (key : Key) × (line : Line) × (slice_get keys c.0 ≡ Some key) × (key.cpu ≡ c) × IsLineOf r c line
       × HasSeen setup (May c) turns c (acts_in key.seen) line
 

@@ -51,9 +51,13 @@ messages_in None = []
 messages_in (Some (OfBuffer k)) = k.items
 messages_in (Some (OfPending threads)) = []
 
+-- what a buffer holds among these blocks
+abbrev pub held_at : (LockId → Option Block) → BufId → List Message
+held_at blocks b = messages_in (blocks (AtBuffer b))
+
 -- what is left in the first n buffers
 abbrev pub left_in : ℕ → Shown → List (List Message)
-left_in n r = listed (λ b. messages_in (r.blocks (AtBuffer (buffer_at b)))) 0 n
+left_in n r = listed (λ b. held_at r.blocks (buffer_at b)) 0 n
 
 -- the program of a thread has ended behind these entries, oldest first
 pub record EndsAt (setup : Setup) (t : Tid) (entries : List Entry) : Type 0 where
@@ -61,18 +65,23 @@ pub record EndsAt (setup : Setup) (t : Tid) (entries : List Entry) : Type 0 wher
   pub calls : IsProgramsCalls (program_of setup t) (reverse entries) state
   pub ends : HasEnded (program_of setup t) state
 
--- what is told of a CPU is true: each entry is of a thread at home, and a thread's entries are its program's calls; it stopped with `AllEnded`
--- only where all programs at home have ended, with `TurnsUsed` only after its turns, and with `Held` only where the gate may have held it
+-- what is told of a CPU is true: its trace kept to its room, each entry is of a thread at home, and a thread's entries are its program's calls;
+-- it stopped with `AllEnded` only where all programs at home have ended, with `TurnsUsed` only after its turns, and with `Held` only where the
+-- gate may have held it
 pub record TellsTrue (setup : Setup) (May : ℕ → Type 0) (turns : ℕ) (c : CpuId) (line : Line) : Type 0 where
+  pub room : length line.trace ≤ setup.trace_room
   pub stays : AllByRecursion (IsOfHome setup.homes c) line.trace
   pub calls : (t : Tid) → home_of setup.homes t ≡ Some c → AreProgramsCalls (program_of setup t) (of_thread t.0 line.trace)
   pub ended : line.stop ≡ AllEnded → (t : Tid) → home_of setup.homes t ≡ Some c → EndsAt setup t (of_thread t.0 line.trace)
   pub used : line.stop ≡ TurnsUsed → turns ≤ line.taken
   pub held : line.stop ≡ Held → MayHold May line.taken
 
--- a report of workers: its traces have one order that keeps each of them, is a run of first-in first-out buffers and ends in what the blocks hold;
--- and what it tells of each CPU is true
+-- a report of workers: its lists have one element for each CPU; its traces have one order that keeps each of them, is a run of first-in first-out
+-- buffers and ends in what the blocks hold; and what it tells of each CPU is true
 pub record IsReport (setup : Setup) (May : CpuId → ℕ → Type 0) (turns : ℕ) (r : Shown) : Type 0 where
+  pub traces_count : length r.traces ≡ setup.cpus
+  pub taken_count : length r.taken ≡ setup.cpus
+  pub stops_count : length r.stops ≡ setup.cpus
   pub order : List Entry
   pub keeps : IsInterleaving r.traces order
   pub run : IsRun setup.caps order (left_in (length setup.caps) r)

@@ -24,7 +24,8 @@ use Rattle.table_machine.specs.Desks.{Board, Closes, IsOver, site_of}
 use Rattle.cpu.specs.Table.Setups.{at_boot}
 use Rattle.cpu.specs.Tower.Views.{TowerName}
 use Rattle.cpu_workers.specs.declared.stops.Stop.{Stop}
-use Rattle.cpu_workers.specs.Closing.{Key, LockBlock, LockEdit, tower_rules}
+use Rattle.cpu_workers.specs.Closing.{Key, LockBlock, LockEdit, blocks_told, tower_rules}
+use Rattle.cpu_workers.specs.Lawful.{held_at}
 use Rattle.cpu_workers.specs.Orders.{HasFollowed, IsTraceOf}
 use Rattle.cpu_workers.specs.Reports.{HasRun}
 use Rattle.cpu_workers.specs.Working.{IsPlanned, Working}
@@ -94,6 +95,8 @@ pub record HaveLeft (plan : BootPlan) (May : CpuId → ℕ → Type 0) (turns : 
     (taken : List ℕ) (stops : List Stop) : Type 0 where
   pub count : length keys ≡ plan.cpus
   pub traces_count : length traces ≡ plan.cpus
+  pub taken_count : length taken ≡ plan.cpus
+  pub stops_count : length stops ≡ plan.cpus
   pub each : (c : CpuId) → c.0 < plan.cpus → (key : Key) × (trace : List Entry) × (n : ℕ) × (stop : Stop)
       × (slice_get keys c.0 ≡ Some key) × (slice_get traces c.0 ≡ Some trace) × (slice_get taken c.0 ≡ Some n) × (slice_get stops c.0 ≡ Some stop)
       × LeftKey plan May turns board c key trace n stop
@@ -109,15 +112,6 @@ pub record IsReportOf (plan : BootPlan) (May : CpuId → ℕ → Type 0) (turns 
   pub left : HaveLeft plan May turns board keys traces taken stops
   pub closes : Closes tower_rules board keys blocks
 
--- the items of a buffer's block; of a queue's there are none
-abbrev pub items_of : Block → List Message
-items_of (Queue queue homes) = []
-items_of (Above block) = block.above.above.items
-
-abbrev pub items_if : Option Block → List Message
-items_if None = []
-items_if (Some block) = items_of block
-
--- the items of a buffer among these blocks
+-- the items of a buffer among these blocks, as a report tells them
 abbrev pub items_in : List (LockId × Block) → BufId → List Message
-items_in blocks b = items_if (opened blocks (Buffer b))
+items_in blocks b = held_at (blocks_told blocks) b

@@ -1,8 +1,9 @@
 //! What the workers of a plan leave behind.
 
-ghost use Rattle.std.specs.Prelude.{◌≡◌};
+ghost use Rattle.std.specs.Prelude.{◌≡◌, Some};
 ghost use Rattle.layer_traits.specs.OneLock.{opened};
-ghost use Rattle.cpu_workers.specs.Seating.{items_if, items_of};
+ghost use Rattle.cpu_workers.specs.Closing.{block_shown};
+ghost use Rattle.cpu_workers.specs.Lawful.{messages_in};
 
 use crate::stops::Stop;
 use arrayvec::ArrayVec;
@@ -27,7 +28,8 @@ pub struct Report {
 impl Report {
     ghost use Rattle.cpu_workers.specs.Seating.{items_in};
 
-    /// What `buffer` holds, front first. Where there is no such buffer it is nothing.
+    /// What `buffer` holds, front first: what the report tells of its block. Where there is no such
+    /// buffer it is nothing.
     pub fn items(&self, buffer: BufId) -> ArrayVec<Msg, CAPACITY>
         ensures { result.items ≡ items_in self.now.blocks.items buffer }
     {
@@ -37,7 +39,7 @@ impl Report {
 
 // The items of the buffer at a lock, the first that these blocks tell.
 fn items_at(blocks: &[(LockId, TowerBlock)], lock: LockId) -> ArrayVec<Msg, CAPACITY>
-    ensures { result.items ≡ items_if (opened blocks.now lock) }
+    ensures { result.items ≡ messages_in (block_shown (opened blocks.now lock)) }
 {
     for (i, entry) in blocks.iter().enumerate() {
         if entry.0 == lock {
@@ -49,7 +51,7 @@ fn items_at(blocks: &[(LockId, TowerBlock)], lock: LockId) -> ArrayVec<Msg, CAPA
 
 // The items of a buffer's block; of a queue's there are none.
 fn items_of(block: &TowerBlock) -> ArrayVec<Msg, CAPACITY>
-    ensures { result.items ≡ items_of block.now }
+    ensures { result.items ≡ messages_in (block_shown (Some block.now)) }
 {
     match block {
         QueueBlock::Queue(_, _) => ArrayVec::new(),

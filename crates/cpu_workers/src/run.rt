@@ -2,10 +2,10 @@
 
 ghost use Rattle.std.specs.Prelude.{◌≡◌, ◌≤◌, [], IfOk, All, length, map, vec_capacity};
 ghost use Rattle.layer_traits.specs.OneLock.{AreDistinct, opened};
-ghost use Rattle.table_machine.specs.Desks.{IsOf, new_desks};
+ghost use Rattle.table_machine.specs.Desks.{Closes, Covers, IsOf, IsOver, new_desks};
 ghost use Rattle.boot.specs.Plan.{IsPlan};
 ghost use Rattle.cpu.specs.Sound.{setup_for};
-ghost use Rattle.cpu_workers.specs.Closing.{shown};
+ghost use Rattle.cpu_workers.specs.Closing.{shown, tower_rules};
 ghost use Rattle.cpu_workers.specs.Lawful.{IsLawfulReport};
 ghost use Rattle.cpu_workers.specs.Seating.{HaveLeft, OpensPlan};
 
@@ -15,16 +15,16 @@ use crate::seating::{Left, run_over};
 use crate::seats::TowerSeat;
 use crate::starting::WorkerError;
 use crate::stops::Stop;
-use boot::Boot;
+use boot::{Boot, LockKind};
 use cpu::homes_of;
 use event_log::{Entry, NoMemory};
 use ipc_calls::{TowerEdit, tower_blocks};
 use layer_traits::Edit;
-use spinlock::Ticket;
+use spinlock::{Grant, Ticket};
 use std::alloc::{AllocError, Global};
 use std::sync::Wait;
 use std::thread::Threads;
-use table_machine::{Key, Shared};
+use table_machine::{Key, Shared, TableWords, TicketWords, WaiterWords};
 
 // What workers leave behind at a table, by CPU: their keys, traces, stops and turns.
 #[derive(Drop)]
@@ -53,11 +53,11 @@ impl<E: Edit> Back<E> {
 }
 
 // A seat for each key.
-fn seats_at<'a>(
+fn seats_at<'a, K: TableWords>(
     alloc: Global,
-    shared: &'a Shared<TowerEdit>,
+    shared: &'a Shared<TowerEdit, K>,
     keys: Vec<Key<TowerEdit>>,
-) -> Result<Vec<TowerSeat<'a>>, AllocError>
+) -> Result<Vec<TowerSeat<'a, K>>, AllocError>
     requires { All (IsOf shared.now) keys.items }
     ensures { IfOk result (λ seats. seats.items ≡ keys.items) }
 {
@@ -70,7 +70,10 @@ fn seats_at<'a>(
 }
 
 // Leaves the seats, and puts what the workers left into the lists, which have room.
-fn parted(left: Vec<Left<TowerSeat<'_>>>, back: Back<TowerEdit>) -> Back<TowerEdit>
+fn parted<K: TableWords>(
+    left: Vec<Left<TowerSeat<'_, K>>>,
+    back: Back<TowerEdit>,
+) -> Back<TowerEdit>
     requires keys { (back.keys.items ≡ []) × (length left.items ≤ vec_capacity back.keys) }
     requires traces { (back.traces.items ≡ []) × (length left.items ≤ vec_capacity back.traces) }
     requires stops { (back.stops.items ≡ []) × (length left.items ≤ vec_capacity back.stops) }
@@ -106,14 +109,14 @@ fn parted(left: Vec<Left<TowerSeat<'_>>>, back: Back<TowerEdit>) -> Back<TowerEd
     }
 }
 
-// Lets a worker of each CPU run at its seat.
-fn run_at<G: Gate + Sync, R: Threads + Wait + Sync>(
+// Lets a worker of each CPU run at its seat of ticket locks.
+fn run_tickets<G: Gate + Sync, R: Threads + Wait + Sync>(
     rt: &R,
     alloc: Global,
     boot: &Boot,
     turns: u64,
     gate: &G,
-    shared: &Shared<TowerEdit>,
+    shared: &Shared<TowerEdit, TicketWords>,
     keys: Vec<Key<TowerEdit>>,
 ) -> Result<Back<TowerEdit>, WorkerError>
     requires keys { keys.items ≡ new_desks shared.now boot.now.cpus }
@@ -123,15 +126,40 @@ fn run_at<G: Gate + Sync, R: Threads + Wait + Sync>(
 {
     let back = Back::with_capacity(alloc, boot.cpus() as usize)?;
     let seats = seats_at(alloc, shared, keys)?;
-    let left = run_over::<Ticket<TowerSeat<'_>>, G, R>(rt, alloc, boot, turns, gate, seats)?;
+    let left = run_over::<Ticket<TowerSeat<'_, TicketWords>>, G, R>(
+        rt, alloc, boot, turns, gate, seats,
+    )?;
+    Ok(parted(left, back))
+}
+
+// Lets a worker of each CPU run at its seat of locks with grant words.
+fn run_grants<G: Gate + Sync, R: Threads + Wait + Sync>(
+    rt: &R,
+    alloc: Global,
+    boot: &Boot,
+    turns: u64,
+    gate: &G,
+    shared: &Shared<TowerEdit, WaiterWords>,
+    keys: Vec<Key<TowerEdit>>,
+) -> Result<Back<TowerEdit>, WorkerError>
+    requires keys { keys.items ≡ new_desks shared.now boot.now.cpus }
+    requires opens { OpensPlan boot.now (opened shared.now.start) }
+    ensures { IfOk result (λ b. HaveLeft boot.now (G.MayLimit gate.now) turns shared.now b.keys.items (map (λ t. t.items) b.traces.items) b.taken.items
+        b.stops.items) }
+{
+    let back = Back::with_capacity(alloc, boot.cpus() as usize)?;
+    let seats = seats_at(alloc, shared, keys)?;
+    let left = run_over::<Grant<TowerSeat<'_, WaiterWords>>, G, R>(
+        rt, alloc, boot, turns, gate, seats,
+    )?;
     Ok(parted(left, back))
 }
 
 // The table of a plan, with the key of each CPU.
-fn table_of(
+fn table_of<K: TableWords>(
     alloc: Global,
     boot: &Boot,
-) -> Result<(Shared<TowerEdit>, Vec<Key<TowerEdit>>), NoMemory>
+) -> Result<(Shared<TowerEdit, K>, Vec<Key<TowerEdit>>), NoMemory>
     ensures plan { IfOk result (λ r. IsPlan boot.now) }
     ensures cpus { IfOk result (λ r. r.0.cpus ≡ boot.now.cpus) }
     ensures distinct { IfOk result (λ r. AreDistinct r.0.start) }
@@ -144,9 +172,33 @@ fn table_of(
     Shared::open(alloc, blocks, boot.cpus())
 }
 
+// Closes the table of workers that have come back, and tells what they left.
+fn closed<K: TableWords>(shared: Shared<TowerEdit, K>, back: Back<TowerEdit>) -> Report
+    requires covers { Covers shared.cpus back.keys.items }
+    requires keys { All (IsOver shared) back.keys.items }
+    ensures traces { result.traces ≡ back.traces }
+    ensures taken { result.taken ≡ back.taken }
+    ensures stops { result.stops ≡ back.stops }
+    ensures closes { Closes tower_rules shared back.keys.items result.blocks.items }
+{
+    let Back {
+        keys,
+        traces,
+        stops,
+        taken,
+    } = back;
+    Report {
+        traces,
+        blocks: shared.close(keys),
+        stops,
+        taken,
+    }
+}
+
 /// Runs a plan with a worker thread for each CPU, each at its own seat at one table of shared
-/// words, under a gate. A worker stops between two of its sections, as [`crate::work`] says:
-/// where its CPU is halted, where the gate has answered `Limit`, or where `turns` turns are taken.
+/// words, under a gate. The locks of the table are of the plan's kind. A worker stops between two of
+/// its sections, as [`crate::work`] says: where its CPU is halted, where the gate has answered
+/// `Limit`, or where `turns` turns are taken.
 ///
 /// It waits for its workers, so it need not return. All memory is taken and all workers are known to
 /// have started before any step is taken.
@@ -163,19 +215,18 @@ pub fn run_workers<G: Gate + Sync, R: Threads + Wait + Sync>(
     ensures { IfOk result (λ r. IsLawfulReport (setup_for boot.now) (G.MayLimit gate.now) turns
         (shown (map (λ t. t.items) r.traces.items) r.taken.items r.stops.items r.blocks.items)) }
 {
-    let open = table_of(alloc, boot)?;
-    let (shared, keys) = open;
-    let back = run_at(rt, alloc, boot, turns, gate, &shared, keys)?;
-    let Back {
-        keys,
-        traces,
-        stops,
-        taken,
-    } = back;
-    Ok(Report {
-        traces,
-        blocks: shared.close(keys),
-        stops,
-        taken,
-    })
+    match boot.lock() {
+        LockKind::Ticket => {
+            let open = table_of::<TicketWords>(alloc, boot)?;
+            let (shared, keys) = open;
+            let back = run_tickets(rt, alloc, boot, turns, gate, &shared, keys)?;
+            Ok(closed(shared, back))
+        }
+        LockKind::Grant => {
+            let open = table_of::<WaiterWords>(alloc, boot)?;
+            let (shared, keys) = open;
+            let back = run_grants(rt, alloc, boot, turns, gate, &shared, keys)?;
+            Ok(closed(shared, back))
+        }
+    }
 }

@@ -1,6 +1,7 @@
 use Rattle.std.proofs.Common.{◌≡◌, ◌≤◌, true, false, length, ap, ◌∙◌, sym, rules, arith}
 use Rattle.event_log.specs.History.{same_lock}
-use Rattle.cpu_workers.specs.Seating.{items_if}
+use Rattle.cpu_workers.specs.Closing.{block_shown}
+use Rattle.cpu_workers.specs.Lawful.{messages_in}
 use Rattle.cpu_workers.proofs.Desks.{opened_end, opened_here, opened_later}
 use Rattle.cpu_workers.proofs.report.items_at.Goals as goal
 
@@ -9,7 +10,8 @@ returns-then-eq c =
     let o = c.index-blocks-i.result in
     let same : same_lock o.0 c.args.lock ≡ true = search rules in
     c.items_of.ensures
-    ∙ sym (ap items_if (c.loop-i.invariant.left ∙ opened_here c.args.lock c.args.blocks.now c.loop-i.i o c.loop-i-test.true c.index-blocks-i.is same))
+    ∙ sym (ap (λ o. messages_in (block_shown o))
+    (c.loop-i.invariant.left ∙ opened_here c.args.lock c.args.blocks.now c.loop-i.i o c.loop-i-test.true c.index-blocks-i.is same))
 
 pub loop-i-preserved : goal.loop-i-preserved
 loop-i-preserved c =
@@ -21,4 +23,4 @@ pub returns : goal.returns
 returns c =
     let test = c.loop-i-test.false in
     let past : length c.args.blocks.now ≤ c.loop-i.i = omega (arith, test) in
-    c.new.ensures ∙ sym (ap items_if (c.loop-i.invariant.left ∙ opened_end c.args.lock c.args.blocks.now c.loop-i.i past))
+    c.new.ensures ∙ sym (ap (λ o. messages_in (block_shown o)) (c.loop-i.invariant.left ∙ opened_end c.args.lock c.args.blocks.now c.loop-i.i past))

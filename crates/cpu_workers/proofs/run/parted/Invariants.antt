@@ -2,7 +2,7 @@ use Rattle.std.proofs.Common.{◌≡◌, ◌≤◌, ◌++◌, length, map, vec_c
 use Rattle.cpu_workers.proofs.run.parted.Given as goal
 
 abbrev pub invariant-loop-one : goal.invariant-loop-one
-invariant-loop-one l = record {
+invariant-loop-one g l = record {
   all : l.yielded ++ l.one-iterator.rest.items ≡ l.fn.left.items;
   keys_are : l.keys.items ≡ map (λ x. x.machine) l.yielded;
   traces_are : map (λ t. t.items) l.traces.items ≡ map (λ x. x.trace.items) l.yielded;

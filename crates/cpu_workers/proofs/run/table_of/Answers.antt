@@ -9,7 +9,7 @@ use Rattle.cpu_workers.proofs.Desks.{ok_with}
 use Rattle.cpu_workers.proofs.run.table_of.Goals as goal
 
 pub tower_blocks-requires : goal.tower_blocks-requires
-tower_blocks-requires c =
+tower_blocks-requires g c =
     let plan = c.args.boot.now in
     let caps = c.as_slice.ensures.value ∙ c.caps-caps.ensures.caps in
     let homes = c.as_slice-2.ensures.value ∙ c.homes_of-homes.ensures in
@@ -18,10 +18,11 @@ tower_blocks-requires c =
     (subst (λ (l : List CpuId). AreOpenable plan.cpus plan.caps l) (sym homes) (are_openable plan c.caps-caps.ensures.within)))
 
 pub returns-clause-distinct : goal.returns-clause-distinct
-returns-clause-distinct c = ok_with (λ r. r.0.start) AreDistinct c.open.result c.in_ok-blocks.blocks.items c.open.ensures.start c.in_ok-blocks.ensures.distinct
+returns-clause-distinct g c =
+    ok_with (λ r. r.0.start) AreDistinct c.open.result c.in_ok-blocks.blocks.items c.open.ensures.start c.in_ok-blocks.ensures.distinct
 
 pub returns-clause-opens : goal.returns-clause-opens
-returns-clause-opens c =
+returns-clause-opens g c =
     let plan = c.args.boot.now in
     let e = c.in_ok-blocks.ensures in
     let caps = c.as_slice.ensures.value ∙ c.caps-caps.ensures.caps in

@@ -1,24 +1,24 @@
 use Rattle.std.proofs.Common.{◌≡◌}
-use Rattle.cpu_workers.proofs.Seated.{boots_over, private_over, tabled_over}
+use Rattle.cpu_workers.proofs.Seated.{boots_over, made_of, private_over, tabled_over}
 use Rattle.cpu_workers.proofs.worker.Worker.at_boot.Goals as goal
 
 pub new-requires-clause-is : goal.new-requires-clause-is
 new-requires-clause-is g c =
     let r = c.requires in
     let e = c.in_ok-cpu.ensures in
-    boots_over c.args.homes.now c.args.buffers c.args.number c.args.guests.items c.args.limit _ _ _ _ _ r.guests e.booted _ _ _ _ _ _ r.threads r.homes
-    r.buffers r.seen e.threads e.talks e.doing
+    boots_over (made_of c.args.homes.now c.args.buffers c.args.number c.args.guests.items c.args.limit _ _ _ _ _) r.guests e.booted _ _ _ _ _ _
+    r.threads r.homes r.buffers r.seen e.threads e.talks e.doing
 
 pub new-requires-clause-tabled : goal.new-requires-clause-tabled
 new-requires-clause-tabled g c =
     let r = c.requires in
     let e = c.in_ok-cpu.ensures in
-    tabled_over c.args.homes.now c.args.buffers c.args.number c.args.guests.items c.args.limit _ _ _ _ _ r.guests e.booted _ _ _ _ _ r.homes
+    tabled_over (made_of c.args.homes.now c.args.buffers c.args.number c.args.guests.items c.args.limit _ _ _ _ _) r.guests e.booted _ _ _ _ _ r.homes
     (e.own r.stepwise) e.doing (g.met.I.IpcLayer.opens r.stepwise c.args.machine c.args.homes.now c.args.number r.fresh)
 
 pub returns-clause-boots : goal.returns-clause-boots
 returns-clause-boots g c =
     let r = c.requires in
     let e = c.in_ok-cpu.ensures in
-    private_over c.args.homes.now c.args.buffers c.args.number c.args.guests.items c.args.limit _ _ _ _ _ r.guests e.booted _ _ c.new.ensures.private
+    private_over (made_of c.args.homes.now c.args.buffers c.args.number c.args.guests.items c.args.limit _ _ _ _ _) r.guests e.booted _ _ c.new.ensures.private
     (e.own r.stepwise)

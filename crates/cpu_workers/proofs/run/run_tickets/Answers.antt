@@ -1,13 +1,17 @@
-use Rattle.std.proofs.Common.{rules, ◌≡◌, ◌≤◌, List, length, map, Some, sym, ap, ◌∙◌, subst, arith}
+use Rattle.std.proofs.Common.{◌≡◌, ◌≤◌, List, length, map, Some, refl, sym, ap, ◌∙◌, subst, arith}
 use Rattle.std.specs.Prelude.{slice_get}
+use Rattle.event_log.specs.Actions.{acts_of}
+use Rattle.event_log.specs.WordsLog.{Outside, standing}
+use Rattle.layer_traits.specs.OnePlace.{cpu_at}
+use Rattle.layer_traits.specs.WordsProtocol.{edit_of}
 use Rattle.table_machine.proofs.Fresh.{length_new}
 use Rattle.cpu_workers.specs.Closing.{Key}
 use Rattle.cpu_workers.specs.Seating.{Edit, HaveLeft}
 use Rattle.cpu_workers.proofs.Desks.{desks_are_of, desks_at, have_left, ready_at}
 use denote.Param.Send.{param_send, arg_send}
-use Rattle.cpu_workers.proofs.run.run_at.Lts as lts
-use Rattle.cpu_workers.proofs.Crossing.{ticket_send, tower_seat_send}
-use Rattle.cpu_workers.proofs.run.run_at.Goals as goal
+use Rattle.cpu_workers.proofs.run.run_tickets.Lts as lts
+use Rattle.cpu_workers.proofs.Crossing.{tower_seat_send, turn_send}
+use Rattle.cpu_workers.proofs.run.run_tickets.Goals as goal
 
 pub seats_at-requires : goal.seats_at-requires
 seats_at-requires g c = rw c.requires.keys (desks_are_of c.args.shared.now c.args.boot.now.cpus)
@@ -25,7 +29,8 @@ run_over-requires-clause-few g c =
 
 pub run_over-requires-clause-ready : goal.run_over-requires-clause-ready
 run_over-requires-clause-ready g c = λ κs within k m at.
-    ready_at c.args.boot.now c.args.shared.now k m
+    ready_at c.args.boot.now c.args.shared.now k m (λ x. standing (cpu_at k) x.seen ≡ Outside)
+    (λ x. acts_of edit_of x.seen) refl refl
     (desks_at c.args.shared.now c.args.boot.now.cpus k m (subst (λ (l : List Key). slice_get l k ≡ Some m) (c.in_ok-seats.ensures ∙ c.requires.keys) at))
     c.requires.opens
 
@@ -68,12 +73,13 @@ returns g c =
     let plan = c.args.boot.now in
     subst (λ x. x) (λ i. HaveLeft plan (g.G.Gate.MayLimit c.args.gate.now) c.args.turns c.args.shared.now (sym e.keys i) (sym e.traces i) (sym e.taken i)
     (sym e.stops i))
-    (have_left plan (g.G.Gate.MayLimit c.args.gate.now) c.args.turns c.args.shared.now c.in_ok-left.left.items (λ x. x.machine) (λ x. x.trace.items)
-    (λ x. x.did.taken) (λ x. x.did.stop) c.in_ok-seats.seats.items (c.in_ok-seats.ensures ∙ c.requires.keys) its.count its.site its.owns its.left)
+    (have_left plan (g.G.Gate.MayLimit c.args.gate.now) c.args.turns c.args.shared.now c.in_ok-left.left.items (λ x. acts_of edit_of x.seen)
+    (λ x lawful. refl) c.in_ok-seats.seats.items
+    (c.in_ok-seats.ensures ∙ c.requires.keys) its.count its.site its.owns its.left)
 
 pub run_over-requires-send-L : goal.run_over-requires-send-L
 run_over-requires-send-L g c = λ κs within.
-    param_send _ (lts.arg-10-0 g.row.G g.row.R g.G.laws g.R.laws g.G.Gate-dict g.R.Threads-dict g.R.Wait-dict κs) (search (arg_send, ticket_send))
+    param_send _ (lts.arg-10-0 g.row.G g.row.R g.G.laws g.R.laws g.G.Gate-dict g.R.Threads-dict g.R.Wait-dict κs) (search (arg_send, turn_send))
 
 pub run_over-requires-send-L-Machine : goal.run_over-requires-send-L-Machine
 run_over-requires-send-L-Machine g c = λ κs within.

@@ -1,17 +1,13 @@
 use Rattle.std.proofs.Common.{◌≡◌, ℕ, ap, sym, ◌∙◌, subst}
 use Rattle.event_log.specs.declared.ids.CpuId.{CpuId}
-use Rattle.event_log.specs.declared.events.Event.TheVariants.{Draw, Look, Free}
-use Rattle.event_log.specs.History.{Adds, IsLawful}
+use Rattle.event_log.specs.declared.events.Event.TheVariants.{Look}
+use Rattle.event_log.specs.History.{Adds}
 use Rattle.event_log.specs.WordsLog.{actor}
 use Rattle.layer_traits.specs.OneLock.{opened}
-use Rattle.layer_traits.specs.WordsProtocol.{MayCome}
 use Rattle.table_machine.specs.Desks.{Desk}
-use Rattle.cpu_workers.specs.Closing.{tower_rules}
 use Rattle.cpu_workers.specs.Seating.{Block, Edit}
-use Rattle.cpu_workers.proofs.seats.TowerSeatWords.look.Goals as goal
-
-abbrev Acts : Desk Edit Block → CpuId → Type 0
-Acts s d = (d ≡ s.cpu) × IsLawful (MayCome (tower_rules.allowed (opened s.start))) s.seen
+use Rattle.cpu_workers.proofs.Acting.{Acts}
+use Rattle.cpu_workers.proofs.seats.TowerSeatTicketWordsWords.look.Goals as goal
 
 pub look-requires-clause-cpu : goal.look-requires-clause-cpu
 look-requires-clause-cpu c = subst (λ (s : Desk Edit Block). Acts s c.args.cpu) (sym c.self.view_is) c.requires.cpu
@@ -23,5 +19,6 @@ pub returns-clause-acts : goal.returns-clause-acts
 returns-clause-acts c = λ d acts. c.look.ensures.acts d (subst (λ (s : Desk Edit Block). Acts s d) (sym c.self.view_is) acts)
 
 pub returns-clause-adds : goal.returns-clause-adds
-returns-clause-adds c = subst (λ (s : Desk Edit Block). (read : ℕ) × Adds (Acts s) actor (Look c.args.cpu c.args.lock c.args.ticket read) s.seen c.look.new.self.seen)
+returns-clause-adds c = subst (λ (s : Desk Edit Block).
+    (read : ℕ) × Adds (Acts s) actor (Look c.args.cpu c.args.lock c.args.ticket read) s.seen c.look.new.self.seen)
     c.self.view_is c.look.ensures.adds

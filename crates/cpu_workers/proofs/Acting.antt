@@ -1,0 +1,13 @@
+-- For which CPUs a seat of the tower's table acts.
+use Rattle.std.proofs.Common.{◌≡◌}
+use Rattle.event_log.specs.declared.ids.CpuId.{CpuId}
+use Rattle.event_log.specs.History.{IsLawful}
+use Rattle.layer_traits.specs.OneLock.{opened}
+use Rattle.layer_traits.specs.WordsProtocol.{MayCome}
+use Rattle.table_machine.specs.Desks.{Desk}
+use Rattle.cpu_workers.specs.Closing.{tower_rules}
+use Rattle.cpu_workers.specs.Seating.{Block, Edit}
+
+-- it acts for its own, and what it has seen is lawful
+abbrev pub Acts : Desk Edit Block → CpuId → Type 0
+Acts s d = (d ≡ s.cpu) × IsLawful (MayCome (tower_rules.allowed (opened s.start))) s.seen

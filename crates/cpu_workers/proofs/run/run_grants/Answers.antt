@@ -1,0 +1,90 @@
+use Rattle.std.proofs.Common.{◌≡◌, ◌≤◌, List, length, map, Some, refl, sym, ap, ◌∙◌, subst, arith}
+use Rattle.std.specs.Prelude.{slice_get}
+use Rattle.event_log.specs.Grants.{acts_of_grants, grant_standing}
+use Rattle.event_log.specs.WordsLog.{Outside}
+use Rattle.layer_traits.specs.OneLock.{opened}
+use Rattle.layer_traits.specs.OnePlace.{cpu_at}
+use Rattle.layer_traits.specs.WordsProtocol.{edit_of}
+use Rattle.layer_traits.proofs.Seen.{words_legal}
+use Rattle.layer_traits.specs.GrantsTold.{acts_told, grants_told}
+use Rattle.table_machine.proofs.Fresh.{length_new}
+use Rattle.cpu_workers.specs.Closing.{Key, tower_rules}
+use Rattle.cpu_workers.specs.Seating.{Edit, HaveLeft}
+use Rattle.cpu_workers.proofs.Desks.{desks_are_of, desks_at, have_left, ready_at}
+use denote.Param.Send.{param_send, arg_send}
+use Rattle.cpu_workers.proofs.run.run_grants.Lts as lts
+use Rattle.cpu_workers.proofs.Crossing.{tower_seat_send, turn_send}
+use Rattle.cpu_workers.proofs.run.run_grants.Goals as goal
+
+pub seats_at-requires : goal.seats_at-requires
+seats_at-requires g c = rw c.requires.keys (desks_are_of c.args.shared.now c.args.boot.now.cpus)
+
+pub run_over-requires-clause-count : goal.run_over-requires-clause-count
+run_over-requires-clause-count g c =
+    let len = ap (λ (l : List Key). length l) (c.in_ok-seats.ensures ∙ c.requires.keys) ∙ length_new Edit c.args.shared.now c.args.boot.now.cpus in
+    omega (arith, len)
+
+pub run_over-requires-clause-few : goal.run_over-requires-clause-few
+run_over-requires-clause-few g c =
+    let len = ap (λ (l : List Key). length l) (c.in_ok-seats.ensures ∙ c.requires.keys) ∙ length_new Edit c.args.shared.now c.args.boot.now.cpus in
+    let most = c.cpus.ensures.within.most_cpus in
+    omega (arith, len, most)
+
+pub run_over-requires-clause-ready : goal.run_over-requires-clause-ready
+run_over-requires-clause-ready g c = λ κs within k m at.
+    ready_at c.args.boot.now c.args.shared.now k m (λ x. grant_standing (cpu_at k) (grants_told x.seen) ≡ Outside)
+    (λ x. acts_of_grants edit_of (grants_told x.seen)) refl refl
+    (desks_at c.args.shared.now c.args.boot.now.cpus k m (subst (λ (l : List Key). slice_get l k ≡ Some m) (c.in_ok-seats.ensures ∙ c.requires.keys) at))
+    c.requires.opens
+
+pub parted-requires-clause-keys : goal.parted-requires-clause-keys
+parted-requires-clause-keys g c =
+    let len = ap (λ (l : List Key). length l) (c.in_ok-seats.ensures ∙ c.requires.keys) ∙ length_new Edit c.args.shared.now c.args.boot.now.cpus in
+    let count = c.in_ok-left.ensures.count in
+    let cpus = c.cpus.ensures.cpus in
+    let room = c.in_ok-back.ensures.keys.1 in
+    (c.in_ok-back.ensures.keys.0, omega (arith, len, count, cpus, room))
+
+pub parted-requires-clause-traces : goal.parted-requires-clause-traces
+parted-requires-clause-traces g c =
+    let len = ap (λ (l : List Key). length l) (c.in_ok-seats.ensures ∙ c.requires.keys) ∙ length_new Edit c.args.shared.now c.args.boot.now.cpus in
+    let count = c.in_ok-left.ensures.count in
+    let cpus = c.cpus.ensures.cpus in
+    let room = c.in_ok-back.ensures.traces.1 in
+    (c.in_ok-back.ensures.traces.0, omega (arith, len, count, cpus, room))
+
+pub parted-requires-clause-stops : goal.parted-requires-clause-stops
+parted-requires-clause-stops g c =
+    let len = ap (λ (l : List Key). length l) (c.in_ok-seats.ensures ∙ c.requires.keys) ∙ length_new Edit c.args.shared.now c.args.boot.now.cpus in
+    let count = c.in_ok-left.ensures.count in
+    let cpus = c.cpus.ensures.cpus in
+    let room = c.in_ok-back.ensures.stops.1 in
+    (c.in_ok-back.ensures.stops.0, omega (arith, len, count, cpus, room))
+
+pub parted-requires-clause-taken : goal.parted-requires-clause-taken
+parted-requires-clause-taken g c =
+    let len = ap (λ (l : List Key). length l) (c.in_ok-seats.ensures ∙ c.requires.keys) ∙ length_new Edit c.args.shared.now c.args.boot.now.cpus in
+    let count = c.in_ok-left.ensures.count in
+    let cpus = c.cpus.ensures.cpus in
+    let room = c.in_ok-back.ensures.taken.1 in
+    (c.in_ok-back.ensures.taken.0, omega (arith, len, count, cpus, room))
+
+pub returns : goal.returns
+returns g c =
+    let e = c.parted.ensures in
+    let its = c.in_ok-left.ensures in
+    let plan = c.args.boot.now in
+    subst (λ x. x) (λ i. HaveLeft plan (g.G.Gate.MayLimit c.args.gate.now) c.args.turns c.args.shared.now (sym e.keys i) (sym e.traces i) (sym e.taken i)
+    (sym e.stops i))
+    (have_left plan (g.G.Gate.MayLimit c.args.gate.now) c.args.turns c.args.shared.now c.in_ok-left.left.items
+    (λ x. acts_of_grants edit_of (grants_told x.seen))
+    (λ x lawful. acts_told edit_of x.seen (words_legal (tower_rules.allowed (opened x.start)) x.seen lawful)) c.in_ok-seats.seats.items
+    (c.in_ok-seats.ensures ∙ c.requires.keys) its.count its.site its.owns its.left)
+
+pub run_over-requires-send-L : goal.run_over-requires-send-L
+run_over-requires-send-L g c = λ κs within.
+    param_send _ (lts.arg-10-0 g.row.G g.row.R g.G.laws g.R.laws g.G.Gate-dict g.R.Threads-dict g.R.Wait-dict κs) (search (arg_send, turn_send))
+
+pub run_over-requires-send-L-Machine : goal.run_over-requires-send-L-Machine
+run_over-requires-send-L-Machine g c = λ κs within.
+    param_send _ (lts.arg-10-3 g.row.G g.row.R g.G.laws g.R.laws g.G.Gate-dict g.R.Threads-dict g.R.Wait-dict κs) (search (arg_send, tower_seat_send))
