@@ -7,3 +7,4 @@ pub mod CondTurnLemmas
 pub mod OpeningLemmas
 pub mod PlainOpenings
 pub mod QueueTurnLemmas
+pub mod TextLemmas

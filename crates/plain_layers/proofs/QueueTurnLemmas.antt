@@ -1,6 +1,7 @@
 -- Calls at shared queues without a scheduler above them: that a CPU may edit for a thread that stands at home with it, push who is in its hand, and
 -- take its own queue, whatever others do; and where the threads of the tests stand after each of their calls.
-use Rattle.std.proofs.Common.{◌≡◌, Bool, true, false, ◌<◌, List, [], ◌∷◌, ◌++◌, Option, Some, None, IsSome, is_some, option_map, if◌then◌else◌, refl, ap, sym, ◌∙◌, subst}
+use Rattle.std.proofs.Common.{◌≡◌, Bool, true, false, ◌<◌, List, [], ◌∷◌, ◌++◌, Option, Some, None, IsSome, is_some, option_map, if◌then◌else◌, refl}
+use Rattle.std.proofs.Common.{ap, sym, ◌∙◌, subst}
 use Rattle.std.proofs.Math.Path.{transport}
 use Rattle.std.proofs.lemmas.Bool.{and_parts}
 use Rattle.event_log.specs.declared.ids.BufId.{BufId}
@@ -122,9 +123,17 @@ callable_at rules mv opening now past seen c cpu call same was is may =
     transport (λ i. StaysCallable (QueueAllowed (kernel rules mv (sym same i))) (sym was i) (event (sym is i) call)) may
 
 -- Thread 1 of CPU 0 goes to sleep, thread 0 of CPU 1 wakes it, and CPU 1 pushes it into CPU 0's queue, which CPU 0 takes.
-module _ {E : Type 0} (wakes : E → Bool) (by : E → Tid) (opening : LockId → Option (QueueBlock (Option Tid)))
-    (homes : homes_in opening ≡ cpu_one ∷ cpu_zero ∷ []) (free : inner opening bed ≡ Some None) (sleep wake : E)
-    (sleeps : wakes sleep ≡ false) (sleeper : by sleep ≡ thread_one) (woken : wakes wake ≡ true) (waker : by wake ≡ thread_zero) where
+pub record Meeting {E : Type 0} (wakes : E → Bool) (by : E → Tid) (opening : LockId → Option (QueueBlock (Option Tid))) : Type 0 where
+  pub homes : homes_in opening ≡ cpu_one ∷ cpu_zero ∷ []
+  pub free : inner opening bed ≡ Some None
+  pub sleep : E
+  pub wake : E
+  pub sleeps : wakes sleep ≡ false
+  pub sleeper : by sleep ≡ thread_one
+  pub woken : wakes wake ≡ true
+  pub waker : by wake ≡ thread_zero
+
+module _ {E : Type 0} (wakes : E → Bool) (by : E → Tid) (opening : LockId → Option (QueueBlock (Option Tid))) (met : Meeting wakes by opening) where
   abbrev Naps : Kernel E (Option Tid) (Bool × Option Tid)
   Naps = kernel (nap_rules wakes by) (nap_moves by) opening
 
@@ -132,10 +141,10 @@ module _ {E : Type 0} (wakes : E → Bool) (by : E → Tid) (opening : LockId �
   Homes = homes_in opening
 
   abbrev pub after_sleep : List (QueueEvent E)
-  after_sleep = event cpu_zero (OnBuffer buffer_zero sleep) ∷ []
+  after_sleep = event cpu_zero (OnBuffer buffer_zero met.sleep) ∷ []
 
   abbrev pub after_wake : List (QueueEvent E)
-  after_wake = event cpu_one (OnBuffer buffer_zero wake) ∷ after_sleep
+  after_wake = event cpu_one (OnBuffer buffer_zero met.wake) ∷ after_sleep
 
   abbrev pub after_push : List (QueueEvent E)
   after_push = event cpu_one (Push cpu_zero thread_one) ∷ after_wake
@@ -148,19 +157,19 @@ module _ {E : Type 0} (wakes : E → Bool) (by : E → Tid) (opening : LockId �
 
   moves_asleep : moves_in Naps after_sleep ≡ one_asleep
   moves_asleep =
-      ap (λ block. step cpu_zero (edit_move (nap_moves by) bed sleep (option_map (nap_answer (wakes sleep)) block)) ∷ []) free
-      ∙ ap (λ w. step cpu_zero (edit_move (nap_moves by) bed sleep (Some (nap_answer w None))) ∷ []) sleeps
-      ∙ ap (λ t. step cpu_zero (Moved bed t (Some Sleepers) None) ∷ []) sleeper
+      ap (λ block. step cpu_zero (edit_move (nap_moves by) bed met.sleep (option_map (nap_answer (wakes met.sleep)) block)) ∷ []) met.free
+      ∙ ap (λ w. step cpu_zero (edit_move (nap_moves by) bed met.sleep (Some (nap_answer w None))) ∷ []) met.sleeps
+      ∙ ap (λ t. step cpu_zero (Moved bed t (Some Sleepers) None) ∷ []) met.sleeper
 
   moves_held : moves_in Naps after_wake ≡ one_held
   moves_held =
-      ap (λ block. step cpu_one (edit_move (nap_moves by) bed wake
-      (option_map (nap_answer (wakes wake)) (option_map (nap_edited (wakes sleep) (by sleep)) block))) ∷ moves_in Naps after_sleep) free
-      ∙ ap (λ w. step cpu_one (edit_move (nap_moves by) bed wake (Some (nap_answer (wakes wake) (nap_edited w (by sleep) None)))) ∷ moves_in Naps after_sleep)
-      sleeps
-      ∙ ap (λ w. step cpu_one (edit_move (nap_moves by) bed wake (Some (nap_answer w (Some (by sleep))))) ∷ moves_in Naps after_sleep) woken
-      ∙ ap (λ t. step cpu_one (Moved bed (by wake) None (Some t)) ∷ moves_in Naps after_sleep) sleeper
-      ∙ ap (λ t. step cpu_one (Moved bed t None (Some thread_one)) ∷ moves_in Naps after_sleep) waker
+      ap (λ block. step cpu_one (edit_move (nap_moves by) bed met.wake
+      (option_map (nap_answer (wakes met.wake)) (option_map (nap_edited (wakes met.sleep) (by met.sleep)) block))) ∷ moves_in Naps after_sleep) met.free
+      ∙ ap (λ w. step cpu_one (edit_move (nap_moves by) bed met.wake (Some (nap_answer (wakes met.wake) (nap_edited w (by met.sleep) None))))
+      ∷ moves_in Naps after_sleep) met.sleeps
+      ∙ ap (λ w. step cpu_one (edit_move (nap_moves by) bed met.wake (Some (nap_answer w (Some (by met.sleep))))) ∷ moves_in Naps after_sleep) met.woken
+      ∙ ap (λ t. step cpu_one (Moved bed (by met.wake) None (Some t)) ∷ moves_in Naps after_sleep) met.sleeper
+      ∙ ap (λ t. step cpu_one (Moved bed t None (Some thread_one)) ∷ moves_in Naps after_sleep) met.waker
       ∙ ap (λ past. step cpu_one (Moved bed thread_zero None (Some thread_one)) ∷ past) moves_asleep
 
   nobody_held : (t : Tid) → is_hand cpu_one (where_is Homes one_asleep t) ≡ false
@@ -170,20 +179,20 @@ module _ {E : Type 0} (wakes : E → Bool) (by : E → Tid) (opening : LockId �
       go true = refl
       go false = refl
 
-  pub may_sleep : StaysCallable (QueueAllowed Naps) [] (event cpu_zero (OnBuffer buffer_zero sleep))
-  may_sleep = edit_stays (nap_rules wakes by) (nap_moves by) opening (naps_wake_sleepers wakes by) cpu_zero [] buffer_zero sleep
-      (ap (λ t. is_here Homes cpu_zero [] t) sleeper ∙ ap (λ h. is_here h cpu_zero [] thread_one) homes) (λ t. refl) (λ more. (refl, free))
+  pub may_sleep : StaysCallable (QueueAllowed Naps) [] (event cpu_zero (OnBuffer buffer_zero met.sleep))
+  may_sleep = edit_stays (nap_rules wakes by) (nap_moves by) opening (naps_wake_sleepers wakes by) cpu_zero [] buffer_zero met.sleep
+      (ap (λ t. is_here Homes cpu_zero [] t) met.sleeper ∙ ap (λ h. is_here h cpu_zero [] thread_one) met.homes) (λ t. refl) (λ more. (refl, met.free))
 
-  pub may_wake : StaysCallable (QueueAllowed Naps) after_sleep (event cpu_one (OnBuffer buffer_zero wake))
-  may_wake = edit_stays (nap_rules wakes by) (nap_moves by) opening (naps_wake_sleepers wakes by) cpu_one after_sleep buffer_zero wake
-      (ap (λ l. is_here Homes cpu_one l (by wake)) moves_asleep ∙ ap (λ t. is_here Homes cpu_one one_asleep t) waker
-      ∙ ap (λ h. is_here h cpu_one one_asleep thread_zero) homes)
-      (λ t. ap (λ l. is_hand cpu_one (where_is Homes l t)) moves_asleep ∙ nobody_held t) (λ more. (refl, free))
+  pub may_wake : StaysCallable (QueueAllowed Naps) after_sleep (event cpu_one (OnBuffer buffer_zero met.wake))
+  may_wake = edit_stays (nap_rules wakes by) (nap_moves by) opening (naps_wake_sleepers wakes by) cpu_one after_sleep buffer_zero met.wake
+      (ap (λ l. is_here Homes cpu_one l (by met.wake)) moves_asleep ∙ ap (λ t. is_here Homes cpu_one one_asleep t) met.waker
+      ∙ ap (λ h. is_here h cpu_one one_asleep thread_zero) met.homes)
+      (λ t. ap (λ l. is_hand cpu_one (where_is Homes l t)) moves_asleep ∙ nobody_held t) (λ more. (refl, met.free))
 
   pub may_push : StaysCallable (QueueAllowed Naps) after_wake (event cpu_one (Push cpu_zero thread_one))
   may_push = push_stays (nap_rules wakes by) (nap_moves by) opening (naps_wake_sleepers wakes by) cpu_one after_wake cpu_zero thread_one
-      (ap (λ l. is_hand cpu_one (where_is Homes l thread_one)) moves_held ∙ ap (λ h. is_hand cpu_one (where_is h one_held thread_one)) homes)
-      (ap (λ h. home_of h thread_one) homes)
+      (ap (λ l. is_hand cpu_one (where_is Homes l thread_one)) moves_held ∙ ap (λ h. is_hand cpu_one (where_is h one_held thread_one)) met.homes)
+      (ap (λ h. home_of h thread_one) met.homes)
 
   pub may_take : StaysCallable (QueueAllowed Naps) after_push (event cpu_zero (TakeAll cpu_zero))
   may_take = take_stays (nap_rules wakes by) (nap_moves by) opening (naps_wake_sleepers wakes by) cpu_zero after_push

@@ -19,7 +19,8 @@ use crate::openings::Opens;
 use condvar::Cond;
 use event_log::{BufId, CPUS, CpuId, NoMemory, THREADS, Tid};
 use layer_traits::{
-    CvEdit, CvLayer, CvLeave, CvOut, Guarded, Line, OwnedConds, QEdit, QOut, QueueEdit, Side,
+    CvEdit, CvLayer, CvLeave, CvOut, Guarded, Line, OwnedConds, OwnedLocks, QEdit, QOut, QueueEdit,
+    Side,
 };
 use plain_machine::Plain;
 use queuing_lock::{QLock, QLockEdit, lock_blocks};
@@ -302,12 +303,20 @@ where
     Ok(is_told::<Conds<S>>(&mut zero, &mut m))
 }
 
-type Tickets = Sched<SharedQueues<Ticket<Plain<QueueEdit<Edits>>>>>;
+/// Both over schedulers on these critical sections, which take three polls.
+fn sections_go<L: OwnedLocks<QueueEdit<Edits>> + Drop>(alloc: Global) -> Result<bool, NoMemory>
+where
+    L::Machine: Drop,
+{
+    if !is_woken_at_last::<Sched<SharedQueues<L>>>(alloc, 3)? {
+        return Ok(false);
+    }
+    tells::<Sched<SharedQueues<L>>>(alloc)
+}
 
 #[test]
 fn a_wait_is_over_once_woken_over_ticket_locks(rt: HostRuntime) -> Result<(), Fail> {
-    assert!(rt; is_woken_at_last::<Tickets>(rt.alloc(), 3)?);
-    assert!(rt; tells::<Tickets>(rt.alloc())?);
+    assert!(rt; sections_go::<Ticket<Plain<QueueEdit<Edits>>>>(rt.alloc())?);
     Ok(())
 }
 

@@ -46,3 +46,5 @@ mod sched_tests;
 mod sleep_tests;
 #[cfg(test)]
 mod system_tests;
+#[cfg(test)]
+mod texts;

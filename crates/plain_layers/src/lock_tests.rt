@@ -16,7 +16,9 @@ use crate::PlainSched;
 use crate::lock_turns::{Turn, acquires, drains, is_handed, releases, switches, turns};
 use crate::openings::Opens;
 use event_log::{BufId, CPUS, CpuId, NoMemory, THREADS, Tid};
-use layer_traits::{Line, Locked, OwnedQLocks, QEdit, QLockLayer, QOut, QueueEdit, Side, Signal};
+use layer_traits::{
+    Line, Locked, OwnedLocks, OwnedQLocks, QEdit, QLockLayer, QOut, QueueEdit, Side, Signal,
+};
 use plain_machine::Plain;
 use queuing_lock::{QBlock, QLock, QLockEdit, lock_blocks};
 use scheduler::Sched;
@@ -312,12 +314,20 @@ where
     Ok(is_told::<Locks<S>>(&mut zero, &mut m))
 }
 
-type Tickets = Sched<SharedQueues<Ticket<Plain<QueueEdit<Edits>>>>>;
+/// Both over schedulers on these critical sections, which take three polls.
+fn sections_go<L: OwnedLocks<QueueEdit<Edits>> + Drop>(alloc: Global) -> Result<bool, NoMemory>
+where
+    L::Machine: Drop,
+{
+    if !is_handed_on::<Sched<SharedQueues<L>>>(alloc, 3)? {
+        return Ok(false);
+    }
+    tells::<Sched<SharedQueues<L>>>(alloc)
+}
 
 #[test]
 fn a_lock_is_handed_on_over_ticket_locks(rt: HostRuntime) -> Result<(), Fail> {
-    assert!(rt; is_handed_on::<Tickets>(rt.alloc(), 3)?);
-    assert!(rt; tells::<Tickets>(rt.alloc())?);
+    assert!(rt; sections_go::<Ticket<Plain<QueueEdit<Edits>>>>(rt.alloc())?);
     Ok(())
 }
 

@@ -56,7 +56,7 @@ impl<E: Moves, L: OwnedLocks<QueueEdit<E>>> Opens<E> for Sched<SharedQueues<L>> 
         ensures room { IfOk result (λ m. ⟦<Sched<SharedQueues<L>> as SchedLayer<E>>⟧.room m ≡ room) }
         ensures homes { IfOk result (λ m. homes_in (⟦<Sched<SharedQueues<L>> as SchedLayer<E>>⟧.opening m) ≡ homes.now) }
         ensures queues { IfOk result (λ m. (c : CpuId) → c.0 < cpus → IsSome (⟦<Sched<SharedQueues<L>> as SchedLayer<E>>⟧.opening m (Pending c))) }
-        ensures blocks { IfOk result (λ m. (b : BufId) → inner (⟦<Sched<SharedQueues<L>> as SchedLayer<E>>⟧.opening m) (Buffer b) ≡ slice_get buffers.items b.0) }
+        ensures blocks { IfOk result (λ m. (b : _) → inner (⟦<Sched<SharedQueues<L>> as SchedLayer<E>>⟧.opening m) (Buffer b) ≡ slice_get buffers.items b.0) }
     {
         let locks = queue_blocks(alloc, buffers, cpus, homes)?;
         L::open(alloc, locks, room)
@@ -78,7 +78,7 @@ impl<E: Moves> Opens<E> for Sched<PlainQueues<E>> {
         ensures room { IfOk result (λ m. ⟦<Sched<PlainQueues<E>> as SchedLayer<E>>⟧.room m ≡ room) }
         ensures homes { IfOk result (λ m. homes_in (⟦<Sched<PlainQueues<E>> as SchedLayer<E>>⟧.opening m) ≡ homes.now) }
         ensures queues { IfOk result (λ m. (c : CpuId) → c.0 < cpus → IsSome (⟦<Sched<PlainQueues<E>> as SchedLayer<E>>⟧.opening m (Pending c))) }
-        ensures blocks { IfOk result (λ m. (b : BufId) → inner (⟦<Sched<PlainQueues<E>> as SchedLayer<E>>⟧.opening m) (Buffer b) ≡ slice_get buffers.items b.0) }
+        ensures blocks { IfOk result (λ m. (b : _) → inner (⟦<Sched<PlainQueues<E>> as SchedLayer<E>>⟧.opening m) (Buffer b) ≡ slice_get buffers.items b.0) }
     {
         PlainKernel::open(alloc, buffers, cpus, homes, room)
     }

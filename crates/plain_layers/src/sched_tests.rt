@@ -13,7 +13,9 @@ ghost use Rattle.shared_queue.specs.Opening.{AreQueues};
 use crate::openings::Opens;
 use crate::{PlainLock, PlainQueues, PlainSched};
 use event_log::{BufId, CPUS, CpuId, NoMemory, Tid};
-use layer_traits::{Edit, Line, Moves, OwnedScheds, Pass, QueueEdit, SchedCall, SchedLayer};
+use layer_traits::{
+    Edit, Line, Moves, OwnedLocks, OwnedScheds, Pass, QueueEdit, SchedCall, SchedLayer,
+};
 use plain_machine::Plain;
 use scheduler::Sched;
 use shared_queue::SharedQueues;
@@ -418,20 +420,41 @@ where
     a_thread_goes_home::<S>(rt, alloc, 1)
 }
 
-type Tower = Sched<SharedQueues<Ticket<Plain<QueueEdit<Nap>>>>>;
+/// Schedulers over critical sections of three polls. A test names the sections alone: the proof of a
+/// function that names a whole nest of types takes longer than that of all rows.
+fn sections_go<L: OwnedLocks<QueueEdit<Nap>> + Drop>(
+    rt: &impl Abort,
+    alloc: Global,
+) -> Result<(), NoMemory>
+where
+    L::Machine: Drop,
+{
+    turns_are_taken::<Sched<SharedQueues<L>>>(rt, alloc, 3)?;
+    a_thread_goes_home::<Sched<SharedQueues<L>>>(rt, alloc, 3)?;
+    cpus_meet::<Sched<SharedQueues<L>>>(rt, alloc)?;
+    a_look_is_a_poll::<Sched<SharedQueues<L>>>(rt, alloc)
+}
+
+/// Schedulers over critical sections of one poll.
+fn whole_sections_go<L: OwnedLocks<QueueEdit<Nap>> + Drop>(
+    rt: &impl Abort,
+    alloc: Global,
+) -> Result<(), NoMemory>
+where
+    L::Machine: Drop,
+{
+    in_one_poll::<Sched<SharedQueues<L>>>(rt, alloc)
+}
 
 #[test]
 fn schedulers_run_over_ticket_locks(rt: HostRuntime) -> Result<(), Fail> {
-    turns_are_taken::<Tower>(&rt, rt.alloc(), 3)?;
-    a_thread_goes_home::<Tower>(&rt, rt.alloc(), 3)?;
-    cpus_meet::<Tower>(&rt, rt.alloc())?;
-    a_look_is_a_poll::<Tower>(&rt, rt.alloc())?;
+    sections_go::<Ticket<Plain<QueueEdit<Nap>>>>(&rt, rt.alloc())?;
     Ok(())
 }
 
 #[test]
 fn one_step_sections_do_a_call_in_one_poll(rt: HostRuntime) -> Result<(), Fail> {
-    in_one_poll::<Sched<SharedQueues<PlainLock<QueueEdit<Nap>>>>>(&rt, rt.alloc())?;
+    whole_sections_go::<PlainLock<QueueEdit<Nap>>>(&rt, rt.alloc())?;
     Ok(())
 }
 

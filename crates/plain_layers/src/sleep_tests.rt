@@ -13,7 +13,9 @@ ghost use Rattle.sleep_wakeup.specs.Nested.{state_of};
 use crate::PlainSched;
 use crate::openings::Opens;
 use event_log::{BufId, CPUS, CpuId, NoMemory, Tid};
-use layer_traits::{Leave, Line, Outcome, OwnedSleeps, Pass, QueueEdit, SleepLayer, Sleeps};
+use layer_traits::{
+    Leave, Line, Outcome, OwnedLocks, OwnedSleeps, Pass, QueueEdit, SleepLayer, Sleeps,
+};
 use plain_machine::Plain;
 use scheduler::Sched;
 use shared_queue::SharedQueues;
@@ -352,14 +354,20 @@ where
     Ok(is_told(&mut home, &mut m))
 }
 
+/// All this over schedulers on these critical sections, which take so many polls.
+fn sections_go<L: OwnedLocks<QueueEdit<SleepEdit<Nap>>> + Drop>(
+    alloc: Global,
+    polls: u8,
+) -> Result<bool, NoMemory>
+where
+    L::Machine: Drop,
+{
+    sleeps_and_wakes::<Sched<SharedQueues<L>>>(alloc, polls)
+}
+
 #[test]
 fn threads_sleep_and_wake_over_ticket_locks(rt: HostRuntime) -> Result<(), Fail> {
-    assert!(rt;
-        sleeps_and_wakes::<Sched<SharedQueues<Ticket<Plain<QueueEdit<SleepEdit<Nap>>>>>>>(
-            rt.alloc(),
-            3
-        )?
-    );
+    assert!(rt; sections_go::<Ticket<Plain<QueueEdit<SleepEdit<Nap>>>>>(rt.alloc(), 3)?);
     Ok(())
 }
 

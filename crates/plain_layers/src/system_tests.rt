@@ -1,13 +1,14 @@
 //! Whole systems over one-step message calls, run: worked plans end as they do over the tower of
 //! ticket locks, with a step where the tower takes one for each action of a call.
 
-ghost use Rattle.std.specs.Prelude.{◌≡◌, IfOk, length};
+ghost use Rattle.std.specs.Prelude.{◌≡◌, ◌≤◌, IfOk, length};
 
-use crate::{PlainIpc, ipc_is_whole};
+use crate::texts::text_of;
+use crate::{Attempt, OpensAttempts, PlainFifo, PlainSleep, ipc_is_whole};
 use boot::Boot;
 use cpu::System;
-use event_log::{BufId, CpuId, Entry, Kind, NoMemory, Tid};
-use ipc_calls::calls_are_whole;
+use event_log::{BufId, CpuId, NoMemory, Tid};
+use ipc_calls::{Ipc, OpensBuffers, WholeBuffers, calls_are_whole};
 use layer_traits::{Owned, Place, Prompt, Reason};
 use std::alloc::Global;
 use std::process::Abort;
@@ -24,6 +25,16 @@ const TWO_SENDS: &str =
 /// A receiver on CPU 0, and on CPU 1 a thread that sends 7.
 const SEND_AND_RECEIVE: &str =
     "cpus = 2\ntrace = 4\nbuffers = [1]\n\n[[thread]]\ncpu = 0\nprogram = [\"recv 0 r0\"]\n\n[[thread]]\ncpu = 1\nprogram = [\"set r0 7\", \"send 0 r0\"]\n";
+
+/// The trace text of a run without an effect.
+const EMPTY: &str = "mctower-trace 1\nbuffers 1\ncap 0 1\nleft 0\nend\n";
+
+/// That of one send of 7.
+const SENT: &str = "mctower-trace 1\nbuffers 1\ncap 0 1\ne 0 0 send 0 7 0 0\nleft 0 7\nend\n";
+
+/// And that of a send of 7 by CPU 1 that CPU 0 receives.
+const RECEIVED: &str =
+    "mctower-trace 1\nbuffers 1\ncap 0 1\ne 1 1 send 0 7 0 0\ne 0 0 recv 0 7 1 0\nleft 0\nend\n";
 
 /// So many steps of one CPU after the other.
 fn schedule(alloc: Global, turns: &[(CpuId, usize)]) -> Result<Vec<CpuId>, NoMemory> {
@@ -71,108 +82,128 @@ where
     Ok(system)
 }
 
-/// The entry of a call on buffer 0, which had so many effects before it and none of this kind.
-fn entry(cpu: CpuId, thread: Tid, kind: Kind, op: u64) -> Entry {
-    Entry {
-        cpu,
-        thread,
-        kind,
-        buffer: BufId(0),
-        value: 7,
-        op,
-        pos: 0,
+/// A plan with as many CPUs as threads and one buffer with room for one, the turns that its CPUs take,
+/// and how it stands then.
+#[derive(Clone, Copy)]
+struct Row<'a> {
+    plan: &'a str,
+    turns: &'a [(CpuId, usize)],
+    /// The entries in one order, and what the buffer holds.
+    text: &'a str,
+    /// Of each number: where this CPU is halted, and where this thread stands.
+    stands: &'a [(Option<Reason>, Place)],
+    quiet: bool,
+}
+
+/// Whether each CPU is halted, and each thread stands, as these say.
+fn stands<I: Owned + Drop>(system: &System<I>, wanted: &[(Option<Reason>, Place)]) -> bool
+where
+    I::Machine: Drop,
+    requires cpus { length system.now.cpus ≡ length wanted.now }
+    requires threads { length system.now.homes ≡ length wanted.now }
+    requires few { length wanted.now ≤ 8 }
+{
+    for (at, want) in wanted.iter().enumerate() {
+        let number = at as u8;
+        if system.halted(CpuId(number)) != want.0 || system.place(Tid(number)) != want.1 {
+            return false;
+        }
     }
+    true
+}
+
+/// Runs a row: the system's text and where it stands are the row's, and nobody owns the buffer's lock.
+fn goes<I: Owned + Drop>(rt: &impl Abort, alloc: Global, row: &Row<'_>) -> Result<(), NoMemory>
+where
+    I::Machine: Drop,
+{
+    assert!(rt; row.stands.len() <= 8);
+    let count = row.stands.len() as u8;
+    let system: System<I> = ran(rt, alloc, row.plan, count, row.turns)?;
+    let text = text_of(rt, alloc, count, &system)?;
+    assert!(rt; text.as_slice() == row.text.as_bytes());
+    assert!(rt; stands(&system, row.stands) && system.is_quiet() == row.quiet);
+    assert!(rt; system.busy(BufId(0)).is_none());
+    Ok(())
 }
 
 /// Before the send of its one thread took effect: the thread runs, and nothing was sent.
-fn has_not_sent<I: Owned + Drop>(
-    rt: &impl Abort,
-    alloc: Global,
-    steps: usize,
-) -> Result<(), NoMemory>
+fn has_not_sent<I: Owned + Drop>(rt: &impl Abort, alloc: Global) -> Result<(), NoMemory>
 where
     I::Machine: Drop,
 {
-    let system: System<I> = ran(rt, alloc, ONE_SEND, 1, &[(CpuId(0), steps)])?;
-    assert!(rt; system.trace(CpuId(0)).is_empty());
-    assert!(rt; system.buffer(BufId(0)).is_empty());
-    assert!(rt; system.place(Tid(0)) == Place::Running(CpuId(0)));
-    assert!(rt; system.halted(CpuId(0)).is_none() && !system.is_quiet());
-    Ok(())
+    let row = Row {
+        plan: ONE_SEND,
+        turns: &[(CpuId(0), 2)],
+        text: EMPTY,
+        stands: &[(None, Place::Running(CpuId(0)))],
+        quiet: false,
+    };
+    goes::<I>(rt, alloc, &row)
 }
 
 /// The one thread sends and ends.
-fn sends_and_ends<I: Owned + Drop>(
-    rt: &impl Abort,
-    alloc: Global,
-    steps: usize,
-) -> Result<(), NoMemory>
+fn sends_and_ends<I: Owned + Drop>(rt: &impl Abort, alloc: Global) -> Result<(), NoMemory>
 where
     I::Machine: Drop,
 {
-    let system: System<I> = ran(rt, alloc, ONE_SEND, 1, &[(CpuId(0), steps)])?;
-    let sent = entry(CpuId(0), Tid(0), Kind::Send, 0);
-    assert!(rt; system.trace(CpuId(0)) == [sent].as_slice());
-    assert!(rt; system.buffer(BufId(0)).as_slice() == [7].as_slice());
-    assert!(rt; system.busy(BufId(0)).is_none());
-    assert!(rt; system.place(Tid(0)) == Place::Ended);
-    assert!(rt; system.halted(CpuId(0)) == Some(Reason::AllEnded) && system.is_quiet());
-    Ok(())
+    let row = Row {
+        plan: ONE_SEND,
+        turns: &[(CpuId(0), 4)],
+        text: SENT,
+        stands: &[(Some(Reason::AllEnded), Place::Ended)],
+        quiet: true,
+    };
+    goes::<I>(rt, alloc, &row)
 }
 
 /// The second send finds its buffer full, and its thread waits.
-fn sender_waits<I: Owned + Drop>(
-    rt: &impl Abort,
-    alloc: Global,
-    steps: usize,
-) -> Result<(), NoMemory>
+fn sender_waits<I: Owned + Drop>(rt: &impl Abort, alloc: Global) -> Result<(), NoMemory>
 where
     I::Machine: Drop,
 {
-    let system: System<I> = ran(rt, alloc, TWO_SENDS, 1, &[(CpuId(0), steps)])?;
-    let sent = entry(CpuId(0), Tid(0), Kind::Send, 0);
-    assert!(rt; system.trace(CpuId(0)) == [sent].as_slice());
-    assert!(rt; system.buffer(BufId(0)).as_slice() == [7].as_slice());
-    assert!(rt; system.place(Tid(0)) == Place::WaitSend(BufId(0)));
-    assert!(rt; system.halted(CpuId(0)).is_none() && system.is_quiet());
-    Ok(())
+    let row = Row {
+        plan: TWO_SENDS,
+        turns: &[(CpuId(0), 4)],
+        text: SENT,
+        stands: &[(None, Place::WaitSend(BufId(0)))],
+        quiet: true,
+    };
+    goes::<I>(rt, alloc, &row)
 }
 
 /// The receiver of an empty buffer waits.
-fn receiver_waits<I: Owned + Drop>(
-    rt: &impl Abort,
-    alloc: Global,
-    steps: usize,
-) -> Result<(), NoMemory>
+fn receiver_waits<I: Owned + Drop>(rt: &impl Abort, alloc: Global) -> Result<(), NoMemory>
 where
     I::Machine: Drop,
 {
-    let system: System<I> = ran(rt, alloc, SEND_AND_RECEIVE, 2, &[(CpuId(0), steps)])?;
-    assert!(rt; system.trace(CpuId(0)).is_empty() && system.trace(CpuId(1)).is_empty());
-    assert!(rt; system.place(Tid(0)) == Place::WaitRecv(BufId(0)));
-    assert!(rt; system.place(Tid(1)) == Place::Ready(CpuId(1)) && !system.is_quiet());
-    Ok(())
+    let row = Row {
+        plan: SEND_AND_RECEIVE,
+        turns: &[(CpuId(0), 2)],
+        text: EMPTY,
+        stands: &[
+            (None, Place::WaitRecv(BufId(0))),
+            (None, Place::Ready(CpuId(1))),
+        ],
+        quiet: false,
+    };
+    goes::<I>(rt, alloc, &row)
 }
 
 /// The receiver waits, the sender wakes it and sends it home, and it receives.
-fn sends_and_receives<I: Owned + Drop>(
-    rt: &impl Abort,
-    alloc: Global,
-    turns: &[(CpuId, usize)],
-) -> Result<(), NoMemory>
+fn sends_and_receives<I: Owned + Drop>(rt: &impl Abort, alloc: Global) -> Result<(), NoMemory>
 where
     I::Machine: Drop,
 {
-    let system: System<I> = ran(rt, alloc, SEND_AND_RECEIVE, 2, turns)?;
-    let sent = entry(CpuId(1), Tid(1), Kind::Send, 0);
-    let received = entry(CpuId(0), Tid(0), Kind::Recv, 1);
-    assert!(rt; system.trace(CpuId(0)) == [received].as_slice());
-    assert!(rt; system.trace(CpuId(1)) == [sent].as_slice());
-    assert!(rt; system.buffer(BufId(0)).is_empty());
-    assert!(rt; system.place(Tid(0)) == Place::Ended && system.place(Tid(1)) == Place::Ended);
-    assert!(rt; system.halted(CpuId(0)) == Some(Reason::AllEnded));
-    assert!(rt; system.halted(CpuId(1)) == Some(Reason::AllEnded) && system.is_quiet());
-    Ok(())
+    let ended = (Some(Reason::AllEnded), Place::Ended);
+    let row = Row {
+        plan: SEND_AND_RECEIVE,
+        turns: &[(CpuId(0), 2), (CpuId(1), 4), (CpuId(0), 4)],
+        text: RECEIVED,
+        stands: &[ended, ended],
+        quiet: true,
+    };
+    goes::<I>(rt, alloc, &row)
 }
 
 /// The worked plans over a top layer of which each poll is a whole call: a step for each instruction,
@@ -182,17 +213,74 @@ where
     I::Machine: Drop,
 {
     calls_are_whole::<I>();
-    has_not_sent::<I>(rt, alloc, 2)?;
-    sends_and_ends::<I>(rt, alloc, 4)?;
-    sender_waits::<I>(rt, alloc, 4)?;
-    receiver_waits::<I>(rt, alloc, 2)?;
-    let turns = [(CpuId(0), 2), (CpuId(1), 4), (CpuId(0), 4)];
-    sends_and_receives::<I>(rt, alloc, &turns)
+    has_not_sent::<I>(rt, alloc)?;
+    sends_and_ends::<I>(rt, alloc)?;
+    sender_waits::<I>(rt, alloc)?;
+    receiver_waits::<I>(rt, alloc)?;
+    sends_and_receives::<I>(rt, alloc)
+}
+
+/// More room than there can be, from the most polls whose events can be counted on.
+const ROOMS: [usize; 3] = [usize::MAX / 2, usize::MAX / 2 + 1, usize::MAX];
+
+/// A machine of buffers does not open with more room than there can be.
+fn buffers_refuse_room<B: OpensBuffers>(rt: &impl Abort, alloc: Global)
+where
+    B::Machine: Drop,
+{
+    for room in ROOMS {
+        let refused = B::open(alloc, 1, &[1], &[CpuId(0)], room).err();
+        assert!(rt; refused == Some(NoMemory));
+    }
+}
+
+/// Nor does one of message calls.
+fn calls_refuse_room<I: Owned>(rt: &impl Abort, alloc: Global)
+where
+    I::Machine: Drop,
+{
+    for room in ROOMS {
+        let refused = I::open(alloc, 1, &[1], &[CpuId(0)], room).err();
+        assert!(rt; refused == Some(NoMemory));
+    }
+}
+
+/// All this of message calls over any whole buffers.
+fn calls_go<B: WholeBuffers + Drop>(rt: &impl Abort, alloc: Global) -> Result<(), NoMemory>
+where
+    B::Machine: Drop,
+{
+    buffers_refuse_room::<B>(rt, alloc);
+    calls_refuse_room::<Ipc<B>>(rt, alloc);
+    run_whole::<Ipc<B>>(rt, alloc)
+}
+
+/// And over one-step buffers on any whole sections.
+fn buffers_go<S: OpensAttempts + Drop>(rt: &impl Abort, alloc: Global) -> Result<(), NoMemory>
+where
+    S::Machine: Drop,
+{
+    calls_go::<PlainFifo<S>>(rt, alloc)
+}
+
+/// And over one-step sections: of `PlainIpc`. No function names that type whole, since the proof of
+/// one that names a nest of so many types takes minutes: each names a few layers.
+fn one_step_systems_go(rt: &impl Abort, alloc: Global) -> Result<(), NoMemory> {
+    buffers_go::<PlainSleep<Attempt>>(rt, alloc)
 }
 
 #[test]
 fn one_step_systems_run_as_the_tower_does(rt: HostRuntime) -> Result<(), Fail> {
     ipc_is_whole();
-    run_whole::<PlainIpc>(&rt, rt.alloc())?;
+    one_step_systems_go(&rt, rt.alloc())?;
     Ok(())
+}
+
+// To be run with each allocation refused in turn, as bench/refuse.sh does.
+#[test]
+fn a_refused_allocation_of_a_system_is_no_memory(rt: HostRuntime) {
+    match one_step_systems_go(&rt, rt.alloc()) {
+        Ok(()) => {}
+        Err(error) => assert_eq!(rt; error, NoMemory),
+    }
 }

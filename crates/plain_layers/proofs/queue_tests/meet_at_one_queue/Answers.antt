@@ -1,11 +1,14 @@
-use Rattle.std.proofs.Common.{◌≡◌, Bool, true, false, List, [], ◌∷◌, refl, ◌∙◌}
+use Rattle.std.proofs.Common.{◌≡◌, Bool, true, false, List, [], ◌∷◌, Option, Some, None, refl, ◌∙◌}
+use Rattle.event_log.specs.declared.ids.LockId.{LockId}
 use Rattle.event_log.specs.declared.ids.Tid.{Tid}
+use Rattle.layer_traits.specs.declared.queue_edits.QueueBlock.{QueueBlock}
 use Rattle.layer_traits.specs.declared.queues.QueueCall.TheVariants.{OnBuffer, Push}
+use Rattle.layer_traits.specs.QueueBlocks.{homes_in, inner}
 use Rattle.layer_traits.specs.Queues.{event}
 use Rattle.plain_layers.specs.declared.sched_tests.Nap.{Nap}
-use Rattle.plain_layers.specs.Naps.{nap_moves, nap_rules}
+use Rattle.plain_layers.specs.Naps.{bed, nap_moves, nap_rules}
 use Rattle.plain_layers.specs.QueueTurns.{buffer_zero, cpu_one, cpu_zero, thread_one, thread_zero}
-use Rattle.plain_layers.proofs.QueueTurnLemmas.{after_sleep, after_wake, callable_at, may_push, may_sleep, may_wake}
+use Rattle.plain_layers.proofs.QueueTurnLemmas.{Meeting, after_sleep, after_wake, callable_at, may_push, may_sleep, may_wake}
 use Rattle.plain_layers.proofs.queue_tests.meet_at_one_queue.Goals as goal
 
 abbrev wakes : Nap → Bool
@@ -20,6 +23,19 @@ sleep = record { by = thread_one; wakes = false }
 abbrev wake : Nap
 wake = record { by = thread_zero; wakes = true }
 
+abbrev meets : (opening : LockId → Option (QueueBlock (Option Tid))) → homes_in opening ≡ cpu_one ∷ cpu_zero ∷ [] → inner opening bed ≡ Some None
+    → Meeting wakes by opening
+meets opening homes free = record {
+  homes = homes;
+  free = free;
+  sleep = sleep;
+  wake = wake;
+  sleeps = refl;
+  sleeper = refl;
+  woken = refl;
+  waker = refl;
+}
+
 -- thread 1 is at home on the first CPU
 pub at_once-slept-requires-clause-call : goal.at_once-slept-requires-clause-call
 at_once-slept-requires-clause-call g c =
@@ -27,7 +43,7 @@ at_once-slept-requires-clause-call g c =
     let m = c.args.m.now in
     callable_at (nap_rules wakes by) (nap_moves by) (Q.opening m) (Q.opening m) [] (Q.seen m) cpu_zero (Q.cpu_of c.args.first.now) (OnBuffer buffer_zero sleep)
     refl c.requires.seen c.requires.first_is
-    (may_sleep wakes by (Q.opening m) c.requires.homes c.requires.free sleep wake refl refl refl refl)
+    (may_sleep wakes by (Q.opening m) (meets (Q.opening m) c.requires.homes c.requires.free))
 
 -- and thread 0 on the second, in whose hand nobody is
 pub at_once-woke-requires-clause-call : goal.at_once-woke-requires-clause-call
@@ -36,10 +52,10 @@ at_once-woke-requires-clause-call g c =
     let m = c.args.m.now in
     let slept = c.at_once-slept in
     callable_at (nap_rules wakes by) (nap_moves by) (Q.opening m) (Q.opening slept.new.m)
-    (after_sleep wakes by (Q.opening m) c.requires.homes c.requires.free sleep wake refl refl refl refl) (Q.seen slept.new.m) cpu_one
+    (after_sleep wakes by (Q.opening m) (meets (Q.opening m) c.requires.homes c.requires.free)) (Q.seen slept.new.m) cpu_one
     (Q.cpu_of c.args.second.now) (OnBuffer buffer_zero wake) slept.ensures.opening
     (slept.ensures.seen ∙ (λ i. event (c.requires.first_is i) (OnBuffer buffer_zero sleep) ∷ c.requires.seen i)) c.requires.second_is
-    (may_wake wakes by (Q.opening m) c.requires.homes c.requires.free sleep wake refl refl refl refl)
+    (may_wake wakes by (Q.opening m) (meets (Q.opening m) c.requires.homes c.requires.free))
 
 -- thread 1 is in its hand then
 pub at_once-pushed-requires-clause-call : goal.at_once-pushed-requires-clause-call
@@ -49,9 +65,9 @@ at_once-pushed-requires-clause-call g c =
     let slept = c.at_once-slept in
     let woke = c.at_once-woke in
     callable_at (nap_rules wakes by) (nap_moves by) (Q.opening m) (Q.opening woke.new.m)
-    (after_wake wakes by (Q.opening m) c.requires.homes c.requires.free sleep wake refl refl refl refl) (Q.seen woke.new.m) cpu_one
+    (after_wake wakes by (Q.opening m) (meets (Q.opening m) c.requires.homes c.requires.free)) (Q.seen woke.new.m) cpu_one
     (Q.cpu_of woke.new.part) (Push cpu_zero thread_one) (woke.ensures.opening ∙ slept.ensures.opening)
     (woke.ensures.seen ∙ (λ i. event (c.requires.second_is i) (OnBuffer buffer_zero wake)
     ∷ (slept.ensures.seen ∙ (λ j. event (c.requires.first_is j) (OnBuffer buffer_zero sleep) ∷ c.requires.seen j)) i))
     (woke.ensures.cpu ∙ c.requires.second_is)
-    (may_push wakes by (Q.opening m) c.requires.homes c.requires.free sleep wake refl refl refl refl)
+    (may_push wakes by (Q.opening m) (meets (Q.opening m) c.requires.homes c.requires.free))
