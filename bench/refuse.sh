@@ -11,7 +11,7 @@ cd "$(dirname "$0")/.."
 PATH=$PATH:$HOME/.cargo/bin
 command -v rustc > /dev/null || { echo "refuse: nothing was refused, since no rustc is here to build what refuses"; exit 0; }
 [ $# -gt 0 ] || set -- $(for tests in crates/*/out/*_tests; do [ ! -x "$tests" ] || basename "$tests" _tests; done)
-[ $# -gt 0 ] || { echo "refuse: build the tests first: (cd crates/boot && rt test)"; exit 1; }
+[ $# -gt 0 ] || { echo "refuse: nothing was refused, since no tests are built: (cd crates/boot && rt test)"; exit 0; }
 room=$(mktemp -d)
 trap 'rm -rf "$room"' EXIT
 rustc --edition 2024 -O -C panic=abort --crate-type cdylib -o "$room/librefuse.so" bench/refuse.rs

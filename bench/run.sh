@@ -25,6 +25,6 @@ run mine "$work/trace"; [ "$(cat "$work/out")" = yes ] || echo "check refuses th
 measure "check, 524,288 entries" "$work/trace" 21 30
 
 # Eight threads on fewer processors can take very long over a fair lock, so each turn ends after 10 seconds.
-plain=(timeout 10 "$work/plain_count" 8 1000 1); mine=(timeout 10 "$ours" count --cpus 8 --times 1000)
+plain=(timeout 10 "$work/plain_count" 8 1000 1 ticket); mine=(timeout 10 "$ours" count --cpus 8 --times 1000 --lock ticket)
 run mine "$work/nothing"; grep -q '^table 8000$' "$work/out" || echo "count loses sections"
-measure "count, 8 CPUs, 1,000 times" "$work/nothing" 1000 60
+measure "count, 8 CPUs, 1,000 times, tickets" "$work/nothing" 1000 60

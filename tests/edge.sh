@@ -32,6 +32,7 @@ is() {
 }
 
 send="mctower run --schedule '0*21' < plans/one-send.toml"
+thread="mctower threads --turns 1000 < plans/one-send.toml"
 sent=$'mctower-trace 1\nbuffers 1\ncap 0 1\ne 0 0 send 0 7 0 0\nleft 0 7\nend\n'
 state=$'cpu 0 AllEnded\nthread 0 Ended\nquiet yes\n'
 one_stack='ulimit -s 1000000; ulimit -v 1500000'
@@ -49,19 +50,27 @@ refused() {
 rows() {
   # a good run, a yes, a no
   row 0 $'plain 6\ntable 6\n' '' 'mctower count --cpus 2 --times 3'
+  row 0 $'plain 8000\ntable 8000\n' '' 'mctower count --cpus 8 --times 1000 --lock grant'
+  row 0 $'plain 8000\ntable 8000\n' '' 'mctower count --cpus 8 --times 1000 --lock ticket'
   row 0 "$sent" "$state" "$send"
   row 0 $'yes\n' "$state" "$send | mctower check"
+  row 0 "$sent" $'cpu 0 AllEnded\n' "$thread"
+  row 0 $'yes\n' $'cpu 0 AllEnded\n' "$thread | mctower check"
   row 3 $'no 4 EmptyTake(35)\n' '' "printf '$takes' | mctower check"
   row 3 $'no 1 Spelling(30)\n' '' 'mctower check < /dev/null'
   # a bad command line
   row 2 '' '~mctower: ' 'mctower'
   row 2 '' '~mctower count' 'mctower count --cpus 0 --times 1'
-  row 2 '' '~mctower threads' 'mctower threads --turns 5 < plans/one-send.toml'
+  row 2 '' '~mctower count' 'mctower count --cpus 2 --times 3 --lock mcs'
+  row 2 '' '~mctower threads' 'mctower threads < plans/one-send.toml'
+  row 2 '' '~mctower threads' 'mctower threads --turns 0 < plans/one-send.toml'
+  row 2 '' '~mctower threads' 'mctower threads --turns 1000000001 < plans/one-send.toml'
   row 2 '' '~mctower: ' "mctower \$'\\xff'"
   row 2 '' $'error: BadSchedule(9)\n' 'mctower run --schedule 0, < plans/one-send.toml'
   # a refusal
   row 1 '' $'error: BadCpu(4)\n' 'mctower run --schedule 0,1 < plans/one-send.toml'
   row 1 '' $'error: OutOfRange(22) cpus\n' 'echo cpus = 99 | mctower run'
+  row 1 '' $'error: OutOfRange(22) cpus\n' 'echo cpus = 99 | mctower threads --turns 9'
   row 1 '' $'error: BadToml(20)\n' "printf '# \\xff\\n' | mctower run"
   # each change of a trace text alone, and the first line with a fault
   verdict '1 Spelling(30)' 'head -c 0'
@@ -79,6 +88,8 @@ rows() {
   # each change of a plan alone, and its error line
   refused 'MissingKey(21) cpus' 's/^cpus = 1/cpus = "1"/'
   refused 'OutOfRange(22) buffers' 's/\[1\]/[33]/'
+  refused 'OutOfRange(22) lock' '1i lock = "mcs"'
+  refused 'MissingKey(21) lock' '1i lock = 1'
   refused 'Guest(23) thread 0 line 0 Empty(15)' 's/^program.*/program = []/'
   refused 'Guest(23) thread 0 line 0 UnknownWord(10)' 's/^program.*/program = ["set  r0 7"]/'
   refused 'Guest(23) thread 0 line 0 BadRegister(11)' 's/^program.*/program = ["set r9 7"]/'
@@ -90,24 +101,31 @@ rows() {
   # an input that cannot be read
   row 1 '' $'error: ReadFault(7)\n' 'mctower check < .'
   row 1 '' $'error: ReadFault(7)\n' 'mctower run < .'
+  row 1 '' $'error: ReadFault(7)\n' 'mctower threads --turns 9 < .'
   row 1 '' $'error: ReadFault(7)\n' 'mctower check <&-'
   # it is not read where the words do not ask for it
   row 0 $'plain 1\ntable 1\n' '' 'mctower count --cpus 1 --times 1 < .'
   row 2 '' $'error: BadSchedule(9)\n' 'mctower run --schedule x < .'
+  row 2 '' '~mctower threads' 'mctower threads --turns 0 < .'
   # a full disk, and a reader that is gone
   row 1 '' $'error: WriteFault(8)\n' 'mctower count --cpus 1 --times 1 > /dev/full'
   row 1 '' $'error: WriteFault(8)\n' "$send > /dev/full"
+  row 1 '' $'error: WriteFault(8)\n' "$thread > /dev/full"
+  row 1 '' $'error: WriteFault(8)\n' "$thread >&-"
   row 1 '' $'error: WriteFault(8)\n' 'mctower check < /dev/null > /dev/full'
   row 1 '' $'error: WriteFault(8)\n' 'set -o pipefail; { sleep 0.2; mctower check < /dev/null; } | true'
   row 1 '' $'error: WriteFault(8)\n' 'mctower count --cpus 1 --times 1 >&-'
   # room for one thread's stack, and not for two; no room for the longest schedule
   row 0 $'plain 3\ntable 3\n' '' "$one_stack; mctower count --cpus 1 --times 3"
   row 1 '' $'error: NoThread(5)\n' "$one_stack; mctower count --cpus 2 --times 3"
+  row 0 "$sent" $'cpu 0 AllEnded\n' "$one_stack; $thread"
+  row 1 '' $'error: NoThread(5)\n' "$one_stack; mctower threads --turns 1000 < plans/ping-pong.toml"
   row 1 '' $'error: NoMemory(1)\n' "ulimit -v 5000; mctower run --schedule '0*1048576' < plans/one-send.toml"
   # nothing can be told: the status tells it
   row 2 '' '' 'mctower 2> /dev/full'
   row 2 '' '' 'mctower 2>&-'
   row 1 '' '' 'mctower check < . 2> /dev/full'
+  row 0 "$sent" '' "$thread 2> /dev/full"
 }
 
 [ $# -gt 0 ] || set -- crates/mctower/out/mctower crates/mctower/out/mctower.by-rattle

@@ -1,7 +1,8 @@
 #!/usr/bin/env bash
 # Holds each build of mctower against bench/plain_tower.rs, a plain program of the step table, after every step: over the plans of
-# plans/ and tests/rows/, and over 200 random ones of at most 200 steps (the same ones each time). Each text must get a yes of
-# `check`. Then runs 50 random plans until they are quiet, and looks whether anybody could go on. .ci/run calls it after rt ci.
+# plans/ and tests/rows/ with either lock, and over 200 random ones of at most 200 steps (the same ones each time), every other of
+# which names ticket locks. Each text must get a yes of `check`. Then runs 50 random plans until they are quiet, and looks whether
+# anybody could go on. .ci/run calls it after rt ci.
 #
 #   tests/every-step.sh [PROGRAM..]
 #
@@ -16,9 +17,16 @@ rustc -O -o "$room/plain_tower" bench/plain_tower.rs
 rustc -O -o "$room/every_step" bench/every_step.rs
 mkdir "$room/plans"
 python3 bench/random_plan.py "$room/plans" 1 200 200
+mkdir "$room/tickets"
+for plan in plans/*.toml tests/rows/*.toml; do
+  { echo 'lock = "ticket"'; cat "$plan"; } > "$room/tickets/$(echo "$plan" | tr / -)"
+done
+for seed in $(seq 2 2 200); do
+  sed -i '1i lock = "ticket"' "$room/plans/$seed.toml"
+done
 passed=0
 for program; do
-  "$room/every_step" "$program" "$room/plain_tower" plans/*.toml tests/rows/*.toml "$room"/plans/*.toml
+  "$room/every_step" "$program" "$room/plain_tower" plans/*.toml tests/rows/*.toml "$room"/tickets/*.toml "$room"/plans/*.toml
   python3 bench/quiet_often.py "$program" 1 50
   passed=$((passed + 1))
 done

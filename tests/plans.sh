@@ -1,7 +1,8 @@
 #!/usr/bin/env bash
-# Runs each plan of plans/ and of tests/rows/ by the command in its first lines, and compares what comes on standard output and
-# then on standard error with the file of its name in expected/ beside it, which bench/plain_tower.rs wrote: a plain program of the
-# step table. It takes seconds; .ci/run calls it after rt ci. The last line is 'plans: N passed, M failed'.
+# Runs each plan of plans/ and of tests/rows/ by the command in its first lines, over locks with grant words, as it names none, and
+# over ticket locks, and compares what comes on standard output and then on standard error with the file of its name in expected/
+# beside it, which bench/plain_tower.rs wrote: a plain program of the step table. It takes seconds; .ci/run calls it after rt ci. The
+# last line is 'plans: N passed, M failed'.
 #
 #   tests/plans.sh [PROGRAM..]
 #
@@ -15,12 +16,15 @@ for program; do
   for plan in plans/*.toml tests/rows/*.toml; do
     expected=$(dirname "$plan")/expected/$(basename "$plan" .toml).txt
     schedule=$(sed -n "s/^# *mctower run --schedule '\(.*\)' <.*/\1/p" "$plan")
-    "$program" run --schedule "$schedule" < "$plan" > "$room/out" 2> "$room/states" && cat "$room/states" >> "$room/out"
-    if cmp -s "$room/out" "$expected"; then
-      passed=$((passed + 1))
-    else
-      echo "plans: $program does not print what $expected says"; failed=$((failed + 1))
-    fi
+    for lock in '' 'lock = "ticket"'; do
+      { echo "$lock"; cat "$plan"; } > "$room/plan"
+      "$program" run --schedule "$schedule" < "$room/plan" > "$room/out" 2> "$room/states" && cat "$room/states" >> "$room/out"
+      if cmp -s "$room/out" "$expected"; then
+        passed=$((passed + 1))
+      else
+        echo "plans: $program does not print what $expected says, with '$lock'"; failed=$((failed + 1))
+      fi
+    done
   done
 done
 echo "plans: $passed passed, $failed failed"

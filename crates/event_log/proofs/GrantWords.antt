@@ -132,6 +132,19 @@ fits_after word given ticket held within is fits = go (word == (ticket + 1) % CP
     go true here = fits_here word given ticket within is (eqb-true word ((ticket + 1) % CPUS) here)
     go false there = fits_there word given ticket held within is (eqb-false word ((ticket + 1) % CPUS) there) fits
 
+one_place : (word given j k : ℕ) → j ≤ given → given < j + CPUS → j % CPUS ≡ word → k ≤ given → given < k + CPUS → k % CPUS ≡ word → j ≡ k
+one_place word given j k a b c d e f = omega arith
+
+-- the count of gives tells what a word holds
+pub one_word : (word given a b : ℕ) → WordFits word given a → WordFits word given b → a ≡ b
+one_word word given a b first second = elim (within_or_past word given) [
+  | inl old ↦ let x = first.written old in
+      let y = second.written old in
+      let one : x.0 ≡ y.0 = one_place word given x.0 y.0 x.1 x.2 x.3 y.1 y.2 y.3 in
+      x.4 ∙ (ap (λ n. (n + 1) % 2 ^ 64) one ∙ sym y.4)
+  | inr new ↦ first.unwritten new ∙ sym (second.unwritten new)
+]
+
 -- who is inside a lock holds the ticket of the place that is served
 inside_is_served : {M N : Type 0} (name : M → N) (cpu : CpuId) (lock : LockId) (ticket : ℕ) (past : List (GrantEvent M)) → IsLegalGrants past
     → AreLegal (acts_of_grants name past)

@@ -8,17 +8,12 @@ use Rattle.event_log.specs.declared.ids.LockId.{LockId}
 use Rattle.event_log.specs.declared.events.Event.{Event}
 use Rattle.event_log.specs.declared.events.Event.TheVariants.{Draw, Look, Free}
 use Rattle.event_log.specs.History.{same_lock}
-use Rattle.event_log.specs.WordsLog.{Inside, Outside, Standing, Waiting, frees, standing}
-use Rattle.event_log.specs.Sections.{Section, block_after, sections_of}
-use Rattle.event_log.specs.Actions.{Action, Rests, acts_of, phase}
-use Rattle.spinlock.specs.declared.stages.TicketStage.{TicketStage}
-use Rattle.spinlock.specs.declared.stages.TicketStage.TheVariants.{Out, Drawn, Held}
-use Rattle.spinlock.specs.Stages.{StageFits, stage_section}
-use Rattle.event_log.proofs.Tickets.{phase_acts, phase_of}
-use Rattle.layer_traits.specs.declared.edits.Mark.{Mark}
-use Rattle.layer_traits.specs.WordsProtocol.{edit_of, sections}
-use Rattle.std.specs.Prelude.{IfSome, IsNone, IsSome}
-use Rattle.std.specs.Borrow.{Bor}
+use Rattle.event_log.specs.WordsLog.{frees}
+use Rattle.event_log.specs.Sections.{Section, block_after, sections_in, sections_of}
+use Rattle.event_log.specs.Actions.{Action, Take, Try, Give, Rests, gives, phase}
+use Rattle.layer_traits.specs.Owned.{IsShown}
+use Rattle.layer_traits.specs.Plans.{is_in_section}
+use Rattle.std.specs.Prelude.{IsSome}
 use Rattle.mctower.specs.declared.count.AddOne.{AddOne}
 use Rattle.mctower.specs.Count.{AreReady, IsReady, counting, sections_at}
 
@@ -40,6 +35,13 @@ frees_are_sections edit lock (Draw cpu at ticket ∷ log) = frees_are_sections e
 frees_are_sections edit lock (Look cpu at ticket read ∷ log) = frees_are_sections edit lock log
 frees_are_sections edit lock (Free cpu at mark ∷ log) = ap (λ n. if same_lock lock at then n + 1 else n) (frees_are_sections edit lock log)
 
+-- as many sections as gives
+pub gives_are_sections : {E : Type 0} (lock : LockId) (acts : List (Action E)) → sections_at lock (sections_in acts) ≡ gives lock acts
+gives_are_sections lock [] = refl
+gives_are_sections lock (Take cpu at ∷ acts) = gives_are_sections lock acts
+gives_are_sections lock (Try cpu at hit ∷ acts) = gives_are_sections lock acts
+gives_are_sections lock (Give cpu at name ∷ acts) = ap (λ n. if same_lock lock at then n + 1 else n) (gives_are_sections lock acts)
+
 -- a number that was 0 is that of its lock's sections
 pub number_is : (opening : LockId → Option ℕ) (lock : LockId) (past : List (Section AddOne)) → opening lock ≡ Some 0
     → block_after counting.edited opening lock past ≡ Some (sections_at lock past % 2 ^ 64)
@@ -51,33 +53,24 @@ number_is opening lock (s ∷ past) zeroth = go (same_lock lock s.lock) (number_
   go true so_far = ap (option_map (counting.edited s.edit)) so_far ∙ ap Some (omega arith)
   go false so_far = so_far
 
--- a CPU whose actions rest is outside
-pub outside_at_rest : {E : Type 0} (log : List (Event (Mark E))) (cpu : CpuId) → phase cpu (acts_of edit_of log) ≡ Rests → standing cpu log ≡ Outside
-outside_at_rest log cpu rests = go (standing cpu log) refl where
-  go : (s : Standing) → standing cpu log ≡ s → s ≡ Outside
-  go Outside is = refl
-  go (Waiting lock ticket) is = let waits = sym rests ∙ phase_acts edit_of cpu log ∙ ap phase_of is in cc waits
-  go (Inside lock ticket) is = let holds = sym rests ∙ phase_acts edit_of cpu log ∙ ap phase_of is in cc holds
-
--- a lock with no section under way has a CPU whose actions rest
-pub rests_without_section : (opening : LockId → Option ℕ) (acts : List (Action AddOne)) (cpu : CpuId) (stage : TicketStage AddOne ℕ)
-    → StageFits counting opening acts cpu stage → stage_section cpu stage ≡ None → phase cpu acts ≡ Rests
-rests_without_section opening acts cpu Out fits none = fits
-rests_without_section opening acts cpu (Drawn lock edit ticket) fits none = absurd (cc none)
-rests_without_section opening acts cpu (Held lock edit block) fits none = absurd (cc none)
-
 -- an option that is not None is Some
-pub some_where_not_none : {X : Type 0} (o : Option X) → (IsNone o → ⊥) → IsSome o
+pub some_where_not_none : {X : Type 0} (o : Option X) → (o ≡ None → ⊥) → IsSome o
 some_where_not_none None not_none = absurd (not_none refl)
 some_where_not_none (Some x) not_none = refl
 
--- the block that is home is the number of Frees
-pub block_counts : (opening : LockId → Option ℕ) (lock : LockId) (log : List (Event (Mark AddOne))) (home : Option (Bor ℕ)) (block : Bor ℕ)
-    → opening lock ≡ Some 0
-    → IfSome home (λ found. block_after counting.edited opening lock (sections log) ≡ Some found.now) → home ≡ Some block → block.now ≡ frees lock log % 2 ^ 64
-block_counts opening lock log home block zeroth leaves is =
-    let found = subst (λ o. IfSome o (λ found. block_after counting.edited opening lock (sections log) ≡ Some found.now)) is leaves in
-    let counts = number_is opening lock (sections log) zeroth in
-    let same : Some block.now ≡ Some (sections_at lock (sections log) % 2 ^ 64) = sym found ∙ counts in
-    let number : block.now ≡ sections_at lock (sections log) % 2 ^ 64 = (cc same) in
-    number ∙ ap (λ n. n % 2 ^ 64) (frees_are_sections edit_of lock log)
+-- a block that the sections of a number that was 0 leave is the number of gives
+pub block_counts : (opening : LockId → Option ℕ) (lock : LockId) (acts : List (Action AddOne)) (past : List (Section AddOne)) (block : ℕ)
+    → opening lock ≡ Some 0 → past ≡ sections_in acts → block_after counting.edited opening lock past ≡ Some block → block ≡ gives lock acts % 2 ^ 64
+block_counts opening lock acts past block zeroth seen leaves =
+    let same : Some block ≡ Some (sections_at lock past % 2 ^ 64) = sym leaves ∙ number_is opening lock past zeroth in
+    let number : block ≡ sections_at lock past % 2 ^ 64 = (cc same) in
+    number ∙ ap (λ n. n % 2 ^ 64) (ap (sections_at lock) seen ∙ gives_are_sections lock acts)
+
+-- the block of a number that no CPU has in its hands is there
+pub there_at_rest : {P A : Type 0} (Fits : P → Type 0) (cpu_of : P → CpuId) (IsStepwise : Type 0) (acts : List (Action AddOne)) (here : P → Option A)
+    (home truth : Option A) → IsShown Fits cpu_of (λ c. IsStepwise × (is_in_section (phase c acts) ≡ true)) here home truth
+    → ((c : CpuId) → phase c acts ≡ Rests) → home ≡ None → ⊥
+there_at_rest Fits cpu_of IsStepwise acts here home truth shown rests away =
+    let held = shown.somewhere away in
+    let rested : is_in_section (phase held.cpu acts) ≡ false = ap is_in_section (rests held.cpu) in
+    absurd (cc)

@@ -7,4 +7,5 @@ mod WorkersLemmas
 mod OrderNumbers
 mod SpellingLemmas
 mod RunningLemmas
+mod ThreadsLemmas
 mod Unguarded

@@ -9,7 +9,7 @@ use Rattle.clap.specs.Kinds.{HasKind, Kinds}
 use Rattle.clap.specs.Simple.{App, HasMatchesOf, app_of, is_simple, subcommand_of, subcommand_rows_of, with_subcommand}
 use Rattle.clap.specs.Values.{kind_of}
 use Rattle.clap.specs.ValueTests.{is_unsigned_in}
-use Rattle.clap.specs.Walk.{rows_of}
+use Rattle.clap.specs.Walk.{first_of, rows_of}
 use Rattle.clap.specs.declared.builder.command.Command.{Command}
 use Rattle.clap.specs.declared.builder.command.Command.TheViews.{out-Command}
 use Rattle.clap.specs.declared.builder.value_parser.ValueParser.TheVariants as vp
@@ -20,7 +20,7 @@ use Rattle.clap.specs.declared.parser.matches.Found.{Found}
 use Rattle.clap.proofs.OnLiterals.{clap_on_literals}
 use Rattle.clap.proofs.ValueTestLemmas.{accepts-Accepts, Accepts-accepts}
 use Rattle.clap.proofs.WalkLemmas.{first_value-rows}
-use Rattle.mctower.specs.Line.{found_in, is_faultless, is_taken, run_in, Meant, run, number_at, number_in, program}
+use Rattle.mctower.specs.Line.{found_in, is_faultless, is_taken, lock_asked, run_in, Meant, run, number_at, number_in, program}
 
 abbrev pub Text : Type 0
 Text = List ℕ
@@ -54,6 +54,11 @@ number_found least most name found text e = ap (option_and_then (number_in least
 pub schedule_found : (found : Found) (text : Option Text) → text ≡ first_value found (codes "schedule")
     → run_in (rows_of found) ≡ Some (run text)
 schedule_found found text e = let as_order : Option Text → Option Meant = λ t. Some (run t) in sym (ap as_order (e ∙ first_value-rows found (codes "schedule")))
+
+-- the lock that is asked for is that of its option's first value
+pub lock_found : (found : Found) (text : Option Text) → text ≡ first_value found (codes "lock")
+    → lock_asked text ≡ lock_asked (first_of (codes "lock") (rows_of found))
+lock_found found text e = ap lock_asked (e ∙ first_value-rows found (codes "lock"))
 
 -- ---- the program's commands
 

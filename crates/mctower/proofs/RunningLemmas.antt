@@ -3,20 +3,20 @@ use Rattle.std.proofs.Common.{◌≡◌, ℕ, true, false, List, length, map, re
 use Rattle.std.specs.Prelude.{Result, Ok, Err, IsErrAnd}
 use Rattle.std.proofs.lemmas.Bool.{false≢true}
 use Rattle.event_log.specs.declared.ids.CpuId.{CpuId}
-use Rattle.boot.specs.declared.refusals.BootError.{BootError}
 use Rattle.boot.specs.Plan.{BootPlan}
 use Rattle.std.proofs.lemmas.List.{length-map}
 use Rattle.cpu.specs.Boots.{guests_for, homes_for, tables_for}
 use Rattle.cpu.specs.Cpus.{programs_of}
 use Rattle.cpu.proofs.ListReads.{listed_length, map_twice}
-use Rattle.cpu.specs.Claims.{CpuShown, FollowPrograms, HasOneOrder, Shown, StandsOnce, StayHome}
+use Rattle.cpu.specs.Claims.{CpuShown, FollowPrograms, HasOneOrder, Shown, StandsOnce, StayHome, traces_of}
 use Rattle.cpu.specs.Sound.{BootsByTable, IsSetupFor, RanByTable, SoundByTable, after_steps, setup_for}
 use Rattle.cpu.specs.Systems.{Ran, SamePlan, whole_of}
 use Rattle.cpu.specs.Table.Steps.{Whole, whole_at_boot}
 use Rattle.cpu.proofs.Sounding.{setup_on}
 use Rattle.mctower.specs.Output.{IsUntouched, Output}
 use Rattle.mctower.specs.Plans.{IsOpened, IsSystemOf, table_run}
-use Rattle.mctower.specs.Running.{AreCpus, IsOut, IsRunOf, IsTold, Writes, RunsPlan, RunsText, first_of}
+use Rattle.mctower.specs.Running.{AreCpus, IsRunOf, IsTold, RunsPlan, first_of}
+use Rattle.mctower.specs.Texts.{IsOut, Writes}
 use Rattle.mctower.specs.declared.run.Fault.{Fault}
 use Rattle.mctower.specs.declared.run.Fault.TheVariants.{NoMemory, Boot, BadCpu, NoOrder, WriteFault}
 
@@ -88,28 +88,28 @@ err_runs IsStepwise plan steps (Ok s) e out is runs = absurd is
 err_runs IsStepwise plan steps (Err f) e out is runs = subst (λ x. RunsPlan IsStepwise plan steps (Err x) out) (sym is) runs
 
 -- the schedule names a CPU that the plan has not
-pub bad_cpu : (IsStepwise : Type 0) (plan : BootPlan) (steps : List CpuId) (first : Shown) (text : Result BootPlan BootError) (r : Result Shown Fault)
-    (out : Output) → text ≡ Ok plan → IsSystemOf plan first → (AreCpus (length first.cpus) steps → false ≡ true)
+pub bad_cpu : (IsStepwise : Type 0) (plan : BootPlan) (steps : List CpuId) (first : Shown) (r : Result Shown Fault) (out : Output)
+    → IsSystemOf plan first → (AreCpus (length first.cpus) steps → false ≡ true)
     → IsUntouched out → IsErrAnd r (λ f. f ≡ BadCpu)
-    → RunsText IsStepwise text steps r out
-bad_cpu IsStepwise plan steps first text r out reads of unknown untouched is =
-    subst (λ x. RunsText IsStepwise x steps r out) (sym reads)
-    (err_runs IsStepwise plan steps r BadCpu out is
-    ((λ known. false≢true (unknown (subst (λ c. AreCpus c steps) (sym of.cpus) known))), untouched))
+    → RunsPlan IsStepwise plan steps r out
+bad_cpu IsStepwise plan steps first r out of unknown untouched is =
+    err_runs IsStepwise plan steps r BadCpu out is
+    ((λ known. false≢true (unknown (subst (λ c. AreCpus c steps) (sym of.cpus) known))), untouched)
 
 -- what is out is of the run's system
 out_ran : (IsStepwise : Type 0) (plan : BootPlan) (steps : List CpuId) (caps : List ℕ) (first last : Shown) (out : Output)
-    → caps ≡ plan.caps → IsSystemOf plan first → AreCpus (length first.cpus) steps → IsRunOf IsStepwise plan steps last → IsOut caps last out
+    → caps ≡ plan.caps → IsSystemOf plan first → AreCpus (length first.cpus) steps → IsRunOf IsStepwise plan steps last
+    → IsOut caps (traces_of last) last.contents out
     → IsTold IsStepwise plan steps last out
 out_ran IsStepwise plan steps caps first last out same of known ran text = record {
   cpus = subst (λ c. AreCpus c steps) of.cpus known;
   ran = ran;
-  out = subst (λ l. IsOut l last out) same text;
+  out = subst (λ l. IsOut l (traces_of last) last.contents out) same text;
 }
 
 write_fault : (IsStepwise A : Type 0) (plan : BootPlan) (steps : List CpuId) (caps : List ℕ) (first last : Shown) (e : Fault) (out : Output)
     → caps ≡ plan.caps → IsSystemOf plan first → AreCpus (length first.cpus) steps → IsRunOf IsStepwise plan steps last
-    → Writes {A = A} caps last (Err e) out
+    → Writes {A = A} caps (traces_of last) last.contents (Err e) out
     → RunsPlan IsStepwise plan steps (Err e) out
 write_fault IsStepwise A plan steps caps first last NoMemory out same of known ran writes = writes
 write_fault IsStepwise A plan steps caps first last (Boot e) out same of known ran writes = absurd writes
@@ -119,19 +119,16 @@ write_fault IsStepwise A plan steps caps first last WriteFault out same of known
     (writes.0, (last, out_ran IsStepwise plan steps caps first last out same of known ran writes.1))
 
 -- the text could not be written
-pub not_written : (IsStepwise A : Type 0) (plan : BootPlan) (steps : List CpuId) (caps : List ℕ) (first last : Shown) (text : Result BootPlan BootError)
-    (r : Result Shown Fault) (e : Fault)
-    (out : Output) → text ≡ Ok plan → caps ≡ plan.caps → IsSystemOf plan first → AreCpus (length first.cpus) steps
-    → IsRunOf IsStepwise plan steps last → Writes {A = A} caps last (Err e) out → IsErrAnd r (λ f. f ≡ e)
-    → RunsText IsStepwise text steps r out
-not_written IsStepwise A plan steps caps first last text r e out reads same of known ran writes is =
-    subst (λ x. RunsText IsStepwise x steps r out) (sym reads)
-    (err_runs IsStepwise plan steps r e out is (write_fault IsStepwise A plan steps caps first last e out same of known ran writes))
+pub not_written : (IsStepwise A : Type 0) (plan : BootPlan) (steps : List CpuId) (caps : List ℕ) (first last : Shown) (r : Result Shown Fault) (e : Fault)
+    (out : Output) → caps ≡ plan.caps → IsSystemOf plan first → AreCpus (length first.cpus) steps
+    → IsRunOf IsStepwise plan steps last → Writes {A = A} caps (traces_of last) last.contents (Err e) out → IsErrAnd r (λ f. f ≡ e)
+    → RunsPlan IsStepwise plan steps r out
+not_written IsStepwise A plan steps caps first last r e out same of known ran writes is =
+    err_runs IsStepwise plan steps r e out is (write_fault IsStepwise A plan steps caps first last e out same of known ran writes)
 
 -- the text was written
-pub written : (IsStepwise : Type 0) (plan : BootPlan) (steps : List CpuId) (caps : List ℕ) (first last : Shown) (text : Result BootPlan BootError)
-    (out : Output) → text ≡ Ok plan → caps ≡ plan.caps → IsSystemOf plan first → AreCpus (length first.cpus) steps → IsRunOf IsStepwise plan steps last
-    → (out.failed ≡ false) × IsOut caps last out → RunsText IsStepwise text steps (Ok last) out
-written IsStepwise plan steps caps first last text out reads same of known ran writes =
-    subst (λ x. RunsText IsStepwise x steps (Ok last) out) (sym reads)
+pub written : (IsStepwise : Type 0) (plan : BootPlan) (steps : List CpuId) (caps : List ℕ) (first last : Shown) (out : Output)
+    → caps ≡ plan.caps → IsSystemOf plan first → AreCpus (length first.cpus) steps → IsRunOf IsStepwise plan steps last
+    → (out.failed ≡ false) × IsOut caps (traces_of last) last.contents out → RunsPlan IsStepwise plan steps (Ok last) out
+written IsStepwise plan steps caps first last out same of known ran writes =
     (writes.0, out_ran IsStepwise plan steps caps first last out same of known ran writes.1)

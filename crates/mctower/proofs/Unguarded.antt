@@ -3,6 +3,7 @@
 use Rattle.std.proofs.Common.{inl, inr, ℕ, Bool, true, false, List, Option, Some, None}
 use Rattle.std.specs.Prelude.{Result, Ok, Err}
 use Rattle.event_log.specs.declared.ids.CpuId.{CpuId}
+use Rattle.boot.specs.declared.locks.LockKind.{LockKind}
 use Rattle.boot.specs.declared.refusals.BootError.{BootError}
 use Rattle.boot.specs.Plan.{BootPlan}
 use Rattle.clap.specs.Walk.{Text}
@@ -14,8 +15,22 @@ use Rattle.mctower.specs.declared.states.State.{State}
 use Rattle.mctower.specs.Line.{Meant, check, count, run, threads}
 use Rattle.mctower.specs.Output.{Output}
 use Rattle.mctower.specs.Running.{IsRunOf}
-use Rattle.mctower.specs.Serve.{Ends, Runs, RunsAsked, RunsPlan, Serves, TellsRun}
+use Rattle.mctower.specs.Serve.{Ends, OfInput, OfPlan, RunsAsked, RunsPlan, Serves, TellsRun}
 use Rattle.mctower.specs.State.{IsStateOf}
+
+-- what is meant for a plan is so for the input's, where it follows for any plan
+module _ {A B : BootPlan → Result Done Refusal → Output → Type 0}
+    (so : (plan : BootPlan) (answer : Result Done Refusal) (out : Output) → A plan answer out → B plan answer out) where
+  of_plan : (read : Result BootPlan BootError) (answer : Result Done Refusal) (out : Output) → OfPlan A read answer out → OfPlan B read answer out
+  of_plan (Ok plan) answer out is = so plan answer out is
+  of_plan (Err error) answer out refused = refused
+
+  of_input : (input : Option (List ℕ)) (answer : Result Done Refusal) (out : Output) → OfInput A input answer out → OfInput B input answer out
+  of_input input answer out (inl refused) = inl refused
+  of_input input answer out (inr (inl refused)) = inr (inl refused)
+  of_input input answer out (inr (inr (bytes, is, inl refused))) = inr (inr (bytes, is, inl refused))
+  of_input input answer out (inr (inr (bytes, is, inr (inl refused)))) = inr (inr (bytes, is, inr (inl refused)))
+  of_input input answer out (inr (inr (bytes, is, inr (inr (text, means))))) = inr (inr (bytes, is, inr (inr (text, of_plan _ answer out means))))
 
 module _ (If Where : Type 0) (follows : Where → If) where
   went : (c : CpuId) (s r : Shown) → WentOn If c s r → WentOn Where c s r
@@ -56,40 +71,31 @@ module _ (If Where : Type 0) (follows : Where → If) where
   tells s answer false (state, is, given) = (state, state_of s state is, given)
   tells s answer true given = given
 
-  runs_plan : (read : Result BootPlan BootError) (steps : List CpuId) (answer : Result Done Refusal) (out : Output)
-      → RunsPlan If read steps answer out → RunsPlan Where read steps answer out
-  runs_plan (Ok plan) steps answer out (inl refused) = inl refused
-  runs_plan (Ok plan) steps answer out (inr runs) = inr (record {
+module _ (If Where : LockKind → Type 0) (follows : (lock : LockKind) → Where lock → If lock) where
+  runs_plan : (steps : List CpuId) (plan : BootPlan) (answer : Result Done Refusal) (out : Output)
+      → RunsPlan If steps plan answer out → RunsPlan Where steps plan answer out
+  runs_plan steps plan answer out (inl refused) = inl refused
+  runs_plan steps plan answer out (inr runs) = inr (record {
     cpus = runs.cpus;
     system = runs.system;
-    ran = run_of plan steps runs.system runs.ran;
+    ran = run_of (If plan.lock) (Where plan.lock) (follows plan.lock) plan steps runs.system runs.ran;
     trace = runs.trace;
     traced = runs.traced;
-    put = (tells runs.system answer out.failed runs.put.0, runs.put.1);
+    put = (tells (If plan.lock) (Where plan.lock) (follows plan.lock) runs.system answer out.failed runs.put.0, runs.put.1);
   })
-  runs_plan (Err error) steps answer out refused = refused
-
-  runs_input : (input : Option (List ℕ)) (steps : List CpuId) (answer : Result Done Refusal) (out : Output)
-      → Runs If input steps answer out → Runs Where input steps answer out
-  runs_input input steps answer out (inl refused) = inl refused
-  runs_input input steps answer out (inr (inl refused)) = inr (inl refused)
-  runs_input input steps answer out (inr (inr (bytes, is, inl refused))) = inr (inr (bytes, is, inl refused))
-  runs_input input steps answer out (inr (inr (bytes, is, inr (inl refused)))) = inr (inr (bytes, is, inr (inl refused)))
-  runs_input input steps answer out (inr (inr (bytes, is, inr (inr (text, runs))))) =
-      inr (inr (bytes, is, inr (inr (text, runs_plan _ steps answer out runs))))
 
   asked : (steps : Option (List CpuId)) (input : Option (List ℕ)) (answer : Result Done Refusal) (out : Output)
       → RunsAsked If steps input answer out → RunsAsked Where steps input answer out
   asked None input answer out refused = refused
-  asked (Some steps) input answer out runs = runs_input input steps answer out runs
+  asked (Some steps) input answer out runs = of_input (runs_plan steps) input answer out runs
 
   serves : (meant : Option Meant) (input : Option (List ℕ)) (answer : Result Done Refusal) (out : Output)
       → Serves If meant input answer out → Serves Where meant input answer out
   serves None input answer out served = served
-  serves (Some (count cpus times)) input answer out served = served
+  serves (Some (count cpus times lock)) input answer out served = served
   serves (Some check) input answer out served = served
   serves (Some (run schedule)) input answer out served = asked _ input answer out served
-  serves (Some (threads turns)) input answer out served = absurd served
+  serves (Some (threads turns)) input answer out served = served
 
   pub ends : {words : List Text} {meant : Option Meant} {input : Option (List ℕ)} {status : ℕ} {out err : Output}
       → Ends If words meant input status out err → Ends Where words meant input status out err

@@ -8,6 +8,7 @@ use mathlib.Core.Logic.{dite}
 use native.Mathlib.Decide.{ℕ_discrete, dec_le}
 use lib.ListN.{get_or-append}
 use Rattle.table_machine.proofs.Elements.{last_got, longer_got}
+pub use Rattle.cpu_workers.proofs.Joining.{both_more, both_length, both_then, room_for}
 use Rattle.table_machine.proofs.Fresh.{length_new}
 use Rattle.event_log.proofs.Foreign.{own_others}
 use Rattle.event_log.specs.declared.ids.TheConstants.{CPUS}
@@ -16,18 +17,18 @@ use Rattle.event_log.specs.declared.ids.LockId.{LockId}
 use Rattle.event_log.specs.History.{own_events, same_cpu, same_lock, AreOthers}
 use Rattle.event_log.specs.declared.events.Event.{Event}
 use Rattle.event_log.specs.declared.events.Event.TheVariants.{Draw, Look, Free}
-use Rattle.event_log.specs.WordsLog.{actor, frees}
+use Rattle.event_log.specs.WordsLog.{Outside, actor, frees, standing}
 use Rattle.event_log.specs.Sections.{Section, section_actor}
 use Rattle.event_log.proofs.Same.{same_cpu_self, same_lock_self}
 use Rattle.layer_traits.specs.declared.edits.Mark.{Mark}
 use Rattle.layer_traits.specs.OneLock.{opened}
 use Rattle.layer_traits.specs.Protocol.{section}
 use Rattle.layer_traits.specs.WordsProtocol.{edit_of, sections}
-use Rattle.table_machine.specs.Desks.{Board, Desk, new_desk, new_desks, Covers, IsOver, Closes}
+use Rattle.table_machine.specs.Desks.{Board, Desk, site_of, new_desk, new_desks, Covers, IsOver, Closes}
 use Rattle.mctower.specs.declared.count.AddOne.{AddOne}
 use Rattle.mctower.specs.declared.count.TheConstants.{NUMBER}
 use Rattle.mctower.specs.Count.{counting, sections_at}
-use Rattle.mctower.specs.Workers.{made, MayGoOn, Both, HasMade, AllHaveMade, IsFresh, IsNumberOfFrees}
+use Rattle.mctower.specs.Workers.{made, MayGoOn, Both, HasMade, AllHaveMade, IsFresh, IsNumberOfFrees, nowhere}
 use Rattle.mctower.proofs.CountLemmas.{frees_are_sections, number_is}
 
 one_more : (b : Bool) (k : ℕ) → (if b then k + 1 else k) ≡ k + (if b then 1 else 0)
@@ -60,35 +61,25 @@ goes_on under_way answered s t is waits same =
     let now : under_way ≡ Some s = is ∙ ap (λ b. if b then None else Some s) waits in
     subst (λ (u : Option _). MayGoOn u t) (sym now) same
 
-module _ {A B : Type 0} (Fits : A → B → Type 0) where
-  pub both_more : (xs : List A) (ys : List B) (x : A) (y : B) → Both Fits xs ys → Fits x y → Both Fits (xs ++ x ∷ []) (ys ++ y ∷ [])
-  both_more [] [] x y all one = (one, tt)
-  both_more [] (z ∷ ys) x y all one = absurd all
-  both_more (w ∷ xs) [] x y all one = absurd all
-  both_more (w ∷ xs) (z ∷ ys) x y all one = (all.0, both_more xs ys x y all.1 one)
+-- a board at the table of these numbers
+abbrev board_of : List ℕ → Board ℕ
+board_of (words ∷ slots ∷ views_name ∷ atom ∷ block ∷ offset ∷ names) = record {
+  table = record { words = words; slots = slots; views_name = views_name; atom = atom; block = block; offset = offset; slot_names = names };
+  start = [];
+  cpus = 0;
+}
+board_of numbers = nowhere
 
-  pub both_length : (xs : List A) (ys : List B) → Both Fits xs ys → length ys ≡ length xs
-  both_length [] [] all = refl
-  both_length [] (z ∷ ys) all = absurd all
-  both_length (w ∷ xs) [] all = absurd all
-  both_length (w ∷ xs) (z ∷ ys) all = ap suc (both_length xs ys all.1)
-
-pub both_then : {A B C : Type 0} (P : A → B → Type 0) (Q : B → C → Type 0) (S : A → C → Type 0) → ((a : A) (b : B) (c : C) → P a b → Q b c → S a c)
-    → (xs : List A) (ys : List B) (zs : List C) → Both P xs ys → Both Q ys zs → Both S xs zs
-both_then P Q S step [] [] [] p q = tt
-both_then P Q S step [] [] (z ∷ zs) p q = absurd q
-both_then P Q S step [] (y ∷ ys) zs p q = absurd p
-both_then P Q S step (x ∷ xs) [] zs p q = absurd p
-both_then P Q S step (x ∷ xs) (y ∷ ys) [] p q = absurd q
-both_then P Q S step (x ∷ xs) (y ∷ ys) (z ∷ zs) p q = (step x y z p.0 q.0, both_then P Q S step xs ys zs p.1 q.1)
-
--- there is room for one more, while the list that it follows has one more
-pub room_for : {A B : Type 0} (ys xs rest all : List A) (zs : List B) (x : A) (n cap : ℕ) → ys ++ xs ≡ all → xs ≡ x ∷ rest
-    → length all ≤ cap → length zs ≡ length ys → n ≡ length zs → n < cap
-room_for ys xs rest all zs x n cap whole is room same count =
-    let long : length ys + length xs ≡ length all = sym (length-append ys xs) ∙ ap length whole in
-    let more : length xs ≡ suc (length rest) = ap length is in
-    omega arith
+-- a key that has come back from a seat at its table
+pub has_made : {E B : Type 0} (lock : LockId) (old new : Desk E B) (cpu : CpuId) (times : ℕ) → cpu ≡ old.cpu → cpu ≡ new.cpu
+    → site_of new.table ≡ site_of old.table → standing cpu new.seen ≡ Outside
+    → made cpu lock (sections new.seen) ≡ made cpu lock (sections old.seen) + times → HasMade lock old new times
+has_made lock old new cpu times of is table outside more = record {
+  cpu = sym is ∙ of;
+  table = ap (λ (numbers : List ℕ). (board_of numbers).table) table;
+  outside = subst (λ c. standing c new.seen ≡ Outside) is outside;
+  more = subst (λ c. made c lock (sections new.seen) ≡ made c lock (sections old.seen) + times) of more;
+}
 
 -- what the promise of a worker says of its key
 pub kept_for : {E B : Type 0} (lock : LockId) (d e r : Desk E B) (times turns : ℕ) → e ≡ d → turns ≡ times → HasMade lock e r turns → HasMade lock d r times

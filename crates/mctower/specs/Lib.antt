@@ -7,7 +7,9 @@ pub mod Print
 pub mod Help
 pub mod Workers
 pub mod Plans
+pub mod Texts
 pub mod Running
 pub mod StateLines
+pub mod Threads
 pub mod State
 pub mod Refusals

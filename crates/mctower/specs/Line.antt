@@ -11,6 +11,9 @@ use Rattle.clap.specs.Simple.{with_rule, with_subcommand, subcommand_rows_of}
 use Rattle.clap.specs.declared.parser.matches.ArgMatches.{ArgMatches}
 use Rattle.clap.specs.Faults.{fault_of}
 use Rattle.clap.specs.Kinds.{Kinds}
+use Rattle.boot.specs.declared.locks.LockKind.{LockKind}
+use Rattle.boot.specs.declared.locks.LockKind.TheVariants.{Grant}
+use Rattle.boot.specs.Locks.{lock_named}
 use Rattle.event_log.specs.declared.ids.TheConstants.{CPUS}
 use Rattle.mctower.specs.declared.line.Order.{Order}
 use Rattle.mctower.specs.declared.line.Order.TheVariants.{Count, Run, Threads, Check}
@@ -27,9 +30,9 @@ wanted name = record (new_rule name) { long = Some name; required = true }
 abbrev pub optional : Text → Rule
 optional name = record (new_rule name) { long = Some name }
 
--- `count --cpus n --times k`
+-- `count --cpus n --times k [--lock L]`
 abbrev pub count_app : App
-count_app = with_rule (with_rule (new_app (codes "count")) (wanted (codes "cpus"))) (wanted (codes "times"))
+count_app = with_rule (with_rule (with_rule (new_app (codes "count")) (wanted (codes "cpus"))) (wanted (codes "times"))) (optional (codes "lock"))
 
 -- `run [--schedule S]`
 abbrev pub run_app : App
@@ -59,7 +62,7 @@ program = with_subcommand (with_subcommand (with_subcommand (with_subcommand bar
 
 -- an order as its command and values
 pub data Meant : Type 0 where
-  count : ℕ → ℕ → Meant
+  count : ℕ → ℕ → LockKind → Meant
   run : Option Text → Meant
   threads : ℕ → Meant
   check : Meant
@@ -72,9 +75,15 @@ number_in least most text = if is_unsigned_in least most text then Some (digits_
 abbrev pub number_at : ℕ → ℕ → Text → List Row → Option ℕ
 number_at least most name rows = option_and_then (number_in least most) (first_of name rows)
 
--- the order of the command `count` with these values: 1 to CPUS CPUs, 1 to 1000 sections for each
+-- the lock that is asked for by its name: one with a grant word for each waiter, where none is named
+abbrev pub lock_asked : Option Text → Option LockKind
+lock_asked None = Some Grant
+lock_asked (Some name) = lock_named name
+
+-- the order of the command `count` with these values: 1 to CPUS CPUs, 1 to 1000 sections for each, and the lock
 abbrev pub count_in : List Row → Option Meant
-count_in rows = option_and_then (λ cpus. option_map (λ times. count cpus times) (number_at 1 1000 (codes "times") rows)) (number_at 1 CPUS (codes "cpus") rows)
+count_in rows = option_and_then (λ cpus. option_and_then (λ times. option_map (λ lock. count cpus times lock)
+    (lock_asked (first_of (codes "lock") rows))) (number_at 1 1000 (codes "times") rows)) (number_at 1 CPUS (codes "cpus") rows)
 
 -- the order of the command `run` with these values
 abbrev pub run_in : List Row → Option Meant
@@ -104,28 +113,13 @@ is_faultless (kind ∷ kinds) = false
 unfoldable pub is_taken : List Text → Bool
 is_taken words = is_faultless (fault_of program words)
 
--- a server stands for the command: for each but `threads`
-abbrev pub is_served : Meant → Bool
-is_served (count _ _) = true
-is_served (run _) = true
-is_served (threads _) = false
-is_served check = true
-
--- the order, if its command is served
-abbrev pub if_served : Meant → Option Meant
-if_served meant = if is_served meant then Some meant else None
-
--- the order of a command that is served, by its name and its values
-abbrev pub served_order : Text × List Row → Option Meant
-served_order found = option_and_then if_served (order_in found)
-
--- the order that the words mean, if the rules take them, each number is in its range and the command is served
+-- the order that the words mean, if the rules take them and each number is in its range
 abbrev pub order_of : List Text → Option Meant
-order_of words = if is_taken words then option_and_then served_order (found_in words) else None
+order_of words = if is_taken words then option_and_then order_in (found_in words) else None
 
 -- what an order stands for
 abbrev pub meant_by : Order → Meant
-meant_by (Count cpus times) = count cpus times
+meant_by (Count cpus times lock) = count cpus times lock
 meant_by (Run schedule) = run (option_map string_bytes schedule)
 meant_by (Threads turns) = threads turns
 meant_by Check = check

@@ -15,6 +15,8 @@ use Rattle.mctower.specs.declared.schedule.StepsError.{StepsError}
 use Rattle.mctower.specs.declared.schedule.StepsError.TheVariants as steps
 use Rattle.mctower.specs.declared.workers.CountFault.{CountFault}
 use Rattle.mctower.specs.declared.workers.CountFault.TheVariants as count
+use Rattle.cpu_workers.specs.declared.starting.WorkerError.{WorkerError}
+use Rattle.cpu_workers.specs.declared.starting.WorkerError.TheVariants as worker
 
 -- the refusal of a run that had this fault
 abbrev pub from_fault : Fault → Refusal
@@ -28,6 +30,11 @@ from_fault run.WriteFault = WriteFault
 abbrev pub from_count : CountFault → Refusal
 from_count count.NoMemory = NoMemory
 from_count count.NoThread = NoThread
+
+-- the refusal where no worker took a step
+abbrev pub from_worker : WorkerError → Refusal
+from_worker worker.NoMemory = NoMemory
+from_worker worker.NoThread = NoThread
 
 -- the refusal of words that are no order
 abbrev pub from_line : LineError → Refusal

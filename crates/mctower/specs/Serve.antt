@@ -1,10 +1,12 @@
 -- What serving an order gives: the answer, what is on standard output and on standard error, and whether the input is read.
 use Rattle.std.specs.Prelude.{◌≡◌, ◌*◌, ◌++◌, ◌⊎◌, ℕ, Bool, true, false, List, [], ◌∷◌, Option, Some, None}
 use Rattle.std.specs.Prelude.{Result, Ok, Err, Vec, IfSome, IsUtf8, codes, decimal, if◌then◌else◌, is_some}
+use Rattle.std.specs.Global.{Global}
 use Rattle.std.specs.declared.io.ErrorKind.{ErrorKind}
 use Rattle.std.specs.declared.io.ErrorKind.TheVariants.{OutOfMemory}
 use Rattle.clap.specs.Walk.{Text}
 use Rattle.event_log.specs.declared.ids.CpuId.{CpuId}
+use Rattle.boot.specs.declared.locks.LockKind.{LockKind}
 use Rattle.boot.specs.declared.refusals.BootError.{BootError}
 use Rattle.boot.specs.declared.refusals.BootError.TheVariants.{BadToml}
 use Rattle.boot.specs.Plan.{BootPlan, plan_of}
@@ -17,18 +19,22 @@ use Rattle.mctower.specs.Output.{IsPut, IsUntouched, Output}
 use Rattle.mctower.specs.Refusals.{Told, status_of_refusal, text_of}
 use Rattle.mctower.specs.declared.refusals.Refusal.{Refusal}
 use Rattle.mctower.specs.declared.refusals.Refusal.TheVariants.{BadLine, NoMemory, BadCpu, NoThread, ReadFault, WriteFault, BadSchedule, Plan as BadPlan}
-use Rattle.cpu.specs.Claims.{Shown}
-use Rattle.mctower.specs.Running.{AreCpus, IsRunOf, IsTextOf}
+use Rattle.cpu.specs.Claims.{Shown, traces_of}
+use Rattle.cpu_workers.specs.declared.stops.Stop.{Stop}
+use Rattle.mctower.specs.Running.{AreCpus, IsRunOf}
 use Rattle.mctower.specs.State.{IsStateOf, text_of_state}
 use Rattle.mctower.specs.declared.serve.Done.{Done}
-use Rattle.mctower.specs.declared.serve.Done.TheVariants.{Exit, Ran}
+use Rattle.mctower.specs.declared.serve.Done.TheVariants.{Exit, Ran, Worked}
 use Rattle.mctower.specs.declared.states.State.{State}
 use Rattle.mctower.specs.Schedule.{steps_of}
+use Rattle.mctower.specs.Texts.{IsTextOf}
+use Rattle.mctower.specs.Threads.{IsWorked, stop_text}
 
 -- the exit status of an answer
 abbrev pub status_of : Result Done Refusal → ℕ
 status_of (Ok (Exit status)) = status
 status_of (Ok (Ran state)) = 0
+status_of (Ok (Worked stops)) = 0
 status_of (Err refusal) = status_of_refusal refusal
 
 -- the answer is this refusal, and nothing was written
@@ -82,6 +88,25 @@ Checks input answer out = RefusedBy NoMemory answer out
     ⊎ (RefusedBy ReadFault answer out
     ⊎ ((text : List ℕ) × IsInput input text × Tells (verdict_of text) answer out))
 
+-- ---- plans
+
+-- what is meant for a plan is so; or the text is no plan, and that is told as its first fault
+abbrev pub OfPlan : (BootPlan → Result Done Refusal → Output → Type 0) → Result BootPlan BootError → Result Done Refusal → Output → Type 0
+OfPlan Means (Ok plan) answer out = Means plan answer out
+OfPlan Means (Err error) answer out = RefusedBy (BadPlan error) answer out
+
+-- it is so for the plan of these bytes; bytes that are no UTF-8 are no document; want of memory aside
+abbrev pub OfBytes : (BootPlan → Result Done Refusal → Output → Type 0) → List ℕ → Result Done Refusal → Output → Type 0
+OfBytes Means bytes answer out = RefusedBy NoMemory answer out
+    ⊎ (((¬ IsUtf8 bytes) × RefusedBy (BadPlan BadToml) answer out)
+    ⊎ (IsUtf8 bytes × OfPlan Means (plan_of bytes) answer out))
+
+-- it is so for the input's plan, or the input was not read
+abbrev pub OfInput : (BootPlan → Result Done Refusal → Output → Type 0) → Option (List ℕ) → Result Done Refusal → Output → Type 0
+OfInput Means input answer out = RefusedBy NoMemory answer out
+    ⊎ (RefusedBy ReadFault answer out
+    ⊎ ((bytes : List ℕ) × IsInput input bytes × OfBytes Means bytes answer out))
+
 -- ---- run
 
 -- what is to be told is the system's state; or the output failed
@@ -99,26 +124,13 @@ pub record RunsTrace (IsStepwise : Type 0) (plan : BootPlan) (steps : List CpuId
   pub system : Shown
   pub ran : IsRunOf IsStepwise plan steps system
   pub trace : List ℕ
-  pub traced : IsTextOf plan.caps system trace
+  pub traced : IsTextOf plan.caps (traces_of system) system.contents trace
   pub put : PutsRun IsStepwise system trace answer printed
 
--- the plan is run, or a step is of no CPU of it; or the text is no plan, and that is told as its first fault
-abbrev pub RunsPlan : Type 0 → Result BootPlan BootError → List CpuId → Result Done Refusal → Output → Type 0
-RunsPlan IsStepwise (Ok plan) steps answer out = ((¬ AreCpus plan.cpus steps) × RefusedBy BadCpu answer out)
-    ⊎ RunsTrace IsStepwise plan steps answer out
-RunsPlan IsStepwise (Err error) steps answer out = RefusedBy (BadPlan error) answer out
-
--- the plan of these bytes is run; bytes that are no UTF-8 are no document; want of memory aside
-abbrev pub RunsBytes : Type 0 → List ℕ → List CpuId → Result Done Refusal → Output → Type 0
-RunsBytes IsStepwise bytes steps answer out = RefusedBy NoMemory answer out
-    ⊎ (((¬ IsUtf8 bytes) × RefusedBy (BadPlan BadToml) answer out)
-    ⊎ (IsUtf8 bytes × RunsPlan IsStepwise (plan_of bytes) steps answer out))
-
--- the input's plan is run under these steps, or the input was not read
-abbrev pub Runs : Type 0 → Option (List ℕ) → List CpuId → Result Done Refusal → Output → Type 0
-Runs IsStepwise input steps answer out = RefusedBy NoMemory answer out
-    ⊎ (RefusedBy ReadFault answer out
-    ⊎ ((bytes : List ℕ) × IsInput input bytes × RunsBytes IsStepwise bytes steps answer out))
+-- the plan is run over the lock that it names, or a step is of no CPU of it
+abbrev pub RunsPlan : (LockKind → Type 0) → List CpuId → BootPlan → Result Done Refusal → Output → Type 0
+RunsPlan IsStepwise steps plan answer out = ((¬ AreCpus plan.cpus steps) × RefusedBy BadCpu answer out)
+    ⊎ RunsTrace (IsStepwise plan.lock) plan steps answer out
 
 -- the steps that a schedule asks for: none without one
 abbrev pub steps_asked : Option Text → Option (List CpuId)
@@ -126,29 +138,43 @@ steps_asked None = Some []
 steps_asked (Some text) = steps_of text
 
 -- the steps are run; what is no schedule is a bad command line, want of memory aside
-abbrev pub RunsAsked : Type 0 → Option (List CpuId) → Option (List ℕ) → Result Done Refusal → Output → Type 0
-RunsAsked IsStepwise (Some steps) input answer out = Runs IsStepwise input steps answer out
+abbrev pub RunsAsked : (LockKind → Type 0) → Option (List CpuId) → Option (List ℕ) → Result Done Refusal → Output → Type 0
+RunsAsked IsStepwise (Some steps) input answer out = OfInput (RunsPlan IsStepwise steps) input answer out
 RunsAsked IsStepwise None input answer out = RefusedBy NoMemory answer out ⊎ RefusedBy BadSchedule answer out
+
+-- ---- threads
+
+-- the plan's workers have run, each for so many turns, and the trace text of what they left is written; what is to be told is their stops
+pub record WorksTrace (plan : BootPlan) (turns : ℕ) (answer : Result Done Refusal) (printed : Output) : Type 0 where
+  pub stops : Vec Stop Global
+  pub trace : List ℕ
+  pub worked : IsWorked plan turns stops.items trace
+  pub put : Puts (Worked stops) trace answer printed
+
+-- the plan's workers have run, or a thread could not be started
+abbrev pub WorksPlan : ℕ → BootPlan → Result Done Refusal → Output → Type 0
+WorksPlan turns plan answer out = RefusedBy NoThread answer out ⊎ WorksTrace plan turns answer out
 
 -- ---- any order
 
 -- Serving what the words mean: the answer, and what became of standard output. The bytes on standard
--- input are `input`, where they are known. Memory or the input may be wanting always.
-abbrev pub Serves : Type 0 → Option Meant → Option (List ℕ) → Result Done Refusal → Output → Type 0
+-- input are `input`, where they are known. Memory or the input may be wanting always. What is said of layers of which each poll is one
+-- action is said of those over the lock that the plan names.
+abbrev pub Serves : (LockKind → Type 0) → Option Meant → Option (List ℕ) → Result Done Refusal → Output → Type 0
 Serves IsStepwise None input answer out = RefusedBy NoMemory answer out ⊎ RefusedBy BadLine answer out
-Serves IsStepwise (Some (count cpus times)) input answer out = Counts (times * cpus) answer out
+Serves IsStepwise (Some (count cpus times lock)) input answer out = Counts (times * cpus) answer out
 Serves IsStepwise (Some check) input answer out = Checks input answer out
 Serves IsStepwise (Some (run schedule)) input answer out = RunsAsked IsStepwise (steps_asked schedule) input answer out
--- no such order is taken
-Serves IsStepwise (Some (threads turns)) input answer out = ⊥
+Serves IsStepwise (Some (threads turns)) input answer out = OfInput (WorksPlan turns) input answer out
 
 -- ---- standard error
 
--- what is on standard error, by the answer to these words: the state lines after a good run, nothing after a yes, a no or a count; else what
--- tells the refusal
+-- what is on standard error, by the answer to these words: the state lines after a good run, why each worker stopped after one in threads,
+-- nothing after a yes, a no or a count; else what tells the refusal
 abbrev pub Reports : List Text → Result Done Refusal → Output → Type 0
 Reports words (Ok (Exit status)) out = IsUntouched out
 Reports words (Ok (Ran state)) out = IsPut out (text_of_state state)
+Reports words (Ok (Worked stops)) out = IsPut out (stop_text stops.items)
 Reports words (Err refusal) out = Told (text_of words refusal) out
 
 -- there is one answer by which the exit status and standard error are
@@ -158,23 +184,23 @@ pub record EndsTold (words : List Text) (status : ℕ) (err : Output) : Type 0 w
   pub told : Reports words answer err
 
 -- A command line is served: there is one answer by which the exit status, standard output and standard error are.
-pub record Ends (IsStepwise : Type 0) (words : List Text) (meant : Option Meant) (input : Option (List ℕ)) (status : ℕ)
+pub record Ends (IsStepwise : LockKind → Type 0) (words : List Text) (meant : Option Meant) (input : Option (List ℕ)) (status : ℕ)
     (out err : Output) : Type 0 where
   pub answer : Result Done Refusal
   pub ends : status ≡ status_of answer
   pub served : Serves IsStepwise meant input answer out
   pub told : Reports words answer err
 
--- Serving over layers of which each poll is one action: what is said of such layers holds without a condition.
-abbrev pub NoCondition : Type 0
-NoCondition = Unit {0}
+-- Serving over layers of which each poll is one action: what is said of such layers holds without a condition, whichever lock is beneath.
+abbrev pub NoCondition : LockKind → Type 0
+NoCondition lock = Unit {0}
 
 -- ---- standard input
 
--- whether the input is read for these words: for a check, and for a run whose schedule is one
+-- whether the input is read for these words: for a check, for a run whose schedule is one, and for a run in threads
 abbrev pub reads_input : Option Meant → Bool
 reads_input None = false
-reads_input (Some (count cpus times)) = false
+reads_input (Some (count cpus times lock)) = false
 reads_input (Some check) = true
 reads_input (Some (run schedule)) = is_some (steps_asked schedule)
-reads_input (Some (threads turns)) = false
+reads_input (Some (threads turns)) = true

@@ -45,9 +45,13 @@ with_number name (Some n) = name ++ (codes "(" ++ (decimal n ++ codes ")"))
 abbrev pub place_word : Place → List ℕ
 place_word place = with_number (place_name place) (place_number place)
 
--- the line of a CPU
-abbrev pub cpu_pieces : ℕ → Option Reason → List (List ℕ)
-cpu_pieces c halted = codes "cpu" ∷ decimal c ∷ halted_word halted ∷ []
+-- the line of a CPU, with this word
+abbrev pub cpu_pieces : ℕ → List ℕ → List (List ℕ)
+cpu_pieces c word = codes "cpu" ∷ decimal c ∷ word ∷ []
+
+-- the line of a CPU that is live or halted
+abbrev pub halted_pieces : ℕ → Option Reason → List (List ℕ)
+halted_pieces c halted = cpu_pieces c (halted_word halted)
 
 -- the line of a thread
 abbrev pub thread_pieces : ℕ → Place → List (List ℕ)
@@ -60,4 +64,4 @@ quiet_pieces quiet = codes "quiet" ∷ (if quiet then codes "yes" else codes "no
 -- the state lines: a line for each CPU and one for each thread, each by rising number, and a last one on the whole system
 abbrev pub state_text : List (Option Reason) → List Place → Bool → List ℕ
 state_text halted places quiet =
-    flat_map line_of (numbered cpu_pieces 0 halted) ++ (flat_map line_of (numbered thread_pieces 0 places) ++ line_of (quiet_pieces quiet))
+    flat_map line_of (numbered halted_pieces 0 halted) ++ (flat_map line_of (numbered thread_pieces 0 places) ++ line_of (quiet_pieces quiet))

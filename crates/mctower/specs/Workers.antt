@@ -1,5 +1,5 @@
 -- What a worker leaves: its CPU has done so many sections more.
-use Rattle.std.specs.Prelude.{◌≡◌, ℕ, ◌+◌, ◌≤◌, List, [], ◌∷◌, slice_get, Option, None, Some, MatchOption}
+use Rattle.std.specs.Prelude.{◌≡◌, ℕ, ◌+◌, ◌≤◌, List, [], slice_get, Option, None, Some, MatchOption}
 use Rattle.event_log.specs.declared.ids.CpuId.{CpuId}
 use Rattle.event_log.specs.declared.ids.LockId.{LockId}
 use Rattle.event_log.specs.declared.events.Event.{Event}
@@ -11,6 +11,7 @@ use Rattle.layer_traits.specs.OneLock.{opened}
 use Rattle.layer_traits.specs.Protocol.{Rules}
 use Rattle.layer_traits.specs.WordsProtocol.{MayCome, sections}
 use Rattle.table_machine.specs.Desks.{Board, Desk, IsIn, new_desk}
+pub use Rattle.cpu_workers.specs.Reports.{Both}
 use Rattle.mctower.specs.Count.{sections_at}
 
 -- how many sections at this lock are this CPU's
@@ -44,13 +45,6 @@ pub record HasMade {E B : Type 0} (lock : LockId) (old new : Desk E B) (times : 
 -- a worker that did not start leaves nothing
 abbrev pub MayHaveMade : {E B : Type 0} → LockId → Desk E B → Option (Desk E B) → ℕ → Type 0
 MayHaveMade lock old came times = MatchOption came (Unit {0}) (λ new. HasMade lock old new times)
-
--- each element of the one list has its own in the other, in order
-abbrev pub Both : {A B : Type 0} → (A → B → Type 0) → List A → List B → Type 0
-Both Fits [] [] = Unit {0}
-Both Fits [] (y ∷ ys) = ⊥
-Both Fits (x ∷ xs) [] = ⊥
-Both Fits (x ∷ xs) (y ∷ ys) = Fits x y × Both Fits xs ys
 
 -- each key has come back after so many sections of its CPU
 abbrev pub AllHaveMade : {E B : Type 0} → LockId → List (Desk E B) → List (Desk E B) → ℕ → Type 0

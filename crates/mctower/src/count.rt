@@ -3,16 +3,15 @@
 ghost use Rattle.std.specs.Prelude.{◌≡◌, ℕ, ◌+◌, ◌*◌, ◌<◌, ◌≤◌, ◌%◌, ◌^◌, Some, None, IsSome, IfOk, [], length};
 ghost use Rattle.event_log.specs.declared.ids.CpuId.{CpuId};
 ghost use Rattle.event_log.specs.declared.ids.TheConstants.{CPUS};
-ghost use Rattle.event_log.specs.Actions.{acts_of, phase, Rests};
-ghost use Rattle.event_log.specs.WordsLog.{frees, standing, Outside};
-ghost use Rattle.layer_traits.specs.WordsProtocol.{edit_of};
+ghost use Rattle.event_log.specs.Actions.{gives, phase, Rests};
 ghost use Rattle.mctower.specs.Count.{AreReady, after_round, after_rounds, counting, sections_at};
 
 use crate::line::MOST_TIMES;
+use boot::LockKind;
 use event_log::{BufId, CpuId, LockId, NoMemory};
-use layer_traits::{Edit, LockLayer, Words};
-use plain_machine::Plain;
-use spinlock::{Ticket, whole};
+use layer_traits::{Edit, LockLayer, OwnedLocks};
+use plain_machine::{GrantPlain, Plain};
+use spinlock::{Grant, Ticket, whole};
 use std::alloc::{AllocError, Global};
 
 /// The lock that guards the number.
@@ -90,17 +89,21 @@ fn parts_of<L: LockLayer<AddOne> + Drop>(alloc: Global, cpus: u8) -> Result<Vec<
 }
 
 /// An owned machine with the number 0 behind its lock, and room for `events` events.
-fn number_machine(alloc: Global, events: usize) -> Result<Plain<AddOne>, NoMemory>
-    ensures owned { IfOk result (λ m. (c : CpuId) → c.0 < CPUS → ⟦<Plain<AddOne> as Words>⟧.ActsFor m c) }
-    ensures opening { IfOk result (λ m. ⟦<Plain<AddOne> as Words>⟧.opening m NUMBER ≡ Some 0) }
-    ensures seen { IfOk result (λ m. ⟦<Plain<AddOne> as Words>⟧.seen m ≡ []) }
-    ensures room { IfOk result (λ m. ⟦<Plain<AddOne> as Words>⟧.room m ≡ events) }
+fn number_machine<L: OwnedLocks<AddOne>>(
+    alloc: Global,
+    events: usize,
+) -> Result<L::Machine, NoMemory>
+    ensures owned { IfOk result (λ m. (c : CpuId) → c.0 < CPUS → L.ActsFor m c) }
+    ensures opening { IfOk result (λ m. L.opening m NUMBER ≡ Some 0) }
+    ensures outside { IfOk result (λ m. (c : CpuId) → L.IsOutside m c) }
+    ensures none { IfOk result (λ m. L.acts m ≡ []) }
+    ensures room { IfOk result (λ m. L.room m ≡ events) }
 {
     let mut blocks = Vec::new(alloc);
     if blocks.push((NUMBER, 0)).is_err() {
         return Err(NoMemory);
     }
-    Plain::open(alloc, blocks, events)
+    L::open(alloc, blocks, events)
 }
 
 /// The owned machine after each of `cpus` CPUs has done `times` sections that add 1 to the number,
@@ -108,43 +111,71 @@ fn number_machine(alloc: Global, events: usize) -> Result<Plain<AddOne>, NoMemor
 /// its part of the lock over all of its sections.
 ///
 /// Errors: `NoMemory` where the machine or the parts could not be had; then no section was done.
-pub fn count_rounds(alloc: Global, cpus: u8, times: u64) -> Result<Plain<AddOne>, NoMemory>
+pub fn count_rounds<L: OwnedLocks<AddOne> + Drop>(
+    alloc: Global,
+    cpus: u8,
+    times: u64,
+) -> Result<L::Machine, NoMemory>
+where
+    L::Machine: Drop,
+    requires stepwise { L.IsStepwise }
     requires cpus { cpus ≤ CPUS }
     requires times { times ≤ MOST_TIMES }
-    ensures owned { IfOk result (λ m. (c : CpuId) → c.0 < CPUS → ⟦<Plain<AddOne> as Words>⟧.ActsFor m c) }
-    ensures opening { IfOk result (λ m. ⟦<Plain<AddOne> as Words>⟧.opening m NUMBER ≡ Some 0) }
-    ensures rests { IfOk result (λ m. (c : CpuId) → standing c (⟦<Plain<AddOne> as Words>⟧.seen m) ≡ Outside) }
-    ensures counted { IfOk result (λ m. frees NUMBER (⟦<Plain<AddOne> as Words>⟧.seen m) ≡ times * cpus) }
-    ensures order { IfOk result (λ m. acts_of edit_of (⟦<Plain<AddOne> as Words>⟧.seen m) ≡ after_rounds NUMBER cpus times []) }
+    ensures owned { IfOk result (λ m. (c : CpuId) → c.0 < CPUS → L.ActsFor m c) }
+    ensures opening { IfOk result (λ m. L.opening m NUMBER ≡ Some 0) }
+    ensures rests { IfOk result (λ m. (c : CpuId) → phase c (L.acts m) ≡ Rests) }
+    ensures counted { IfOk result (λ m. gives NUMBER (L.acts m) ≡ times * cpus) }
+    ensures order { IfOk result (λ m. L.acts m ≡ after_rounds NUMBER cpus times []) }
 {
-    let mut machine = number_machine(alloc, 3 * times as usize * cpus as usize)?;
-    let Ok(mut parts) = parts_of::<Ticket<Plain<AddOne>>>(alloc, cpus) else {
+    let mut machine = number_machine::<L>(alloc, 3 * times as usize * cpus as usize)?;
+    let Ok(mut parts) = parts_of::<L>(alloc, cpus) else {
         return Err(NoMemory);
     };
     rounds(parts.as_mut_slice(), &mut machine, NUMBER, times);
     Ok(machine)
 }
 
-/// The number of an owned machine at rest: how often its lock was freed, modulo 2^64.
-pub fn number_in(machine: &Plain<AddOne>) -> u64
-    requires owned { (c : CpuId) × ⟦<Plain<AddOne> as Words>⟧.ActsFor machine.now c }
-    requires opening { ⟦<Plain<AddOne> as Words>⟧.opening machine.now NUMBER ≡ Some 0 }
-    requires rests { (c : CpuId) → standing c (⟦<Plain<AddOne> as Words>⟧.seen machine.now) ≡ Outside }
-    ensures { result ≡ frees NUMBER (⟦<Plain<AddOne> as Words>⟧.seen machine.now) % 2 ^ 64 }
+/// The number of an owned machine at rest: how often its lock was given on, modulo 2^64.
+pub fn number_in<L: OwnedLocks<AddOne>>(machine: &L::Machine) -> u64
+    requires stepwise { L.IsStepwise }
+    requires owned { (c : CpuId) × L.ActsFor machine.now c }
+    requires opening { L.opening machine.now NUMBER ≡ Some 0 }
+    requires rests { (c : CpuId) → phase c (L.acts machine.now) ≡ Rests }
+    ensures { result ≡ gives NUMBER (L.acts machine.now) % 2 ^ 64 }
 {
-    *machine.home(NUMBER).unwrap()
+    *L::block_in(machine, NUMBER).unwrap()
 }
 
-/// Counts over the owned machine: each of `cpus` CPUs does `times` sections that add 1.
-///
-/// Errors: `NoMemory` where memory ran out; then no section was done.
-pub fn count_plain(alloc: Global, cpus: u8, times: u64) -> Result<u64, NoMemory>
+/// Counts over the owned machine behind this lock: as [`count_plain`].
+fn count_behind<L: OwnedLocks<AddOne> + Drop>(
+    alloc: Global,
+    cpus: u8,
+    times: u64,
+) -> Result<u64, NoMemory>
+where
+    L::Machine: Drop,
+    requires stepwise { L.IsStepwise }
     requires cpus { cpus ≤ CPUS }
     requires times { times ≤ MOST_TIMES }
     ensures { IfOk result (λ number. number ≡ times * cpus) }
 {
-    let machine = count_rounds(alloc, cpus, times)?;
-    Ok(number_in(&machine))
+    let machine = count_rounds::<L>(alloc, cpus, times)?;
+    Ok(number_in::<L>(&machine))
+}
+
+/// Counts over the owned machine with locks of this kind: each of `cpus` CPUs does `times` sections
+/// that add 1.
+///
+/// Errors: `NoMemory` where memory ran out; then no section was done.
+pub fn count_plain(alloc: Global, cpus: u8, times: u64, lock: LockKind) -> Result<u64, NoMemory>
+    requires cpus { cpus ≤ CPUS }
+    requires times { times ≤ MOST_TIMES }
+    ensures { IfOk result (λ number. number ≡ times * cpus) }
+{
+    match lock {
+        LockKind::Ticket => count_behind::<Ticket<Plain<AddOne>>>(alloc, cpus, times),
+        LockKind::Grant => count_behind::<Grant<GrantPlain<AddOne>>>(alloc, cpus, times),
+    }
 }
 
 #[cfg(test)]
@@ -154,19 +185,31 @@ mod tests {
 
     #[test]
     fn each_section_adds_one(rt: HostRuntime) -> Result<(), Fail> {
-        assert_eq!(rt; count_plain(rt.alloc(), 2, 3)?, 6);
-        assert_eq!(rt; count_plain(rt.alloc(), 1, 1)?, 1);
-        assert_eq!(rt; count_plain(rt.alloc(), 8, 1000)?, 8000);
+        assert_eq!(rt; count_plain(rt.alloc(), 2, 3, LockKind::Ticket)?, 6);
+        assert_eq!(rt; count_plain(rt.alloc(), 1, 1, LockKind::Grant)?, 1);
+        assert_eq!(rt; count_plain(rt.alloc(), 8, 1000, LockKind::Ticket)?, 8000);
+        assert_eq!(rt; count_plain(rt.alloc(), 8, 1000, LockKind::Grant)?, 8000);
+        Ok(())
+    }
+
+    // Two sections of one CPU, as where a CPU whose thread waits takes from its pending queue twice.
+    #[test]
+    fn two_sections_leave_two_ticket_words(rt: HostRuntime) -> Result<(), Fail> {
+        let machine = count_rounds::<Ticket<Plain<AddOne>>>(rt.alloc(), 1, 2)?;
+        let words = machine.words(NUMBER);
+        assert_eq!(rt; words.next, 2);
+        assert_eq!(rt; words.serving, 2);
+        assert_eq!(rt; number_in::<Ticket<Plain<AddOne>>>(&machine), 2);
         Ok(())
     }
 
     #[test]
-    fn the_log_holds_three_events_a_section(rt: HostRuntime) -> Result<(), Fail> {
-        let machine = count_rounds(rt.alloc(), 2, 3)?;
+    fn two_sections_leave_three_grant_words(rt: HostRuntime) -> Result<(), Fail> {
+        let machine = count_rounds::<Grant<GrantPlain<AddOne>>>(rt.alloc(), 1, 2)?;
         let words = machine.words(NUMBER);
-        assert_eq!(rt; words.next, 6);
-        assert_eq!(rt; words.serving, 6);
-        assert_eq!(rt; number_in(&machine), 6);
+        assert_eq!(rt; words.next, 2);
+        assert_eq!(rt; words.words, [1, 2, 3, 0, 0, 0, 0, 0]);
+        assert_eq!(rt; number_in::<Grant<GrantPlain<AddOne>>>(&machine), 2);
         Ok(())
     }
 

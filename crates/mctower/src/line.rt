@@ -1,14 +1,15 @@
 //! The command line: which order the words after the program's name make.
-ghost use Rattle.std.specs.Prelude.{◌≡◌, IfOk, OkIff, map, option_map, true, false};
+ghost use Rattle.std.specs.Prelude.{◌≡◌, IfOk, OkIff, codes, map, option_map, true, false};
 ghost use Rattle.clap.specs.Simple.{app_of, subcommand_rows_of};
 ghost use Rattle.clap.specs.Matches.{found_of};
-ghost use Rattle.clap.specs.Walk.{rows_of, rule_of};
+ghost use Rattle.clap.specs.Walk.{first_of, rows_of, rule_of};
 ghost use Rattle.clap.specs.declared.builder.command.Command.TheViews.{out-Command};
 ghost use Rattle.mctower.specs.declared.line.LineError.TheVariants.{NoMemory};
 ghost use Rattle.mctower.specs.Line.{Reads, check_app, count_app, count_in, number_in, number_at};
-ghost use Rattle.mctower.specs.Line.{optional, order_of, program, run_app, threads_app, wanted};
-ghost use Rattle.mctower.specs.Line.{threads_in, run_in, order_in, is_served, meant_by, served_order, Finds};
+ghost use Rattle.mctower.specs.Line.{lock_asked, optional, order_of, program, run_app, threads_app, wanted};
+ghost use Rattle.mctower.specs.Line.{threads_in, run_in, order_in, Finds};
 
+use boot::LockKind;
 use clap::error::ErrorKind;
 use clap::{Arg, ArgMatches, Command};
 use event_log::CPUS;
@@ -22,21 +23,12 @@ pub const MOST_TIMES: u64 = 1000;
 /// The most turns that `threads` gives each CPU.
 pub const MOST_TURNS: u64 = 1_000_000_000;
 
-/// Whether `count` is served; a command that is not is refused.
-pub const SERVES_COUNT: bool = true;
-/// Whether `run` is served.
-pub const SERVES_RUN: bool = true;
-/// Whether `threads` is served.
-pub const SERVES_THREADS: bool = false;
-/// Whether `check` is served.
-pub const SERVES_CHECK: bool = true;
-
 /// What the program is asked to do.
 #[derive(Debug, Drop)]
 pub enum Order {
     /// Adds 1 to one number in sections of several CPUs: how many CPUs (1 to `MOST_CPUS`), and how
-    /// many sections for each (1 to 1000).
-    Count(u8, u64),
+    /// many sections for each (1 to 1000), and behind which lock.
+    Count(u8, u64, LockKind),
     /// Runs the plan on standard input under this schedule; without one no step is taken.
     Run(Option<String>),
     /// Runs the plan on standard input with one thread for each CPU, each with at most that many
@@ -77,7 +69,8 @@ fn count_command<'a>(alloc: Global) -> Result<Command<'a>, AllocError>
 {
     Command::new(alloc, "count")
         .arg(needed(alloc, "cpus"))?
-        .arg(needed(alloc, "times"))
+        .arg(needed(alloc, "times"))?
+        .arg(Arg::new(alloc, "lock").long("lock"))
 }
 
 fn run_command<'a>(alloc: Global) -> Result<Command<'a>, AllocError>
@@ -142,6 +135,16 @@ fn number_of(matches: &ArgMatches<'_>, name: &str, least: u64, most: u64) -> Opt
     number(matches.get_str(name)?, least, most)
 }
 
+// The lock that is asked for; the one with grant words, where none is named.
+fn lock_of(matches: &ArgMatches<'_>) -> Option<LockKind>
+    ensures { result ≡ lock_asked (first_of (codes "lock") (rows_of (found_of matches.now))) }
+{
+    match matches.get_str("lock") {
+        Some(name) => LockKind::named(name),
+        None => Some(LockKind::Grant),
+    }
+}
+
 fn count_order(matches: &ArgMatches<'_>) -> Result<Order, LineError>
     ensures { Reads (count_in (rows_of (found_of matches.now))) result }
 {
@@ -151,7 +154,10 @@ fn count_order(matches: &ArgMatches<'_>) -> Result<Order, LineError>
     let Some(times) = number_of(matches, "times", 1, MOST_TIMES) else {
         return Err(LineError::Refused);
     };
-    Ok(Order::Count(cpus as u8, times))
+    let Some(lock) = lock_of(matches) else {
+        return Err(LineError::Refused);
+    };
+    Ok(Order::Count(cpus as u8, times, lock))
 }
 
 fn threads_order(matches: &ArgMatches<'_>) -> Result<Order, LineError>
@@ -185,40 +191,17 @@ fn order_named(alloc: Global, name: &str, matches: &ArgMatches<'_>) -> Result<Or
     }
 }
 
-fn is_served(order: &Order) -> bool
-    ensures { result ≡ is_served (meant_by order.now) }
-{
-    match order {
-        Order::Count(_, _) => SERVES_COUNT,
-        Order::Run(_) => SERVES_RUN,
-        Order::Threads(_) => SERVES_THREADS,
-        Order::Check => SERVES_CHECK,
-    }
-}
-
-// The order of the command of this name, if it is served.
-fn served_order(alloc: Global, name: &str, matches: &ArgMatches<'_>) -> Result<Order, LineError>
-    ensures { Reads (served_order (name.now, rows_of (found_of matches.now))) result }
-{
-    let order = order_named(alloc, name, matches)?;
-    if is_served(&order) {
-        Ok(order)
-    } else {
-        Err(LineError::Refused)
-    }
-}
-
 /// Reads the words after the program's name, by the rules of `clap`.
 ///
-/// The order is given exactly where those rules find no fault in the words, each number is in its
-/// range (as `clap` reads a number, so `+2` and `007` are numbers) and the command is served. A
-/// request for help and no word at all are refused. `NoMemory` comes only where memory ran out.
+/// The order is given exactly where those rules find no fault in the words and each number is in its
+/// range (as `clap` reads a number, so `+2` and `007` are numbers). A request for help and no word at
+/// all are refused. `NoMemory` comes only where memory ran out.
 pub fn read_line(alloc: Global, words: &[&str]) -> Result<Order, LineError>
     ensures { Reads (order_of (map (λ w. w.now) words.now)) result }
 {
     let matches = matches_in(alloc, words)?;
     match matches.subcommand() {
-        Some((name, inner)) => served_order(alloc, name, inner),
+        Some((name, inner)) => order_named(alloc, name, inner),
         None => Err(LineError::Refused),
     }
 }
@@ -229,23 +212,31 @@ mod tests {
     use std::test::Fail;
 
     #[test]
-    fn count_has_its_two_values(rt: HostRuntime) -> Result<(), Fail> {
+    fn count_has_its_values(rt: HostRuntime) -> Result<(), Fail> {
         let words = ["count", "--cpus", "2", "--times", "3"];
-        assert!(rt; matches!(read_line(rt.alloc(), words.as_slice())?, Order::Count(2, 3)));
-        let joined = ["count", "--times=1000", "--cpus=8"];
+        assert!(rt;
+            matches!(
+                read_line(rt.alloc(), words.as_slice())?,
+                Order::Count(2, 3, LockKind::Grant)
+            )
+        );
+        let joined = ["count", "--lock=ticket", "--times=1000", "--cpus=8"];
         assert!(rt;
             matches!(
                 read_line(rt.alloc(), joined.as_slice())?,
-                Order::Count(8, 1000)
+                Order::Count(8, 1000, LockKind::Ticket)
             )
         );
-        let spelled = ["count", "--times", "007", "--cpus=+1"];
+        let spelled = ["count", "--times", "007", "--cpus=+1", "--lock", "grant"];
         assert!(rt;
             matches!(
                 read_line(rt.alloc(), spelled.as_slice())?,
-                Order::Count(1, 7)
+                Order::Count(1, 7, LockKind::Grant)
             )
         );
+        let unknown = ["count", "--cpus", "2", "--times", "3", "--lock", "mcs"];
+        let refused = read_line(rt.alloc(), unknown.as_slice());
+        assert!(rt; matches!(refused, Err(LineError::Refused)));
         Ok(())
     }
 }

@@ -25,6 +25,8 @@ pub mod serve;
 #[cfg(test)]
 mod serve_tests;
 pub mod states;
+pub mod texts;
+pub mod threads;
 pub mod tower;
 pub mod workers;
 

@@ -3,7 +3,7 @@
 ghost use Rattle.std.specs.Prelude.{◌≡◌, false, map, MatchResult, Ok, Err};
 ghost use Rattle.tracer.specs.Sinks.{has_failed};
 ghost use Rattle.mctower.specs.Output.{between};
-ghost use Rattle.mctower.specs.Refusals.{Told, from_count, from_fault, from_line, from_steps, status_of_refusal, text_of};
+ghost use Rattle.mctower.specs.Refusals.{Told, from_count, from_fault, from_line, from_steps, from_worker, status_of_refusal, text_of};
 
 use crate::help::help_on;
 use crate::line::LineError;
@@ -12,6 +12,7 @@ use crate::run::Fault;
 use crate::schedule::StepsError;
 use crate::workers::CountFault;
 use boot::BootError;
+use cpu_workers::WorkerError;
 use std::io::Write;
 use tracer::Sink;
 
@@ -58,6 +59,16 @@ pub(crate) fn count_refused(fault: CountFault) -> Refusal
     match fault {
         CountFault::NoMemory => Refusal::NoMemory,
         CountFault::NoThread => Refusal::NoThread,
+    }
+}
+
+/// Why no worker took a step, as a refusal.
+pub(crate) fn worker_refused(error: WorkerError) -> Refusal
+    ensures { result ≡ from_worker error }
+{
+    match error {
+        WorkerError::NoMemory => Refusal::NoMemory,
+        WorkerError::NoThread => Refusal::NoThread,
     }
 }
 

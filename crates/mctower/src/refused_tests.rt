@@ -5,6 +5,7 @@
 use crate::count::count_plain;
 use crate::tower::serve_tower;
 use arrayvec::ArrayVec;
+use boot::LockKind;
 use event_log::NoMemory;
 use tracer::Sink;
 
@@ -37,7 +38,7 @@ end
 
 #[test]
 fn count_with_a_refused_allocation(rt: HostRuntime) {
-    match count_plain(rt.alloc(), 2, 3) {
+    match count_plain(rt.alloc(), 2, 3, LockKind::Grant) {
         Ok(number) => assert_eq!(rt; number, 6),
         Err(error) => assert_eq!(rt; error, NoMemory),
     }

@@ -1,31 +1,30 @@
 //! A run of a plan: from the plan's text and a schedule to the trace text.
 
-ghost use Rattle.std.specs.Prelude.{◌≡◌, ◌<◌, ◌≤◌, ◌^◌, ℕ, List, false, length, map, slice_index_or, IfOk};
+ghost use Rattle.std.specs.Prelude.{◌≡◌, ◌≤◌, false, length, map, IfOk};
 ghost use Rattle.event_log.specs.declared.ids.TheConstants.{BUFFERS};
 ghost use Rattle.boot.specs.Plan.{plan_of};
-ghost use Rattle.event_log.specs.declared.entries.Entry.{Entry as AnEntry};
 ghost use Rattle.tracer.specs.Gather.{traces_in};
 ghost use Rattle.tracer.specs.Sinks.{has_failed};
-ghost use Rattle.cpu.specs.Claims.{Shown, traces_of};
+ghost use Rattle.cpu.specs.Claims.{traces_of};
 ghost use Rattle.mctower.specs.Output.{between};
 ghost use Rattle.mctower.specs.Plans.{IsOfPlan, from_boot};
-ghost use Rattle.mctower.specs.Running.{RunsText, Writes, IsTextOf, first_of};
+ghost use Rattle.mctower.specs.Running.{RunsPlan, RunsText, first_of, lock_of, on_lock, system_of};
 ghost use Rattle.mctower.specs.State.{IsStateOf};
-ghost use Rattle.tracer.specs.declared.verdicts.Verdict.TheVariants.{Yes as SaysYes};
-ghost use Rattle.tracer.specs.Judging.{verdict_of};
+ghost use Rattle.mctower.specs.Texts.{Writes};
 ghost use Rattle.mctower.specs.declared.run.Fault.TheVariants.{NoMemory, NoOrder, BadCpu as BadCpuFault, WriteFault as WriteFailed};
 
 use crate::reading::state_of;
 use crate::states::State;
+use crate::texts::write_text;
 use arrayvec::ArrayVec;
-use boot::{Boot, BootError};
+use boot::{Boot, BootError, LockKind};
 use cpu::{BadCpu, System};
 use event_log::{BUFFERS, BufId, CAPACITY, CpuId, Entry, Msg, NoMemory};
 use layer_traits::Owned;
 use std::alloc::{AllocError, AllocFailed, Global};
 use std::io::Write;
 use thiserror::Error;
-use tracer::{GatherError, Sink, WriteFault, gather, write_trace};
+use tracer::{GatherError, Sink, WriteFault};
 
 /// Why a run gave no trace text. Each prints as its name, its number and where it is.
 #[derive(Clone, Copy, Debug, PartialEq, Eq, Error)]
@@ -111,13 +110,28 @@ impl From<WriteFault> for Fault {
     }
 }
 
-/// What [`run_text`] does, and what the state lines tell of the system then.
+/// The system of a plan after a run, by the lock that the plan names: `I` is the top of the layers
+/// over ticket locks, and `J` of those over locks with grant words.
+#[derive(Drop)]
+pub enum Ran<I: Owned + Drop, J: Owned + Drop>
+where
+    I::Machine: Drop,
+    J::Machine: Drop,
+{
+    /// The plan names ticket locks.
+    Ticket(System<I>),
+    /// The plan names locks with a grant word for each waiter, or none.
+    Grant(System<J>),
+}
+
+/// What [`run_text`] does with the plan's system over these layers, and what the state lines tell of
+/// the system then.
 ///
 /// The sink must not have failed, and the steps are at most 1,048,576. Errors: those of
-/// [`run_text`].
-pub fn run_plan<I: Owned + Drop, W: Write>(
+/// [`run_text`] but `Boot`.
+fn run_boot<I: Owned + Drop, W: Write>(
     alloc: Global,
-    plan: &str,
+    boot: &Boot,
     steps: &[CpuId],
     sink: &mut Sink<W>,
 ) -> Result<(System<I>, State), Fault>
@@ -125,23 +139,55 @@ where
     I::Machine: Drop,
     requires live { has_failed sink.old ≡ false }
     requires few { length steps.now ≤ 1048576 }
-    ensures runs { RunsText I.IsStepwise (plan_of plan.now) steps.now (first_of result) (between W.contents sink.old sink.new) }
+    ensures runs { RunsPlan I.IsStepwise boot.now steps.now (first_of result) (between W.contents sink.old sink.new) }
     ensures state { IfOk result (λ ran. IsStateOf I.IsStepwise ran.0 ran.1) }
 {
-    let boot = Boot::read(alloc, plan)?;
     let cpus = boot.cpus();
     let threads = boot.threads();
     let caps = boot.caps();
-    let mut system = System::open(alloc, &boot, steps.len())?;
+    let mut system = System::open(alloc, boot, steps.len())?;
     system.run(steps)?;
     write_system(alloc, cpus, caps.as_slice(), &system, sink)?;
     let state = state_of(cpus, threads, &system);
     Ok((system, state))
 }
 
+/// What [`run_text`] does, and what the state lines tell of the system then.
+///
+/// The sink must not have failed, and the steps are at most 1,048,576. Errors: those of
+/// [`run_text`].
+pub fn run_plan<I: Owned + Drop, J: Owned + Drop, W: Write>(
+    alloc: Global,
+    plan: &str,
+    steps: &[CpuId],
+    sink: &mut Sink<W>,
+) -> Result<(Ran<I, J>, State), Fault>
+where
+    I::Machine: Drop,
+    J::Machine: Drop,
+    requires live { has_failed sink.old ≡ false }
+    requires few { length steps.now ≤ 1048576 }
+    ensures runs { RunsText (on_lock I.IsStepwise J.IsStepwise) (plan_of plan.now) steps.now (first_of result)
+        (between W.contents sink.old sink.new) }
+    ensures state { IfOk result (λ ran. IsStateOf (on_lock I.IsStepwise J.IsStepwise (lock_of ran.0)) (system_of ran.0) ran.1) }
+{
+    let boot = Boot::read(alloc, plan)?;
+    match boot.lock() {
+        LockKind::Ticket => match run_boot::<I, W>(alloc, &boot, steps, sink) {
+            Ok((system, state)) => Ok((Ran::Ticket(system), state)),
+            Err(fault) => Err(fault),
+        },
+        LockKind::Grant => match run_boot::<J, W>(alloc, &boot, steps, sink) {
+            Ok((system, state)) => Ok((Ran::Grant(system), state)),
+            Err(fault) => Err(fault),
+        },
+    }
+}
+
 /// Reads a plan, lets its system take the steps of a schedule, and writes the trace text: the
 /// plan's capacities, the entries of all CPUs in one order, and what the buffers hold after the
-/// last step. The system has room for as many steps as the schedule has. Gives the system.
+/// last step. The system stands on the lock that the plan names, and has room for as many steps as
+/// the schedule has. Gives the system.
 ///
 /// The sink must not have failed, and the steps are at most 1,048,576.
 ///
@@ -149,29 +195,24 @@ where
 /// schedule names a CPU that the plan has not; `WriteFault` exactly where the sink failed, and then
 /// a beginning of the text is out. Before any other error nothing was written. `NoMemory` where an
 /// allocation was refused; `NoOrder` never comes, since the traces of a system have an order.
-pub fn run_text<I: Owned + Drop, W: Write>(
+pub fn run_text<I: Owned + Drop, J: Owned + Drop, W: Write>(
     alloc: Global,
     plan: &str,
     steps: &[CpuId],
     sink: &mut Sink<W>,
-) -> Result<System<I>, Fault>
+) -> Result<Ran<I, J>, Fault>
 where
     I::Machine: Drop,
+    J::Machine: Drop,
     requires live { has_failed sink.old ≡ false }
     requires few { length steps.now ≤ 1048576 }
-    ensures { RunsText I.IsStepwise (plan_of plan.now) steps.now result (between W.contents sink.old sink.new) }
+    ensures { RunsText (on_lock I.IsStepwise J.IsStepwise) (plan_of plan.now) steps.now result (between W.contents sink.old sink.new) }
 {
     match run_plan(alloc, plan, steps, sink) {
-        Ok((system, _)) => Ok(system),
+        Ok((ran, _)) => Ok(ran),
         Err(fault) => Err(fault),
     }
 }
-
-/// A law: the judge says yes to the text of a system, so `check` says yes to all that `run_text`
-/// writes with an `Ok`.
-pub fn run_gets_yes()
-    ensures { (text caps : List ℕ) (s : Shown) → IsTextOf caps s text → verdict_of text ≡ SaysYes }
-{}
 
 /// Writes the trace text of the system of a plan with these CPUs and capacities.
 ///
@@ -188,32 +229,14 @@ where
     I::Machine: Drop,
     requires live { has_failed sink.old ≡ false }
     requires plan { IsOfPlan cpus caps.now system.now }
-    ensures { Writes caps.now system.now result (between W.contents sink.old sink.new) }
+    ensures { Writes caps.now (traces_of system.now) system.now.contents result (between W.contents sink.old sink.new) }
 {
     system.holds();
     system.traces_fit();
     let traces = traces(alloc, cpus, system)?;
-    let order = gather(alloc, &traces)?;
-    values_fit(&order);
     let left = contents(caps.len(), system);
-    write_trace(sink, caps, &order, &left)?;
-    Ok(())
+    write_text(alloc, caps, &traces, &left, sink)
 }
-
-// Each value has 64 bits, as its type says; a list of entries does not tell it by itself. It
-// computes nothing.
-fn values_fit(entries: &[Entry])
-    ensures { (k : ℕ) (d : AnEntry) → k < length entries.now → (slice_index_or entries.now k d).value < 2 ^ 64 }
-{
-    for entry in entries {
-        value_fits(entry.value);
-    }
-}
-
-// A value has 64 bits.
-fn value_fits(value: Msg)
-    ensures { value < 2 ^ 64 }
-{}
 
 /// A copy of the traces of the CPUs, which are so many.
 fn traces<I: Owned + Drop>(

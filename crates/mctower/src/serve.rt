@@ -7,7 +7,8 @@ ghost use Rattle.tracer.specs.Sinks.{has_failed, is_flushed};
 ghost use Rattle.mctower.specs.Output.{between};
 ghost use Rattle.mctower.specs.Line.{order_of};
 ghost use Rattle.mctower.specs.Schedule.{ReadsSteps};
-ghost use Rattle.mctower.specs.Serve.{Checks, Counts, Ends, Puts, ReadsAll, Runs, RunsBytes, Serves, Tells, kind_refused, reads_input, steps_asked};
+ghost use Rattle.mctower.specs.Running.{on_lock};
+ghost use Rattle.mctower.specs.Serve.{Checks, Counts, Ends, OfBytes, OfInput, Puts, ReadsAll, RunsPlan, Serves, Tells, kind_refused, reads_input, steps_asked};
 
 use crate::count::count_plain;
 use crate::line::{MOST_TIMES, Order, read_line};
@@ -18,8 +19,10 @@ use crate::refusals::{
 use crate::run::run_plan;
 use crate::schedule::{MOST_STEPS, StepsError, read_steps};
 use crate::states::State;
+use crate::threads::{serve_threads, tell_stops};
 use crate::workers::count_table;
-use boot::BootError;
+use boot::{BootError, LockKind};
+use cpu_workers::Stop;
 use event_log::CpuId;
 use itoa::Buffer;
 use layer_traits::Owned;
@@ -37,10 +40,16 @@ pub enum Done {
     Exit(u8),
     /// A good run, whose system is in this state, which is to be told.
     Ran(State),
+    /// A good run in threads, whose workers stopped so, by CPU, which is to be told.
+    Worked(Vec<Stop>),
 }
 
 /// Puts the pieces out and flushes; then this is done.
-fn put_out<O: Write>(out: &mut Sink<O>, pieces: &[&[u8]], done: Done) -> Result<Done, Refusal>
+pub(crate) fn put_out<O: Write>(
+    out: &mut Sink<O>,
+    pieces: &[&[u8]],
+    done: Done,
+) -> Result<Done, Refusal>
     requires { has_failed out.old ≡ false }
     ensures put { Puts done (flat_map (λ p. p.now) pieces.now) result (between O.contents out.old out.new) }
     ensures flushed { IfOk result (λ _. is_flushed out.new ≡ true) }
@@ -51,12 +60,13 @@ fn put_out<O: Write>(out: &mut Sink<O>, pieces: &[&[u8]], done: Done) -> Result<
     }
 }
 
-/// Counts over both machines, and prints `plain T` and `table T`.
+/// Counts over both machines with locks of this kind, and prints `plain T` and `table T`.
 fn serve_count<O: Write, T: Threads + Wait + Sync>(
     rt: &T,
     alloc: Global,
     cpus: u8,
     times: u64,
+    lock: LockKind,
     out: &mut Sink<O>,
 ) -> Result<Done, Refusal>
     requires cpus { cpus ≤ CPUS }
@@ -65,10 +75,10 @@ fn serve_count<O: Write, T: Threads + Wait + Sync>(
     ensures counts { Counts (times * cpus) result (between O.contents out.old out.new) }
     ensures flushed { IfOk result (λ _. is_flushed out.new ≡ true) }
 {
-    let Ok(number) = count_plain(alloc, cpus, times) else {
+    let Ok(number) = count_plain(alloc, cpus, times, lock) else {
         return Err(Refusal::NoMemory);
     };
-    let shared = match count_table(rt, alloc, cpus, times) {
+    let shared = match count_table(rt, alloc, cpus, times, lock) {
         Ok(shared) => shared,
         Err(fault) => return Err(count_refused(fault)),
     };
@@ -97,7 +107,7 @@ fn read_refused(kind: io::ErrorKind) -> Refusal
 }
 
 /// All of the input.
-fn read_all<R: Read>(alloc: Global, input: &mut R) -> Result<Vec<u8>, Refusal>
+pub(crate) fn read_all<R: Read>(alloc: Global, input: &mut R) -> Result<Vec<u8>, Refusal>
     ensures { ReadsAll (R.remaining input.old) result }
 {
     let mut bytes = Vec::new(alloc);
@@ -160,7 +170,7 @@ fn steps_in(alloc: Global, schedule: Option<String>) -> Result<Vec<CpuId>, Steps
 }
 
 /// Runs the plan of these bytes under a schedule's steps.
-fn run_bytes<I: Owned + Drop, O: Write>(
+fn run_bytes<I: Owned + Drop, J: Owned + Drop, O: Write>(
     alloc: Global,
     bytes: &[u8],
     steps: &[CpuId],
@@ -168,15 +178,16 @@ fn run_bytes<I: Owned + Drop, O: Write>(
 ) -> Result<Done, Refusal>
 where
     I::Machine: Drop,
+    J::Machine: Drop,
     requires live { has_failed out.old ≡ false }
     requires few { length steps.now ≤ MOST_STEPS }
-    ensures runs { RunsBytes I.IsStepwise bytes.now steps.now result (between O.contents out.old out.new) }
+    ensures runs { OfBytes (RunsPlan (on_lock I.IsStepwise J.IsStepwise) steps.now) bytes.now result (between O.contents out.old out.new) }
     ensures flushed { IfOk result (λ _. is_flushed out.new ≡ true) }
 {
     let Ok(plan) = str::from_utf8(bytes) else {
         return Err(Refusal::Plan(BootError::BadToml));
     };
-    let (_, state) = match run_plan::<I, O>(alloc, plan, steps, out) {
+    let (_, state) = match run_plan::<I, J, O>(alloc, plan, steps, out) {
         Ok(ran) => ran,
         Err(fault) => return Err(run_refused(fault)),
     };
@@ -184,7 +195,7 @@ where
 }
 
 /// Runs the plan on the input under a schedule's steps.
-fn serve_run<I: Owned + Drop, R: Read, O: Write>(
+fn serve_run<I: Owned + Drop, J: Owned + Drop, R: Read, O: Write>(
     alloc: Global,
     steps: &[CpuId],
     input: &mut R,
@@ -192,20 +203,22 @@ fn serve_run<I: Owned + Drop, R: Read, O: Write>(
 ) -> Result<Done, Refusal>
 where
     I::Machine: Drop,
+    J::Machine: Drop,
     requires live { has_failed out.old ≡ false }
     requires few { length steps.now ≤ MOST_STEPS }
-    ensures runs { Runs I.IsStepwise (R.remaining input.old) steps.now result (between O.contents out.old out.new) }
+    ensures runs { OfInput (RunsPlan (on_lock I.IsStepwise J.IsStepwise) steps.now) (R.remaining input.old) result
+        (between O.contents out.old out.new) }
     ensures flushed { IfOk result (λ _. is_flushed out.new ≡ true) }
 {
     let bytes = match read_all(alloc, input) {
         Ok(bytes) => bytes,
         Err(refusal) => return Err(refusal),
     };
-    run_bytes::<I, O>(alloc, bytes.as_slice(), steps, out)
+    run_bytes::<I, J, O>(alloc, bytes.as_slice(), steps, out)
 }
 
 /// Does what the words order, and gives what is done. Nothing is told on standard error.
-fn answer<I: Owned + Drop, R: Read, O: Write, T: Threads + Wait + Sync>(
+fn answer<I: Owned + Drop, J: Owned + Drop, R: Read, O: Write, T: Threads + Wait + Sync>(
     rt: &T,
     alloc: Global,
     words: &[&str],
@@ -214,21 +227,22 @@ fn answer<I: Owned + Drop, R: Read, O: Write, T: Threads + Wait + Sync>(
 ) -> Result<Done, Refusal>
 where
     I::Machine: Drop,
+    J::Machine: Drop,
     requires { has_failed out.old ≡ false }
-    ensures served { Serves I.IsStepwise (order_of (map (λ w. w.now) words.now)) (R.remaining input.old) result
+    ensures served { Serves (on_lock I.IsStepwise J.IsStepwise) (order_of (map (λ w. w.now) words.now)) (R.remaining input.old) result
         (between O.contents out.old out.new) }
     ensures flushed { IfOk result (λ _. is_flushed out.new ≡ true) }
     ensures unread { reads_input (order_of (map (λ w. w.now) words.now)) ≡ false → input.new ≡ input.old }
 {
     match read_line(alloc, words) {
         Err(error) => Err(line_refused(error)),
-        Ok(Order::Count(cpus, times)) => serve_count(rt, alloc, cpus, times, out),
+        Ok(Order::Count(cpus, times, lock)) => serve_count(rt, alloc, cpus, times, lock, out),
         Ok(Order::Check) => serve_check(alloc, input, out),
         Ok(Order::Run(schedule)) => match steps_in(alloc, schedule) {
-            Ok(steps) => serve_run::<I, R, O>(alloc, steps.as_slice(), input, out),
+            Ok(steps) => serve_run::<I, J, R, O>(alloc, steps.as_slice(), input, out),
             Err(error) => Err(steps_refused(error)),
         },
-        Ok(Order::Threads(_)) => unreachable!(),
+        Ok(Order::Threads(turns)) => serve_threads(rt, alloc, turns, input, out),
     }
 }
 
@@ -237,31 +251,38 @@ where
 /// Gives the exit status: 0 for a good run or a yes of `check`; 1 for a refusal, with the line
 /// `error: Name(N)` on `err`; 2 for a bad command line, with the help on its command on `err` (a
 /// bad schedule has the line of a refusal there) and nothing on `out`; 3 for a no of `check`. After
-/// a good run the state lines of its system are on `err`; else with 0 and 3 nothing is there. With
-/// both `out` is flushed. The input is read for a check, and for a run whose schedule is one.
+/// a good run the state lines of its system are on `err`, after one in threads why each worker
+/// stopped; else with 0 and 3 nothing is there. With both `out` is flushed. The input is read for a
+/// check, for a run whose schedule is one, and for a run in threads.
 ///
-/// A run is served by the layers that `I` is the top of.
-pub fn serve<I: Owned + Drop, R: Read, O: Write, E: Write, T: Threads + Wait + Sync>(
-    rt: &T,
-    alloc: Global,
-    words: &[&str],
-    input: &mut R,
-    out: &mut Sink<O>,
-    err: &mut Sink<E>,
-) -> u8
+/// A run is served by the layers that `I` is the top of where its plan names ticket locks, and else
+/// by those that `J` is the top of. One in threads waits for its workers, so it need not return.
+pub fn serve<
+    I: Owned + Drop,
+    J: Owned + Drop,
+    R: Read,
+    O: Write,
+    E: Write,
+    T: Threads + Wait + Sync,
+>(rt: &T, alloc: Global, words: &[&str], input: &mut R, out: &mut Sink<O>, err: &mut Sink<E>) -> u8
 where
     I::Machine: Drop,
+    J::Machine: Drop,
     requires out { has_failed out.old ≡ false }
     requires err { has_failed err.old ≡ false }
-    ensures served { Ends I.IsStepwise (map (λ w. w.now) words.now) (order_of (map (λ w. w.now) words.now)) (R.remaining input.old) result
+    ensures served { Ends (on_lock I.IsStepwise J.IsStepwise) (map (λ w. w.now) words.now) (order_of (map (λ w. w.now) words.now)) (R.remaining input.old) result
         (between O.contents out.old out.new) (between E.contents err.old err.new) }
     ensures flushed { (result ≡ 0) ⊎ (result ≡ 3) → is_flushed out.new ≡ true }
     ensures unread { reads_input (order_of (map (λ w. w.now) words.now)) ≡ false → input.new ≡ input.old }
 {
-    match answer::<I, R, O, T>(rt, alloc, words, input, out) {
+    match answer::<I, J, R, O, T>(rt, alloc, words, input, out) {
         Ok(Done::Exit(status)) => status,
         Ok(Done::Ran(state)) => {
             state.tell(err);
+            0
+        }
+        Ok(Done::Worked(stops)) => {
+            tell_stops(err, stops.as_slice());
             0
         }
         Err(refusal) => {

@@ -63,6 +63,22 @@ fn a_run_without_a_schedule_takes_no_step(rt: HostRuntime) {
 }
 
 #[test]
+fn a_run_in_threads_prints_its_trace_and_tells_its_stops(rt: HostRuntime) {
+    let words = ["threads", "--turns", "1000000000"];
+    let plan = ONE_SEND.as_bytes();
+    assert!(rt;
+        is_answered(
+            &rt,
+            words.as_slice(),
+            plan,
+            0,
+            SENT.as_slice(),
+            "cpu 0 AllEnded\n"
+        )
+    );
+}
+
+#[test]
 fn a_run_gets_a_yes(rt: HostRuntime) {
     let words = ["check"];
     assert!(rt; is_answered(&rt, words.as_slice(), SENT.as_slice(), 0, b"yes\n", ""));

@@ -5,7 +5,7 @@ ghost use Rattle.tracer.specs.Sinks.{WentOut, has_failed};
 ghost use Rattle.tracer.specs.TraceText.{line_of, numbered};
 ghost use Rattle.std.specs.List.{flat_map};
 ghost use Rattle.event_log.specs.declared.ids.TheConstants.{THREADS};
-ghost use Rattle.mctower.specs.StateLines.{cpu_pieces, halted_word, place_name, place_number, quiet_pieces, state_text, thread_pieces};
+ghost use Rattle.mctower.specs.StateLines.{cpu_pieces, halted_pieces, halted_word, place_name, place_number, quiet_pieces, state_text, thread_pieces};
 
 use crate::print::put_all;
 use arrayvec::ArrayVec;
@@ -72,15 +72,15 @@ fn place_number(place: Place) -> Option<u8>
     }
 }
 
-/// The line of a CPU.
-fn put_cpu<W: Write>(sink: &mut Sink<W>, cpu: u64, halted: Option<Reason>) -> Result<(), WriteFault>
+/// The line of a CPU, with this word.
+pub(crate) fn put_cpu<W: Write>(sink: &mut Sink<W>, cpu: u64, word: &str) -> Result<(), WriteFault>
     requires { has_failed sink.old ≡ false }
     ensures failed { is_err result ≡ has_failed sink.new }
-    ensures out { WentOut W.contents sink.old sink.new (line_of (cpu_pieces cpu halted)) }
+    ensures out { WentOut W.contents sink.old sink.new (line_of (cpu_pieces cpu word.now)) }
 {
     let mut number = Buffer::new();
     let number = number.format(cpu).as_bytes();
-    let word = halted_word(halted).as_bytes();
+    let word = word.as_bytes();
     put_all(
         sink,
         &[
@@ -136,10 +136,10 @@ fn put_thread<W: Write>(sink: &mut Sink<W>, thread: u64, place: Place) -> Result
 fn put_cpus<W: Write>(sink: &mut Sink<W>, halted: &[Option<Reason>]) -> Result<(), WriteFault>
     requires { has_failed sink.old ≡ false }
     ensures failed { is_err result ≡ has_failed sink.new }
-    ensures out { WentOut W.contents sink.old sink.new (flat_map line_of (numbered cpu_pieces 0 halted.now)) }
+    ensures out { WentOut W.contents sink.old sink.new (flat_map line_of (numbered halted_pieces 0 halted.now)) }
 {
     for (c, halted) in halted.iter().enumerate() {
-        put_cpu(sink, c as u64, *halted)?;
+        put_cpu(sink, c as u64, halted_word(*halted))?;
     }
     Ok(())
 }

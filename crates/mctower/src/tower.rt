@@ -1,6 +1,7 @@
 //! Serving over the tower of all layers. No function names the whole tower: a proof of one that
 //! names a nest of so many types takes minutes. So each names a few layers, over any that meet the
-//! trait beneath, and calls the one above.
+//! trait beneath, and calls the one above. The first of two parameters stands on ticket locks, the
+//! second on locks with grant words.
 
 ghost use Rattle.std.specs.Prelude.{◌≡◌, ◌⊎◌, false, map, true};
 ghost use Rattle.tracer.specs.Sinks.{has_failed, is_flushed};
@@ -13,31 +14,32 @@ use condvar::Cond;
 use fifo_buffer::Fifo;
 use ipc_calls::{Ipc, LockEdit, StepwiseBuffers, StepwiseLocks, StepwiseSections, TowerEdit};
 use layer_traits::Stepwise;
-use plain_machine::Plain;
+use plain_machine::{GrantPlain, Plain};
 use queuing_lock::QLock;
 use scheduler::Sched;
 use shared_queue::SharedQueues;
 use sleep_wakeup::Sleeper;
-use spinlock::Ticket;
+use spinlock::{Grant, Ticket};
 use std::alloc::Global;
 use std::io::{Read, Write};
 use std::sync::Wait;
 use std::thread::Threads;
 use tracer::Sink;
 
-/// [`serve`] over a top layer of which each poll is one action: what `serve` says of such layers
+/// [`serve`] over top layers of which each poll is one action: what `serve` says of such layers
 /// holds without a condition. So each step of a run is one of the step table, and a system that is
 /// told quiet is stuck.
-pub fn serve_stepwise<I: Stepwise + Drop, R: Read, O: Write, E: Write, T: Threads + Wait + Sync>(
-    rt: &T,
-    alloc: Global,
-    words: &[&str],
-    input: &mut R,
-    out: &mut Sink<O>,
-    err: &mut Sink<E>,
-) -> u8
+pub fn serve_stepwise<
+    I: Stepwise + Drop,
+    J: Stepwise + Drop,
+    R: Read,
+    O: Write,
+    E: Write,
+    T: Threads + Wait + Sync,
+>(rt: &T, alloc: Global, words: &[&str], input: &mut R, out: &mut Sink<O>, err: &mut Sink<E>) -> u8
 where
     I::Machine: Drop,
+    J::Machine: Drop,
     requires out { has_failed out.old ≡ false }
     requires err { has_failed err.old ≡ false }
     ensures served { Ends NoCondition (map (λ w. w.now) words.now) (order_of (map (λ w. w.now) words.now)) (R.remaining input.old) result
@@ -45,12 +47,13 @@ where
     ensures flushed { (result ≡ 0) ⊎ (result ≡ 3) → is_flushed out.new ≡ true }
     ensures unread { reads_input (order_of (map (λ w. w.now) words.now)) ≡ false → input.new ≡ input.old }
 {
-    serve::<I, R, O, E, T>(rt, alloc, words, input, out, err)
+    serve::<I, J, R, O, E, T>(rt, alloc, words, input, out, err)
 }
 
 /// [`serve_stepwise`] over message calls.
 pub fn serve_buffers<
     B: StepwiseBuffers + Drop,
+    C: StepwiseBuffers + Drop,
     R: Read,
     O: Write,
     E: Write,
@@ -58,6 +61,7 @@ pub fn serve_buffers<
 >(rt: &T, alloc: Global, words: &[&str], input: &mut R, out: &mut Sink<O>, err: &mut Sink<E>) -> u8
 where
     B::Machine: Drop,
+    C::Machine: Drop,
     requires out { has_failed out.old ≡ false }
     requires err { has_failed err.old ≡ false }
     ensures served { Ends NoCondition (map (λ w. w.now) words.now) (order_of (map (λ w. w.now) words.now)) (R.remaining input.old) result
@@ -65,20 +69,21 @@ where
     ensures flushed { (result ≡ 0) ⊎ (result ≡ 3) → is_flushed out.new ≡ true }
     ensures unread { reads_input (order_of (map (λ w. w.now) words.now)) ≡ false → input.new ≡ input.old }
 {
-    serve_stepwise::<Ipc<B>, R, O, E, T>(rt, alloc, words, input, out, err)
+    serve_stepwise::<Ipc<B>, Ipc<C>, R, O, E, T>(rt, alloc, words, input, out, err)
 }
 
 /// [`serve_buffers`] over buffers, conditions and queuing locks.
-pub fn serve_locks<S: StepwiseLocks + Drop, R: Read, O: Write, E: Write, T: Threads + Wait + Sync>(
-    rt: &T,
-    alloc: Global,
-    words: &[&str],
-    input: &mut R,
-    out: &mut Sink<O>,
-    err: &mut Sink<E>,
-) -> u8
+pub fn serve_locks<
+    S: StepwiseLocks + Drop,
+    U: StepwiseLocks + Drop,
+    R: Read,
+    O: Write,
+    E: Write,
+    T: Threads + Wait + Sync,
+>(rt: &T, alloc: Global, words: &[&str], input: &mut R, out: &mut Sink<O>, err: &mut Sink<E>) -> u8
 where
     S::Machine: Drop,
+    U::Machine: Drop,
     requires out { has_failed out.old ≡ false }
     requires err { has_failed err.old ≡ false }
     ensures served { Ends NoCondition (map (λ w. w.now) words.now) (order_of (map (λ w. w.now) words.now)) (R.remaining input.old) result
@@ -86,12 +91,15 @@ where
     ensures flushed { (result ≡ 0) ⊎ (result ≡ 3) → is_flushed out.new ≡ true }
     ensures unread { reads_input (order_of (map (λ w. w.now) words.now)) ≡ false → input.new ≡ input.old }
 {
-    serve_buffers::<Fifo<Cond<QLock<S>>>, R, O, E, T>(rt, alloc, words, input, out, err)
+    serve_buffers::<Fifo<Cond<QLock<S>>>, Fifo<Cond<QLock<U>>>, R, O, E, T>(
+        rt, alloc, words, input, out, err,
+    )
 }
 
 /// [`serve_locks`] over sleep and wakeup, a scheduler and shared queues.
 pub fn serve_sections<
     L: StepwiseSections + Drop,
+    M: StepwiseSections + Drop,
     R: Read,
     O: Write,
     E: Write,
@@ -99,6 +107,7 @@ pub fn serve_sections<
 >(rt: &T, alloc: Global, words: &[&str], input: &mut R, out: &mut Sink<O>, err: &mut Sink<E>) -> u8
 where
     L::Machine: Drop,
+    M::Machine: Drop,
     requires out { has_failed out.old ≡ false }
     requires err { has_failed err.old ≡ false }
     ensures served { Ends NoCondition (map (λ w. w.now) words.now) (order_of (map (λ w. w.now) words.now)) (R.remaining input.old) result
@@ -106,13 +115,19 @@ where
     ensures flushed { (result ≡ 0) ⊎ (result ≡ 3) → is_flushed out.new ≡ true }
     ensures unread { reads_input (order_of (map (λ w. w.now) words.now)) ≡ false → input.new ≡ input.old }
 {
-    serve_locks::<Sleeper<LockEdit, Sched<SharedQueues<L>>>, R, O, E, T>(
-        rt, alloc, words, input, out, err,
-    )
+    serve_locks::<
+        Sleeper<LockEdit, Sched<SharedQueues<L>>>,
+        Sleeper<LockEdit, Sched<SharedQueues<M>>>,
+        R,
+        O,
+        E,
+        T,
+    >(rt, alloc, words, input, out, err)
 }
 
-/// [`serve_sections`] over ticket locks of one owned machine: [`serve`] over the whole tower, of
-/// which each poll is one action.
+/// [`serve_sections`] over the locks of one owned machine, ticket locks or locks with grant words:
+/// [`serve`] over the whole tower, of which each poll is one action. A plan's run stands on the lock
+/// that the plan names.
 pub fn serve_tower<R: Read, O: Write, E: Write, T: Threads + Wait + Sync>(
     rt: &T,
     alloc: Global,
@@ -128,5 +143,7 @@ pub fn serve_tower<R: Read, O: Write, E: Write, T: Threads + Wait + Sync>(
     ensures flushed { (result ≡ 0) ⊎ (result ≡ 3) → is_flushed out.new ≡ true }
     ensures unread { reads_input (order_of (map (λ w. w.now) words.now)) ≡ false → input.new ≡ input.old }
 {
-    serve_sections::<Ticket<Plain<TowerEdit>>, R, O, E, T>(rt, alloc, words, input, out, err)
+    serve_sections::<Ticket<Plain<TowerEdit>>, Grant<GrantPlain<TowerEdit>>, R, O, E, T>(
+        rt, alloc, words, input, out, err,
+    )
 }

@@ -11,17 +11,18 @@ ghost use Rattle.mctower.specs.Workers.{made, Both, HasMade, MayHaveMade, AllHav
 
 use crate::count::{AddOne, NUMBER};
 use crate::line::MOST_TIMES;
+use boot::LockKind;
 use crossbeam_utils::sync::WaitGroup;
 use event_log::{CPUS, CpuId, LockId, NoMemory};
 use layer_traits::LockLayer;
-use spinlock::Ticket;
+use spinlock::{Grant, Ticket};
 use std::alloc::{AllocError, Global};
 use std::marker::{Brand, Model, PhantomData};
 use std::snapshot::Snapshot;
 use std::sync::{Mutex, Wait};
 use std::thread;
 use std::thread::{Promise, PromisedHandle, Threads};
-use table_machine::{Key, Seat, Shared};
+use table_machine::{GrantSeat, Key, Seat, Shared, TableWords, TicketWords, WaiterWords};
 use thiserror::Error;
 
 /// Why `count` gave up. No section was done.
@@ -147,26 +148,75 @@ fn add_one<L: LockLayer<AddOne>, R: Wait>(
     unreachable!()
 }
 
-// So many sections of the key's CPU.
-fn work<R: Wait>(rt: &R, shared: &Shared<AddOne>, key: Key<AddOne>, times: u64) -> Key<AddOne>
-    requires of { IsOf shared.now key }
-    requires lock { IsSome (opened key.start NUMBER) }
-    requires outside { standing key.cpu key.seen ≡ Outside }
-    ensures { HasMade NUMBER key result times }
+// So many sections of this CPU at its seat, which add 1 each.
+fn work_at<L: LockLayer<AddOne> + Drop, R: Wait>(
+    rt: &R,
+    cpu: CpuId,
+    seat: &mut L::Machine,
+    times: u64,
+)
+    requires acts { L.ActsFor seat.old cpu }
+    requires outside { L.IsOutside seat.old cpu }
+    requires lock { IsSome (L.opening seat.old NUMBER) }
+    requires room { (m : _) → 0 < L.room m }
+    ensures acts { L.ActsFor seat.new cpu }
+    ensures outside { L.IsOutside seat.new cpu }
+    ensures site { L.site seat.new ≡ L.site seat.old }
+    ensures made { made cpu NUMBER (L.seen seat.new) ≡ made cpu NUMBER (L.seen seat.old) + times }
 {
-    let cpu = key.cpu();
-    let mut seat = shared.seat(key);
-    let mut part: Ticket<Seat<'_, AddOne>> = Ticket::part(cpu, &[], 1);
+    let mut part = L::part(cpu, &[], 1);
     for _ in 0..times {
-        add_one(rt, &mut part, &mut seat, NUMBER);
+        add_one(rt, &mut part, seat, NUMBER);
     }
-    seat.back()
+}
+
+/// The words of a table's locks, by which the workers of a count take turns.
+pub trait CountWords: TableWords {
+    /// So many sections of the key's CPU, which add 1 each.
+    fn work<R: Wait>(
+        rt: &R,
+        shared: &Shared<AddOne, Self>,
+        key: Key<AddOne>,
+        times: u64,
+    ) -> Key<AddOne>
+        requires of { IsOf shared.now key }
+        requires lock { IsSome (opened key.start NUMBER) }
+        requires outside { standing key.cpu key.seen ≡ Outside }
+        ensures { HasMade NUMBER key result times };
+}
+
+impl CountWords for TicketWords {
+    fn work<R: Wait>(
+        rt: &R,
+        shared: &Shared<AddOne, TicketWords>,
+        key: Key<AddOne>,
+        times: u64,
+    ) -> Key<AddOne> {
+        let cpu = key.cpu();
+        let mut seat = shared.seat(key);
+        work_at::<Ticket<Seat<'_, AddOne>>, R>(rt, cpu, &mut seat, times);
+        seat.back()
+    }
+}
+
+impl CountWords for WaiterWords {
+    fn work<R: Wait>(
+        rt: &R,
+        shared: &Shared<AddOne, WaiterWords>,
+        key: Key<AddOne>,
+        times: u64,
+    ) -> Key<AddOne> {
+        let cpu = key.cpu();
+        let mut seat = shared.seat(key);
+        work_at::<Grant<GrantSeat<'_, AddOne>>, R>(rt, cpu, &mut seat, times);
+        seat.back()
+    }
 }
 
 // A worker: it waits until all are started, and works if its key was then put into its hand.
-fn worker<T: Crew, R: Wait>(
+fn worker<T: Crew, K: CountWords, R: Wait>(
     rt: &R,
-    shared: &Shared<AddOne>,
+    shared: &Shared<AddOne, K>,
     cpu: CpuId,
     times: u64,
     start: WaitGroup,
@@ -182,7 +232,7 @@ fn worker<T: Crew, R: Wait>(
     if key.cpu() != cpu {
         return None;
     }
-    Some(work(rt, shared, key, times))
+    Some(K::work(rt, shared, key, times))
 }
 
 // All memory that the workers of so many keys take.
@@ -280,9 +330,9 @@ fn join_one<R: Threads + Wait>(
 
 // A worker for each key, all started before any is handed its key, and all joined. Where a thread
 // could not be started, the keys are as they were.
-fn work_in<T: Crew + Send, R: Threads + Wait + Sync>(
+fn work_in<T: Crew + Send, K: CountWords + Sync, R: Threads + Wait + Sync>(
     rt: &R,
-    shared: &Shared<AddOne>,
+    shared: &Shared<AddOne, K>,
     keys: Vec<Key<AddOne>>,
     supplies: Supplies<T>,
     times: u64,
@@ -351,9 +401,9 @@ struct Refused {
 }
 
 // As `work_in`, where the supplies are there: memory is wanting exactly where they are not.
-fn work_if_supplied<T: Crew + Send, R: Threads + Wait + Sync>(
+fn work_if_supplied<T: Crew + Send, K: CountWords + Sync, R: Threads + Wait + Sync>(
     rt: &R,
-    shared: &Shared<AddOne>,
+    shared: &Shared<AddOne, K>,
     keys: Vec<Key<AddOne>>,
     supplies: Result<Supplies<T>, AllocError>,
     times: u64,
@@ -385,10 +435,10 @@ fn work_if_supplied<T: Crew + Send, R: Threads + Wait + Sync>(
 
 // A worker for each key, all started before any is handed its key, and all joined. All memory is
 // taken before the first is started. Where memory or a thread was refused, the keys are as they were.
-fn work_all<T: Crew + Send, R: Threads + Wait + Sync>(
+fn work_all<T: Crew + Send, K: CountWords + Sync, R: Threads + Wait + Sync>(
     rt: &R,
     alloc: Global,
-    shared: &Shared<AddOne>,
+    shared: &Shared<AddOne, K>,
     keys: Vec<Key<AddOne>>,
     times: u64,
 ) -> Result<Vec<Key<AddOne>>, Refused>
@@ -403,7 +453,10 @@ fn work_all<T: Crew + Send, R: Threads + Wait + Sync>(
 }
 
 // The table of the number, which is 0, with a key for each CPU.
-fn open_number(alloc: Global, cpus: u8) -> Result<(Shared<AddOne>, Vec<Key<AddOne>>), NoMemory>
+fn open_number<K: TableWords>(
+    alloc: Global,
+    cpus: u8,
+) -> Result<(Shared<AddOne, K>, Vec<Key<AddOne>>), NoMemory>
     requires { cpus ≤ CPUS }
     ensures start { IfOk result (λ r. r.0.start ≡ (NUMBER, 0) ∷ []) }
     ensures cpus { IfOk result (λ r. r.0.cpus ≡ cpus) }
@@ -419,7 +472,11 @@ fn open_number(alloc: Global, cpus: u8) -> Result<(Shared<AddOne>, Vec<Key<AddOn
 /// Closes the table, whose number was 0 before each of its CPUs did `times` sections that add 1, and
 /// gives the number. It is how often its lock was freed in one legal log, which begins with the log
 /// of each key and has no other CPU's events.
-pub fn number_left(shared: Shared<AddOne>, keys: Vec<Key<AddOne>>, times: u64) -> u64
+pub fn number_left<K: TableWords>(
+    shared: Shared<AddOne, K>,
+    keys: Vec<Key<AddOne>>,
+    times: u64,
+) -> u64
     requires start { shared.start ≡ (NUMBER, 0) ∷ [] }
     requires cpus { shared.cpus ≤ CPUS }
     requires times { times ≤ MOST_TIMES }
@@ -440,10 +497,10 @@ struct NotCounted {
 
 // Counts at the table, if it was opened: memory is wanting where it was not. Where nothing was
 // counted the table is closed with the keys that came back, and its number is 0.
-fn count_if_open<R: Threads + Wait + Sync>(
+fn count_if_open<K: CountWords + Sync, R: Threads + Wait + Sync>(
     rt: &R,
     alloc: Global,
-    opened: Result<(Shared<AddOne>, Vec<Key<AddOne>>), NoMemory>,
+    opened: Result<(Shared<AddOne, K>, Vec<Key<AddOne>>), NoMemory>,
     times: u64,
 ) -> Result<u64, NotCounted>
     requires start { IfOk opened (λ r. r.0.start ≡ (NUMBER, 0) ∷ []) }
@@ -460,7 +517,7 @@ fn count_if_open<R: Threads + Wait + Sync>(
             left: 0,
         });
     };
-    match work_all::<Brand, R>(rt, alloc, &shared, keys, times) {
+    match work_all::<Brand, K, R>(rt, alloc, &shared, keys, times) {
         Ok(keys) => Ok(number_left(shared, keys, times)),
         Err(refused) => {
             let Refused { fault, keys } = refused;
@@ -476,16 +533,24 @@ fn count_or_leave<R: Threads + Wait + Sync>(
     alloc: Global,
     cpus: u8,
     times: u64,
+    lock: LockKind,
 ) -> Result<u64, NotCounted>
     requires cpus { cpus ≤ CPUS }
     requires times { times ≤ MOST_TIMES }
     ensures number { IfOk result (λ number. number ≡ times * cpus) }
     ensures none { IfErr result (λ not. not.left ≡ 0) }
 {
-    count_if_open(rt, alloc, open_number(alloc, cpus), times)
+    match lock {
+        LockKind::Ticket => {
+            count_if_open::<TicketWords, R>(rt, alloc, open_number(alloc, cpus), times)
+        }
+        LockKind::Grant => {
+            count_if_open::<WaiterWords, R>(rt, alloc, open_number(alloc, cpus), times)
+        }
+    }
 }
 
-/// Counts over shared words: each of `cpus` CPUs does `times` sections that add 1 to one number, in
+/// Counts over shared words of locks of this kind: each of `cpus` CPUs does `times` sections that add 1 to one number, in
 /// a thread of its own, with its own seat at one table. All threads are started before any is handed
 /// its CPU's key, without which there is no section, and all are joined. The number is read from the
 /// block that the closed table gives.
@@ -497,12 +562,13 @@ pub fn count_table<R: Threads + Wait + Sync>(
     alloc: Global,
     cpus: u8,
     times: u64,
+    lock: LockKind,
 ) -> Result<u64, CountFault>
     requires cpus { cpus ≤ CPUS }
     requires times { times ≤ MOST_TIMES }
     ensures { IfOk result (λ number. number ≡ times * cpus) }
 {
-    match count_or_leave(rt, alloc, cpus, times) {
+    match count_or_leave(rt, alloc, cpus, times, lock) {
         Ok(number) => Ok(number),
         Err(not) => Err(not.fault),
     }
@@ -515,10 +581,11 @@ mod tests {
 
     #[test]
     fn threads_count_together(rt: HostRuntime) -> Result<(), Fail> {
-        assert_eq!(rt; count_table(&rt, rt.alloc(), 2, 3)?, 6);
-        assert_eq!(rt; count_table(&rt, rt.alloc(), 1, 1)?, 1);
-        assert_eq!(rt; count_table(&rt, rt.alloc(), 0, 1000)?, 0);
-        assert_eq!(rt; count_table(&rt, rt.alloc(), 8, 0)?, 0);
+        assert_eq!(rt; count_table(&rt, rt.alloc(), 2, 3, LockKind::Grant)?, 6);
+        assert_eq!(rt; count_table(&rt, rt.alloc(), 2, 3, LockKind::Ticket)?, 6);
+        assert_eq!(rt; count_table(&rt, rt.alloc(), 1, 1, LockKind::Grant)?, 1);
+        assert_eq!(rt; count_table(&rt, rt.alloc(), 0, 1000, LockKind::Ticket)?, 0);
+        assert_eq!(rt; count_table(&rt, rt.alloc(), 8, 0, LockKind::Grant)?, 0);
         Ok(())
     }
 
@@ -526,7 +593,7 @@ mod tests {
     // of the supplies for workers: it is told as want of memory.
     #[test]
     fn a_refused_allocation_of_the_table_is_no_memory(rt: HostRuntime) {
-        match count_table(&rt, rt.alloc(), 0, 5) {
+        match count_table(&rt, rt.alloc(), 0, 5, LockKind::Grant) {
             Ok(number) => assert_eq!(rt; number, 0),
             Err(fault) => assert_eq!(rt; fault, CountFault::NoMemory),
         }
@@ -537,7 +604,7 @@ mod tests {
     // that could not be started. After a refusal no section was done.
     #[test]
     fn after_a_refused_allocation_or_start_the_number_is_0(rt: HostRuntime) {
-        match count_or_leave(&rt, rt.alloc(), 2, 5) {
+        match count_or_leave(&rt, rt.alloc(), 2, 5, LockKind::Grant) {
             Ok(number) => assert_eq!(rt; number, 10),
             Err(not) => assert_eq!(rt; not.left, 0),
         }

@@ -1,18 +1,20 @@
-use Rattle.layer_traits.specs.OneLock.{opened}
-use Rattle.plain_machine.specs.Machine.{history}
+use Rattle.std.proofs.Common.{◌∙◌, ap, is_some, option_map, sym}
+use Rattle.std.specs.Borrow.{Bor}
 use Rattle.mctower.specs.declared.count.TheConstants.{NUMBER}
-use Rattle.mctower.proofs.CountLemmas.{block_counts, some_where_not_none}
+use Rattle.mctower.proofs.CountLemmas.{block_counts, some_where_not_none, there_at_rest}
 use Rattle.mctower.proofs.count.number_in.Goals as goal
 
 pub unwrap-requires : goal.unwrap-requires
-unwrap-requires c = some_where_not_none c.home.result (λ none.
-    let inside = c.home.ensures.away.0 none in
-    let outside = c.requires.rests inside.0 in
-    let there = inside.2 in
-    cc)
+unwrap-requires g c =
+    let shown = g.met.L.OwnedLocks.shown c.args.machine.now c.requires.owned.0 NUMBER c.requires.owned.1 (ap is_some c.requires.opening) in
+    some_where_not_none c.block_in.result (λ none.
+    there_at_rest _ _ _ (g.L.LockLayer.acts c.args.machine.now) _ _ _ shown c.requires.rests
+    (sym c.block_in.ensures ∙ ap (option_map (λ (b : Bor _). b.now)) none))
 
 pub returns : goal.returns
-returns c =
-    let machine = c.args.machine.now in
-    block_counts (opened machine.opening.value.items) NUMBER (history machine.log) _ c.unwrap.result
-    c.requires.opening c.home.ensures.block c.unwrap.ensures
+returns g c =
+    let m = c.args.machine.now in
+    let shown = g.met.L.OwnedLocks.shown m c.requires.owned.0 NUMBER c.requires.owned.1 (ap is_some c.requires.opening) in
+    block_counts (g.L.LockLayer.opening m) NUMBER (g.L.LockLayer.acts m) (g.L.LockLayer.seen m) _ c.requires.opening
+    (g.met.L.LockLayer.seen_is c.requires.stepwise m)
+    (shown.by_machine _ (sym c.block_in.ensures ∙ ap (option_map (λ (b : Bor _). b.now)) c.unwrap.ensures))

@@ -5,6 +5,6 @@ use Rattle.mctower.specs.declared.count.TheConstants.{NUMBER}
 use Rattle.mctower.proofs.count.number_machine.Goals as goal
 
 pub returns-clause-opening : goal.returns-clause-opening
-returns-clause-opening c =
+returns-clause-opening g c =
     let items : c.push.new.self.items ≡ (NUMBER, 0) ∷ [] = search rules in
     IfOk-weaker c.open.result _ _ (λ m is. ap (λ blocks. blocks NUMBER) is ∙ ap (λ entries. opened entries NUMBER) items) c.open.ensures.opening

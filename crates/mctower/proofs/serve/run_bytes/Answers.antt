@@ -3,6 +3,7 @@ use Rattle.std.specs.Prelude.{if◌then◌else◌}
 use Rattle.std.specs.Io.KnownBytes.{Appends}
 use Rattle.std.proofs.lemmas.List.{append-nil}
 use Rattle.event_log.specs.declared.ids.CpuId.{CpuId}
+use Rattle.boot.specs.declared.locks.LockKind.{LockKind}
 use Rattle.boot.specs.declared.refusals.BootError.{BootError}
 use Rattle.boot.specs.Plan.{BootPlan, plan_of}
 use Rattle.tracer.specs.Sinks.{Outs}
@@ -13,9 +14,10 @@ use Rattle.mctower.specs.declared.serve.Done.{Done}
 use Rattle.mctower.specs.declared.serve.Done.TheVariants.{Ran}
 use Rattle.mctower.specs.declared.states.State.{State}
 use Rattle.mctower.specs.State.{IsStateOf}
-use Rattle.mctower.specs.Running.{RunsText}
+use Rattle.mctower.specs.Running.{RunsText, lock_of, on_lock, system_of}
+use Rattle.mctower.specs.declared.run.Ran.{Ran as RanOver}
 use Rattle.mctower.specs.Output.{Output, between}
-use Rattle.mctower.specs.Serve.{RefusedBy, RunsPlan, TellsRun}
+use Rattle.mctower.specs.Serve.{OfPlan, RefusedBy, RunsPlan, TellsRun}
 use Rattle.mctower.specs.Refusals.{from_fault}
 use Rattle.mctower.specs.declared.run.Fault.{Fault}
 use Rattle.mctower.specs.declared.run.Fault.TheVariants as run
@@ -29,26 +31,28 @@ told IsStepwise s state answer false is given = (state, is, given)
 told IsStepwise s state answer true is given = given
 
 -- the text of a run is out, and then nothing more was put out
-ran_out : (IsStepwise : Type 0) (steps : List CpuId) (s : Shown) (state : State) (read : Result BootPlan BootError) (answer : Result Done Refusal)
-    (first whole : Output) → RunsText IsStepwise read steps (Ok s) first → IsStateOf IsStepwise s state
-    → answer ≡ (if whole.failed then Err WriteFault else Ok (Ran state)) → Outs whole.failed first.new whole.new [] → first.old ≡ whole.old
-    → RunsPlan IsStepwise read steps answer whole
-ran_out IsStepwise steps s state (Ok plan) answer first whole runs is given more same =
+ran_out : {I J M N : Type 0} (IsStepwise : LockKind → Type 0) (steps : List CpuId) (r : RanOver I J M N) (state : State) (read : Result BootPlan BootError)
+    (answer : Result Done Refusal) (first whole : Output) → RunsText IsStepwise read steps (Ok r) first
+    → IsStateOf (IsStepwise (lock_of r)) (system_of r) state → answer ≡ (if whole.failed then Err WriteFault else Ok (Ran state))
+    → Outs whole.failed first.new whole.new [] → first.old ≡ whole.old
+    → OfPlan (RunsPlan IsStepwise steps) read answer whole
+ran_out IsStepwise steps r state (Ok plan) answer first whole (over, runs) is given more same =
     let trace = runs.1.out.text in
     let out : Appends first.old first.new trace = all_out first.failed first.old first.new trace runs.0 runs.1.out.out in
+    let told_of = subst (λ lock. IsStateOf (IsStepwise lock) (system_of r) state) over is in
     let outs = outs_then whole.failed first.old first.new whole.new trace [] out more in
     inr (record {
       cpus = runs.1.cpus;
-      system = s;
+      system = system_of r;
       ran = runs.1.ran;
       trace = trace;
       traced = runs.1.out.is;
       put = (
-        told IsStepwise s state answer whole.failed is given,
+        told (IsStepwise plan.lock) (system_of r) state answer whole.failed told_of given,
         subst (λ old. Outs whole.failed old whole.new trace) same (subst (λ t. Outs whole.failed first.old whole.new t) (append-nil trace) outs),
       );
     })
-ran_out IsStepwise steps s state (Err error) answer first whole runs is given more same = absurd runs
+ran_out IsStepwise steps r state (Err error) answer first whole runs is given more same = absurd runs
 
 -- the output failed
 told_fault : (IsStepwise : Type 0) (s : Shown) (failed : Bool) → failed ≡ true → TellsRun IsStepwise s (Err WriteFault) failed
@@ -56,36 +60,37 @@ told_fault IsStepwise s false is = absurd (cc)
 told_fault IsStepwise s true is = refl
 
 -- a run that had a fault
-fault_ran : (IsStepwise : Type 0) (steps : List CpuId) (read : Result BootPlan BootError) (fault : Fault) (out : Output)
-    → RunsText IsStepwise read steps (Err fault) out
-    → RefusedBy NoMemory (Err (from_fault fault)) out ⊎ RunsPlan IsStepwise read steps (Err (from_fault fault)) out
-fault_ran IsStepwise steps (Ok plan) run.NoMemory out runs = inl (refl, runs)
-fault_ran IsStepwise steps (Ok plan) (run.Boot e) out runs = absurd runs
-fault_ran IsStepwise steps (Ok plan) run.BadCpu out runs = inr (inl (runs.0, (refl, runs.1)))
-fault_ran IsStepwise steps (Ok plan) run.NoOrder out runs = absurd runs
-fault_ran IsStepwise steps (Ok plan) run.WriteFault out runs = inr (inr (record {
+fault_ran : (I J M N : Type 0) (IsStepwise : LockKind → Type 0) (steps : List CpuId) (read : Result BootPlan BootError) (fault : Fault) (out : Output)
+    → RunsText {I = I} {J = J} {M = M} {N = N} IsStepwise read steps (Err fault) out
+    → RefusedBy NoMemory (Err (from_fault fault)) out ⊎ OfPlan (RunsPlan IsStepwise steps) read (Err (from_fault fault)) out
+fault_ran I J M N IsStepwise steps (Ok plan) run.NoMemory out (over, runs) = inl (refl, runs)
+fault_ran I J M N IsStepwise steps (Ok plan) (run.Boot e) out (over, runs) = absurd runs
+fault_ran I J M N IsStepwise steps (Ok plan) run.BadCpu out (over, runs) = inr (inl (runs.0, (refl, runs.1)))
+fault_ran I J M N IsStepwise steps (Ok plan) run.NoOrder out (over, runs) = absurd runs
+fault_ran I J M N IsStepwise steps (Ok plan) run.WriteFault out (over, runs) = inr (inr (record {
   cpus = runs.1.1.cpus;
   system = runs.1.0;
   ran = runs.1.1.ran;
   trace = runs.1.1.out.text;
   traced = runs.1.1.out.is;
-  put = (told_fault IsStepwise runs.1.0 out.failed runs.0, runs.1.1.out.out);
+  put = (told_fault (IsStepwise plan.lock) runs.1.0 out.failed runs.0, runs.1.1.out.out);
 }))
-fault_ran IsStepwise steps (Err e) run.NoMemory out runs = inl (refl, runs)
-fault_ran IsStepwise steps (Err e) (run.Boot f) out runs = inr (ap (λ x. Err (BadPlan x)) runs.0, runs.1)
-fault_ran IsStepwise steps (Err e) run.BadCpu out runs = absurd runs
-fault_ran IsStepwise steps (Err e) run.NoOrder out runs = absurd runs
-fault_ran IsStepwise steps (Err e) run.WriteFault out runs = absurd runs
+fault_ran I J M N IsStepwise steps (Err e) run.NoMemory out runs = inl (refl, runs)
+fault_ran I J M N IsStepwise steps (Err e) (run.Boot f) out runs = inr (ap (λ x. Err (BadPlan x)) runs.0, runs.1)
+fault_ran I J M N IsStepwise steps (Err e) run.BadCpu out runs = absurd runs
+fault_ran I J M N IsStepwise steps (Err e) run.NoOrder out runs = absurd runs
+fault_ran I J M N IsStepwise steps (Err e) run.WriteFault out runs = absurd runs
 
 pub returns-in-Err-clause-runs : goal.returns-in-Err-clause-runs
 returns-in-Err-clause-runs g c =
     let same = c.in-Ok.ensures.cases.0 in
-    let ran = fault_ran g.I.IpcLayer.IsStepwise c.args.steps.now (plan_of c.in-Ok.plan.now) c.in-Err.fault _ c.in-Err.ensures.runs in
+    let IsStepwise = on_lock g.I.IpcLayer.IsStepwise g.J.IpcLayer.IsStepwise in
+    let ran = fault_ran _ _ _ _ IsStepwise c.args.steps.now (plan_of c.in-Ok.plan.now) c.in-Err.fault _ c.in-Err.ensures.runs in
     rw c.run_refused.ensures (elim ran [
       | inl refused ↦ inl refused
       | inr runs ↦ inr (inr (
         c.in-Ok.ensures.cases.1,
-        subst (λ t. RunsPlan g.I.IpcLayer.IsStepwise (plan_of t) c.args.steps.now (Err (from_fault c.in-Err.fault))
+        subst (λ t. OfPlan (RunsPlan IsStepwise c.args.steps.now) (plan_of t) (Err (from_fault c.in-Err.fault))
             (between g.O.Write.contents c.args.out.now c.run_plan.new.sink)) same runs,
       ))
     ])
@@ -93,11 +98,12 @@ returns-in-Err-clause-runs g c =
 pub returns-clause-runs : goal.returns-clause-runs
 returns-clause-runs g c =
     let same = c.in-Ok.ensures.cases.0 in
+    let IsStepwise = on_lock g.I.IpcLayer.IsStepwise g.J.IpcLayer.IsStepwise in
     inr (inr (
       c.in-Ok.ensures.cases.1,
-      subst (λ t. RunsPlan g.I.IpcLayer.IsStepwise (plan_of t) c.args.steps.now c.put_out.result
+      subst (λ t. OfPlan (RunsPlan IsStepwise c.args.steps.now) (plan_of t) c.put_out.result
           (between g.O.Write.contents c.args.out.now c.put_out.new.out)) same
-          (ran_out g.I.IpcLayer.IsStepwise c.args.steps.now c.in-Ok-run_plan.ran.0 c.in-Ok-run_plan.ran.1 (plan_of c.in-Ok.plan.now) c.put_out.result
+          (ran_out IsStepwise c.args.steps.now c.in-Ok-run_plan.ran.0 c.in-Ok-run_plan.ran.1 (plan_of c.in-Ok.plan.now) c.put_out.result
           (between g.O.Write.contents c.args.out.now c.run_plan.new.sink) (between g.O.Write.contents c.args.out.now c.put_out.new.out)
           c.in-Ok-run_plan.ensures.runs c.in-Ok-run_plan.ensures.state c.put_out.ensures.put.0 c.put_out.ensures.put.1 refl),
     ))

@@ -1,5 +1,5 @@
 use Rattle.std.proofs.Common.{arith}
-use Rattle.mctower.proofs.count.tests.the_log_holds_three_events_a_section.Goals as goal
+use Rattle.mctower.proofs.count.tests.two_sections_leave_three_grant_words.Goals as goal
 
 pub words-words-requires-clause-acts : goal.words-words-requires-clause-acts
 words-words-requires-clause-acts g c = (record { 0 = 0 }, c.in_ok-machine.ensures.owned (record { 0 = 0 }) (omega arith))

@@ -1,6 +1,6 @@
 use Rattle.std.proofs.Common.{ℕ, ◌<◌, ◌^◌, get_or}
 use Rattle.event_log.specs.declared.entries.Entry.{Entry}
-use Rattle.mctower.proofs.run.values_fit.Given as goal
+use Rattle.mctower.proofs.texts.values_fit.Given as goal
 
 abbrev pub invariant-loop-entry : goal.invariant-loop-entry
 invariant-loop-entry l = (k : ℕ) (d : Entry) → k < l.entry-index → (get_or l.entries k d).value < 2 ^ 64

@@ -1,0 +1,40 @@
+#!/usr/bin/env bash
+# Measures `count` behind both locks in 2, 4 and 8 threads, beside one another and beside plain Rust locks of the same kind
+# (plain_count.rs): whole commands of 1,000 sections a thread, the four by turns. Prints for each number of threads the medians,
+# the ratio of each plain lock's median to ours (1 is the plain program's rate, below 1 is slower), and that of the ticket lock's
+# median to the grant lock's, of ours and of the plain ones. It takes two minutes at most; the machine should be quiet.
+# Build first: (cd crates/mctower && rt run -- count --cpus 1 --times 1).
+#
+#   bench/locks.sh [TURNS]
+set -eu
+export LC_ALL=C
+cd "$(dirname "$0")"
+ours=$(realpath ../crates/mctower/out/mctower)
+turns=${1:-200}
+work=$(mktemp -d); trap 'rm -rf "$work"' EXIT
+rustc -O -o "$work/plain" plain_count.rs
+
+# Runs a command, and adds to the file $1 what it took, in microseconds.
+timed() {
+  local file=$1 start=${EPOCHREALTIME/./}
+  shift
+  timeout 10 "$@" > "$work/out" || echo "$* ended with status $?"
+  echo $((${EPOCHREALTIME/./} - start)) >> "$file"
+  grep -q "^table $((cpus * 1000))\$" "$work/out" || echo "$* loses sections"
+}
+median() { sort -n "$1" | sed -n "$((($(wc -l < "$1") + 1) / 2))p"; }
+
+for cpus in 2 4 8; do
+  rm -f "$work"/*.times; end=$((SECONDS + 40)); done=0
+  while [ $done -lt "$turns" ] && [ $SECONDS -lt $end ]; do
+    for lock in ticket grant; do
+      timed "$work/plain-$lock.times" "$work/plain" $cpus 1000 1 $lock
+      timed "$work/ours-$lock.times" "$ours" count --cpus $cpus --times 1000 --lock $lock
+    done
+    done=$((done + 1))
+  done
+  awk -v cpus=$cpus -v turns=$done -v pt="$(median "$work/plain-ticket.times")" -v pg="$(median "$work/plain-grant.times")" \
+    -v ot="$(median "$work/ours-ticket.times")" -v og="$(median "$work/ours-grant.times")" 'BEGIN {
+      printf "%d threads, %d turns: plain over ours %.2f with tickets, %.2f with grant words; tickets over grant words %.2f of ours, %.2f of the plain ones; ms: ours %.1f and %.1f, plain %.1f and %.1f\n",
+        cpus, turns, pt / ot, pg / og, ot / og, pt / pg, ot / 1000, og / 1000, pt / 1000, pg / 1000 }'
+done

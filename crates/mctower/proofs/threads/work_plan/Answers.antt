@@ -1,0 +1,48 @@
+use Rattle.std.proofs.Common.{◌≡◌, inr, ℕ, List, length, map, Ok, Err, refl, ap, sym, ◌∙◌, subst}
+use Rattle.boot.specs.Plan.{plan_of}
+use Rattle.tracer.specs.Gather.{traces_in}
+use Rattle.cpu.specs.Claims.{buffer_at, listed}
+use Rattle.cpu_workers.specs.Seating.{items_in}
+use Rattle.mctower.specs.Output.{between}
+use Rattle.mctower.specs.Serve.{WorksPlan}
+use Rattle.mctower.specs.Texts.{HaveText, Writes}
+use Rattle.mctower.proofs.ThreadsLemmas.{not_written, of_read, report_has, worked}
+use Rattle.mctower.proofs.threads.work_plan.Goals as goal
+
+pub write_text-requires-clause-text : goal.write_text-requires-clause-text
+write_text-requires-clause-text g c =
+    let caps = c.as_slice.ensures.value ∙ c.caps-caps.ensures.caps in
+    let traces = ap traces_in c.deref.ensures.value in
+    let left = ap (map (λ v. v.items)) c.deref-2.ensures.0 ∙ c.left_in-left.ensures
+    ∙ ap (λ (n : ℕ). listed (λ b. items_in c.in-Ok-run_workers.report.blocks.items (buffer_at b)) 0 n)
+    (c.len.ensures.value ∙ ap length c.caps-caps.ensures.caps) in
+    subst (λ x. x) (λ i. HaveText (sym caps i) (sym traces i) (sym left i))
+    (report_has c.in-Ok.boot c.args.turns _ c.in-Ok.ensures.within c.in-Ok-run_workers.ensures)
+
+pub returns-in-Err-write_text-clause-works : goal.returns-in-Err-write_text-clause-works
+returns-in-Err-write_text-clause-works g c =
+    let caps = c.as_slice.ensures.value ∙ c.caps-caps.ensures.caps in
+    let traces = ap traces_in c.deref.ensures.value in
+    let left = ap (map (λ v. v.items)) c.deref-2.ensures.0 ∙ c.left_in-left.ensures
+    ∙ ap (λ (n : ℕ). listed (λ b. items_in c.in-Ok-run_workers.report.blocks.items (buffer_at b)) 0 n)
+    (c.len.ensures.value ∙ ap length c.caps-caps.ensures.caps) in
+    of_read (WorksPlan c.args.turns) c.in-Ok.boot (plan_of c.args.plan.now) _ _ c.in-Ok.ensures.plan
+    (not_written (Unit {0}) c.args.turns c.in-Ok.boot _ c.in-Ok-run_workers.report.stops c.in-Err-write_text.fault _ _ c.in-Ok-run_workers.ensures refl
+    (subst (λ x. x) (λ i. Writes {A = Unit {0}} (caps i) (traces i) (left i) (Err c.in-Err-write_text.fault)
+    (between g.O.Write.contents c.args.out.now c.write_text.new.sink)) c.in-Err-write_text.ensures)
+    c.run_refused-in-Err-write_text.ensures)
+
+pub returns-clause-works : goal.returns-clause-works
+returns-clause-works g c =
+    let caps = c.as_slice.ensures.value ∙ c.caps-caps.ensures.caps in
+    let traces = ap traces_in c.deref.ensures.value in
+    let left = ap (map (λ v. v.items)) c.deref-2.ensures.0 ∙ c.left_in-left.ensures
+    ∙ ap (λ (n : ℕ). listed (λ b. items_in c.in-Ok-run_workers.report.blocks.items (buffer_at b)) 0 n)
+    (c.len.ensures.value ∙ ap length c.caps-caps.ensures.caps) in
+    of_read (WorksPlan c.args.turns) c.in-Ok.boot (plan_of c.args.plan.now) _ _ c.in-Ok.ensures.plan
+    (inr (worked c.args.turns c.in-Ok.boot _ c.in-Ok-run_workers.report.stops c.put_out.result
+    (between g.O.Write.contents c.args.out.now c.write_text.new.sink) (between g.O.Write.contents c.args.out.now c.put_out.new.out)
+    c.in-Ok-run_workers.ensures refl
+    (subst (λ x. x) (λ i. Writes {A = Unit {0}} (caps i) (traces i) (left i) (Ok c.in_default.field-0)
+    (between g.O.Write.contents c.args.out.now c.write_text.new.sink)) c.in_default.ensures)
+    c.put_out.ensures.put.0 c.put_out.ensures.put.1 refl))

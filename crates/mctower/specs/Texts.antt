@@ -1,0 +1,52 @@
+-- The trace text of the traces of a plan's CPUs and of what its buffers hold, and what writing it answers.
+use Rattle.std.specs.Prelude.{◌≡◌, ◌≤◌, ℕ, true, false, List, length, Some, slice_get, Result, Ok, Err}
+use Rattle.std.specs.List.{AllByRecursion}
+use Rattle.event_log.specs.declared.entries.Entry.{Entry}
+use Rattle.event_log.specs.Messages.{Message}
+use Rattle.event_log.specs.Runs.{IsRun}
+use Rattle.event_log.specs.Traces.{IsInterleaving}
+use Rattle.tracer.specs.Gather.{IsOrder, TakesFirstReady}
+use Rattle.tracer.specs.TraceText.{IsTraceText}
+use Rattle.boot.specs.Plan.{BootPlan, IsPlan}
+use Rattle.cpu.specs.Boots.{homes_for}
+use Rattle.cpu.specs.Cpus.{IsOfHome}
+use Rattle.mctower.specs.declared.run.Fault.{Fault}
+use Rattle.mctower.specs.declared.run.Fault.TheVariants.{NoMemory, Boot, BadCpu, NoOrder, WriteFault}
+use Rattle.mctower.specs.Output.{IsPut, IsUntouched, Output}
+
+-- These traces have a text with what is left: they are one of each CPU of a plan with these capacities, each within its room and of threads at
+-- home with its CPU; and they have an order that keeps each of them, is a run and ends in what is left.
+pub record HaveText (caps : List ℕ) (traces : List (List Entry)) (left : List (List Message)) : Type 0 where
+  pub plan : BootPlan
+  pub within : IsPlan plan
+  pub caps_are : caps ≡ plan.caps
+  pub count : length traces ≡ plan.cpus
+  pub fit : (c : ℕ) (trace : List Entry) → slice_get traces c ≡ Some trace → length trace ≤ plan.trace
+  pub stay : (c : ℕ) (trace : List Entry) → slice_get traces c ≡ Some trace → AllByRecursion (IsOfHome (homes_for plan) (record { 0 = c })) trace
+  pub order : List Entry
+  pub keeps : IsInterleaving traces order
+  pub runs : IsRun caps order left
+
+-- the text is the trace text of these capacities, of these traces in the one order that takes the first trace that is ready, and of what is
+-- left; and that order is a run that ends in what is left
+pub record IsTextOf (caps : List ℕ) (traces : List (List Entry)) (left : List (List Message)) (text : List ℕ) : Type 0 where
+  pub order : List Entry
+  pub keeps : IsOrder traces order
+  pub first : TakesFirstReady traces order
+  pub run : IsRun caps order left
+  pub spelled : IsTraceText text caps order left
+
+-- this text is out, or where the sink failed a beginning of it
+pub record IsOut (caps : List ℕ) (traces : List (List Entry)) (left : List (List Message)) (printed : Output) : Type 0 where
+  pub text : List ℕ
+  pub is : IsTextOf caps traces left text
+  pub out : IsPut printed text
+
+-- what writing this text answers, by what became of the sink
+abbrev pub Writes : {A : Type 0} → List ℕ → List (List Entry) → List (List Message) → Result A Fault → Output → Type 0
+Writes caps traces left (Ok _) out = (out.failed ≡ false) × IsOut caps traces left out
+Writes caps traces left (Err NoMemory) out = IsUntouched out
+Writes caps traces left (Err (Boot e)) out = ⊥
+Writes caps traces left (Err BadCpu) out = ⊥
+Writes caps traces left (Err NoOrder) out = ⊥
+Writes caps traces left (Err WriteFault) out = (out.failed ≡ true) × IsOut caps traces left out

@@ -1,0 +1,39 @@
+-- A run of a plan in threads: what its workers leave, and the lines that tell why each of them stopped.
+use Rattle.std.specs.Prelude.{◌≡◌, ℕ, List, codes, length}
+use Rattle.std.specs.List.{flat_map}
+use Rattle.event_log.specs.declared.ids.CpuId.{CpuId}
+use Rattle.tracer.specs.TraceText.{line_of, numbered}
+use Rattle.boot.specs.Plan.{BootPlan}
+use Rattle.cpu.specs.Sound.{setup_for}
+use Rattle.cpu_workers.specs.declared.stops.Stop.{Stop}
+use Rattle.cpu_workers.specs.declared.stops.Stop.TheVariants.{AllEnded, TurnsUsed, TraceFull, Held}
+use Rattle.cpu_workers.specs.Lawful.{IsLawfulReport, Shown, left_in}
+use Rattle.mctower.specs.StateLines.{cpu_pieces}
+use Rattle.mctower.specs.Texts.{IsTextOf}
+
+-- the word for a stop
+abbrev pub stop_word : Stop → List ℕ
+stop_word AllEnded = codes "AllEnded"
+stop_word TurnsUsed = codes "TurnsUsed"
+stop_word TraceFull = codes "TraceFull"
+stop_word Held = codes "Held"
+
+-- the line of a CPU whose worker has stopped
+abbrev pub stop_pieces : ℕ → Stop → List (List ℕ)
+stop_pieces c stop = cpu_pieces c (stop_word stop)
+
+-- a line for each CPU, by rising number
+abbrev pub stop_text : List Stop → List ℕ
+stop_text stops = flat_map line_of (numbered stop_pieces 0 stops)
+
+-- no gate holds a CPU
+abbrev pub Never : CpuId → ℕ → Type 0
+Never c turn = ⊥
+
+-- The workers of a plan have run, each for so many turns: they left a lawful report, these are its stops, and this is the text of the plan's
+-- capacities, of the report's traces and of what its buffers hold.
+pub record IsWorked (plan : BootPlan) (turns : ℕ) (stops : List Stop) (text : List ℕ) : Type 0 where
+  pub report : Shown
+  pub lawful : IsLawfulReport (setup_for plan) Never turns report
+  pub stops_are : stops ≡ report.stops
+  pub is : IsTextOf plan.caps report.traces (left_in (length plan.caps) report) text

@@ -1,0 +1,61 @@
+//! The trace text of the traces of a plan's CPUs, which both a run of steps and a run in threads write.
+
+ghost use Rattle.std.specs.Prelude.{◌≡◌, ◌<◌, ◌^◌, ℕ, List, false, length, map, slice_index_or};
+ghost use Rattle.event_log.specs.declared.entries.Entry.{Entry as AnEntry};
+ghost use Rattle.tracer.specs.Gather.{traces_in};
+ghost use Rattle.tracer.specs.Judging.{verdict_of};
+ghost use Rattle.tracer.specs.Sinks.{has_failed};
+ghost use Rattle.tracer.specs.declared.verdicts.Verdict.TheVariants.{Yes as SaysYes};
+ghost use Rattle.mctower.specs.Output.{between};
+ghost use Rattle.mctower.specs.Texts.{HaveText, IsTextOf, Writes};
+
+use crate::run::Fault;
+use arrayvec::ArrayVec;
+use event_log::{CAPACITY, Entry, Msg};
+use std::alloc::Global;
+use std::io::Write;
+use tracer::{Sink, gather, write_trace};
+
+/// A law: the judge says yes to the text of any traces, so `check` says yes to all that a run of
+/// steps or a run in threads writes with a good answer.
+pub fn texts_get_yes()
+    ensures { (text caps : List ℕ) (traces : List (List AnEntry)) (left : List (List ℕ)) → IsTextOf caps traces left text
+        → verdict_of text ≡ SaysYes }
+{}
+
+/// Writes the trace text of these traces, one of each CPU of a plan with these capacities, and of
+/// what is left in its buffers.
+///
+/// Errors: `NoMemory` where an allocation was refused, and then nothing was written; `WriteFault`
+/// exactly where the sink failed.
+pub(crate) fn write_text<W: Write>(
+    alloc: Global,
+    caps: &[u8],
+    traces: &[Vec<Entry>],
+    left: &[ArrayVec<Msg, CAPACITY>],
+    sink: &mut Sink<W>,
+) -> Result<(), Fault>
+    requires live { has_failed sink.old ≡ false }
+    requires text { HaveText caps.now (traces_in traces.now) (map (λ v. v.items) left.now) }
+    ensures { Writes caps.now (traces_in traces.now) (map (λ v. v.items) left.now) result (between W.contents sink.old sink.new) }
+{
+    let order = gather(alloc, traces)?;
+    values_fit(&order);
+    write_trace(sink, caps, &order, left)?;
+    Ok(())
+}
+
+// Each value has 64 bits, as its type says; a list of entries does not tell it by itself. It
+// computes nothing.
+fn values_fit(entries: &[Entry])
+    ensures { (k : ℕ) (d : AnEntry) → k < length entries.now → (slice_index_or entries.now k d).value < 2 ^ 64 }
+{
+    for entry in entries {
+        value_fits(entry.value);
+    }
+}
+
+// A value has 64 bits.
+fn value_fits(value: Msg)
+    ensures { value < 2 ^ 64 }
+{}

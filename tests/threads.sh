@@ -1,0 +1,83 @@
+#!/usr/bin/env bash
+# Runs plans in threads with the built program, each with ticket locks and with grant locks: what is on standard output, what is told of
+# each worker on standard error, and that `check` says yes to the text. It takes seconds; .ci/run calls it after rt ci.
+#
+#   tests/threads.sh [PROGRAM..]
+#
+# Without a name it runs each build of mctower that `rt ci` or `rt run` left. The last line is 'threads: N passed, M failed'.
+set -u
+export LC_ALL=C
+cd "$(dirname "$0")/.."
+room=$(mktemp -d); trap 'rm -rf "$room"' EXIT
+[ $# -gt 0 ] || set -- $(ls crates/mctower/out/mctower crates/mctower/out/mctower.by-rattle 2> /dev/null)
+passed=0; failed=0
+
+# Whether the two texts are one: $1 names what is told, $2 is wanted and $3 given.
+same() {
+  if [ "$2" = "$3" ]; then
+    passed=$((passed + 1))
+  else
+    failed=$((failed + 1)); printf 'threads: %s, lock %s: %s\n  wanted: %s\n  given: %s\n' "$program" "$lock" "$1" "$2" "$3"
+  fi
+}
+# Runs the plan $1 with the lock `lock` for $2 turns.
+run() {
+  sed "0,/^\[\[/s/^\[\[/lock = \"$lock\"\n[[/" "$1" > "$room/plan"
+  timeout 60 "$program" threads --turns "$2" < "$room/plan" > "$room/out" 2> "$room/err"
+  same "status with $2 turns of $1" 0 "$?"
+}
+# Runs it so: $3 is wanted on standard output, $4 on standard error.
+row() {
+  run "$1" "$2"
+  same "output with $2 turns of $1" "$3" "$(cat "$room/out")"
+  same "stops with $2 turns of $1" "$4" "$(cat "$room/err")"
+  same "verdict with $2 turns of $1" yes "$("$program" check < "$room/out")"
+}
+
+head=$'mctower-trace 1\nbuffers 1\ncap 0 '
+sent=$'\ne 0 0 send 0 7 0 0\nleft 0 7\nend'
+cat > "$room/twice.toml" <<'PLAN'
+cpus = 1
+trace = 1
+buffers = [32]
+[[thread]]
+cpu = 0
+program = ["set r0 7", "send 0 r0", "send 0 r0"]
+PLAN
+cat > "$room/hundred.toml" <<'PLAN'
+cpus = 2
+trace = 200
+buffers = [4]
+[[thread]]
+cpu = 0
+program = ["set r0 100", "set r1 1", "send 0 r0", "sub r0 r1", "jnz r0 2"]
+[[thread]]
+cpu = 1
+program = ["set r0 100", "set r1 1", "recv 0 r2", "sub r0 r1", "jnz r0 2"]
+PLAN
+stops=$'cpu 0 AllEnded\ncpu 1 AllEnded'
+
+# One hundred messages from one CPU to another. The order of sends and receives is the threads' own; each side's is not.
+hundred() {
+  run "$room/hundred.toml" 1000000000
+  same 'stops of a hundred messages' "$stops" "$(cat "$room/err")"
+  same 'entries of a hundred messages' 200 "$(grep -c '^e ' "$room/out")"
+  same 'sends of a hundred messages' "$(seq 100 -1 1)" "$(awk '$4 == "send" && $2 == 0 && $3 == 0 { print $6 }' "$room/out")"
+  same 'receives of a hundred messages' "$(seq 100 -1 1)" "$(awk '$4 == "recv" && $2 == 1 && $3 == 1 { print $6 }' "$room/out")"
+  same 'what is left of a hundred messages' 'left 0' "$(grep '^left' "$room/out")"
+  same 'verdict on a hundred messages' yes "$("$program" check < "$room/out")"
+}
+
+for program; do
+  for lock in ticket grant; do
+    # the effect comes in the eleventh turn, which ends a section that was under way after ten
+    row plans/one-send.toml 1000000000 "${head}1$sent" 'cpu 0 AllEnded'
+    row plans/one-send.toml 10 "${head}1$sent" 'cpu 0 TurnsUsed'
+    row plans/one-send.toml 5 "${head}1"$'\nleft 0\nend' 'cpu 0 TurnsUsed'
+    row "$room/twice.toml" 1000 "${head}32$sent" 'cpu 0 TraceFull'
+    hundred
+  done
+done
+[ $((passed + failed)) -gt 0 ] || { echo "threads: build the program first: (cd crates/mctower && rt run -- count --cpus 1 --times 1)"; exit 1; }
+echo "threads: $passed passed, $failed failed"
+[ "$failed" = 0 ]
