@@ -10,11 +10,11 @@ use Rattle.mctower.proofs.serve.answer.Goals as goal
 pub returns-in-Ok-clause-served : goal.returns-in-Ok-clause-served
 returns-in-Ok-clause-served g c =
     let means : order_of (map (λ w. w.now) c.args.words.now) ≡ Some (run (option_map string_bytes c.in-Ok-Run.schedule)) =
-        c.in-Ok-Run.ensures ∙ ap (λ o. Some (meant_by o)) c.in-Ok-Run.field-0-is in
+    c.in-Ok-Run.ensures ∙ ap (λ o. Some (meant_by o)) c.in-Ok-Run.field-0-is in
     let asked : steps_asked (option_map string_bytes c.in-Ok-Run.schedule) ≡ Some c.as_slice.result.now =
-        c.in-Ok.ensures ∙ ap Some (sym c.as_slice.ensures.value) in
+    c.in-Ok.ensures ∙ ap Some (sym c.as_slice.ensures.value) in
     subst (λ (meant : Option Meant). Serves (on_lock g.I.IpcLayer.IsStepwise g.J.IpcLayer.IsStepwise) meant (g.R.Read.remaining c.args.input.now)
-      c.serve_run.result (between g.O.Write.contents c.args.out.now c.serve_run.new.out)) (sym means)
-      (subst (λ (steps : Option (List CpuId)). RunsAsked (on_lock g.I.IpcLayer.IsStepwise g.J.IpcLayer.IsStepwise) steps
-        (g.R.Read.remaining c.args.input.now) c.serve_run.result (between g.O.Write.contents c.args.out.now c.serve_run.new.out)) (sym asked)
-        c.serve_run.ensures.runs)
+    c.serve_run.result (between g.O.Write.contents c.args.out.now c.serve_run.new.out)) (sym means)
+    (subst (λ (steps : Option (List CpuId)). RunsAsked (on_lock g.I.IpcLayer.IsStepwise g.J.IpcLayer.IsStepwise) steps
+    (g.R.Read.remaining c.args.input.now) c.serve_run.result (between g.O.Write.contents c.args.out.now c.serve_run.new.out)) (sym asked)
+    c.serve_run.ensures.runs)
