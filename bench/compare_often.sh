@@ -1,11 +1,13 @@
 #!/usr/bin/env bash
 # Compares `mctower run` with the plain program of the step table over random plans and schedules: trace text, state lines
-# and status. It takes how many (500 where nothing is said) and the first seed; its last line counts what was equal.
+# and status. It takes how many (500 where nothing is said), the first seed, and the program where it is another one than the gate's; its
+# last line counts what was equal.
 # Build first: (cd crates/mctower && rt run -- count --cpus 1 --times 1).
 set -eu
+ours=${3:+$(realpath "$3")}
 cd "$(dirname "$0")"
 count=${1:-500}; first=${2:-1}
-ours=$(realpath ../crates/mctower/out/mctower 2> /dev/null) && [ -x "$ours" ] || { echo "build mctower first: (cd crates/mctower && rt run -- count --cpus 1 --times 1)"; exit 1; }
+ours=$(realpath "${ours:-../crates/mctower/out/mctower}" 2> /dev/null) && [ -x "$ours" ] || { echo "build mctower first: (cd crates/mctower && rt run -- count --cpus 1 --times 1)"; exit 1; }
 work=$(mktemp -d); trap 'rm -rf "$work"' EXIT
 rustc -O -o "$work/plain_tower" plain_tower.rs
 equal=0

@@ -1,11 +1,14 @@
 #!/usr/bin/env python3
 """Damaged trace texts, plans and schedules: what the built program answers beside judges of their own, written from the formats alone.
 
-    bench/damage_often.py PROGRAM [HOW_MANY] [SEED]
+    bench/damage_often.py PROGRAM [HOW_MANY] [SEED] [texts | plans]
 
-A text is a run of first-in first-out buffers, perhaps with closes, near which it is damaged (entries swapped, dropped, turned, counted
-anew) or near its grammar (a byte, a piece, a number, a line); a plan, with or without the key of its lock, and a schedule near theirs.
-Prints each case whose answer differs; the last line counts them. TOML is read by Python's own tomllib.
+A text is a run of first-in first-out buffers, perhaps with closes and with messages of several words, near which it is damaged (entries
+swapped, dropped, turned, counted anew, messages with a word more or less) or near its grammar (a byte, a piece, a number, a comma, a
+line); a plan, with or without the key of its lock, with closes, targets and messages of words among its instructions, and a schedule
+near theirs. The cases are texts and plans by turns, or those that are named alone: PROGRAM may be
+the built bench/plain_check.rs for texts. Prints each case whose answer differs; the last line counts them. TOML is read by Python's own
+tomllib.
 """
 import random
 import subprocess
@@ -13,7 +16,7 @@ import sys
 import tomllib
 
 CPUS, THREADS, BUFFERS, CAPACITY, TRACE, ENTRIES = 8, 64, 16, 32, 65536, 524288
-LINES, STEPS, WORD = 256, 1048576, 2**64
+LINES, STEPS, WORD, WORDS = 256, 1048576, 2**64, 8
 ODD_NUMBERS = [b'00', b'01', b'', b'-', b'-1', b'+1', b'1.0', b'x', b'8', b'16', b'17', b'33', b'64', b'524287', b'524288',
                b'18446744073709551615', b'18446744073709551616', b'99999999999999999999999']
 
@@ -39,23 +42,38 @@ def numbers(pieces, tops):
     return found
 
 
-# The effects that each version of the text can spell, those that have a message, and with whose calls each is counted.
-HEADS = {b'mctower-trace 1': (b'send', b'recv'), b'mctower-trace 2': (b'send', b'recv', b'close', b'sendc', b'recvc')}
+# By head of a text its version. The effects that the first can spell and those of the others, those that have a message, and with whose
+# calls each is counted.
+HEADS = {b'mctower-trace 1': 1, b'mctower-trace 2': 2, b'mctower-trace 3': 3}
+FIRST_KINDS, KINDS = (b'send', b'recv'), (b'send', b'recv', b'close', b'sendc', b'recvc')
 MESSAGES = (b'send', b'recv', b'sendc')
 GROUPS = {b'send': b'send', b'sendc': b'send', b'recv': b'recv', b'recvc': b'recv', b'close': b'close'}
+
+
+def is_message(piece, version):
+    words = piece.split(b',')
+    return all(map(is_number, words)) and (version == 3 or len(words) == 1)
+
+
+def message(piece):
+    """The words of a message that is well spelled."""
+    words = piece.split(b',')
+    if len(words) > WORDS:
+        raise No('Range(31)')
+    return numbers(words, [WORD] * WORDS)
 
 
 class Judge:
     def __init__(self):
         self.want, self.caps, self.items, self.counts, self.entries, self.buffer = 'head', [], [], {}, 0, 0
-        self.closed, self.used = set(), set()
+        self.closed, self.lowest = set(), 1
 
     def line(self, line):
         pieces = line.split(b' ')
         if self.want == 'head':
             if line not in HEADS:
                 raise No('Spelling(30)')
-            self.kinds = HEADS[line]
+            self.version = HEADS[line]
             self.want = 'count'
         elif self.want == 'count':
             if len(pieces) != 2 or pieces[0] != b'buffers':
@@ -81,26 +99,24 @@ class Judge:
         elif self.want == 'end':
             if line != b'end':
                 raise No('Spelling(30)')
-            if any(len(kinds) < len(self.kinds) and self.used <= set(kinds) for kinds in HEADS.values()):
+            if self.lowest < self.version:
                 raise No('Version(38)')
             self.want = 'nothing'
         else:
             raise No('Spelling(30)')
 
     def entry(self, pieces):
-        if len(pieces) != 8 or pieces[3] not in self.kinds:
+        if len(pieces) != 8 or pieces[3] not in (FIRST_KINDS if self.version == 1 else KINDS):
             raise No('Spelling(30)')
-        kind = pieces.pop(3)
-        if kind not in MESSAGES:
-            if pieces[4] != b'-':
-                raise No('Spelling(30)')
-            pieces[4] = b'0'
-        found = numbers(pieces[1:], [CPUS, THREADS, self.count, WORD, ENTRIES, ENTRIES])
+        kind, value = pieces.pop(3), pieces.pop(4)
+        if value != b'-' if kind not in MESSAGES else not is_message(value, self.version):
+            raise No('Spelling(30)')
+        _, _, buffer, op, pos = numbers(pieces[1:], [CPUS, THREADS, self.count, ENTRIES, ENTRIES])
+        value = message(value) if kind in MESSAGES else [0]
         self.entries += 1
         if self.entries > ENTRIES:
             raise No('Range(31)')
-        self.used.add(kind)
-        buffer, value, op, pos = found[2:]
+        self.lowest = max(self.lowest, 3 if len(value) > 1 else 1 if kind in FIRST_KINDS else 2)
         group = buffer, GROUPS[kind]
         if op != self.counts.get(buffer, 0):
             raise No('Op(32)')
@@ -133,7 +149,9 @@ class Judge:
         self.want = 'left'
         if len(pieces) < 2 or pieces[0] != b'left' or pieces[1] != str(self.buffer).encode():
             raise No('Spelling(30)')
-        if numbers(pieces[2:], [WORD] * len(pieces)) != self.items[self.buffer]:
+        if not all(is_message(piece, self.version) for piece in pieces[2:]):
+            raise No('Spelling(30)')
+        if [message(piece) for piece in pieces[2:]] != self.items[self.buffer]:
             raise No('Left(37)')
         self.buffer += 1
         if self.buffer == self.count:
@@ -162,21 +180,26 @@ class Bad(Exception):
     pass
 
 
-SHAPES = {'set': 'rn', 'add': 'rr', 'sub': 'rr', 'jnz': 'rk', 'send': 'br', 'recv': 'br', 'yield': '', 'exit': ''}
+# The pieces behind each word: a register, a number, a buffer, how many words, a target. Behind `?` one more may stand.
+SHAPES = {'set': 'rn', 'add': 'rr', 'sub': 'rr', 'jnz': 'rk', 'send': 'br?k', 'sendm': 'bw?k', 'recv': 'br?k', 'recvm': 'b?k', 'close': 'b',
+          'yield': '', 'exit': ''}
+REGISTERS = ['r0', 'r1', 'r2', 'r3', 'r4', 'r5', 'r6', 'r7']
 
 
+IN_RANGE = {'n': lambda n: n < WORD, 'b': lambda n: n < BUFFERS, 'w': lambda n: 1 <= n <= WORDS, 'k': lambda n: True}
 LOCKS = ('ticket', 'grant')
 
 
 def guest_fault(line, count):
     word, *pieces = line.split(' ')
-    if word not in SHAPES or len(pieces) != len(SHAPES[word]):
+    must, _, may = SHAPES.get(word, '').partition('?')
+    if word not in SHAPES or len(pieces) not in (len(must), len(must + may)):
         return 'UnknownWord(10)'
-    for piece, kind in zip(pieces, SHAPES[word]):
+    for piece, kind in zip(pieces, must + may):
         if kind == 'r':
-            if piece not in ('r0', 'r1', 'r2', 'r3'):
+            if piece not in REGISTERS:
                 return 'BadRegister(11)'
-        elif not is_number(piece) or kind == 'n' and int(piece) >= WORD or kind == 'b' and int(piece) >= BUFFERS:
+        elif not is_number(piece) or not IN_RANGE[kind](int(piece)):
             return 'BadNumber(12)'
         elif kind == 'k' and int(piece) >= count:
             return 'BadTarget(13)'
@@ -194,7 +217,7 @@ def program(lines, thread, buffers):
         if fault:
             raise Bad(f'{where} {number} {fault}')
     for line in lines:
-        if line[:5] in ('send ', 'recv ') and int(line.split(' ')[1]) >= buffers:
+        if 'b' in SHAPES[line.split(' ')[0]] and int(line.split(' ')[1]) >= buffers:
             raise Bad(f'OutOfRange(22) thread {thread} program')
 
 
@@ -278,28 +301,35 @@ def some_text(pick):
     caps = [pick.randint(1, 3) for _ in range(count)]
     items, counts, closed, entries = [[] for _ in caps], {}, set(), []
     kinds = pick.choice([['send', 'recv'], ['send', 'recv'], ['send', 'send', 'recv', 'recv', 'close']])
-    for _ in range(pick.randint(0, 8)):
+    has_words = pick.random() < 0.4
+    for _ in range(pick.randint(0, 12)):
         b = pick.randrange(count)
         kind = pick.choice(kinds)
         if b in closed:
             kind = {'send': 'sendc', 'recv': 'recv' if items[b] else 'recvc'}.get(kind, kind)
         if kind == 'send' and len(items[b]) == caps[b] or kind == 'recv' and not items[b]:
             continue
-        value = items[b].pop(0) if kind == 'recv' else pick.choice([0, 7, 7, 8, WORD - 1]) if kind in ('send', 'sendc') else '-'
+        value = items[b].pop(0) if kind == 'recv' else some_message(pick, has_words) if kind in ('send', 'sendc') else '-'
         if kind == 'send':
             items[b].append(value)
         if kind == 'close':
             closed.add(b)
         entries.append([pick.randrange(CPUS), pick.randrange(THREADS), kind, b, value] + numbered(counts, kind, b))
-    for _ in range(pick.choice([0, 0, 1, 2])):
+    for _ in range(pick.choice([0, 1, 1, 2])):
         near_a_run(pick, entries)
     version = 2 if any(e[2] not in ('send', 'recv') for e in entries) else 1
+    version = 3 if any(',' in e[4] for e in entries) else version
     if pick.random() < 0.05:
-        version = pick.choice([0, 1, 2, 3])
+        version = pick.choice([0, 1, 2, 3, 4])
     lines = [f'mctower-trace {version}', f'buffers {count}'] + [f'cap {b} {k}' for b, k in enumerate(caps)]
     lines += ['e ' + ' '.join(map(str, e)) for e in entries]
     lines += [' '.join(map(str, ['left', b] + items[b])) for b in range(count)] + ['end']
     return b''.join(line.encode() + b'\n' for line in lines)
+
+
+def some_message(pick, has_words):
+    count = pick.choice([1, 2, 2, 3, WORDS]) if has_words else 1
+    return ','.join(str(pick.choice([0, 7, 7, 8, WORD - 1])) for _ in range(count))
 
 
 def numbered(counts, kind, b):
@@ -310,27 +340,31 @@ def numbered(counts, kind, b):
     return found
 
 
-TURNED = {'send': 'recv', 'recv': 'send', 'close': 'sendc', 'sendc': 'send', 'recvc': 'recv'}
+TURNED = {'send': ['recv', 'sendc'], 'recv': ['send', 'recvc'], 'close': ['sendc', 'recvc'], 'sendc': ['send'], 'recvc': ['recv']}
 
 
 def near_a_run(pick, entries):
     if not entries:
         return
     i, j = pick.randrange(len(entries)), pick.randrange(len(entries))
-    how = pick.randrange(6)
+    how = pick.randrange(8)
     if how == 0:
         entries[i], entries[j] = entries[j], entries[i]
     elif how == 1:
         del entries[i]
     elif how == 2:
-        entries[i][2] = pick.choice(['close', 'sendc', 'recvc']) if pick.random() < 0.2 else TURNED[entries[i][2]]
-        entries[i][4] = '-' if entries[i][2] in ('close', 'recvc') else 7 if entries[i][4] == '-' else entries[i][4]
+        entries[i][2] = pick.choice(TURNED[entries[i][2]])
+        entries[i][4] = '-' if entries[i][2] in ('close', 'recvc') else '7' if entries[i][4] == '-' else entries[i][4]
     elif how == 3:
-        entries[i][4] = pick.choice([0, 7, 8, '-'])
+        entries[i][4] = pick.choice(['0', '7', '8', '-', '7,7', entries[i][4] + ',0', entries[i][4].rpartition(',')[2], entries[j][4]])
     else:
+        at = next((k for k, e in enumerate(entries) if e[2] == 'close'), j)
         if how == 5:
+            entries.insert(i, entries.pop(at))
+        elif how > 5:
             kind = pick.choice(list(TURNED))
-            entries.insert(i, entries[j][:2] + [kind, entries[j][3], '-' if kind in ('close', 'recvc') else 7, 0, 0])
+            entry = entries[at][:2] + [kind, entries[at][3], '-' if kind in ('close', 'recvc') else '7', 0, 0]
+            entries.insert(pick.randint(at, len(entries)), entry)
         counts = {}
         for e in entries:
             e[5:] = numbered(counts, e[2], e[3])
@@ -341,10 +375,10 @@ def near_its_grammar(pick, text):
     i = pick.randrange(len(lines))
     pieces = lines[i].split(b' ')
     k = pick.randrange(len(pieces))
-    how = pick.randrange(9)
+    how = pick.randrange(10)
     if how == 0:
         at = pick.randrange(len(text) + 1)
-        return text[:at] + bytes([pick.choice([0, 10, 13, 32, 48, 57, 101, 255, pick.randrange(256)])]) + text[at + pick.randrange(2):]
+        return text[:at] + bytes([pick.choice([0, 10, 13, 32, 44, 48, 57, 101, 255, pick.randrange(256)])]) + text[at + pick.randrange(2):]
     if how == 1:
         return text[:pick.randrange(len(text) + 1)]
     if how == 2:
@@ -358,6 +392,10 @@ def near_its_grammar(pick, text):
         lines[i], lines[j] = lines[j], lines[i]
     elif how == 6:
         pieces[k] = pick.choice(ODD_NUMBERS)
+    elif how == 9:
+        words = pieces[k].split(b',')
+        words[pick.randrange(len(words))] = pick.choice(ODD_NUMBERS + [b'7,7', b',7', b'7' + b',7' * pick.choice([7, 8])])
+        pieces[k] = b','.join(words)
     elif how == 7:
         del pieces[k]
     else:
@@ -367,7 +405,9 @@ def near_its_grammar(pick, text):
     return b'\n'.join(lines)
 
 
-PROGRAM_LINES = ['set r0 7', 'set r3 18446744073709551615', 'add r0 r1', 'sub r1 r0', 'jnz r0 0', 'send 0 r0', 'recv 0 r1', 'send 1 r2', 'yield', 'exit']
+PROGRAM_LINES = ['set r0 7', 'set r3 18446744073709551615', 'add r0 r1', 'sub r1 r0', 'jnz r0 0', 'send 0 r0', 'recv 0 r1', 'send 1 r2', 'yield', 'exit',
+                 'close 0', 'close 1', 'send 0 r0 0', 'recv 0 r1 1', 'recv 0 r3 3', 'set r7 1', 'sendm 0 1', 'sendm 0 8', 'sendm 1 3 0', 'recvm 0',
+                 'recvm 1', 'recvm 0 2']
 
 
 def some_plan(pick):
@@ -385,19 +425,28 @@ NEAR_A_LOCK = [b'"mcs"', b'"Grant"', b'"ticket "', b'""', b'7', b'true', b'["tic
                b'"""grant"""', b'lock = 1 #', b'lock = "\xc3\xa4" #', b'lock = "grant"\nlock = ']
 
 
+NO_VALUES = [b'true #', b'"1" #', b'1.5 #', b'[] #', b'{} #', b'[1, "a"] #', b'99999999999999999999 #', b'-1 #']
+NO_INSTRUCTIONS = [b'1, ', b'"", ', b'"exit ", ', b'"set r0", ', b'"jnz r0 9", ', b'"close", ', b'"close 16", ', b'"close 0 0", ', b'"send 0 r0 9", ',
+                   b'"recv 0 r0 0 0", ', b'"sendm 0", ', b'"sendm 0 0", ', b'"sendm 0 9 9", ', b'"sendm 16 9 9", ', b'"sendm 0 8 99", ',
+                   b'"sendm 0 1 0 0", ', b'"recvm", ', b'"recvm 16", ', b'"recvm 0 99", ', b'"recvm 0 r0", ', b'"recvm 0 0 0", ', b'"set r8 1", ']
+
+
 def near_a_plan(pick, text):
     how = pick.randrange(8)
     if how == 0:
         return near_its_grammar(pick, text)
     if how == 1:
-        old = pick.choice([b'cpus = ', b'trace = ', b'cpu = ', b'buffers = [', b'r0', b'send ', b'recv ', b'jnz r0 ', b'set r0 '])
+        old = pick.choice([b'cpus = ', b'trace = ', b'cpu = ', b'buffers = [', b'r0', b'send ', b'recv ', b'close ', b'jnz r0 ', b'set r0 ',
+                           b'send 0 r0 ', b'recv 0 r1 ', b'sendm ', b'sendm 0 ', b'sendm 1 3 ', b'recvm ', b'recvm 0 '])
         return text.replace(old, old + pick.choice([b'1', b'9', b'0', b'-', b' ', b'99', b'1.', b'0x']), pick.choice([1, 9]))
     if how == 2:
-        old = pick.choice([b'cpus', b'trace', b'buffers', b'lock', b'ticket', b'grant', b'thread', b'cpu ', b'program', b'send', b'yield', b'exit'])
+        old = pick.choice([b'cpus', b'trace', b'buffers', b'lock', b'ticket', b'grant', b'thread', b'cpu ', b'program', b'send', b'sendm', b'recvm', b'close',
+                           b'yield', b'exit'])
         return text.replace(old, pick.choice([b'other', old.upper(), old + b'2', b'']), 1)
     if how == 3:
-        return text.replace(b' = ', b' = ' + pick.choice([b'true #', b'"1" #', b'1.5 #', b'[] #', b'{} #', b'[1, "a"] #', b'99999999999999999999 #', b'-1 #']), 1) \
-            if pick.random() < 0.5 else text.replace(b'program = [', b'program = [' + pick.choice([b'1, ', b'"", ', b'"exit ", ', b'"set r0", ', b'"jnz r0 9", ']), 1)
+        if pick.random() < 0.5:
+            return text.replace(b' = ', b' = ' + pick.choice(NO_VALUES), 1)
+        return text.replace(b'program = [', b'program = [' + pick.choice(NO_INSTRUCTIONS), 1)
     if how == 4:
         return text.replace(b'"', pick.choice([b"'", b'', b'"""']), pick.choice([1, 2, 99]))
     if how == 5:
@@ -423,7 +472,7 @@ def run(program_path, words, given):
 
 def text_case(pick, program_path):
     text = some_text(pick)
-    for _ in range(pick.choice([0, 1, 1, 2])):
+    for _ in range(pick.choice([0, 0, 1, 2])):
         text = near_its_grammar(pick, text)
     wanted = verdict(text)
     got = run(program_path, ['check'], text)
@@ -456,9 +505,10 @@ def main():
     program_path = sys.argv[1]
     many = int(sys.argv[2]) if len(sys.argv) > 2 else 1000
     pick = random.Random(int(sys.argv[3]) if len(sys.argv) > 3 else 1)
+    cases = {'texts': [text_case], 'plans': [plan_case]}.get(''.join(sys.argv[4:5]), [text_case, plan_case])
     answers, wrong = {}, 0
     for number in range(many):
-        case, wanted, got, right = (text_case if number % 2 == 0 else plan_case)(pick, program_path)
+        case, wanted, got, right = cases[number % len(cases)](pick, program_path)
         name = 'run' if wanted is None else wanted.split()[-1]
         answers[name] = answers.get(name, 0) + 1
         if not right:

@@ -1,14 +1,50 @@
 //! A plain Rust program of the whole step table, to measure `mctower run` against and to compare it
 //! with: the same sections, the same trace text and state lines, no contracts, flat tables. It reads
-//! the subset of plans that bench/make_plan.sh writes. With `log` it also stores each atomic event
-//! in a log of fixed room, as the machine of `mctower` does. With `each` it prints text and states
-//! after each step from none on, all on standard output, and behind each of them a line `after N`.
+//! the subset of plans that bench/make_plan.sh writes, and arrays that go on in the next line behind
+//! a comma. With `log` it also stores each atomic event in a log of fixed room, as the machine of
+//! `mctower` does. With `each` it prints text and states after each step from none on, all on
+//! standard output, and behind each of them a line `after N`.
 //!
 //! plain_tower SCHEDULE [log] < plan > trace 2> states
 //! plain_tower SCHEDULE each < plan > traces-and-states
 
 use std::collections::VecDeque;
+use std::fmt;
 use std::io::{Read, Write};
+
+const REGISTERS: usize = 8;
+
+/// What a buffer carries: a word for each register, of which the first `count` are sent.
+#[derive(Clone, Copy)]
+struct Message {
+    words: [u64; REGISTERS],
+    count: usize,
+}
+
+/// What stands where a call had no message.
+const NO_MESSAGE: Message = Message { words: [0; REGISTERS], count: 1 };
+
+impl Message {
+    fn of(words: &[u64]) -> Message {
+        let mut message = Message { words: [0; REGISTERS], count: words.len() };
+        message.words[..words.len()].copy_from_slice(words);
+        message
+    }
+}
+
+impl fmt::Display for Message {
+    fn fmt(&self, out: &mut fmt::Formatter) -> fmt::Result {
+        write!(out, "{}", self.words[0])?;
+        self.words[1..self.count].iter().try_for_each(|word| write!(out, ",{word}"))
+    }
+}
+
+/// The registers of a message call.
+#[derive(Clone, Copy, PartialEq)]
+enum Registers {
+    One(usize),
+    First(usize),
+}
 
 #[derive(Clone, Copy, PartialEq)]
 enum Instruction {
@@ -16,21 +52,42 @@ enum Instruction {
     Add(usize, usize),
     Sub(usize, usize),
     Jnz(usize, usize),
-    Send(usize, usize),
-    Recv(usize, usize),
+    Send(usize, Registers, Option<usize>),
+    Recv(usize, Registers, Option<usize>),
+    Close(usize),
     Yield,
     Exit,
+}
+
+#[derive(Clone, Copy, PartialEq)]
+enum Kind {
+    Send,
+    Recv,
+    Close,
+    SendClosed,
+    RecvClosed,
 }
 
 #[derive(Clone, Copy)]
 struct Entry {
     cpu: u8,
     thread: u8,
-    is_send: bool,
+    kind: Kind,
     buffer: u8,
-    value: u64,
+    message: Message,
     op: u64,
     pos: u64,
+}
+
+impl Entry {
+    /// The lowest version of the text that can spell it.
+    fn version(&self) -> u8 {
+        match self.kind {
+            _ if self.message.count > 1 => 3,
+            Kind::Send | Kind::Recv => 1,
+            _ => 2,
+        }
+    }
 }
 
 /// A buffer's block. Of a side 0 is the receivers, 1 the senders.
@@ -40,8 +97,10 @@ struct Buffer {
     sleepers: VecDeque<usize>,
     waiting: [VecDeque<usize>; 2],
     line: [VecDeque<usize>; 2],
-    items: VecDeque<u64>,
+    items: VecDeque<Message>,
+    is_closed: bool,
     effects: u64,
+    closes: u64,
     positions: [u64; 2],
 }
 
@@ -51,6 +110,7 @@ enum Stage {
     Between,
     Acquires,
     Enters,
+    Shuts,
     Tries,
     Waits,
     AcquiresAgain,
@@ -76,10 +136,10 @@ struct Guest {
     program: Vec<Instruction>,
     home: usize,
     line: usize,
-    registers: [u64; 4],
+    registers: [u64; REGISTERS],
     stage: Stage,
     position: u64,
-    received: u64,
+    effect: Option<(Kind, Message)>,
     place: Place,
 }
 
@@ -135,10 +195,10 @@ impl<const LOGS: bool> Kernel<LOGS> {
         guest.program.get(guest.line).copied().unwrap_or(Instruction::Exit)
     }
 
-    /// Whether a side may go on: receivers where there are items, senders where there is room.
+    /// Whether a side may go on: receivers where there are items, senders where there is room, both where the buffer is closed.
     fn may_go(&self, b: usize, side: usize) -> bool {
         let buffer = &self.buffers[b];
-        if side == 0 { !buffer.items.is_empty() } else { buffer.items.len() < buffer.capacity }
+        buffer.is_closed || if side == 0 { !buffer.items.is_empty() } else { buffer.items.len() < buffer.capacity }
     }
 
     fn wake(&mut self, c: usize, t: usize) {
@@ -173,42 +233,79 @@ impl<const LOGS: bool> Kernel<LOGS> {
         }
     }
 
-    fn try_call(&mut self, c: usize, t: usize, b: usize, side: usize, value: u64) {
+    /// What the call of t sends.
+    fn message(&self, t: usize) -> Message {
+        let registers = &self.guests[t].registers;
+        match self.instruction(t) {
+            Instruction::Send(_, Registers::One(r), _) => Message::of(&registers[r..=r]),
+            Instruction::Send(_, Registers::First(n), _) => Message::of(&registers[..n]),
+            _ => NO_MESSAGE,
+        }
+    }
+
+    fn try_call(&mut self, c: usize, t: usize, b: usize, side: usize) {
         if self.buffers[b].line[side].front() != Some(&t) || !self.may_go(b, side) {
             self.guests[t].stage = Stage::Waits;
             return;
         }
+        let offered = self.message(t);
         let buffer = &mut self.buffers[b];
         buffer.line[side].pop_front();
-        let value = if side == 1 {
-            buffer.items.push_back(value);
-            value
+        let effect = if side == 1 {
+            if buffer.is_closed {
+                (Kind::SendClosed, offered)
+            } else {
+                buffer.items.push_back(offered);
+                (Kind::Send, offered)
+            }
         } else {
-            buffer.items.pop_front().unwrap()
+            match buffer.items.pop_front() {
+                Some(first) => (Kind::Recv, first),
+                None => (Kind::RecvClosed, NO_MESSAGE),
+            }
         };
-        let op = buffer.effects;
-        buffer.effects += 1;
-        let guest = &mut self.guests[t];
-        guest.received = value;
-        guest.stage = Stage::Signals;
-        let entry = Entry { cpu: c as u8, thread: t as u8, is_send: side == 1, buffer: b as u8, value, op, pos: guest.position };
+        self.take_effect(c, t, b, effect, self.guests[t].position);
+    }
+
+    fn shut(&mut self, c: usize, t: usize, b: usize) {
+        let buffer = &mut self.buffers[b];
+        let pos = buffer.closes;
+        buffer.is_closed = true;
+        buffer.closes += 1;
+        self.take_effect(c, t, b, (Kind::Close, NO_MESSAGE), pos);
+    }
+
+    fn take_effect(&mut self, c: usize, t: usize, b: usize, effect: (Kind, Message), pos: u64) {
+        let op = self.buffers[b].effects;
+        self.buffers[b].effects += 1;
+        self.guests[t].effect = Some(effect);
+        self.guests[t].stage = Stage::Signals;
         self.cpus[c].begun -= 1;
-        self.cpus[c].trace.push(entry);
+        self.cpus[c].trace.push(Entry { cpu: c as u8, thread: t as u8, kind: effect.0, buffer: b as u8, message: effect.1, op, pos });
     }
 
     fn end_call(&mut self, t: usize) {
         let instruction = self.instruction(t);
         let guest = &mut self.guests[t];
-        if let Instruction::Recv(_, register) = instruction {
-            guest.registers[register] = guest.received;
+        let mut next = guest.line + 1;
+        match (instruction, guest.effect) {
+            (Instruction::Recv(_, Registers::One(r), _), Some((Kind::Recv, message))) => guest.registers[r] = message.words[0],
+            (Instruction::Recv(_, Registers::First(_), _), Some((Kind::Recv, message))) => guest.registers = message.words,
+            (Instruction::Send(_, _, Some(target)), Some((Kind::SendClosed, _))) => next = target,
+            (Instruction::Recv(_, _, Some(target)), Some((Kind::RecvClosed, _))) => next = target,
+            _ => {}
         }
-        guest.line += 1;
+        guest.line = next;
         guest.stage = Stage::Between;
     }
 
-    /// What the call of t does in the Free of its section.
-    fn call_section(&mut self, c: usize, t: usize, b: usize, side: usize, value: u64) {
-        let next = if self.guests[t].stage == Stage::Acquires { Stage::Enters } else { Stage::Tries };
+    /// What the call of t does in the Free of its section. A close signals as a send does, the receivers first.
+    fn call_section(&mut self, c: usize, t: usize, b: usize, side: usize) {
+        let next = match (self.guests[t].stage, self.instruction(t)) {
+            (Stage::Acquires, Instruction::Close(_)) => Stage::Shuts,
+            (Stage::Acquires, _) => Stage::Enters,
+            _ => Stage::Tries,
+        };
         match self.guests[t].stage {
             Stage::Acquires | Stage::AcquiresAgain => {
                 if self.buffers[b].owner.is_none() {
@@ -226,7 +323,8 @@ impl<const LOGS: bool> Kernel<LOGS> {
                 buffer.positions[side] += 1;
                 self.guests[t].stage = Stage::Tries;
             }
-            Stage::Tries => self.try_call(c, t, b, side, value),
+            Stage::Shuts => self.shut(c, t, b),
+            Stage::Tries => self.try_call(c, t, b, side),
             Stage::Waits => {
                 self.buffers[b].waiting[side].push_back(t);
                 let place = if side == 0 { Place::WaitRecv(b) } else { Place::WaitSend(b) };
@@ -275,8 +373,8 @@ impl<const LOGS: bool> Kernel<LOGS> {
         }
         let Some(t) = self.cpus[c].current else { return self.drain(c) };
         match self.instruction(t) {
-            Instruction::Send(b, r) => self.call_section(c, t, b, 1, self.guests[t].registers[r]),
-            Instruction::Recv(b, _) => self.call_section(c, t, b, 0, 0),
+            Instruction::Send(b, ..) | Instruction::Close(b) => self.call_section(c, t, b, 1),
+            Instruction::Recv(b, ..) => self.call_section(c, t, b, 0),
             _ => {
                 self.drain(c);
                 self.guests[t].line += 1;
@@ -317,7 +415,7 @@ impl<const LOGS: bool> Kernel<LOGS> {
     fn is_full(&self, c: usize) -> bool {
         let Some(t) = self.cpus[c].current else { return false };
         self.guests[t].stage == Stage::Between
-            && matches!(self.instruction(t), Instruction::Send(..) | Instruction::Recv(..))
+            && matches!(self.instruction(t), Instruction::Send(..) | Instruction::Recv(..) | Instruction::Close(_))
             && self.cpus[c].trace.len() + self.cpus[c].begun == self.limit
     }
 
@@ -365,7 +463,7 @@ impl<const LOGS: bool> Kernel<LOGS> {
             return;
         };
         match self.instruction(t) {
-            Instruction::Send(b, _) | Instruction::Recv(b, _) => {
+            Instruction::Send(b, ..) | Instruction::Recv(b, ..) | Instruction::Close(b) => {
                 if self.guests[t].stage == Stage::Between {
                     if self.is_full(c) {
                         return;
@@ -396,13 +494,17 @@ fn number(text: &str) -> usize {
 fn instruction(line: &str) -> Instruction {
     let p: Vec<&str> = line.split(' ').collect();
     let register = |i: usize| number(&p[i][1..]);
+    let target = |i: usize| p.get(i).map(|piece| number(piece));
     match p[0] {
         "set" => Instruction::Set(register(1), p[2].parse().unwrap()),
         "add" => Instruction::Add(register(1), register(2)),
         "sub" => Instruction::Sub(register(1), register(2)),
         "jnz" => Instruction::Jnz(register(1), number(p[2])),
-        "send" => Instruction::Send(number(p[1]), register(2)),
-        "recv" => Instruction::Recv(number(p[1]), register(2)),
+        "send" => Instruction::Send(number(p[1]), Registers::One(register(2)), target(3)),
+        "sendm" => Instruction::Send(number(p[1]), Registers::First(number(p[2])), target(3)),
+        "recv" => Instruction::Recv(number(p[1]), Registers::One(register(2)), target(3)),
+        "recvm" => Instruction::Recv(number(p[1]), Registers::First(REGISTERS), target(2)),
+        "close" => Instruction::Close(number(p[1])),
         "yield" => Instruction::Yield,
         _ => Instruction::Exit,
     }
@@ -426,7 +528,9 @@ fn new_buffer(capacity: usize) -> Buffer {
         waiting: [queue(), queue()],
         line: [queue(), queue()],
         items: VecDeque::with_capacity(32),
+        is_closed: false,
         effects: 0,
+        closes: 0,
         positions: [0; 2],
     }
 }
@@ -435,7 +539,7 @@ fn boot<const LOGS: bool>(plan: &str, room: usize) -> Kernel<LOGS> {
     let mut kernel =
         Kernel { limit: 0, locks: vec![], buffers: vec![], guests: vec![], cpus: vec![], log: Vec::with_capacity(room), log_room: room };
     let mut home = 0;
-    for line in plan.lines() {
+    for line in plan.replace(",\n", ", ").lines() {
         let Some((key, value)) = line.split_once(" = ") else { continue };
         match key {
             "cpus" => kernel.cpus.extend((0..number(value)).map(|_| new_cpu())),
@@ -445,8 +549,8 @@ fn boot<const LOGS: bool>(plan: &str, room: usize) -> Kernel<LOGS> {
             "program" => {
                 let program = inside(value).split(',').map(|s| instruction(s.trim().trim_matches('"'))).collect();
                 let t = kernel.guests.len();
-                let (stage, place) = (Stage::Between, Place::Ready);
-                kernel.guests.push(Guest { program, home, line: 0, registers: [0; 4], stage, position: 0, received: 0, place });
+                let (stage, effect, place) = (Stage::Between, None, Place::Ready);
+                kernel.guests.push(Guest { program, home, line: 0, registers: [0; REGISTERS], stage, position: 0, effect, place });
                 kernel.cpus[home].ready.push_back(t);
                 kernel.cpus[home].live += 1;
             }
@@ -485,18 +589,27 @@ fn gather(cpus: &[Cpu], buffers: usize) -> Vec<Entry> {
 }
 
 fn write_trace<const LOGS: bool>(kernel: &Kernel<LOGS>, out: &mut impl Write) -> std::io::Result<()> {
-    writeln!(out, "mctower-trace 1\nbuffers {}", kernel.buffers.len())?;
+    let order = gather(&kernel.cpus, kernel.buffers.len());
+    let version = order.iter().map(Entry::version).max().unwrap_or(1);
+    writeln!(out, "mctower-trace {version}\nbuffers {}", kernel.buffers.len())?;
     for (b, buffer) in kernel.buffers.iter().enumerate() {
         writeln!(out, "cap {b} {}", buffer.capacity)?;
     }
-    for e in gather(&kernel.cpus, kernel.buffers.len()) {
-        let kind = if e.is_send { "send" } else { "recv" };
-        writeln!(out, "e {} {} {kind} {} {} {} {}", e.cpu, e.thread, e.buffer, e.value, e.op, e.pos)?;
+    for e in order {
+        write!(out, "e {} {} ", e.cpu, e.thread)?;
+        match e.kind {
+            Kind::Send => write!(out, "send {} {}", e.buffer, e.message)?,
+            Kind::Recv => write!(out, "recv {} {}", e.buffer, e.message)?,
+            Kind::Close => write!(out, "close {} -", e.buffer)?,
+            Kind::SendClosed => write!(out, "sendc {} {}", e.buffer, e.message)?,
+            Kind::RecvClosed => write!(out, "recvc {} -", e.buffer)?,
+        }
+        writeln!(out, " {} {}", e.op, e.pos)?;
     }
     for (b, buffer) in kernel.buffers.iter().enumerate() {
         write!(out, "left {b}")?;
-        for value in &buffer.items {
-            write!(out, " {value}")?;
+        for message in &buffer.items {
+            write!(out, " {message}")?;
         }
         writeln!(out)?;
     }

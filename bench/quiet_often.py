@@ -6,8 +6,10 @@ kernel's rules.
     quiet_often.py MCTOWER FIRST COUNT
 
 Each thread's program is followed along its entries. In a quiet system a thread has ended where its
-program has; any other stands at a call that its buffer does not allow, and waits there. The last
-line says how many were quiet; the status is 1 where one of them was wrong."""
+program has; any other stands at a call that its buffer does not allow, and waits there: a send or a
+receive at a buffer that nobody has closed. The last line says how many were quiet; the status is 1
+where one of them was wrong."""
+import collections
 import itertools
 import random
 import subprocess
@@ -16,24 +18,57 @@ import sys
 import random_plan
 
 STEPS = 20_000
+REGISTERS = 8
+# Which call has which kinds of effect: the second where it finds its buffer closed.
+EFFECTS = {"send": ("send", "sendc"), "recv": ("recv", "recvc"), "close": ("close",)}
+# Each instruction that is a call, with its kind of call and how many pieces stand before its target.
+CALLS = {"send": ("send", 3), "sendm": ("send", 3), "recv": ("recv", 3), "recvm": ("recv", 2), "close": ("close", 2)}
+
+
+def entries_of(text):
+    """The entries of each thread, in order: (kind, buffer, words), without words where the message is spelled `-`."""
+    entries = collections.defaultdict(list)
+    for line in text.splitlines():
+        pieces = line.split(" ")
+        if pieces[0] == "e":
+            words = [] if pieces[5] == "-" else [int(word) for word in pieces[5].split(",")]
+            entries[int(pieces[2])].append((pieces[3], int(pieces[4]), words))
+    return entries
+
+
+def sent(pieces, registers):
+    """The words that a send has taken from the registers."""
+    return registers[:int(pieces[2])] if pieces[0] == "sendm" else [registers[int(pieces[2][1:])]]
+
+
+def receive(pieces, registers, words):
+    """Puts the words of a message where a receive puts them."""
+    if pieces[0] == "recvm":
+        registers[:] = words + [0] * (REGISTERS - len(words))
+    else:
+        registers[int(pieces[2][1:])] = words[0]
 
 
 def next_call(lines, entries):
     """Where a program stands after these entries: None at its end, 'loops' where it has no call left
-    to make, else its next call as (word, buffer)."""
-    registers, line, entries = [0] * 4, 0, list(entries)
+    to make, else its next call as (kind, buffer)."""
+    registers, line, entries = [0] * REGISTERS, 0, list(entries)
     for _ in range(STEPS):
         if line >= len(lines) or lines[line] == "exit":
             return None
         pieces = lines[line].split(" ")
         word, line = pieces[0], line + 1
-        if word in ("send", "recv"):
-            buffer, register = int(pieces[1]), int(pieces[2][1:])
+        if word in CALLS:
+            (call, before), buffer = CALLS[word], int(pieces[1])
             if not entries:
-                return word, buffer
-            kind, at, value = entries.pop(0)
-            assert (kind, at) == (word, buffer) and (kind == "recv" or value == registers[register])
-            registers[register] = value
+                return call, buffer
+            kind, at, words = entries.pop(0)
+            assert kind in EFFECTS[call] and at == buffer
+            assert call != "send" or words == sent(pieces, registers)
+            if kind == "recv":
+                receive(pieces, registers, words)
+            if kind != call and len(pieces) > before:
+                line = int(pieces[before])
         elif word == "jnz":
             line = int(pieces[2]) if registers[int(pieces[1][1:])] else line
         elif word != "yield":
@@ -48,11 +83,11 @@ def programs_of(plan):
     return [[line.strip('"') for line in program.split(", ")] for program in programs]
 
 
-def could_go_on(call, place, capacities, left):
+def could_go_on(call, place, capacities, left, closed):
     """Whether a thread that stands at this call could go on, or does not wait where it should."""
     if call is None:
         return place != "Ended"
-    if call == "loops":
+    if call == "loops" or call[0] == "close" or call[1] in closed:
         return True
     word, buffer = call
     if word == "send":
@@ -61,20 +96,19 @@ def could_go_on(call, place, capacities, left):
 
 
 def is_wrong(plan, text, states):
-    capacities, left, entries = [], [], {}
+    capacities, left, entries = [], [], entries_of(text)
     for line in text.splitlines():
         pieces = line.split(" ")
         if pieces[0] == "cap":
             capacities.append(int(pieces[2]))
         elif pieces[0] == "left":
             left.append(pieces[2:])
-        elif pieces[0] == "e":
-            entries.setdefault(int(pieces[2]), []).append((pieces[3], int(pieces[4]), int(pieces[5])))
+    closed = {buffer for own in entries.values() for kind, buffer, _ in own if kind == "close"}
     places = [line.split(" ")[2] for line in states.splitlines() if line.startswith("thread")]
     programs = programs_of(plan)
     assert len(places) == len(programs)
-    calls = [next_call(program, entries.get(t, [])) for t, program in enumerate(programs)]
-    return any(could_go_on(call, place, capacities, left) for call, place in zip(calls, places))
+    calls = [next_call(program, entries[t]) for t, program in enumerate(programs)]
+    return any(could_go_on(call, place, capacities, left, closed) for call, place in zip(calls, places))
 
 
 def run(program, plan, steps):

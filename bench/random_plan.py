@@ -6,24 +6,36 @@
 FOLDER/SEED.toml for COUNT seeds from FIRST on, with schedules of at most STEPS steps (3,000 where
 nothing is said). Small systems that block often: up to 4 CPUs, 8 threads and 3 buffers of little
 room, schedules that run a CPU for a while or hand over at every step, and traces that are sometimes
-too short."""
+too short. In every other plan threads close buffers, some of them twice, and calls have targets; in
+every other one, whichever of these it is, they send and receive messages of several words."""
 import random
 import sys
 
 
-def program(choose, buffers):
-    lines = []
-    for _ in range(choose.randint(1, 6)):
-        word = choose.choices(["set", "add", "sub", "send", "recv", "yield", "exit", "loop"], [3, 1, 1, 6, 6, 2, 1, 1])[0]
-        d, s, b = choose.randint(0, 3), choose.randint(0, 3), choose.randrange(buffers)
+WORDS = ["set", "add", "sub", "send", "recv", "yield", "exit", "loop", "close", "sendm", "recvm"]
+REGISTERS = [0, 1, 2, 3] * 3 + [4, 5, 6, 7]
+
+
+def program(choose, buffers, closes, has_words):
+    lines, count = [], choose.randint(1, 6)
+    for _ in range(count):
+        word = choose.choices(WORDS, [3, 1, 1, 6, 6, 2, 1, 1, 4 if closes else 0, 5 if has_words else 0, 5 if has_words else 0])[0]
+        d, s, b = choose.choice(REGISTERS), choose.choice(REGISTERS), choose.randrange(buffers)
+        target = f" {choose.randrange(count)}" if closes and choose.random() < 0.4 else ""
         if word == "set":
             lines.append(f"set r{d} {choose.choice([0, 1, 2, 7, 2**64 - 1, choose.randrange(2**64)])}")
         elif word in ("add", "sub"):
             lines.append(f"{word} r{d} r{s}")
         elif word == "send":
-            lines.append(f"send {b} r{s}")
+            lines.append(f"send {b} r{s}{target}")
         elif word == "recv":
-            lines.append(f"recv {b} r{d}")
+            lines.append(f"recv {b} r{d}{target}")
+        elif word == "sendm":
+            lines.append(f"sendm {b} {choose.choice([1, 2, 2, 3, 8, choose.randint(1, 8)])}{target}")
+        elif word == "recvm":
+            lines.append(f"recvm {b}{target}")
+        elif word == "close":
+            lines.append(f"close {b}")
         elif word == "loop":
             lines.append(f"jnz r{s} {choose.randint(0, len(lines))}")
         else:
@@ -45,9 +57,10 @@ def schedule(choose, cpus, most):
 def plan(choose, most):
     cpus, threads, buffers = choose.randint(1, 4), choose.randint(1, 8), choose.randint(1, 3)
     capacities = ", ".join(str(choose.choice([1, 1, 2, 3])) for _ in range(buffers))
+    closes, has_words = choose.random() < 0.5, choose.random() < 0.5
     text = f"cpus = {cpus}\ntrace = {choose.choice([1, 2, 5, 40, 40, 40])}\nbuffers = [{capacities}]\n"
     for _ in range(threads):
-        lines = ", ".join(f'"{line}"' for line in program(choose, buffers))
+        lines = ", ".join(f'"{line}"' for line in program(choose, buffers, closes, has_words))
         text += f"\n[[thread]]\ncpu = {choose.randrange(cpus)}\nprogram = [{lines}]\n"
     return f"#   mctower run --schedule '{schedule(choose, cpus, most)}' < THIS\n{text}"
 

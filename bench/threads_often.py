@@ -23,15 +23,6 @@ def homes_of(plan):
     return [int(line.split(" = ")[1]) for line in plan.splitlines() if line.startswith("cpu =")]
 
 
-def entries_of(text):
-    entries = collections.defaultdict(list)
-    for line in text.splitlines():
-        pieces = line.split(" ")
-        if pieces[0] == "e":
-            entries[int(pieces[2])].append((pieces[3], int(pieces[4]), int(pieces[5])))
-    return entries
-
-
 def fault_of(plan, cpus, text, told):
     """What is wrong with a run, or None."""
     lines = told.splitlines()
@@ -40,7 +31,7 @@ def fault_of(plan, cpus, text, told):
     stops = [line.split(" ")[-1] for line in lines]
     if any(stop not in STOPS for stop in stops):
         return f"a stop of {stops}"
-    entries, programs, homes = entries_of(text), quiet_often.programs_of(plan), homes_of(plan)
+    entries, programs, homes = quiet_often.entries_of(text), quiet_often.programs_of(plan), homes_of(plan)
     calls = [quiet_often.next_call(program, entries[t]) for t, program in enumerate(programs)]
     for c, stop in enumerate(stops):
         own = [calls[t] for t, home in enumerate(homes) if home == c]

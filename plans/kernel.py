@@ -16,14 +16,20 @@ from collections import deque
 from pathlib import Path
 
 RECEIVERS, SENDERS = 0, 1
+SIDES = {"send": SENDERS, "sendm": SENDERS, "recv": RECEIVERS, "recvm": RECEIVERS, "close": SENDERS}
+REGISTERS = 8
 WRONG = {
     "look-always-hits": "a CPU enters a section without waiting for its turn",
     "pend-keeps-the-hand": "who is sent home stays in the hand as well",
     "wakes-where-it-is": "a woken thread joins the ready queue of the CPU that wakes it",
     "release-frees-the-lock": "a release wakes the first sleeper and leaves the lock free",
     "wait-frees-first": "a wait releases the lock in one section and joins the waiters in the next",
+    "first-word-alone": "a buffer keeps the first word of a message alone",
     "take-skips-the-turn": "a receive takes a message though it is not the first in line",
     "other-side-only": "a call that took effect signals the other side alone",
+    "closed-signals-nobody": "a call that found its buffer closed signals nobody",
+    "closed-before-empty": "a receive finds a closed buffer closed though messages are left in it",
+    "close-drops-the-items": "a close takes the messages of its buffer away",
 }
 
 
@@ -32,23 +38,33 @@ class Guest:
 
     def __init__(self, home, program):
         self.home, self.program = home, [line.split(" ") for line in program]
-        self.line, self.registers, self.stage, self.got, self.position = 0, [0] * 4, None, 0, 0
+        self.line, self.registers, self.stage, self.position, self.effect = 0, [0] * REGISTERS, None, 0, None
         self.place = f"Ready({home})"
 
     def instruction(self):
         return self.program[self.line] if self.line < len(self.program) else ["exit"]
 
     def call(self):
-        """The buffer and the side of the call at which the thread stands, or None."""
+        """The buffer and the side of the call at which the thread stands, or None. A close signals as a send does."""
         word = self.instruction()
-        side = {"send": SENDERS, "recv": RECEIVERS}.get(word[0])
+        side = SIDES.get(word[0])
         return None if side is None else (int(word[1]), side)
 
-    def end_call(self):
+    def message(self):
+        """The words that the send at which the thread stands offers: those of the first registers, or of the one that it names."""
         word = self.instruction()
-        if word[0] == "recv":
-            self.registers[int(word[2][1:])] = self.got
-        self.line, self.stage = self.line + 1, None
+        return tuple(self.registers[:int(word[2])]) if word[0] == "sendm" else (self.registers[int(word[2][1:])],)
+
+    def end_call(self):
+        """A message goes into all registers, or its first word into one; a call that found its buffer closed goes to its target, if
+        it has one."""
+        word, (kind, message) = self.instruction(), self.effect
+        if kind == "recv" and word[0] == "recvm":
+            self.registers = list(message) + [0] * (REGISTERS - len(message))
+        elif kind == "recv":
+            self.registers[int(word[2][1:])] = message[0]
+        target = word[2 if word[0] == "recvm" else 3:] if kind in ("sendc", "recvc") else []
+        self.line, self.stage = int(target[0]) if target else self.line + 1, None
 
 
 class Buffer:
@@ -57,10 +73,10 @@ class Buffer:
     def __init__(self, capacity):
         self.capacity, self.owner, self.items, self.effects = capacity, None, deque(), 0
         self.sleepers, self.waiting, self.line = deque(), (deque(), deque()), (deque(), deque())
-        self.positions = [0, 0]
+        self.positions, self.closed, self.closes = [0, 0], False, 0
 
     def may_go(self, side):
-        return len(self.items) < self.capacity if side == SENDERS else bool(self.items)
+        return self.closed or (len(self.items) < self.capacity if side == SENDERS else bool(self.items))
 
 
 class Cpu:
@@ -191,7 +207,8 @@ class Kernel:
         guest = self.guests[t]
         (b, side), stage = guest.call(), guest.stage
         if stage in ("AcqQ", "Again"):
-            guest.stage = "Enter" if stage == "AcqQ" else "Try"
+            first = "Shut" if guest.instruction()[0] == "close" else "Enter"
+            guest.stage = first if stage == "AcqQ" else "Try"
             if buffer.owner is None:
                 buffer.owner = t
             else:
@@ -201,6 +218,8 @@ class Kernel:
             guest.stage, guest.position = "Try", buffer.positions[side]
             buffer.positions[side] += 1
             buffer.line[side].append(t)
+        elif stage == "Shut":
+            self.shut(c, cpu, t, buffer)
         elif stage == "Try":
             self.attempt(c, cpu, guest, t, buffer)
         elif stage == "Wait" and self.wrong == "wait-frees-first":
@@ -222,20 +241,35 @@ class Kernel:
                 guest.end_call()
 
     def attempt(self, c, cpu, guest, t, buffer):
-        b, side = guest.call()
+        side = guest.call()[1]
         in_turn = buffer.line[side][0] == t or (self.wrong == "take-skips-the-turn" and side == RECEIVERS)
         if not in_turn or not buffer.may_go(side):
             guest.stage = "Wait"
             return
         buffer.line[side].remove(t)
         if side == SENDERS:
-            value = guest.registers[int(guest.instruction()[2][1:])]
-            buffer.items.append(value)
+            kind, message = "sendc" if buffer.closed else "send", guest.message()
+            kept = message[:1] if self.wrong == "first-word-alone" else message
+            buffer.items.extend([kept] if kind == "send" else [])
+        elif buffer.items and not (buffer.closed and self.wrong == "closed-before-empty"):
+            kind, message = "recv", buffer.items.popleft()
         else:
-            value = guest.got = buffer.items.popleft()
-        self.entry = (c, t, ("recv", "send")[side], b, value, buffer.effects, guest.position)
+            kind, message = "recvc", ()
+        self.take_effect(c, cpu, t, buffer, kind, message, guest.position)
+        if kind in ("sendc", "recvc") and self.wrong == "closed-signals-nobody":
+            guest.stage = "RelQ"
+
+    def shut(self, c, cpu, t, buffer):
+        buffer.closed, buffer.closes = True, buffer.closes + 1
+        if self.wrong == "close-drops-the-items":
+            buffer.items.clear()
+        self.take_effect(c, cpu, t, buffer, "close", (), buffer.closes - 1)
+
+    def take_effect(self, c, cpu, t, buffer, kind, message, position):
+        guest = self.guests[t]
+        self.entry = (c, t, kind, guest.call()[0], spelled(message), buffer.effects, position)
         buffer.effects += 1
-        guest.stage, cpu.begun = "Other", cpu.begun - 1
+        guest.stage, guest.effect, cpu.begun = "Other", (kind, message), cpu.begun - 1
         cpu.trace.append(self.entry)
 
     @staticmethod
@@ -287,10 +321,11 @@ class Kernel:
         if order is None:
             return "error: NoOrder(6)\n"
         buffers = [block for lock, block in self.blocks.items() if lock[0] == "buffer"]
-        lines = ["mctower-trace 1", f"buffers {len(buffers)}"]
+        version = 3 if any("," in entry[4] for entry in order) else 2 if any(entry[2] not in ("send", "recv") for entry in order) else 1
+        lines = [f"mctower-trace {version}", f"buffers {len(buffers)}"]
         lines += [f"cap {b} {buffer.capacity}" for b, buffer in enumerate(buffers)]
         lines += [f"e {cpu} {t} {kind} {b} {value} {op} {pos}" for cpu, t, kind, b, value, op, pos in order]
-        lines += [" ".join(["left", str(b), *map(str, buffer.items)]) for b, buffer in enumerate(buffers)]
+        lines += [" ".join(["left", str(b), *map(spelled, buffer.items)]) for b, buffer in enumerate(buffers)]
         return "\n".join(lines + ["end"]) + "\n"
 
     def states(self):
@@ -299,6 +334,11 @@ class Kernel:
         lines += [f"thread {t} {guest.place}" for t, guest in enumerate(self.guests)]
         quiet = "yes" if all(self.rests(c) for c in range(len(self.cpus))) else "no"
         return "\n".join(lines + [f"quiet {quiet}"]) + "\n"
+
+
+def spelled(message):
+    """The words of a message, or `-` where a call has none."""
+    return ",".join(map(str, message)) or "-"
 
 
 def steps_of(schedule):

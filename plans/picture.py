@@ -106,7 +106,7 @@ class Picture:
         for step, (_, _, _, entry) in enumerate(self.sections, 1):
             if entry:
                 _, t, kind, b, value, *_ = entry
-                x, lane, words = self.at(step), y + self.LANE * t, f"{kind} {b} {value}"
+                x, lane, words = self.at(step), y + self.LANE * t, f"{kind} {b} {value}".removesuffix(" -")
                 self.parts.append(f'<path d="M{x:.1f} {lane - 3} v{self.LANE}" stroke="black" stroke-width="2">'
                                   f'<title>{escape(words)}, step {step}</title></path>')
                 self.text(x - 2, lane - 1, words, 8, 'text-anchor="end" font-weight="bold"')

@@ -85,6 +85,34 @@ rows() {
   verdict '5 Left(37)' "sed '5s/7/8/'"
   verdict '6 Spelling(30)' 'head -c 65'
   verdict '7 Spelling(30)' '{ cat; printf " "; }'
+  # the second version of the text: one that the first can spell, a send into a closed buffer, a receive that leaves an item behind, and
+  # a close and its dash in a text of the first
+  verdict '6 Version(38)' "sed '1s/1/2/'"
+  verdict '5 CloseState(39)' "sed -e '1s/1/2/' -e '4c e 0 0 close 0 - 0 0\ne 0 0 send 0 7 1 0'"
+  verdict '6 NotEmpty(40)' "sed -e '1s/1/2/' -e '4a e 0 0 close 0 - 1 0\ne 0 0 recvc 0 - 2 0'"
+  verdict '5 Spelling(30)' "sed '4a e 0 0 close 0 - 1 0'"
+  verdict '4 Spelling(30)' "sed '4s/7/-/'"
+  row 0 $'yes\n' '' "printf '%s' '$sent' | sed -e '1s/1/2/' -e '4a e 0 0 close 0 - 1 0' | mctower check"
+  # the third version: messages of several words, with one comma between two words. One that a lower version can spell, and what is no
+  # message: a comma in a text of a lower version, a word too few or ill spelled, more than eight words, a word that is too large
+  row 0 $'yes\n' '' "printf '%s' '$sent' | sed -e '1s/1/3/' -e '4,5s/7/7,8/' | mctower check"
+  row 0 $'yes\n' '' "printf '%s' '$sent' | sed -e '1s/1/3/' -e '4,5s/7/1,2,3,4,5,6,7,8/' | mctower check"
+  row 0 $'yes\n' '' "printf '%s' '$sent' | sed -e '1s/1/3/' -e '4s/7/7,8/' -e '4a e 0 0 close 0 - 1 0' -e '5s/7/7,8/' | mctower check"
+  verdict '6 Version(38)' "sed '1s/1/3/'"
+  verdict '7 Version(38)' "sed -e '1s/1/3/' -e '4a e 0 0 close 0 - 1 0'"
+  verdict '4 Spelling(30)' "sed '4,5s/7/7,8/'"
+  verdict '4 Spelling(30)' "sed -e '1s/1/2/' -e '4,5s/7/7,8/'"
+  verdict '5 Spelling(30)' "sed '5s/7/7,8/'"
+  verdict '4 Spelling(30)' "sed -e '1s/1/3/' -e '4,5s/7/7,/'"
+  verdict '4 Spelling(30)' "sed -e '1s/1/3/' -e '4,5s/7/7,,8/'"
+  verdict '4 Spelling(30)' "sed -e '1s/1/3/' -e '4,5s/7/7,08/'"
+  verdict '5 Spelling(30)' "sed -e '1s/1/3/' -e '4s/7/7,8/' -e '5s/7/,7,8/'"
+  verdict '4 Range(31)' "sed -e '1s/1/3/' -e '4,5s/7/1,2,3,4,5,6,7,8,9/'"
+  verdict '5 Range(31)' "sed -e '1s/1/3/' -e '4s/7/7,8/' -e '5s/7/1,2,3,4,5,6,7,8,9/'"
+  verdict '4 Range(31)' "sed -e '1s/1/3/' -e '4,5s/7/7,18446744073709551616/'"
+  verdict '5 WrongValue(36)' "sed -e '1s/1/3/' -e '4s/7/7,8/' -e '4a e 0 0 recv 0 7 1 0'"
+  verdict '5 Left(37)' "sed -e '1s/1/3/' -e '4s/7/7,8/'"
+  verdict '5 Left(37)' "sed -e '1s/1/3/' -e '4s/7/7,8/' -e '5s/7/7 8/'"
   # each change of a plan alone, and its error line
   refused 'MissingKey(21) cpus' 's/^cpus = 1/cpus = "1"/'
   refused 'OutOfRange(22) buffers' 's/\[1\]/[33]/'
@@ -95,6 +123,21 @@ rows() {
   refused 'Guest(23) thread 0 line 0 BadRegister(11)' 's/^program.*/program = ["set r9 7"]/'
   refused 'Guest(23) thread 0 line 0 BadNumber(12)' 's/^program.*/program = ["set r0 07"]/'
   refused 'OutOfRange(22) thread 0 program' 's/^program.*/program = ["send 1 r0"]/'
+  refused 'OutOfRange(22) thread 0 program' 's/^program.*/program = ["close 1"]/'
+  refused 'Guest(23) thread 0 line 0 UnknownWord(10)' 's/^program.*/program = ["close 0 r0"]/'
+  refused 'Guest(23) thread 0 line 0 BadNumber(12)' 's/^program.*/program = ["send 0 r0 r1"]/'
+  refused 'Guest(23) thread 0 line 1 BadTarget(13)' 's/^program.*/program = ["exit", "recv 0 r0 2"]/'
+  refused 'Guest(23) thread 0 line 0 BadRegister(11)' 's/^program.*/program = ["set r8 7"]/'
+  refused 'Guest(23) thread 0 line 0 BadNumber(12)' 's/^program.*/program = ["sendm 0 0"]/'
+  refused 'Guest(23) thread 0 line 0 BadNumber(12)' 's/^program.*/program = ["sendm 0 9"]/'
+  refused 'Guest(23) thread 0 line 0 BadNumber(12)' 's/^program.*/program = ["sendm 0 9 9"]/'
+  refused 'Guest(23) thread 0 line 0 BadNumber(12)' 's/^program.*/program = ["sendm 0 r1"]/'
+  refused 'Guest(23) thread 0 line 0 BadTarget(13)' 's/^program.*/program = ["sendm 0 8 1"]/'
+  refused 'Guest(23) thread 0 line 0 BadTarget(13)' 's/^program.*/program = ["recvm 0 1"]/'
+  refused 'Guest(23) thread 0 line 0 UnknownWord(10)' 's/^program.*/program = ["sendm 0"]/'
+  refused 'Guest(23) thread 0 line 0 UnknownWord(10)' 's/^program.*/program = ["recvm 0 0 0"]/'
+  refused 'OutOfRange(22) thread 0 program' 's/^program.*/program = ["sendm 1 2"]/'
+  refused 'OutOfRange(22) thread 0 program' 's/^program.*/program = ["recvm 1"]/'
   refused 'BadToml(20)' '1s/^#/# \xff/'
   row 1 '' $'error: Guest(23) thread 0 line 256 TooLong(14)\n' \
     "{ grep -v program plans/one-send.toml; echo 'program = ['; yes '\"exit\",' | head -n 257; echo ']'; } | mctower run"

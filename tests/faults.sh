@@ -123,6 +123,7 @@ command() {
 sent=$'mctower-trace 1\nbuffers 1\ncap 0 1\ne 0 0 send 0 7 0 0\nleft 0 7\nend\n'
 printf '%s' "$sent" > "$room/yes.txt"
 printf '%s' "${sent/left 0 7/left 0 8}" > "$room/no.txt"
+printf 'mctower-trace 2\nbuffers 1\ncap 0 1\ne 1 1 close 0 - 0 0\ne 0 0 recvc 0 - 1 0\nleft 0\nend\n' > "$room/closed.txt"
 # Two CPUs that send and two that receive through one buffer: whose message comes first differs from run to run.
 {
   printf 'cpus = 4\ntrace = 2\nbuffers = [2]\n'
@@ -135,6 +136,8 @@ command yes no plans/one-send.toml run --schedule '0*21'
 command no no plans/one-send.toml run --schedule '0*'
 command yes no "$room/yes.txt" check
 command yes no "$room/no.txt" check
+command yes no "$room/closed.txt" check
+command no no tests/rows/closed-with-an-item.toml run --schedule '0*90'
 # a build that does not serve `threads` takes it for a bad command line
 if "$program" threads --turns 1 < plans/one-send.toml > /dev/null 2>&1; then
   command yes no plans/one-send.toml threads --turns 1000

@@ -36,6 +36,7 @@ row() {
 
 head=$'mctower-trace 1\nbuffers 1\ncap 0 '
 sent=$'\ne 0 0 send 0 7 0 0\nleft 0 7\nend'
+closes=$'mctower-trace 2\nbuffers 1\ncap 0 1\ne 0 2 close 0 - 0 0\ne 0 0 recvc 0 - 1 0\ne 0 1 recvc 0 - 2 1\nleft 0\nend'
 cat > "$room/twice.toml" <<'PLAN'
 cpus = 1
 trace = 1
@@ -55,6 +56,32 @@ program = ["set r0 100", "set r1 1", "send 0 r0", "sub r0 r1", "jnz r0 2"]
 cpu = 1
 program = ["set r0 100", "set r1 1", "recv 0 r2", "sub r0 r1", "jnz r0 2"]
 PLAN
+cat > "$room/closed.toml" <<'PLAN'
+cpus = 3
+trace = 200
+buffers = [4]
+[[thread]]
+cpu = 0
+program = ["set r0 100", "set r1 1", "send 0 r0", "sub r0 r1", "jnz r0 2", "close 0"]
+[[thread]]
+cpu = 1
+program = ["set r1 1", "recv 0 r0 3", "jnz r1 1", "exit"]
+[[thread]]
+cpu = 2
+program = ["set r1 1", "recv 0 r0 3", "jnz r1 1", "exit"]
+PLAN
+cat > "$room/records.toml" <<'PLAN'
+cpus = 2
+trace = 200
+buffers = [4]
+[[thread]]
+cpu = 0
+program = ["set r0 100", "set r1 1", "sendm 0 8", "sub r0 r1", "jnz r0 2", "close 0"]
+[[thread]]
+cpu = 1
+program = ["recvm 0 2", "jnz r1 0", "exit"]
+PLAN
+words=$'mctower-trace 3\nbuffers 1\ncap 0 1\ne 0 0 send 0 1,2 0 0\ne 0 0 recv 0 1,2 1 0\ne 0 0 send 0 0 2 1\nleft 0 0\nend'
 stops=$'cpu 0 AllEnded\ncpu 1 AllEnded'
 
 # One hundred messages from one CPU to another. The order of sends and receives is the threads' own; each side's is not.
@@ -68,6 +95,32 @@ hundred() {
   same 'verdict on a hundred messages' yes "$("$program" check < "$room/out")"
 }
 
+# One hundred messages and a close from one CPU to two others, each of which ends once it finds the buffer closed. Who receives which
+# message is up to the threads; that each is received once, in order, and that both end, is not.
+closed() {
+  run "$room/closed.toml" 1000000000
+  same 'stops of a hundred messages and a close' "$stops"$'\ncpu 2 AllEnded' "$(cat "$room/err")"
+  same 'head of a text with a close' 'mctower-trace 2' "$(head -n 1 "$room/out")"
+  same 'receives behind a close' "$(seq 100 -1 1)" "$(awk '$4 == "recv" { print $6 }' "$room/out")"
+  same 'who closed, and how often' 'e 0 0 close 0 - 0' "$(awk '$4 == "close" { print $1, $2, $3, $4, $5, $6, $8 }' "$room/out")"
+  same 'who found it closed' $'recvc 1\nrecvc 2' "$(awk '$4 ~ /c$/ { print $4, $3 }' "$room/out" | sort)"
+  same 'what is left behind a close' 'left 0' "$(grep '^left' "$room/out")"
+  same 'verdict on a hundred messages and a close' yes "$("$program" check < "$room/out")"
+}
+
+# One hundred messages of eight words and a close from one CPU to another, in order and with all their words.
+records() {
+  local sent; sent=$(seq 100 -1 1 | sed 's/$/,1,0,0,0,0,0,0/')
+  run "$room/records.toml" 1000000000
+  same 'stops of a hundred messages of words' "$stops" "$(cat "$room/err")"
+  same 'head of a text with messages of words' 'mctower-trace 3' "$(head -n 1 "$room/out")"
+  same 'sends of a hundred messages of words' "$sent" "$(awk '$4 == "send" { print $6 }' "$room/out")"
+  same 'receives of a hundred messages of words' "$sent" "$(awk '$4 == "recv" { print $6 }' "$room/out")"
+  same 'who closed behind messages of words, and who found it closed' $'close 0 -\nrecvc 1 -' "$(awk '$6 == "-" { print $4, $3, $6 }' "$room/out")"
+  same 'what is left of a hundred messages of words' 'left 0' "$(grep '^left' "$room/out")"
+  same 'verdict on a hundred messages of words' yes "$("$program" check < "$room/out")"
+}
+
 for program; do
   for lock in ticket grant; do
     # the effect comes in the eleventh turn, which ends a section that was under way after ten
@@ -75,7 +128,11 @@ for program; do
     row plans/one-send.toml 10 "${head}1$sent" 'cpu 0 TurnsUsed'
     row plans/one-send.toml 5 "${head}1"$'\nleft 0\nend' 'cpu 0 TurnsUsed'
     row "$room/twice.toml" 1000 "${head}32$sent" 'cpu 0 TraceFull'
+    row tests/rows/closed-before-two-receivers.toml 1000000000 "$closes" 'cpu 0 AllEnded'
+    row tests/rows/words.toml 1000000000 "$words" 'cpu 0 AllEnded'
     hundred
+    closed
+    records
   done
 done
 [ $((passed + failed)) -gt 0 ] || { echo "threads: build the program first: (cd crates/mctower && rt run -- count --cpus 1 --times 1)"; exit 1; }

@@ -2,7 +2,7 @@
 
 use crate::{Boot, BootError, LockKind, PlanKey};
 use event_log::{BufId, CpuId, Tid};
-use guest::{Instruction, Register};
+use guest::{Instruction, Into, Register};
 use std::test::Fail;
 
 /// The plan of one thread that sends one message.
@@ -40,7 +40,7 @@ fn a_plan_is_read_whole(rt: HostRuntime) -> Result<(), Fail> {
     assert_eq!(rt; boot.home(Tid(1)), CpuId(0));
     assert_eq!(rt;
         boot.program(Tid(0)).instruction(0),
-        Instruction::Recv(BufId(1), Register::Reg2)
+        Instruction::Recv(BufId(1), Into::One(Register::Reg2), None)
     );
     assert_eq!(rt; boot.program(Tid(1)).len(), 2);
     Ok(())
@@ -156,7 +156,7 @@ fn a_plan_names_its_lock(rt: HostRuntime) -> Result<(), Fail> {
 const LINES: &str = "\"set r0 7\", \"send 0 r0\", \"exit\"";
 
 /// Programs in place of that one.
-const PROGRAMS: [(&str, &str); 7] = [
+const PROGRAMS: [(&str, &str); 20] = [
     ("", "Guest(23) thread 0 line 0 Empty(15)"),
     ("\"set  r0 7\"", "Guest(23) thread 0 line 0 UnknownWord(10)"),
     ("\"set r9 7\"", "Guest(23) thread 0 line 0 BadRegister(11)"),
@@ -167,6 +167,19 @@ const PROGRAMS: [(&str, &str); 7] = [
     ),
     ("\"send 1 r0\"", "OutOfRange(22) thread 0 program"),
     ("\"exit\", \"recv 1 r0\"", "OutOfRange(22) thread 0 program"),
+    ("\"close 3\"", "OutOfRange(22) thread 0 program"),
+    ("\"recv 1 r0 0\"", "OutOfRange(22) thread 0 program"),
+    ("\"close 16\"", "Guest(23) thread 0 line 0 BadNumber(12)"),
+    ("\"close 3 4\"", "Guest(23) thread 0 line 0 UnknownWord(10)"),
+    ("\"send 9 r0 1\"", "Guest(23) thread 0 line 0 BadTarget(13)"),
+    ("\"close 0\"", "read"),
+    ("\"send 0 r0 1\", \"recv 0 r0 0\"", "read"),
+    ("\"sendm 1 2\"", "OutOfRange(22) thread 0 program"),
+    ("\"recvm 1 0\"", "OutOfRange(22) thread 0 program"),
+    ("\"sendm 0 9 9\"", "Guest(23) thread 0 line 0 BadNumber(12)"),
+    ("\"recvm 0 1\"", "Guest(23) thread 0 line 0 BadTarget(13)"),
+    ("\"set r8 7\"", "Guest(23) thread 0 line 0 BadRegister(11)"),
+    ("\"set r4 7\", \"sendm 0 8 2\", \"recvm 0\"", "read"),
 ];
 
 #[test]
@@ -199,7 +212,7 @@ fn a_text_that_is_no_document_is_refused(rt: HostRuntime) -> Result<(), Fail> {
 
 /// Each key of the plan: at the end of its range, absent, of another kind, with an item of another
 /// kind, out of range.
-const KEYS: [(&str, &str, &str); 37] = [
+const KEYS: [(&str, &str, &str); 40] = [
     ("cpus = 1", "cpus = 8", "read"),
     ("trace = 4", "trace = 1", "read"),
     ("[1]", "[1,2,3,4,5,6,7,8,9,10,11,12,13,14,15,32]", "read"),
@@ -265,6 +278,9 @@ const KEYS: [(&str, &str, &str); 37] = [
     ),
     ("cpus = 1", "cpus = 1\ncpus = 1", "BadToml(20)"),
     ("[1]", "[1", "BadToml(20)"),
+    ("trace = 4", "trace = 1e308", "MissingKey(21) trace"),
+    ("trace = 4", "trace = 1e309", "BadToml(20)"),
+    ("cpus = 1", "other = 1e309\ncpus = 1", "BadToml(20)"),
 ];
 
 #[test]

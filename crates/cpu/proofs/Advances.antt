@@ -8,7 +8,7 @@ use Rattle.std.proofs.lemmas.List.{length-append, length-set}
 use Rattle.std.proofs.lemmas.Option.{slice_get_within}
 use Rattle.event_log.specs.declared.entries.Entry.{Entry}
 use Rattle.event_log.specs.declared.ids.CpuId.{CpuId}
-use Rattle.event_log.specs.declared.ids.TheConstants.{CPUS}
+use Rattle.event_log.specs.declared.ids.TheConstants.{CPUS, THREADS}
 use Rattle.event_log.specs.Actions.{Action, doer, phase}
 use Rattle.event_log.specs.History.{AreForeign, AreOthers, same_cpu}
 use Rattle.event_log.proofs.Foreign.{phase_others}
@@ -98,6 +98,7 @@ system_step One Two number Acts1 Acts2 IsStepwise acts1 acts2 cpus homes homes2 
       each = λ j x at. each_at j x at (cases_eq j k);
       some = let some = is.some in omega (arith, count, some);
       most = let most = is.most in omega (arith, count, most);
+      crowd = subst (λ (l : List CpuId). length l ≤ THREADS) (sym same) is.crowd;
       acts_for = λ c exists. goes c (is.acts_for c exists);
       known = subst (λ (n : ℕ). AllByRecursion (λ e. e.cpu.0 < n) seen2) (sym count)
           (subst (λ (l : List Entry). AllByRecursion (λ e. e.cpu.0 < length cpus) l) (sym seen_is) all_known);

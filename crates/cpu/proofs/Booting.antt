@@ -96,6 +96,7 @@ opens IsOne number ActsFor IsStepwise acts cpus homes homes2 seen caps room left
       each = each;
       some = let some = openable.some_cpus in omega (arith, some, count);
       most = let most = openable.most_cpus in omega (arith, most, count);
+      crowd = subst (λ (l : List CpuId). length l ≤ THREADS) (sym same) openable.threads;
       acts_for = acts_for;
       known = subst (λ (l : List Entry). AllByRecursion (λ e. e.cpu.0 < length cpus) l) (sym none) tt;
       within = λ t home at.
@@ -120,6 +121,7 @@ sounds IsOne number ActsFor IsStepwise acts cpus homes seen room taken left Soun
   each = is.each;
   some = is.some;
   most = is.most;
+  crowd = is.crowd;
   acts_for = is.acts_for;
   known = is.known;
   within = is.within;

@@ -1,24 +1,31 @@
 -- How a guest follows its entries over one poll of its call.
-use Rattle.std.proofs.Common.{◌≡◌, ◌⊎◌, inl, inr, List, ◌∷◌, ◌++◌, Option, Some, None, refl, ap, sym, ◌∙◌, subst}
+use Rattle.std.proofs.Common.{◌≡◌, ◌⊎◌, inl, inr, ℕ, List, ◌∷◌, ◌++◌, Option, Some, None, refl, ap, sym, ◌∙◌, subst}
 use Rattle.event_log.specs.declared.entries.Entry.{Entry}
+use Rattle.event_log.specs.declared.entries.Kind.{Kind}
+use Rattle.event_log.specs.declared.entries.Kind.TheVariants as kind
+use Rattle.event_log.specs.declared.ids.BufId.{BufId}
 use Rattle.event_log.specs.declared.ids.CpuId.{CpuId}
 use Rattle.event_log.specs.declared.ids.Tid.{Tid}
+use Rattle.event_log.specs.Messages.{Message}
+use Rattle.event_log.specs.Runs.{Closes, Receives, Sends, group_of}
 use Rattle.guest.specs.declared.instructions.Instruction.{Instruction}
 use Rattle.guest.specs.declared.instructions.Instruction.TheVariants as ins
-use Rattle.guest.specs.State.{State, next_of}
-use Rattle.guest.specs.Calls.{IsProgramsCalls, sends, receives}
+use Rattle.guest.specs.declared.instructions.Into.{Into}
+use Rattle.guest.specs.declared.instructions.Source.{Source}
+use Rattle.guest.specs.State.{State, moved_on, next_of, message_from}
+use Rattle.guest.specs.Calls.{IsProgramsCalls, asks, closes, offers, receives, sends}
 use Rattle.layer_traits.specs.declared.calls.Call.{Call}
-use Rattle.layer_traits.specs.declared.calls.Call.TheVariants.{Send, Recv}
+use Rattle.layer_traits.specs.declared.calls.Call.TheVariants.{Send, Recv, Close}
 use Rattle.layer_traits.specs.declared.calls.Effect.{Effect}
 use Rattle.layer_traits.specs.declared.calls.Reply.{Reply}
 use Rattle.layer_traits.specs.declared.talks.Talk.{Talk}
 use Rattle.layer_traits.specs.declared.talks.Stage.{Stage as TalkStage}
 use Rattle.layer_traits.specs.declared.talks.Stage.TheVariants as at
-use Rattle.layer_traits.specs.BufferLaw.{Answered, IsEffectOf, MayTalk, begun_at, begun_of, buffer_of, entry_of, going, going_at, reply_of}
+use Rattle.layer_traits.specs.BufferLaw.{Answered, IsEffectOf, MayTalk, begun_at, begun_of, buffer_of, entry_of, going, going_at, reply_by, reply_of}
 use Rattle.cpu.specs.declared.guests.GuestStage.{GuestStage}
 use Rattle.cpu.specs.declared.guests.GuestStage.TheVariants.{Between, Begun, Done, Ended}
 use Rattle.cpu.specs.declared.guests.Todo.TheVariants.{Finish, Calls}
-use Rattle.cpu.specs.Guests.{HasComeIn, IsSettled, after_answer, after_effect, entries_of, fresh_effect, had, stage_after, todo_at}
+use Rattle.cpu.specs.Guests.{HasComeIn, IsSettled, after_answer, after_effect, after_received, after_sent, entries_of, fresh_effect, had, stage_after, todo_at}
 
 going_effect : (stage : TalkStage) (talk : Talk) (c : Call) → (going_at stage talk c).call ≡ Some c
     → (going_at stage talk c).effect ≡ had (begun_at stage talk.call) talk.effect
@@ -66,13 +73,35 @@ pub answered_by : (c : Call) (talk : Talk) (answer : Option Reply) → Answered 
 answered_by c talk None is = is
 answered_by c talk (Some reply) is = (ap (λ s. begun_at s talk.call) is.0, is.1)
 
+-- the reply to a send, and to a receive, moves the guest to where an effect of this kind leads
+sent_state : (of : Kind) (k : Option ℕ) (value : Message) (d b : BufId) (m : Message) (from : Source) (s : State)
+    → after_sent of k s ≡ after_answer (Some (reply_by (Send d m) of value)) (ins.Send b from k) s
+sent_state kind.Send k value d b m from s = refl
+sent_state kind.Recv k value d b m from s = refl
+sent_state kind.Close k value d b m from s = refl
+sent_state kind.SendClosed k value d b m from s = refl
+sent_state kind.RecvClosed k value d b m from s = refl
+
+received_state : (of : Kind) (k : Option ℕ) (value : Message) (d b : BufId) (into : Into) (s : State)
+    → after_received of into k value s ≡ after_answer (Some (reply_by (Recv d) of value)) (ins.Recv b into k) s
+received_state kind.Send k value d b into s = refl
+received_state kind.Recv k value d b into s = refl
+received_state kind.Close k value d b into s = refl
+received_state kind.SendClosed k value d b into s = refl
+received_state kind.RecvClosed k value d b into s = refl
+
 -- the reply moves the guest to where the effect leads
 same_state : (i : Instruction) (s : State) (c : Call) (f : Effect) → todo_at s i ≡ Calls c
     → after_effect i f s ≡ after_answer (Some (reply_of c f)) i s
-same_state (ins.Send b r) s (Send q m) f at = refl
-same_state (ins.Send b r) s (Recv q) f at = absurd cc
-same_state (ins.Recv b r) s (Send q m) f at = absurd cc
-same_state (ins.Recv b r) s (Recv q) f at = refl
+same_state (ins.Send b from k) s (Send q m) f at = sent_state f.kind k f.value q b m from s
+same_state (ins.Send b from k) s (Recv q) f at = absurd cc
+same_state (ins.Send b from k) s (Close q) f at = absurd cc
+same_state (ins.Recv b into k) s (Send q m) f at = absurd cc
+same_state (ins.Recv b into k) s (Recv q) f at = received_state f.kind k f.value q b into s
+same_state (ins.Recv b into k) s (Close q) f at = absurd cc
+same_state (ins.Close b) s (Send q m) f at = absurd cc
+same_state (ins.Close b) s (Recv q) f at = absurd cc
+same_state (ins.Close b) s (Close q) f at = refl
 same_state ins.Exit s c f at = absurd cc
 same_state ins.Yield s c f at = absurd cc
 same_state (ins.Set r n) s c f at = absurd cc
@@ -80,15 +109,48 @@ same_state (ins.Add r q) s c f at = absurd cc
 same_state (ins.Sub r q) s c f at = absurd cc
 same_state (ins.Jnz r k) s c f at = absurd cc
 
+-- an entry whose kind is counted with sends is one more call of a program that stands at a send of its buffer and its message
+module _ (program : List Instruction) (es : List Entry) (s : State) (b : BufId) (e : Entry) (buffer : e.buffer ≡ b) (calls : IsProgramsCalls program es s) where
+  sent_more : (from : Source) (k : Option ℕ) → next_of program s ≡ ins.Send b from k → e.value ≡ message_from s from → (of : Kind)
+      → e.kind ≡ of → group_of of ≡ Sends → IsProgramsCalls program (e ∷ es) (after_sent of k s)
+  sent_more from k at value kind.Send is group = sends b from k e calls at is buffer value
+  sent_more from k at value kind.SendClosed is group = offers b from k e calls at is buffer value
+  sent_more from k at value kind.Recv is group = absurd (cc group)
+  sent_more from k at value kind.RecvClosed is group = absurd (cc group)
+  sent_more from k at value kind.Close is group = absurd (cc group)
+
+  -- and so with receives, and with closes
+  received_more : (into : Into) (k : Option ℕ) → next_of program s ≡ ins.Recv b into k → (of : Kind) → e.kind ≡ of → group_of of ≡ Receives
+      → IsProgramsCalls program (e ∷ es) (after_received of into k e.value s)
+  received_more into k at kind.Recv is group = receives b into k e calls at is buffer
+  received_more into k at kind.RecvClosed is group = asks b into k e calls at is buffer
+  received_more into k at kind.Send is group = absurd (cc group)
+  received_more into k at kind.SendClosed is group = absurd (cc group)
+  received_more into k at kind.Close is group = absurd (cc group)
+
+  closed_more : next_of program s ≡ ins.Close b → (of : Kind) → e.kind ≡ of → group_of of ≡ Closes → IsProgramsCalls program (e ∷ es) (moved_on s)
+  closed_more at kind.Close is group = closes b e calls at is buffer
+  closed_more at kind.Send is group = absurd (cc group)
+  closed_more at kind.SendClosed is group = absurd (cc group)
+  closed_more at kind.Recv is group = absurd (cc group)
+  closed_more at kind.RecvClosed is group = absurd (cc group)
+
 -- an effect of a call is one more of the program's calls
 calls_more : (program : List Instruction) (es : List Entry) (s : State) (i : Instruction) (c : Call) (f : Effect) (cpu : CpuId) (t : Tid)
     → next_of program s ≡ i → todo_at s i ≡ Calls c → IsEffectOf c f → IsProgramsCalls program es s
     → IsProgramsCalls program (entry_of cpu t (buffer_of c) f ∷ es) (after_effect i f s)
-calls_more program es s (ins.Send b r) (Send q m) f cpu t at todo is calls =
-    sends b r (entry_of cpu t q f) calls at is.0 (cc todo) (is.1 ∙ cc todo)
-calls_more program es s (ins.Send b r) (Recv q) f cpu t at todo is calls = absurd cc
-calls_more program es s (ins.Recv b r) (Send q m) f cpu t at todo is calls = absurd cc
-calls_more program es s (ins.Recv b r) (Recv q) f cpu t at todo is calls = receives b r (entry_of cpu t q f) calls at is (cc todo)
+calls_more program es s (ins.Send b from k) (Send q m) f cpu t at todo is calls =
+    sent_more program es s b (entry_of cpu t q f) (cc todo) calls from k at (is.1 ∙ cc todo) f.kind refl is.0
+calls_more program es s (ins.Send b from k) (Recv q) f cpu t at todo is calls = absurd cc
+calls_more program es s (ins.Send b from k) (Close q) f cpu t at todo is calls = absurd cc
+calls_more program es s (ins.Recv b into k) (Send q m) f cpu t at todo is calls = absurd cc
+calls_more program es s (ins.Recv b into k) (Recv q) f cpu t at todo is calls =
+    received_more program es s b (entry_of cpu t q f) (cc todo) calls into k at f.kind refl is
+calls_more program es s (ins.Recv b into k) (Close q) f cpu t at todo is calls = absurd cc
+calls_more program es s (ins.Close b) (Send q m) f cpu t at todo is calls = absurd cc
+calls_more program es s (ins.Close b) (Recv q) f cpu t at todo is calls = absurd cc
+calls_more program es s (ins.Close b) (Close q) f cpu t at todo is calls =
+    closed_more program es s b (entry_of cpu t q f) (cc todo) calls at f.kind refl is
 calls_more program es s ins.Exit c f cpu t at todo is calls = absurd cc
 calls_more program es s ins.Yield c f cpu t at todo is calls = absurd cc
 calls_more program es s (ins.Set r n) c f cpu t at todo is calls = absurd cc

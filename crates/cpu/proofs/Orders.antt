@@ -1,5 +1,5 @@
 -- What always holds of a system says that its calls have one order, that each thread follows its program, and that entries stay at home.
-use Rattle.std.proofs.Common.{◌≡◌, ◌≢◌, ◌⊎◌, inl, inr, ℕ, zero, suc, ◌<◌, ◌≤◌, ◌==◌, Bool, true, false, List, [], ◌∷◌}
+use Rattle.std.proofs.Common.{◌≡◌, ◌≢◌, ◌⊎◌, inl, inr, ℕ, zero, suc, ◌<◌, ◌≤◌, ◌==◌, ◌&&◌, Bool, true, false, nat_lt, List, [], ◌∷◌}
 use Rattle.std.proofs.Common.{◌++◌, length, map, reverse, Option, Some, refl, ap, sym, ◌∙◌, subst, arith, slice_set}
 use Rattle.std.specs.Prelude.{filter, slice_get, slice_index_or}
 use Rattle.std.specs.List.{AllByRecursion}
@@ -8,8 +8,10 @@ use Rattle.std.proofs.lemmas.List.{append-nil, reverse-append, reverse-reverse, 
 use Rattle.std.proofs.lemmas.List.Elements.{filter-append}
 use Rattle.std.proofs.lemmas.Option.{slice_get-get_or}
 use Rattle.event_log.specs.declared.entries.Entry.{Entry}
+use Rattle.event_log.specs.declared.entries.Kind.TheVariants.{Close}
 use Rattle.event_log.specs.declared.ids.CpuId.{CpuId}
 use Rattle.event_log.specs.declared.ids.Tid.{Tid}
+use Rattle.event_log.specs.Runs.{is_closed, kind_eq}
 use Rattle.event_log.specs.Traces.{IsInterleaving}
 use Rattle.guest.specs.Calls.{IsProgramsCalls, HasEnded}
 use Rattle.guest.specs.State.{State}
@@ -19,14 +21,15 @@ use Rattle.layer_traits.specs.declared.talks.Talk.{Talk}
 use Rattle.layer_traits.specs.BufferLaw.{Buffering, Doing, begun_of, talk_of}
 use Rattle.layer_traits.specs.OnePlace.{cpu_at}
 use Rattle.layer_traits.specs.Places.{Stands, Step, Threads}
+use Rattle.layer_traits.proofs.EffectRunLemmas.{count_reversed}
 use Rattle.cpu.specs.declared.guests.Guest.{Guest}
 use Rattle.cpu.specs.declared.guests.GuestStage.{GuestStage}
 use Rattle.cpu.specs.declared.guests.GuestStage.TheVariants.{Between, Begun, Done, Ended}
 use Rattle.cpu.specs.Guests.{HasComeIn, is_ended}
 use Rattle.cpu.specs.Cpus.{IsCpu, IsOfHome, guest_at, of_cpu, of_thread}
-use Rattle.cpu.specs.Claims.{CpuShown, Keeps, cpu_shown}
+use Rattle.cpu.specs.Claims.{CpuShown, Keeps, cpu_shown, listed}
 use Rattle.cpu.specs.Systems.{IsAt}
-use Rattle.cpu.proofs.ListReads.{all_reversed, shown_at, there_is}
+use Rattle.cpu.proofs.ListReads.{all_reversed, listed_there, shown_at, there_is}
 
 -- what a test picks of a list turned round
 pub filter_reversed : {X : Type 0} (p : X → Bool) (xs : List X) → filter p (reverse xs) ≡ reverse (filter p xs)
@@ -38,6 +41,16 @@ filter_reversed p (x ∷ xs) =
     go : (b : Bool) → p x ≡ b → reverse (filter p xs) ++ filter p (x ∷ []) ≡ reverse (filter p (x ∷ xs))
     go true is = rw is (sym (reverse-append (x ∷ []) (filter p xs)))
     go false is = rw is (append-nil (reverse (filter p xs)))
+
+-- What is closed.
+
+-- effects close the same buffers in either order
+pub closed_reversed : (es : List Entry) (b : ℕ) → is_closed (reverse es) b ≡ is_closed es b
+closed_reversed es b = ap (nat_lt 0) (count_reversed (λ (e : Entry). (e.buffer.0 == b) && kind_eq e.kind Close) es)
+
+-- a buffer is told to be closed where the effects have closed it, in their order
+pub closed_by_order : (seen : List Entry) (n b : ℕ) → b < n → slice_index_or (listed (is_closed seen) 0 n) b false ≡ is_closed (reverse seen) b
+closed_by_order seen n b within = listed_there (is_closed seen) n b false within ∙ sym (closed_reversed seen b)
 
 -- The interleaving.
 

@@ -1,7 +1,6 @@
 -- When nobody is pending: by the places of the threads, and by the pending queues.
-use Rattle.std.proofs.Common.{◌≡◌, ◌≢◌, ◌⊎◌, inl, inr, ◌↔◌, ℕ, ◌+◌, ◌<◌, Bool, true, false, ◌||◌, List, [], ◌∷◌, length, Option, Some, None, refl, ap, sym}
+use Rattle.std.proofs.Common.{◌≡◌, ◌≢◌, ◌⊎◌, inl, inr, ℕ, ◌+◌, ◌<◌, Bool, true, false, ◌||◌, List, [], ◌∷◌, length, Some, refl, ap, sym}
 use Rattle.std.proofs.Common.{◌∙◌, subst, arith}
-use Rattle.std.specs.Prelude.{slice_get}
 use Rattle.std.proofs.lemmas.Bool.{and_right, cases_eq}
 use Rattle.std.proofs.lemmas.Option.{slice_get_within}
 use Rattle.event_log.specs.declared.ids.CpuId.{CpuId}
@@ -20,7 +19,7 @@ use Rattle.layer_traits.specs.Told.{IsOwnPlace, queue_place}
 use Rattle.layer_traits.proofs.CountLemmas.{in_counted, is_thread_self}
 use Rattle.layer_traits.proofs.PlaceLemmas.{hand_at, pend_count, pend_home, pend_where}
 use Rattle.cpu.specs.Calm.{AllQueuesEmpty}
-use Rattle.cpu.specs.Claims.{CpuShown, IsPlaceOf, MovesAgree, Shown}
+use Rattle.cpu.specs.Claims.{IsPlaceOf, MovesAgree, Shown}
 
 pub clash : {A : Type 0} (b : Bool) → b ≡ true → b ≡ false → A
 clash b on off = absurd (cc (on, off))

@@ -58,8 +58,9 @@ between_at g es begun effect todo follows asks none some = go g.stage follows
 pub finish_exit : (s : State) (i : Instruction) → todo_at s i ≡ Finish → i ≡ ins.Exit
 finish_exit s ins.Exit is = refl
 finish_exit s ins.Yield is = absurd cc
-finish_exit s (ins.Send b r) is = absurd cc
-finish_exit s (ins.Recv b r) is = absurd cc
+finish_exit s (ins.Send b r k) is = absurd cc
+finish_exit s (ins.Recv b r k) is = absurd cc
+finish_exit s (ins.Close b) is = absurd cc
 finish_exit s (ins.Set r n) is = absurd cc
 finish_exit s (ins.Add r q) is = absurd cc
 finish_exit s (ins.Sub r q) is = absurd cc

@@ -1,8 +1,8 @@
 -- A system that is reached by the step table: at boot, after a step, and after a schedule.
-use Rattle.std.proofs.Common.{◌≡◌, ◌≢◌, ◌⊎◌, inl, inr, ℕ, zero, suc, ◌+◌, ◌<◌, ◌≤◌, Bool, true, false, List, [], ◌∷◌, ◌++◌, length, map, replicate, take}
+use Rattle.std.proofs.Common.{◌≡◌, ◌≢◌, ℕ, zero, suc, ◌+◌, ◌<◌, ◌≤◌, List, [], ◌∷◌, ◌++◌, length, map, replicate, take}
 use Rattle.std.proofs.Common.{Option, Some, None, option_map, refl, ap, sym, ◌∙◌, subst, arith, slice_set}
-use Rattle.std.specs.Prelude.{slice_get, slice_index_or, if◌then◌else◌}
-use Rattle.std.proofs.lemmas.List.{length-map, take_more}
+use Rattle.std.specs.Prelude.{slice_get, slice_index_or}
+use Rattle.std.proofs.lemmas.List.{take_more}
 use Rattle.std.proofs.lemmas.Option.{slice_get_within}
 use Rattle.event_log.specs.declared.entries.Entry.{Entry}
 use Rattle.event_log.specs.declared.ids.BufId.{BufId}
@@ -10,31 +10,24 @@ use Rattle.event_log.specs.declared.ids.CpuId.{CpuId}
 use Rattle.event_log.specs.declared.ids.TheConstants.{CPUS, THREADS}
 use Rattle.event_log.specs.declared.ids.Tid.{Tid}
 use Rattle.event_log.specs.Actions.{Action, AreLegal}
-use Rattle.guest.specs.State.{State, at_start}
 use Rattle.layer_traits.specs.declared.moves.Line.{Line}
 use Rattle.layer_traits.specs.declared.steps.Reason.{Reason}
 use Rattle.layer_traits.specs.declared.steps.Step.{Step}
 use Rattle.layer_traits.specs.declared.steps.Step.TheVariants.{Stepped, Halted}
-use Rattle.layer_traits.specs.declared.talks.Talk.{Talk}
 use Rattle.layer_traits.specs.Along.{IsStep}
-use Rattle.layer_traits.specs.BufferLaw.{Buffering, buffering_at_start, quiet, talk_of}
-use Rattle.layer_traits.specs.LockLaw.{slept_for}
-use Rattle.layer_traits.specs.OnePlace.{cpu_at}
-use Rattle.layer_traits.specs.Places.{Step as Moving, home_of, homed}
+use Rattle.layer_traits.specs.Places.{Step as Moving}
 use Rattle.cpu.specs.declared.guests.Guest.{Guest}
-use Rattle.cpu.specs.Boots.{AreGuests}
-use Rattle.cpu.specs.Claims.{CpuShown, Shown, programs_in, shown_of}
+use Rattle.cpu.specs.Claims.{CpuShown, Shown, shown_of}
 use Rattle.cpu.specs.Cpus.{guest_at, programs_of}
-use Rattle.cpu.specs.Sound.{BootsByTable, IsReachedByTable, IsSetupFor, RanByTable, ReturnsAlone, SoundByTable, after_steps}
+use Rattle.cpu.specs.Sound.{IsReachedByTable, IsSetupFor, RanByTable, ReturnsAlone, SoundByTable, after_steps}
 use Rattle.cpu.specs.Systems.{GoesBy, SamePlan, SteppedByTable, whole_of}
-use Rattle.cpu.specs.Table.Setups.{Private, Setup, Thread, home_threads_from, new_thread, program_of, at_boot as boots_at}
-use Rattle.cpu.specs.Table.Steps.{IsReached, Whole, boots, boots_from, cpu_numbered, cpu_step, steps, steps_by, system_step, whole_at_boot}
-use Rattle.cpu.specs.Tables.{IsSetupOf, private, state_of, states}
+use Rattle.cpu.specs.Table.Setups.{Setup}
+use Rattle.cpu.specs.Table.Steps.{IsReached, Whole, cpu_step, steps, steps_by, system_step}
+use Rattle.cpu.specs.Tables.{IsSetupOf}
 use Rattle.cpu.specs.Tower.Composed.{named}
-use Rattle.cpu.specs.Tower.Privates.{numbered, thread_of, tid}
 use Rattle.cpu.specs.Tower.Views.{TowerName}
 use Rattle.cpu.specs.Wakeups.Alone.{HasReturned, IsInCall, steps_to_return}
-use Rattle.cpu.proofs.GuestLists.{at_programs, guest_within}
+use Rattle.cpu.proofs.GuestLists.{at_programs}
 use Rattle.cpu.proofs.ListReads.{shown_length, shown_same, shows_at, there_is}
 use Rattle.cpu.proofs.TableSystems.{shown_step}
 use Rattle.cpu.proofs.Wakeups.Reaching.{systems_lose_no_wake_up}
@@ -203,8 +196,9 @@ alone_of s few some reached setup is c p t ready room =
     let homes = ap (λ (l : List CpuId). length l) (is.goes.each 0 first.0 first.1).homes_are in
     let alone = calls_return_alone setup s.room (whole_of s) c p t (omega (arith, homes, few)) (reached setup is) ready (omega (arith, room)) in (
       λ new ran. subst (λ (w : Whole). HasReturned w c p t ready.effect ready.buffer)
-          (after (steps_to_return setup c ready.asks ready.block) new ran) alone.0,
+          (after (steps_to_return setup c ready.effect ready.block) new ran) alone.0,
       λ n before one_more ran. subst (λ (w : Whole). IsInCall w c t) (after n before ran) (alone.1 n one_more),
+      alone.2,
     )
   where
     after : (n : ℕ) (new : Shown) → RanByTable s (replicate n c) new → steps_by setup c n (whole_of s) ≡ whole_of new

@@ -15,7 +15,7 @@ use Rattle.guest.specs.declared.instructions.Instruction.TheVariants as ins
 use Rattle.guest.specs.Instructions.{names_below}
 use Rattle.guest.specs.State.{State, next_of}
 use Rattle.layer_traits.specs.declared.calls.Call.{Call}
-use Rattle.layer_traits.specs.declared.calls.Call.TheVariants.{Send, Recv}
+use Rattle.layer_traits.specs.declared.calls.Call.TheVariants.{Send, Recv, Close}
 use Rattle.layer_traits.specs.declared.calls.Effect.{Effect}
 use Rattle.layer_traits.specs.declared.calls.Reply.{Reply}
 use Rattle.layer_traits.specs.declared.talks.Talk.{Talk}
@@ -105,10 +105,15 @@ begun_for g es talk c follows asks = go g.stage follows.1
 -- the buffer of a call that an instruction asks for
 named_buffer : (i : Instruction) (s : State) (c : Call) (buffers : ℕ) → todo_at s i ≡ Calls c → names_below buffers i ≡ true
     → nat_lt (buffer_of c).0 buffers ≡ true
-named_buffer (ins.Send b r) s (Send q m) buffers asks named = let same : b ≡ q = cc asks in subst (λ (x : BufId). nat_lt x.0 buffers ≡ true) same named
-named_buffer (ins.Send b r) s (Recv q) buffers asks named = absurd cc
-named_buffer (ins.Recv b r) s (Send q m) buffers asks named = absurd cc
-named_buffer (ins.Recv b r) s (Recv q) buffers asks named = let same : b ≡ q = cc asks in subst (λ (x : BufId). nat_lt x.0 buffers ≡ true) same named
+named_buffer (ins.Send b r k) s (Send q m) buffers asks named = let same : b ≡ q = cc asks in subst (λ (x : BufId). nat_lt x.0 buffers ≡ true) same named
+named_buffer (ins.Send b r k) s (Recv q) buffers asks named = absurd cc
+named_buffer (ins.Send b r k) s (Close q) buffers asks named = absurd cc
+named_buffer (ins.Recv b r k) s (Send q m) buffers asks named = absurd cc
+named_buffer (ins.Recv b r k) s (Recv q) buffers asks named = let same : b ≡ q = cc asks in subst (λ (x : BufId). nat_lt x.0 buffers ≡ true) same named
+named_buffer (ins.Recv b r k) s (Close q) buffers asks named = absurd cc
+named_buffer (ins.Close b) s (Send q m) buffers asks named = absurd cc
+named_buffer (ins.Close b) s (Recv q) buffers asks named = absurd cc
+named_buffer (ins.Close b) s (Close q) buffers asks named = let same : b ≡ q = cc asks in subst (λ (x : BufId). nat_lt x.0 buffers ≡ true) same named
 named_buffer ins.Exit s c buffers asks named = absurd cc
 named_buffer ins.Yield s c buffers asks named = absurd cc
 named_buffer (ins.Set r n) s c buffers asks named = absurd cc

@@ -11,7 +11,7 @@ use Rattle.cpu.specs.Cpus.{reason_in, step_answer}
 use Rattle.cpu.specs.Systems.{HaltsByTable, SteppedByTable, halted_in, reason_of, reason_or, whole_of}
 use Rattle.cpu.specs.Table.Blocks.{Name}
 use Rattle.cpu.specs.Table.Setups.{Setup, Private}
-use Rattle.cpu.specs.Table.Steps.{Stepping, Whole, answered_by, cpu_step, halted_at, roomy, step_at, system_step}
+use Rattle.cpu.specs.Table.Steps.{Whole, answered_by, cpu_step, halted_at, roomy, step_at, system_step}
 use Rattle.cpu.specs.Tower.Composed.{answer_of}
 use Rattle.cpu.proofs.ListReads.{shows_at, there_is}
 use Rattle.cpu.proofs.Tower.Polls.{halts_exactly}

@@ -71,8 +71,9 @@ opens_as setup homes caps number opening homes_are caps_are opens lock used = op
 
 -- what an instruction asks for
 asks_for : (i : Instruction) (s : State) (c : Call) → todo_at s i ≡ Calls c → AsksFor i s c
-asks_for (ins.Send b r) s c is = sym (cc is)
-asks_for (ins.Recv b r) s c is = sym (cc is)
+asks_for (ins.Send b r k) s c is = sym (cc is)
+asks_for (ins.Recv b r k) s c is = sym (cc is)
+asks_for (ins.Close b) s c is = sym (cc is)
 asks_for ins.Exit s c is = absurd (cc is)
 asks_for ins.Yield s c is = absurd (cc is)
 asks_for (ins.Set r n) s c is = absurd (cc is)
@@ -222,6 +223,7 @@ module _ (cpu : TabledCpu) where
       begun = sym (ap (λ x. x.call) (goes_same talk.stage talk c calls))
           ∙ poll_talks (valid cpu) t c chose;
       stands = in_call _ _ _ _ _ _ (tabled.part.mine t polls.runs) calls;
+      fits = tabled.part.fits t;
       in_guests = in_guests;
       in_talks = subst (λ n. t.0 < n) (sym tabled.part.talks) small;
       in_slept = subst (λ n. t.0 < n) (sym tabled.part.slept) small;

@@ -1,7 +1,7 @@
 -- A system is quiet exactly where the step table has it quiet; and where it is quiet it is still.
-use Rattle.std.proofs.Common.{◌≡◌, ◌⊎◌, inl, inr, ℕ, zero, suc, ◌+◌, ◌<◌, ◌==◌, Bool, true, false, not, ◌&&◌, List, [], ◌∷◌, length, map, Option, Some, None}
+use Rattle.std.proofs.Common.{◌≡◌, ℕ, zero, suc, ◌+◌, ◌<◌, Bool, true, false, not, ◌&&◌, List, [], ◌∷◌, length, map, Option, Some, None}
 use Rattle.std.proofs.Common.{is_some, refl, ap, sym, ◌∙◌, subst, arith}
-use Rattle.std.specs.Prelude.{slice_get, slice_index_or, if◌then◌else◌}
+use Rattle.std.specs.Prelude.{slice_get, if◌then◌else◌}
 use Rattle.std.proofs.lemmas.Bool.{and_parts}
 use Rattle.std.proofs.lemmas.Option.{slice_get_within}
 use Rattle.event_log.specs.declared.ids.CpuId.{CpuId}
@@ -12,18 +12,17 @@ use Rattle.guest.specs.declared.instructions.Instruction.{Instruction}
 use Rattle.guest.specs.declared.instructions.Instruction.TheVariants as ins
 use Rattle.layer_traits.specs.declared.steps.Reason.{Reason}
 use Rattle.layer_traits.specs.declared.steps.Reason.TheVariants.{AllEnded, StepsUsed, TraceFull}
-use Rattle.layer_traits.specs.OnePlace.{cpu_at}
-use Rattle.layer_traits.specs.Places.{Threads, pending_by}
-use Rattle.cpu.specs.Calm.{IsQuiet, calm_by, is_calm, is_nobody, rests}
+use Rattle.layer_traits.specs.Places.{Threads}
+use Rattle.cpu.specs.Calm.{IsQuiet, calm_by, is_calm, is_nobody}
 use Rattle.cpu.specs.Claims.{CpuShown, MovesAgree, Shown, buffer_at}
 use Rattle.cpu.specs.Cpus.{reason_in, halted_at as own_halted_at}
 use Rattle.cpu.specs.Sound.{IsReachedByTable, IsSetupFor}
 use Rattle.cpu.specs.Systems.{own_reason, whole_of}
 use Rattle.cpu.specs.Table.Blocks.{OfPending}
-use Rattle.cpu.specs.Table.Choice.{Alone, Choice, Goes, Halts, at_call, at_current, at_hand, at_instruction, at_ready, choice}
+use Rattle.cpu.specs.Table.Choice.{Goes, Halts, at_call, at_current, at_hand, at_instruction, at_ready}
 use Rattle.cpu.specs.Table.Setups.{Call, Private, Setup, cpu_or, have_ended, home_of, home_threads, home_threads_from, stands_at, thread_at}
 use Rattle.cpu.specs.Table.Steps.{cpu_numbered, halted_at, halted_by}
-use Rattle.cpu.specs.Told.{CpuIsTold, IsStill, ToldByTable}
+use Rattle.cpu.specs.Told.{IsStill, ToldByTable}
 use Rattle.cpu.specs.Wakeups.Quiet.{IsQuiet as IsQuietTable, IsQuietBy, IsStuck}
 use Rattle.cpu.proofs.ListReads.{shown_at, shows_at, there_is}
 use Rattle.cpu.proofs.Wakeups.Stuck.{quiet_is_stuck}
@@ -87,8 +86,9 @@ never_all setup c p (Some t) is = by_call (thread_at p t).call is
     by_room false q now = cc now
 
     by_line : (line : Instruction) → halted_by (at_instruction setup c p t line) ≡ Some AllEnded → ⊥
-    by_line (ins.Send b r) now = by_room _ _ now
-    by_line (ins.Recv b r) now = by_room _ _ now
+    by_line (ins.Send b r k) now = by_room _ _ now
+    by_line (ins.Recv b r k) now = by_room _ _ now
+    by_line (ins.Close b) now = by_room _ _ now
     by_line ins.Yield now = cc now
     by_line ins.Exit now = cc now
     by_line (ins.Set r n) now = cc now
@@ -242,7 +242,7 @@ quiet_still s told agree reached quiet = record {
   stuck = stuck;
   refused = λ setup is p u live e asks b m within of next allowed.
       let has = told.buffers setup is b.0 within in
-      (stuck setup is).effects p u live e asks b m of next has.buffer has.there (rw (← has.told.capacity, ← has.told.items) allowed);
+      (stuck setup is).effects p u live e asks b m of next has.buffer has.there (rw (← has.told.capacity, ← has.told.items, ← has.told.closed) allowed);
   unowned = λ setup is b within.
       let has = told.buffers setup is b within in has.told.owner ∙ ((stuck setup is).unowned (buffer_at b) has.buffer has.there).0;
   awake = λ setup is b within.

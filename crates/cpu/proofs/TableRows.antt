@@ -251,9 +251,11 @@ module _ (cpu : TabledCpu) where
     by_line : (t : Tid) (g : Guest) → guest_at guests t.0 ≡ Some g → is_calling g.stage ≡ false → (i : Instruction)
         → halted_by (at_instruction setup number p t i)
         ≡ (if begins (chosen_todo t (todo_at g.thread i)) guests && full then Some TraceFull else None)
-    by_line t g at free (ins.Send b r) =
+    by_line t g at free (ins.Send b r k) =
         full_if _ full _ table_full ∙ ap (λ x. if x && full then Some TraceFull else None) (sym (ap begins_at at ∙ ap not free))
-    by_line t g at free (ins.Recv b r) =
+    by_line t g at free (ins.Recv b r k) =
+        full_if _ full _ table_full ∙ ap (λ x. if x && full then Some TraceFull else None) (sym (ap begins_at at ∙ ap not free))
+    by_line t g at free (ins.Close b) =
         full_if _ full _ table_full ∙ ap (λ x. if x && full then Some TraceFull else None) (sym (ap begins_at at ∙ ap not free))
     by_line t g at free ins.Yield = refl
     by_line t g at free ins.Exit = refl

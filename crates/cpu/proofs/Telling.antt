@@ -1,5 +1,5 @@
 -- What a system tells is what the step table has: its blocks, by the actions of all CPUs, and each CPU's threads.
-use Rattle.std.proofs.Common.{◌≡◌, inl, ℕ, ◌<◌, List, [], length, map, Option, Some, None, option_map, slice_index, refl, ap, sym, ◌∙◌}
+use Rattle.std.proofs.Common.{◌≡◌, inl, ℕ, ◌<◌, false, List, [], length, map, Option, Some, None, option_map, slice_index, refl, ap, sym, ◌∙◌}
 use Rattle.std.specs.Prelude.{slice_get}
 use Rattle.event_log.specs.declared.entries.Kind.{Kind}
 use Rattle.event_log.specs.declared.ids.BufId.{BufId}
@@ -10,6 +10,7 @@ use Rattle.event_log.specs.declared.ids.Tid.{Tid}
 use Rattle.event_log.specs.Actions.{Action}
 use Rattle.event_log.specs.Buffers.{items_of}
 use Rattle.event_log.specs.Messages.{Message}
+use Rattle.event_log.specs.Runs.{is_closed}
 use Rattle.event_log.specs.Sections.{block_after, sections_in}
 use Rattle.event_log.proofs.Renaming.{sections_in_renamed}
 use Rattle.layer_traits.specs.declared.moves.Line.TheVariants.{Receivers, Senders, Sleepers}
@@ -68,7 +69,7 @@ awake_told s b k told awake = record {
 }
   where
     allows : (e : Kind) (m : Message) → AllowsNow s b e m → Allows k e m
-    allows e m now = rw (← told.capacity, ← told.items) now
+    allows e m now = rw (← told.capacity, ← told.items, ← told.closed) now
 
 module _ (setup : Setup) (m : Told) (c : CpuId) (opening : LockId → Option TowerBlock) (opens : OpensAs (bare m.homes m.caps) c opening)
     (caps_are : setup.caps ≡ m.caps) (are : MovesAre opening m.acts m.moves m.lines) where
@@ -88,7 +89,8 @@ module _ (setup : Setup) (m : Told) (c : CpuId) (opening : LockId → Option Tow
     s = shown_in m cpus room taken
 
     pub has_buffer : (b : ℕ) → b < length m.caps
-        → ItemsAre opening m.acts (buffer_at b) (items_of (contents_of m.caps m.seen) b) (slice_index m.caps b) → HasBuffer setup s b
+        → ItemsAre opening m.acts (buffer_at b) (items_of (contents_of m.caps m.seen) b) (slice_index m.caps b) (is_closed m.seen b)
+        → HasBuffer setup s b
     has_buffer b within held =
         let there = buffer_told (buffer_at b) ∙ lock_viewed (guarded opening m.acts (AtBuffer (buffer_at b))) held.lock held.there in
         let beds = listed_there (beds_by m.lines) (length m.caps) b no_beds within in
@@ -99,6 +101,7 @@ module _ (setup : Setup) (m : Told) (c : CpuId) (opening : LockId → Option Tow
           senders = ap (λ (x : Beds). x.senders) beds ∙ are.waiting (buffer_at b) Senders ∙ ap (line_in Senders) held.there;
           items = held.holds;
           capacity = held.may_hold;
+          closed = listed_there (is_closed m.seen) (length m.caps) b false within ∙ held.shut;
         } in
         record {
           buffer = buffer_view held.lock;

@@ -1,5 +1,5 @@
 -- What a system shows, and what holds of it after every list of steps.
-use Rattle.std.specs.Prelude.{◌≡◌, ◌⊎◌, ℕ, zero, suc, ◌+◌, ◌<◌, Bool, true, List, [], ◌∷◌, map, length, Option, Some, None, slice_get, slice_index_or}
+use Rattle.std.specs.Prelude.{◌≡◌, ◌⊎◌, ℕ, zero, suc, ◌+◌, ◌<◌, Bool, true, false, List, [], ◌∷◌, map, length, Option, Some, None, slice_get, slice_index_or}
 use Rattle.std.specs.List.{AllByRecursion}
 use Rattle.event_log.specs.declared.entries.Entry.{Entry}
 use Rattle.event_log.specs.declared.ids.BufId.{BufId}
@@ -7,7 +7,7 @@ use Rattle.event_log.specs.declared.ids.CpuId.{CpuId}
 use Rattle.event_log.specs.declared.ids.Tid.{Tid}
 use Rattle.event_log.specs.Actions.{Action}
 use Rattle.event_log.specs.Messages.{Message}
-use Rattle.event_log.specs.Runs.{IsRun}
+use Rattle.event_log.specs.Runs.{IsRun, is_closed}
 use Rattle.event_log.specs.Traces.{IsInterleaving}
 use Rattle.guest.specs.declared.instructions.Instruction.{Instruction}
 use Rattle.guest.specs.Calls.{AreProgramsCalls, HasEnded}
@@ -45,13 +45,14 @@ pub record CpuShown : Type 0 where
   -- the same as the step table's private state, where the machine does one action a step
   pub private : Private
 
--- a system as plain data: the capacity of each buffer, the home of each thread, what each buffer holds, who sleeps at it and who owns its
--- lock, as its last section left it, how threads came to where they stand, newest first, the CPUs, for how many steps there is room, and
--- how many were taken
+-- a system as plain data: the capacity of each buffer, the home of each thread, what each buffer holds, whether it is closed, who sleeps at
+-- it and who owns its lock, as its last section left it, how threads came to where they stand, newest first, the CPUs, for how many steps
+-- there is room, and how many were taken
 pub record Shown : Type 0 where
   pub caps : List ℕ
   pub homes : List CpuId
   pub contents : List (List Message)
+  pub closed : List Bool
   pub beds : List Beds
   pub owners : List (Option Tid)
   pub moves : List Step
@@ -90,6 +91,7 @@ shown_of caps homes seen lines owner moves acts cpus room taken = record {
   caps = caps;
   homes = homes;
   contents = contents_of caps seen;
+  closed = listed (is_closed seen) 0 (length caps);
   beds = listed (beds_by lines) 0 (length caps);
   owners = listed (λ b. owner (buffer_at b)) 0 (length caps);
   moves = moves;
@@ -106,11 +108,13 @@ traces_of s = map (λ p. p.trace) s.cpus
 abbrev pub programs_in : Shown → List (List (Option (List Instruction)))
 programs_in s = map (λ p. programs_of p.guests) s.cpus
 
--- the calls that took effect have one order that keeps every trace, is a run, and ends in the buffers' contents
+-- the calls that took effect have one order that keeps every trace, is a run, and ends in the buffers' contents; a buffer is closed where
+-- the order closes it
 pub record HasOneOrder (s : Shown) : Type 0 where
   pub order : List Entry
   pub keeps : IsInterleaving (traces_of s) order
   pub run : IsRun s.caps order s.contents
+  pub closed : (b : ℕ) → b < length s.caps → slice_index_or s.closed b false ≡ is_closed order b
 
 -- a thread's entries, oldest first, are its program's calls; it has ended only where its program ends
 pub record Keeps (g : Guest) (entries : List Entry) : Type 0 where

@@ -1,20 +1,24 @@
 -- A thread's guest: what it does next, what a poll of its call makes of it, and how its entries led to its private state. Lists of
 -- entries are newest first.
-use Rattle.std.specs.Prelude.{◌≡◌, Bool, true, false, List, Option, Some, None, option_map, option_to_list}
+use Rattle.std.specs.Prelude.{◌≡◌, ℕ, Bool, true, false, List, Option, Some, None, option_map, option_to_list}
 use Rattle.event_log.specs.declared.entries.Entry.{Entry}
+use Rattle.event_log.specs.declared.entries.Kind.{Kind}
+use Rattle.event_log.specs.declared.entries.Kind.TheVariants as kind
 use Rattle.event_log.specs.declared.ids.BufId.{BufId}
 use Rattle.event_log.specs.declared.ids.CpuId.{CpuId}
 use Rattle.event_log.specs.declared.ids.Tid.{Tid}
-use Rattle.event_log.specs.Messages.{first_word}
+use Rattle.event_log.specs.Messages.{Message}
 use Rattle.guest.specs.declared.instructions.Instruction.{Instruction}
 use Rattle.guest.specs.declared.instructions.Instruction.TheVariants as ins
-use Rattle.guest.specs.State.{State, at_start, next_of, sent_from, moved_on, moved_with, after_local, after_send, after_recv, after_yield}
+use Rattle.guest.specs.declared.instructions.Into.{Into}
+use Rattle.guest.specs.State.{State, at_start, next_of, message_from, moved_on, moved_into, moved_aside, after_local, after_send, after_recv}
+use Rattle.guest.specs.State.{after_close, after_closed, after_yield}
 use Rattle.guest.specs.Calls.{IsProgramsCalls, HasEnded}
 use Rattle.layer_traits.specs.declared.calls.Call.{Call}
-use Rattle.layer_traits.specs.declared.calls.Call.TheVariants.{Send, Recv}
+use Rattle.layer_traits.specs.declared.calls.Call.TheVariants.{Send, Recv, Close}
 use Rattle.layer_traits.specs.declared.calls.Effect.{Effect}
 use Rattle.layer_traits.specs.declared.calls.Reply.{Reply}
-use Rattle.layer_traits.specs.declared.calls.Reply.TheVariants.{Sent, Got, NoBuffer}
+use Rattle.layer_traits.specs.declared.calls.Reply.TheVariants.{Sent, Got, Shut, Closed, NoBuffer}
 use Rattle.layer_traits.specs.declared.passes.Pass.{Pass}
 use Rattle.layer_traits.specs.declared.passes.Pass.TheVariants.{Switch, YieldNow, Drain, MakeReady, End}
 use Rattle.layer_traits.specs.declared.talks.Talk.{Talk}
@@ -30,8 +34,9 @@ use Rattle.cpu.specs.declared.guests.Todo.TheVariants.{Finish, PassOn, Compute, 
 abbrev pub todo_at : State → Instruction → Todo
 todo_at s ins.Exit = Finish
 todo_at s ins.Yield = PassOn
-todo_at s (ins.Send b r) = Calls (Send b (sent_from s r))
-todo_at s (ins.Recv b r) = Calls (Recv b)
+todo_at s (ins.Send b from k) = Calls (Send b (message_from s from))
+todo_at s (ins.Recv b into k) = Calls (Recv b)
+todo_at s (ins.Close b) = Calls (Close b)
 todo_at s (ins.Set r n) = Compute
 todo_at s (ins.Add r q) = Compute
 todo_at s (ins.Sub r q) = Compute
@@ -84,6 +89,8 @@ after_answer None i s = s
 after_answer (Some NoBuffer) i s = s
 after_answer (Some Sent) i s = after_send i s
 after_answer (Some (Got message)) i s = after_recv i message s
+after_answer (Some Shut) i s = after_close i s
+after_answer (Some Closed) i s = after_closed i s
 
 -- a guest after a poll of its call, which left its talk with this effect
 abbrev pub polled : Guest → Option Effect → Option Reply → Guest
@@ -93,10 +100,27 @@ polled g effect answer = record {
   stage = stage_after effect answer;
 }
 
+-- after the effect of a send: one that found the buffer closed goes to the target
+abbrev pub after_sent : Kind → Option ℕ → State → State
+after_sent kind.Send k s = moved_on s
+after_sent kind.Recv k s = moved_on s
+after_sent kind.Close k s = moved_on s
+after_sent kind.SendClosed k s = moved_aside s k
+after_sent kind.RecvClosed k s = moved_on s
+
+-- after the effect of a receive: one that found the buffer closed and empty goes to the target, and the registers stay
+abbrev pub after_received : Kind → Into → Option ℕ → Message → State → State
+after_received kind.Send into k message s = moved_into s into message
+after_received kind.Recv into k message s = moved_into s into message
+after_received kind.Close into k message s = moved_into s into message
+after_received kind.SendClosed into k message s = moved_into s into message
+after_received kind.RecvClosed into k message s = moved_aside s k
+
 -- the private state that an effect will leave once its call replies
 abbrev pub after_effect : Instruction → Effect → State → State
-after_effect (ins.Send b r) f s = moved_on s
-after_effect (ins.Recv b r) f s = moved_with s r (first_word f.value)
+after_effect (ins.Send b from k) f s = after_sent f.kind k s
+after_effect (ins.Recv b into k) f s = after_received f.kind into k f.value s
+after_effect (ins.Close b) f s = moved_on s
 after_effect ins.Exit f s = s
 after_effect ins.Yield f s = s
 after_effect (ins.Set r n) f s = s

@@ -1,6 +1,7 @@
 -- A system is one that the step table reaches from boot, whichever setup of the table is its. So it has lost no wake-up, and a call of a
 -- CPU that runs alone returns.
-use Rattle.std.specs.Prelude.{◌≡◌, ℕ, ◌+◌, ◌≤◌, List, [], ◌∷◌, length, map, replicate, Some}
+use Rattle.std.specs.Prelude.{◌≡◌, ℕ, ◌+◌, ◌<◌, ◌≤◌, List, [], ◌∷◌, length, map, replicate, Some}
+use Rattle.event_log.specs.declared.entries.Kind.TheVariants.{Close}
 use Rattle.event_log.specs.declared.ids.BufId.{BufId}
 use Rattle.event_log.specs.declared.ids.CpuId.{CpuId}
 use Rattle.event_log.specs.declared.ids.LockId.TheVariants.{Buffer as AtBuffer}
@@ -54,11 +55,14 @@ abbrev pub RanByTable : Shown → List CpuId → Shown → Type 0
 RanByTable old steps new = (setup : Setup) → GoesBy setup old → whole_of new ≡ after_steps setup steps (whole_of old)
 
 -- Where CPU c rests, no lock is taken or asked for, and its thread t stands at a call that has not begun, which its buffer allows and
--- whose line is empty: after 18 steps of c the call has returned, or after 21 where its first signal wakes a thread of another CPU, which
--- is the first of the other side's line and waits; and one step before it is still under way.
+-- whose line is empty: after 18 steps of c the call has returned, a close after 15, and after three steps more for a thread of another CPU
+-- that it wakes; and one step before it is still under way. A send or a receive wakes the first of the other side's line, where that
+-- waits, or nobody where it found its buffer closed; a close wakes the first of each line that waits, and of both none but where the buffer
+-- may hold nothing.
 abbrev pub ReturnsAlone : Shown → Type 0
 ReturnsAlone s = (setup : Setup) → IsSetupFor setup s → (c : CpuId) (p : Private) (t : Tid) → (ready : IsReady setup c (whole_of s) p t) → s.taken + 32 ≤ s.room
-    → ((new : Shown) → RanByTable s (replicate (steps_to_return setup c ready.asks ready.block) c) new
+    → ((new : Shown) → RanByTable s (replicate (steps_to_return setup c ready.effect ready.block) c) new
     → HasReturned (whole_of new) c p t ready.effect ready.buffer)
-    × ((n : ℕ) (before : Shown) → n + 1 ≡ steps_to_return setup c ready.asks ready.block → RanByTable s (replicate n c) before
+    × ((n : ℕ) (before : Shown) → n + 1 ≡ steps_to_return setup c ready.effect ready.block → RanByTable s (replicate n c) before
     → IsInCall (whole_of before) c t)
+    × (ready.effect ≡ Close → 18 < steps_to_return setup c ready.effect ready.block → ready.block.capacity ≡ 0)

@@ -4,7 +4,7 @@ use Rattle.std.specs.List.{AllByRecursion}
 use Rattle.event_log.specs.declared.entries.Entry.{Entry}
 use Rattle.event_log.specs.declared.ids.CpuId.{CpuId}
 use Rattle.event_log.specs.declared.ids.Tid.{Tid}
-use Rattle.event_log.specs.declared.ids.TheConstants.{CPUS}
+use Rattle.event_log.specs.declared.ids.TheConstants.{CPUS, THREADS}
 use Rattle.event_log.specs.Actions.{Action, Rests, phase}
 use Rattle.layer_traits.specs.declared.steps.Reason.{Reason}
 use Rattle.layer_traits.specs.declared.steps.Reason.TheVariants.{StepsUsed}
@@ -59,6 +59,8 @@ pub record IsSystem {X N : Type 0} (IsOne : X → Type 0) (number : X → CpuId)
   pub each : (k : ℕ) (x : X) → slice_get cpus k ≡ Some x → IsAt IsOne number k x
   pub some : 0 < length cpus
   pub most : length cpus ≤ CPUS
+  -- and there are no more threads than a machine may have
+  pub crowd : length homes ≤ THREADS
   -- the machine is this system's alone: nobody else acts in it; each effect is of one of its CPUs, and each thread at home with one
   pub acts_for : (c : CpuId) → c.0 < CPUS → ActsFor c
   pub known : AllByRecursion (λ e. e.cpu.0 < length cpus) seen

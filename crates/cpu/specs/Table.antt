@@ -4,3 +4,5 @@ pub mod Setups
 pub mod Choice
 pub mod Steps
 pub mod Worked
+pub mod Closing
+pub mod Words

@@ -2,23 +2,22 @@
 use Rattle.std.specs.Prelude.{◌≡◌, ℕ, ◌<◌, ◌≤◌, true, false, [], length, Some, None, slice_get, slice_index, slice_index_or}
 use Rattle.event_log.specs.declared.entries.Kind.{Kind}
 use Rattle.event_log.specs.declared.ids.BufId.{BufId}
-use Rattle.event_log.specs.declared.ids.CpuId.{CpuId}
 use Rattle.event_log.specs.declared.ids.LockId.TheVariants.{Buffer as AtBuffer, Pending}
 use Rattle.event_log.specs.declared.ids.Tid.{Tid}
 use Rattle.event_log.specs.declared.ids.TheConstants.{THREADS}
 use Rattle.event_log.specs.Actions.{phase}
 use Rattle.event_log.specs.Buffers.{IsAllowedEffect, items_of}
 use Rattle.event_log.specs.Messages.{Message}
+use Rattle.event_log.specs.Runs.{Group, Receives, Sends, group_of}
 use Rattle.layer_traits.specs.Places.{pending_by}
 use Rattle.layer_traits.specs.Plans.{is_in_section}
 use Rattle.cpu.specs.Claims.{CpuShown, Shown, beds_at, buffer_at}
 use Rattle.cpu.specs.Cpus.{halted_at as own_halted_at}
 use Rattle.cpu.specs.Sound.{IsSetupFor}
 use Rattle.cpu.specs.Systems.{whole_of}
-use Rattle.cpu.specs.Table.Blocks.{Asks, Buffer, OfBuffer, OfPending, Receives, Sends, front, stands_in}
+use Rattle.cpu.specs.Table.Blocks.{Buffer, OfBuffer, OfPending, front, stands_in}
 use Rattle.cpu.specs.Table.Setups.{Private, Setup, stands_at, thread_at}
 use Rattle.cpu.specs.Table.Steps.{block_at, cpu_numbered, halted_at}
-use Rattle.cpu.specs.Wakeups.Lost.{asks_of}
 use Rattle.cpu.specs.Wakeups.Quiet.{IsLive, IsNextEffect, IsStuck}
 
 -- CPU k is told as it is: whether it has a section under way, why it is halted, its threads, and who is pending for it
@@ -30,7 +29,7 @@ pub record CpuIsTold (setup : Setup) (s : Shown) (k : ℕ) (p : CpuShown) : Type
   pub hand : p.private.hand ≡ p.own.hand
   pub pending : block_at setup (Pending (cpu_numbered k)) s.log ≡ Some (OfPending (pending_by s.moves (cpu_numbered k)))
 
--- buffer b is told as it is: who owns its lock, who sleeps at it and who waits, what it holds, and how much it may hold
+-- buffer b is told as it is: who owns its lock, who sleeps at it and who waits, what it holds, how much it may hold, and whether it is closed
 pub record BufferIsTold (s : Shown) (b : ℕ) (k : Buffer) : Type 0 where
   pub owner : slice_index_or s.owners b None ≡ k.busy
   pub sleepers : (beds_at s b).sleepers ≡ k.sleepers
@@ -38,18 +37,19 @@ pub record BufferIsTold (s : Shown) (b : ℕ) (k : Buffer) : Type 0 where
   pub senders : (beds_at s b).senders ≡ k.waiting_senders
   pub items : items_of s.contents b ≡ k.items
   pub capacity : slice_index s.caps b ≡ k.capacity
+  pub closed : slice_index_or s.closed b false ≡ k.closed
 
--- buffer b, as the system tells it, allows an effect of this kind with this message; no call has closed it
+-- buffer b, as the system tells it, allows an effect of this kind with this message
 abbrev pub AllowsNow : Shown → ℕ → Kind → Message → Type 0
-AllowsNow s b e m = IsAllowedEffect e false (slice_index s.caps b) (items_of s.contents b) m
+AllowsNow s b e m = IsAllowedEffect e (slice_index_or s.closed b false) (slice_index s.caps b) (items_of s.contents b) m
 
 -- no wake-up is lost at buffer b, of what the system tells: while nobody owns its lock, the first of neither line waits although the buffer
 -- allows an effect of its call
 pub record IsAwake (s : Shown) (b : ℕ) (k : Buffer) : Type 0 where
   pub senders : slice_index_or s.owners b None ≡ None → (t : Tid) (m : Message) → front k.send_line ≡ Some t
-      → stands_in t (beds_at s b).senders ≡ true → (e : Kind) → asks_of e ≡ Some Sends → AllowsNow s b e m → ⊥
+      → stands_in t (beds_at s b).senders ≡ true → (e : Kind) → group_of e ≡ Sends → AllowsNow s b e m → ⊥
   pub receivers : slice_index_or s.owners b None ≡ None → (t : Tid) (m : Message) → front k.receive_line ≡ Some t
-      → stands_in t (beds_at s b).receivers ≡ true → (e : Kind) → asks_of e ≡ Some Receives → AllowsNow s b e m → ⊥
+      → stands_in t (beds_at s b).receivers ≡ true → (e : Kind) → group_of e ≡ Receives → AllowsNow s b e m → ⊥
 
 -- the table has buffer b, and it is told as it is
 pub record HasBuffer (setup : Setup) (s : Shown) (b : ℕ) : Type 0 where
@@ -70,7 +70,7 @@ pub record ToldByTable (s : Shown) : Type 0 where
 pub record IsStill (s : Shown) : Type 0 where
   pub stuck : (setup : Setup) → IsSetupFor setup s → IsStuck setup (whole_of s)
   pub refused : (setup : Setup) → IsSetupFor setup s → (p : Private) (u : Tid) → IsLive setup (whole_of s) p u
-      → (e : Kind) (asks : Asks) (b : BufId) (m : Message)
-      → b.0 < length s.caps → asks_of e ≡ Some asks → IsNextEffect (stands_at setup p u) (thread_at p u).guest asks b m → AllowsNow s b.0 e m → ⊥
+      → (e : Kind) (asks : Group) (b : BufId) (m : Message)
+      → b.0 < length s.caps → group_of e ≡ asks → IsNextEffect (stands_at setup p u) (thread_at p u).guest asks b m → AllowsNow s b.0 e m → ⊥
   pub unowned : (setup : Setup) → IsSetupFor setup s → (b : ℕ) → b < length s.caps → slice_index_or s.owners b None ≡ None
   pub awake : (setup : Setup) → IsSetupFor setup s → (b : ℕ) → b < length s.caps → (beds_at s b).sleepers ≡ []

@@ -583,7 +583,7 @@ fn put_entry(trace: &mut Vec<Entry>, entry: Entry)
 fn entry(cpu: CpuId, thread: Tid, call: &Call, effect: Effect) -> Entry
     ensures { result ≡ entry_of cpu thread (buffer_of call.now) effect }
 {
-    let (Call::Send(buffer, _) | Call::Recv(buffer)) = *call;
+    let (Call::Send(buffer, _) | Call::Recv(buffer) | Call::Close(buffer)) = *call;
     Entry {
         cpu,
         thread,

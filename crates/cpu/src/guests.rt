@@ -64,10 +64,11 @@ impl Guest {
         match self.thread.next(&self.program) {
             Instruction::Exit => Todo::Finish,
             Instruction::Yield => Todo::PassOn,
-            Instruction::Send(buffer, from) => {
-                Todo::Calls(Call::Send(buffer, self.thread.value(from)))
+            Instruction::Send(buffer, from, _) => {
+                Todo::Calls(Call::Send(buffer, self.thread.message(from)))
             }
-            Instruction::Recv(buffer, _) => Todo::Calls(Call::Recv(buffer)),
+            Instruction::Recv(buffer, ..) => Todo::Calls(Call::Recv(buffer)),
+            Instruction::Close(buffer) => Todo::Calls(Call::Close(buffer)),
             Instruction::Set(..)
             | Instruction::Add(..)
             | Instruction::Sub(..)
@@ -149,6 +150,8 @@ impl Guest {
             None | Some(Reply::NoBuffer) => {}
             Some(Reply::Sent) => self.thread.after_send(&self.program),
             Some(Reply::Got(message)) => self.thread.after_recv(&self.program, *message),
+            Some(Reply::Shut) => self.thread.after_close(&self.program),
+            Some(Reply::Closed) => self.thread.after_closed(&self.program),
         }
     }
 }

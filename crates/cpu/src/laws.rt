@@ -2,8 +2,10 @@
 //! the law is proved with the crate.
 
 ghost use Rattle.cpu.specs.Table.Worked.{AloneRuns, RunsOfTwo, RunsOfThree};
+ghost use Rattle.cpu.specs.Table.Closing.{ClosingRuns};
+ghost use Rattle.cpu.specs.Table.Words.{RunsOfWords};
 ghost use Rattle.cpu.specs.Wakeups.Lost.{OrderLosesNoWakeUp, SystemsKeepOrder, SystemsLoseNoWakeUp, FreeLocksHaveNoSleepers, WorkersLoseNoWakeUp};
-ghost use Rattle.cpu.specs.Wakeups.OneSignal.{OneSignalLosesAWakeUp};
+ghost use Rattle.cpu.specs.Wakeups.OneSignal.{OneSignalLosesAWakeUp, SilentAnswerLosesAWakeUp};
 ghost use Rattle.cpu.specs.Wakeups.Quiet.{QuietIsStuck};
 ghost use Rattle.cpu.specs.Wakeups.Alone.{CallsReturnAlone};
 ghost use Rattle.cpu.specs.Wakeups.OnePlace.{StandInOnePlace};
@@ -28,6 +30,18 @@ pub fn runs_of_three()
     ensures { RunsOfThree }
 {}
 
+/// Worked runs of systems whose buffer is closed, by computation: whom a close wakes, what each call
+/// then finds, and where it goes on.
+pub fn runs_of_closing()
+    ensures { ClosingRuns }
+{}
+
+/// A worked run of messages of several words, by computation: what a message of the first registers
+/// leaves in all of them once it is received again.
+pub fn runs_of_words()
+    ensures { RunsOfWords }
+{}
+
 /// Where the sections of a buffer come in the order of their calls, no wake-up is lost: while
 /// nobody owns the lock, the first of neither line sleeps although the buffer allows its call.
 pub fn order_loses_no_wake_up()
@@ -38,6 +52,12 @@ pub fn order_loses_no_wake_up()
 /// a message that nobody else is to take.
 pub fn one_signal_loses_a_wake_up()
     ensures { OneSignalLosesAWakeUp }
+{}
+
+/// Where a receiver that finds its buffer closed signals nobody, a second receiver sleeps on beside
+/// the closed buffer.
+pub fn silent_answer_loses_a_wake_up()
+    ensures { SilentAnswerLosesAWakeUp }
 {}
 
 /// Whichever CPU of a system steps when, the sections of each buffer come in the order of their
@@ -64,14 +84,17 @@ pub fn workers_lose_no_wake_up()
 {}
 
 /// A quiet state that a system reaches is stuck: nobody owns a lock or sleeps at one, and each live
-/// thread is inside a call that its buffer refuses, so that no schedule moves it on.
+/// thread is inside a call that its buffer refuses, so that no schedule moves it on. Nobody stands
+/// at a close, or waits at a closed buffer.
 pub fn quiet_is_stuck()
     ensures { QuietIsStuck }
 {}
 
 /// A call on free locks that its buffer allows, with nobody in its line, takes effect and returns
-/// after just 18 steps of its CPU alone, or 21 where it wakes a thread of another CPU: the first of
-/// the other side's line, where that waits. One step before it is still under way.
+/// after an exact number of steps of its CPU alone. A send or a receive takes 18, or 21 where it
+/// wakes a thread of another CPU: the first of the other side's line, where that waits; one that
+/// finds its buffer closed takes 18. A close takes 15, or 18 where it wakes a thread of another CPU,
+/// and 21 only where a buffer without room lets it wake two. One step before it is still under way.
 pub fn calls_return_alone()
     ensures { CallsReturnAlone }
 {}
@@ -83,7 +106,7 @@ pub fn stand_in_one_place()
 {}
 
 /// The premises of the laws on quiet systems and on calls alone are met by states that systems reach,
-/// and both numbers of steps are exact.
+/// and the numbers of steps are exact.
 pub fn premises_are_met()
     ensures { PremisesAreMet }
 {}

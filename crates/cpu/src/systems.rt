@@ -5,7 +5,7 @@ mod opening;
 mod plans;
 mod quiet;
 
-ghost use Rattle.std.specs.Prelude.{◌≡◌, ◌<◌, ◌↔◌, true, false, All, IsOk, OnErr, OnOk, Some, None, [], length, map, slice_index_or};
+ghost use Rattle.std.specs.Prelude.{◌≡◌, ◌<◌, ◌≤◌, ◌↔◌, true, false, All, IsOk, OnErr, OnOk, Some, None, [], length, map, slice_index_or};
 
 use crate::cpus::Cpu;
 use arrayvec::ArrayVec;
@@ -28,7 +28,7 @@ where
 {
     machine: I::Machine,
     cpus: Vec<Cpu<I>>,
-    threads: u8,
+    threads: usize,
     room: u64,
     taken: u64,
 }
@@ -68,6 +68,7 @@ where
 {
     ghost use Rattle.layer_traits.specs.declared.steps.Reason.{Reason};
     ghost use Rattle.layer_traits.specs.declared.steps.Step.TheVariants.{Halted, Stepped};
+    ghost use Rattle.event_log.specs.declared.ids.TheConstants.{CPUS, THREADS};
     ghost use Rattle.event_log.specs.Buffers.{items_of};
     ghost use Rattle.cpu.specs.Cpus.{step_answer};
     ghost use Rattle.cpu.specs.Claims.{FollowPrograms, HasOneOrder, IsPlaceOf, MovesAgree, StandsOnce, StayHome, shown_of, traces_of};
@@ -225,6 +226,23 @@ where
         ArrayVec::new()
     }
 
+    /// Whether a call has closed `buffer`, which must exist. A block that a CPU has in its hands
+    /// counts as it was when its lock was freed last.
+    pub fn is_closed(&self, buffer: BufId) -> bool
+        requires { buffer.0 < length self.now.caps }
+        ensures { result ≡ slice_index_or self.now.closed buffer.0 false }
+    {
+        if let Some(closed) = I::closed_at_home(&self.machine, buffer) {
+            return closed;
+        }
+        for at in &self.cpus {
+            if let Some(closed) = at.part.closed_in_hands(buffer) {
+                return closed;
+            }
+        }
+        false
+    }
+
     /// The thread that owns the lock of `buffer`, which must exist. A block that a CPU has in its
     /// hands counts as it was when its lock was freed last.
     pub fn busy(&self, buffer: BufId) -> Option<Tid>
@@ -266,10 +284,27 @@ where
         at.trace()
     }
 
+    /// How many CPUs the system has.
+    pub fn cpus(&self) -> u8
+        ensures cpus { result ≡ length self.now.cpus }
+        ensures few { result ≤ CPUS }
+    {
+        self.cpus.len() as u8
+    }
+
+    /// How many threads the system has.
+    pub fn threads(&self) -> usize
+        ensures threads { result ≡ length self.now.homes }
+        ensures few { result ≤ THREADS }
+    {
+        self.threads
+    }
+
     /// The machine beneath: it is the one whose capacities, homes, contents, waiting lists, owners,
-    /// moves and actions the system shows.
+    /// moves and actions the system shows, and nobody else acts in it.
     pub fn machine(&self) -> &I::Machine
-        ensures { self.now ≡ shown_of (I.caps result.now) (I.homes_of result.now) (I.seen result.now) (I.lines result.now) (I.owner result.now)
+        ensures acts { (c : CpuId) → c.0 < CPUS → I.ActsFor result.now c }
+        ensures shows { self.now ≡ shown_of (I.caps result.now) (I.homes_of result.now) (I.seen result.now) (I.lines result.now) (I.owner result.now)
             (I.moves result.now) (I.acts result.now) self.now.cpus self.now.room self.now.taken }
     {
         &self.machine
@@ -291,8 +326,9 @@ where
     /// A law of every system over layers whose polls are single actions. Where a thread stands at a
     /// call that has not begun, on a free lock, with nobody in its line, and its buffer allows it,
     /// the call returns after just 18 steps of its CPU alone, or 21 where the first of the other
-    /// side's line waits and is of another CPU, which the call's first signal then wakes. It computes
-    /// nothing.
+    /// side's line waits and is of another CPU, which the call's first signal then wakes. A call that
+    /// finds its buffer closed wakes nobody, and returns after 18. A close returns after 15, or 18
+    /// where it wakes a thread of another CPU. It computes nothing.
     pub fn alone(&self)
         ensures { I.IsStepwise → ReturnsAlone self.now }
     {

@@ -15,8 +15,11 @@ fn each_law_can_be_called(_rt: HostRuntime) {
     premises_are_met();
     quiet_is_stuck();
     runs_alone();
+    runs_of_closing();
     runs_of_three();
     runs_of_two();
+    runs_of_words();
+    silent_answer_loses_a_wake_up();
     stand_in_one_place();
     systems_keep_order();
     systems_lose_no_wake_up();

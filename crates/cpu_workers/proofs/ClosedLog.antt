@@ -8,6 +8,7 @@ use Rattle.event_log.specs.declared.ids.LockId.{LockId}
 use Rattle.event_log.specs.declared.ids.LockId.TheVariants.{Pending, Buffer as AtBuffer}
 use Rattle.event_log.specs.Actions.{Action, AreLegal, acts_of, renamed}
 use Rattle.event_log.specs.Buffers.{items_of}
+use Rattle.event_log.specs.Runs.{is_closed}
 use Rattle.event_log.specs.History.{IsLawful, same_lock}
 use Rattle.event_log.specs.Sections.{Section, block_after, renamed_section, sections_in}
 use Rattle.event_log.proofs.Foreign.{sections_acts}
@@ -226,11 +227,12 @@ module _ (setup : Setup) (board : Board (QueueBlock LockBlock)) (so : StartsSo s
 
     items : (b : BufId) → b.0 < length setup.caps
         → ItemsAre above acts b (items_of (contents_of setup.caps (effects_of setup.caps acts)) b.0) (slice_index setup.caps b.0)
+        (is_closed (effects_of setup.caps acts) b.0)
     items b within =
         let caps_same = caps_are above setup.caps so.locks few in
         subst (λ x. x)
         (λ i. ItemsAre above acts b (items_of (contents_of (caps_same i) (effects_in (so.locks i) (buffer_sections (events_are i)))) b.0)
-        (slice_index (caps_same i) b.0))
+        (slice_index (caps_same i) b.0) (is_closed (effects_in (so.locks i) (buffer_sections (events_are i))) b.0))
         (items_acted above (boots_well above setup.caps so.locks few) b (subst (λ (l : List ℕ). b.0 < length l) (sym caps_same) within)
         events acts starts proper events_are lawful_calls)
 

@@ -34,8 +34,9 @@ module _ (setup : Setup) (c : CpuId) (p : Private) where
   full_only false q is = absurd (cc is)
 
   line_only : (t : Tid) (i : Instruction) → halted_by (at_instruction setup c p t i) ≡ Some reason.AllEnded → ⊥
-  line_only t (ins.Send b r) is = full_only _ _ is
-  line_only t (ins.Recv b r) is = full_only _ _ is
+  line_only t (ins.Send b r k) is = full_only _ _ is
+  line_only t (ins.Recv b r k) is = full_only _ _ is
+  line_only t (ins.Close b) is = full_only _ _ is
   line_only t ins.Yield is = absurd (cc is)
   line_only t ins.Exit is = absurd (cc is)
   line_only t (ins.Set r n) is = absurd (cc is)

@@ -5,7 +5,7 @@ ghost use Rattle.std.specs.Prelude.{◌≡◌, ℕ};
 
 use crate::{Gate, Go, OpenGate, Report, Stop, WorkerError, run_workers};
 use boot::{Boot, BootError};
-use event_log::{BufId, CpuId};
+use event_log::{BufId, CpuId, Msg};
 use std::sync::Wait;
 use std::sync::atomic::{AtomicBool, AtomicU64, Ordering};
 use std::test::Fail;
@@ -179,8 +179,8 @@ fn run_together<T: AllocGlobal + Threads + Wait + Sync>(
                 .get(at)
                 .is_some_and(|trace| trace.is_empty() == (turns == 0));
     }
-    good = good && report.items(BufId(0)).as_slice() == [1].as_slice();
-    good = good && report.items(BufId(1)).as_slice() == [2].as_slice();
+    good = good && report.items(BufId(0)).as_slice() == [Msg::one(1)].as_slice();
+    good = good && report.items(BufId(1)).as_slice() == [Msg::one(2)].as_slice();
     Ok(good)
 }
 
@@ -219,7 +219,7 @@ fn sent<G: Gate + Sync, T: AllocGlobal + Threads + Wait + Sync>(
         report.taken.first() == Some(&taken)
             && report.stops.first() == Some(&stop)
             && trace.len() == sends
-            && trace.iter().all(|entry| entry.value == 7)
+            && trace.iter().all(|entry| entry.value == Msg::one(7))
             && report.items(BufId(0)).len() == sends,
     )
 }
@@ -252,7 +252,7 @@ fn a_hundred_messages_come_in_order(rt: HostRuntime) -> Result<(), Fail> {
         for trace in &report.traces {
             assert_eq!(rt; trace.len(), 100);
             for (at, entry) in trace.iter().enumerate() {
-                assert_eq!(rt; entry.value.wrapping_add(at as u64), 100);
+                assert_eq!(rt; entry.value.first().wrapping_add(at as u64), 100);
             }
         }
         assert!(rt; report.items(BufId(0)).is_empty());
@@ -295,8 +295,8 @@ fn ends_or_never_asks<T: AllocGlobal + Threads + Wait + Sync>(rt: &T, first: &st
             let items = (report.items(BufId(0)), report.items(BufId(1)));
             asked == 42
                 && report.stops.iter().all(|stop| *stop == Stop::AllEnded)
-                && items.0.as_slice() == [1].as_slice()
-                && items.1.as_slice() == [2].as_slice()
+                && items.0.as_slice() == [Msg::one(1)].as_slice()
+                && items.1.as_slice() == [Msg::one(2)].as_slice()
         }
         Err(error) => {
             asked == 0 && (error == WorkerError::NoMemory || error == WorkerError::NoThread)

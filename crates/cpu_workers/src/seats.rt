@@ -5,9 +5,9 @@ ghost use Rattle.table_machine.specs.Desks.{IsOf};
 
 use event_log::{CpuId, LockId};
 use ipc_calls::{TowerBlock, TowerEdit};
-use layer_traits::{GrantWords, Mark, Words};
+use layer_traits::{Mark, TellsGrants, Words};
 use std::marker::Model;
-use table_machine::{Key, Seat, Shared, TableWords, TicketWords, WaiterWords};
+use table_machine::{Key, Seat, Shared, TableWords, WaiterWords};
 
 /// A seat at a table of the tower's locks, whatever their words are: a [`Seat`] under a name of its
 /// own, so that no proof above it has to compare the tower's edits.
@@ -45,7 +45,7 @@ impl<'a, K: TableWords> TowerSeat<'a, K> {
     }
 }
 
-impl<'a> Words for TowerSeat<'a, TicketWords> {
+impl<'a, K: TableWords> Words for TowerSeat<'a, K> {
     ghost use Rattle.std.specs.Prelude.{◌≡◌, ℕ};
     ghost use Rattle.event_log.specs.History.{IsLawful};
     ghost use Rattle.layer_traits.specs.WordsProtocol.{MayCome, edit_of};
@@ -90,48 +90,4 @@ impl<'a> Words for TowerSeat<'a, TicketWords> {
     ghost legal = { λ s c acts. acts.1 };
 }
 
-impl<'a> GrantWords for TowerSeat<'a, WaiterWords> {
-    ghost use Rattle.std.specs.Prelude.{◌≡◌, ℕ};
-    ghost use Rattle.event_log.specs.History.{IsLawful};
-    ghost use Rattle.layer_traits.specs.WordsProtocol.{MayCome, edit_of};
-    ghost use Rattle.layer_traits.specs.OneLock.{opened};
-    ghost use Rattle.layer_traits.specs.GrantsTold.{grants_told, told_comes};
-    ghost use Rattle.table_machine.specs.Desks.{site_of};
-    ghost use Rattle.cpu_workers.specs.Closing.{tower_rules};
-
-    type Edit = TowerEdit;
-
-    type Mark = Mark<TowerEdit>;
-
-    ghost edit_in = { edit_of };
-
-    ghost opening = { λ s. opened s.start };
-
-    ghost seen = { λ s. grants_told s.seen };
-
-    ghost ActsFor = { λ s c. (c ≡ s.cpu) × IsLawful (MayCome (tower_rules.allowed (opened s.start))) s.seen };
-
-    ghost room = { λ s. 1 };
-
-    ghost site = { λ s. site_of s.table };
-
-    fn mark(edit: TowerEdit) -> Mark<TowerEdit>
-        ensures { edit_of result ≡ edit }
-    {
-        Mark { edit }
-    }
-
-    fn take(&mut self, cpu: CpuId, lock: LockId) -> u64 {
-        self.seat.take(cpu, lock)
-    }
-
-    fn peek(&mut self, cpu: CpuId, lock: LockId, ticket: u64) -> Option<TowerBlock> {
-        self.seat.peek(cpu, lock, ticket)
-    }
-
-    fn give(&mut self, cpu: CpuId, lock: LockId, block: TowerBlock, mark: Mark<TowerEdit>) {
-        self.seat.give(cpu, lock, block, mark)
-    }
-
-    ghost legal = { λ s c acts. told_comes (tower_rules.allowed (opened s.start)) s.seen acts.1 };
-}
+impl<'a> TellsGrants for TowerSeat<'a, WaiterWords> {}

@@ -10,7 +10,7 @@ use Rattle.event_log.specs.declared.ids.TheConstants.{THREADS}
 use Rattle.event_log.specs.History.{same_lock}
 use Rattle.event_log.proofs.Same.{same_lock_true}
 use Rattle.layer_traits.specs.declared.buffer_edits.BufferEdit.{BufferEdit}
-use Rattle.layer_traits.specs.declared.buffer_edits.BufferEdit.TheVariants.{Enter, TryPut, TryTake}
+use Rattle.layer_traits.specs.declared.buffer_edits.BufferEdit.TheVariants.{Enter, TryPut, TryTake, Shut}
 use Rattle.layer_traits.specs.declared.calls.Call.{Call}
 use Rattle.layer_traits.specs.declared.conditions.CvEdit.TheVariants.{Edit, SignalFront}
 use Rattle.layer_traits.specs.declared.conditions.CvLeave.TheVariants.{Leave, Wait}
@@ -18,7 +18,7 @@ use Rattle.layer_traits.specs.declared.locked.QEdit.TheVariants.{Acquire, Inside
 use Rattle.layer_traits.specs.declared.locked.Side.{Side}
 use Rattle.layer_traits.specs.declared.locked.Side.TheVariants.{Receivers, Senders}
 use Rattle.layer_traits.specs.declared.talks.Talk.{Talk}
-use Rattle.layer_traits.specs.BufferBlocks.{BufferState, buffer_edited, editor, entered, is_first, is_turn, line_of, may_go, may_join, put_in, taken_out}
+use Rattle.layer_traits.specs.BufferBlocks.{BufferState, buffer_edited, editor, entered, is_first, is_turn, line_of, may_go, may_join, put_in, shut, taken_out}
 use Rattle.layer_traits.specs.BufferEffects.{drawn, is_enter, places_in}
 use Rattle.layer_traits.specs.BufferProtocol.{BufferLock, BufferSection, buffer_at, buffer_rules, has_tried_in_vain}
 use Rattle.layer_traits.specs.BufferLaw.{buffer_of, side_of}
@@ -116,6 +116,10 @@ line_taken : (t u : Tid) (side : Side) (x : BufferState) → same_tid u t ≡ fa
 line_taken t u Receivers x other is = count_rest t u x.receive_line other is
 line_taken t u Senders x other is = refl
 
+pub line_shut : (side : Side) (x : BufferState) → line_of side (shut x) ≡ line_of side x
+line_shut Receivers x = refl
+line_shut Senders x = refl
+
 pub line_edit : (t : Tid) (ed : BufferEdit) (side : Side) (x : BufferState) → same_tid (editor ed) t ≡ false
     → count_in t (line_of side (buffer_edited ed x)) ≡ count_in t (line_of side x)
 line_edit t (Enter u at) side x other = go (may_join u (line_of at x))
@@ -133,6 +137,7 @@ line_edit t (TryTake u) side x other = go (is_turn Receivers u x) refl
     go : (b : Bool) → is_turn Receivers u x ≡ b → count_in t (line_of side (if b then taken_out x else x)) ≡ count_in t (line_of side x)
     go true turn = line_taken t u side x other (and_parts (is_first u x.receive_line) (may_go Receivers x) turn).0
     go false turn = refl
+line_edit t (Shut u) side x other = ap (count_in t) (line_shut side x)
 
 -- an Acquire changes nothing above
 pub above_asked : (u : Tid) (owner : Option Tid) (lock : BufferLock) → (asked u owner lock).above ≡ lock.above
@@ -157,6 +162,7 @@ enter_apart t (Inside (Edit (Enter u Receivers))) Senders other = refl
 enter_apart t (Inside (Edit (Enter u Senders))) Senders other = other
 enter_apart t (Inside (Edit (TryPut u m))) side other = refl
 enter_apart t (Inside (Edit (TryTake u))) side other = refl
+enter_apart t (Inside (Edit (Shut u))) side other = refl
 enter_apart t (Inside (SignalFront u at)) side other = refl
 enter_apart t (Release leave) side other = refl
 
@@ -210,6 +216,7 @@ module _ (opening : LockId → Option BufferLock) (past : List BufferSection) (s
       stance =
           stance_apart (buffer_of call) (side_of call) (holds_at talk.stage (is_some waits)) (is_some slept) (lined_at talk.stage) talk.position fits.stance;
       vain = λ is. vain_apart (Buffer (buffer_of call)) (side_of call) other ∙ fits.vain is;
+      joins = fits.joins;
       effect_is = fits.effect_is;
       slept_here = fits.slept_here;
       waits_here = fits.waits_here;

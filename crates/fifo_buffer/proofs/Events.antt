@@ -9,7 +9,7 @@ use Rattle.event_log.specs.History.{AreOthers, IsLawful, same_cpu}
 use Rattle.event_log.proofs.Same.{same_cpu_self, same_lock_self}
 use Rattle.layer_traits.specs.declared.buffer_edits.BufferEdit.{BufferEdit}
 use Rattle.layer_traits.specs.declared.calls.Call.{Call}
-use Rattle.layer_traits.specs.declared.calls.Call.TheVariants.{Send, Recv}
+use Rattle.layer_traits.specs.declared.calls.Call.TheVariants.{Send, Recv, Close}
 use Rattle.layer_traits.specs.declared.calls.Effect.{Effect}
 use Rattle.layer_traits.specs.declared.locked.Side.{Side}
 use Rattle.layer_traits.specs.declared.locked.Side.TheVariants.{Receivers, Senders}
@@ -81,8 +81,10 @@ caller_is t call Between = refl
 caller_is t call Acquires = refl
 caller_is t (Send b m) Enters = refl
 caller_is t (Recv b) Enters = refl
+caller_is t (Close b) Enters = refl
 caller_is t (Send b m) Tries = refl
 caller_is t (Recv b) Tries = refl
+caller_is t (Close b) Tries = refl
 caller_is t call Waits = refl
 caller_is t call AcquiresAgain = refl
 caller_is t call Signals = refl
@@ -120,8 +122,10 @@ module _ (O : LockId → Option BufferLock) (past : List BufferSection) (t : Tid
   owner_due call Acquires position effect now = not_owned _ (grip_here (buffer_of call) (side_of call) false false false position now.stance)
   owner_due (Send b m) Enters position effect now = owned _ (grip_here b Senders true false false position now.stance)
   owner_due (Recv b) Enters position effect now = owned _ (grip_here b Receivers true false false position now.stance)
+  owner_due (Close b) Enters position effect now = owned _ (grip_here b Senders true false false position now.stance)
   owner_due (Send b m) Tries position effect now = owned _ (grip_here b Senders true false true position now.stance)
   owner_due (Recv b) Tries position effect now = owned _ (grip_here b Receivers true false true position now.stance)
+  owner_due (Close b) Tries position effect now = absurd (now.joins refl)
   owner_due call Waits position effect now = owned _ (grip_here (buffer_of call) (side_of call) true false true position now.stance)
   owner_due call AcquiresAgain position effect now = not_owned _ (grip_here (buffer_of call) (side_of call) false false true position now.stance)
   owner_due call Signals position effect now = owned _ (grip_here (buffer_of call) (side_of call) true false false position now.stance)
@@ -150,8 +154,10 @@ module _ (O : LockId → Option BufferLock) (past : List BufferSection) (t : Tid
       (out_of_line Senders _ (now.stance.line (Buffer b) Senders), out_of_line Receivers _ (now.stance.line (Buffer b) Receivers))
   due_now (Recv b) Enters position effect now =
       (out_of_line Senders _ (now.stance.line (Buffer b) Senders), out_of_line Receivers _ (now.stance.line (Buffer b) Receivers))
+  due_now (Close b) Enters position effect now = tt
   due_now (Send b m) Tries position effect now = in_line Senders _ (once_there b Senders position now.stance)
   due_now (Recv b) Tries position effect now = in_line Receivers _ (once_there b Receivers position now.stance)
+  due_now (Close b) Tries position effect now = absurd (now.joins refl)
   due_now call Waits position effect now = now.vain refl
   due_now call AcquiresAgain position effect now = tt
   due_now call Signals position effect now = tt

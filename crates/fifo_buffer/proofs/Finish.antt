@@ -5,7 +5,7 @@ use Rattle.event_log.specs.declared.ids.CpuId.{CpuId}
 use Rattle.event_log.specs.declared.ids.Tid.{Tid}
 use Rattle.layer_traits.specs.declared.buffer_edits.BufferEdit.{BufferEdit}
 use Rattle.layer_traits.specs.declared.buffer_edits.BufferOut.{BufferOut}
-use Rattle.layer_traits.specs.declared.buffer_edits.BufferOut.TheVariants.{Entered, NotYet, Done}
+use Rattle.layer_traits.specs.declared.buffer_edits.BufferOut.TheVariants.{Entered, NotYet, Done, WasShut}
 use Rattle.layer_traits.specs.declared.calls.Call.{Call}
 use Rattle.layer_traits.specs.declared.calls.Effect.{Effect}
 use Rattle.layer_traits.specs.declared.calls.Reply.{Reply}
@@ -32,11 +32,13 @@ placed_call : (talk : Talk) (out : BufferOut) → (placed talk out).call ≡ tal
 placed_call talk (Entered p) = refl
 placed_call talk NotYet = refl
 placed_call talk (Done kind op value) = refl
+placed_call talk (WasShut op pos) = refl
 
 tried_call : (talk : Talk) (out : BufferOut) → (tried talk out).call ≡ talk.call
 tried_call talk (Entered p) = refl
 tried_call talk NotYet = refl
 tried_call talk (Done kind op value) = refl
+tried_call talk (WasShut op pos) = refl
 
 -- the call goes on after a section, but for the last one, after which it answers
 pub goes_or_ends : (talk : Talk) (call : Call) (stage : Stage) (out : QOut (CvOut BufferOut)) → talk.call ≡ Some call → is_some talk.effect ≡ done_at stage

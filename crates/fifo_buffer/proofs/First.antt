@@ -42,6 +42,7 @@ module _ (O : LockId → Option BufferLock) (past : List BufferSection) (t : Tid
     called = refl;
     stance = record { grip = stance.grip; line = stance.line; place = λ w. absurd cc };
     vain = λ w. absurd cc;
+    joins = λ w. absurd cc;
     effect_is = refl;
     slept_here = tt;
     waits_here = tt;

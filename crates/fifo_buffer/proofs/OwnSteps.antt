@@ -2,6 +2,7 @@
 use Rattle.std.proofs.Common.{◌≡◌, ◌<◌, ℕ, Bool, true, false, ◌&&◌, List, [], ◌∷◌, ◌++◌, Option, Some, None, option_map}
 use Rattle.std.proofs.Common.{is_some, nat_lt, if◌then◌else◌, refl, ap, sym, ◌∙◌, subst, arith, lt-ltb}
 use Rattle.std.proofs.lemmas.Bool.{and_parts, and_right}
+use Rattle.event_log.specs.declared.entries.Kind.TheVariants as kind
 use Rattle.event_log.specs.declared.ids.BufId.{BufId}
 use Rattle.event_log.specs.declared.ids.CpuId.{CpuId}
 use Rattle.event_log.specs.declared.ids.LockId.{LockId}
@@ -9,14 +10,15 @@ use Rattle.event_log.specs.declared.ids.LockId.TheVariants.{Buffer}
 use Rattle.event_log.specs.declared.ids.Tid.{Tid}
 use Rattle.event_log.specs.declared.ids.TheConstants.{THREADS}
 use Rattle.event_log.specs.History.{same_lock}
-use Rattle.event_log.specs.Messages.{Message}
+use Rattle.event_log.specs.Messages.{Message, no_message}
+use Rattle.event_log.specs.Runs.{group_of}
 use Rattle.event_log.proofs.Same.{same_lock_self, same_lock_true}
 use Rattle.layer_traits.specs.declared.buffer_edits.BufferEdit.{BufferEdit}
-use Rattle.layer_traits.specs.declared.buffer_edits.BufferEdit.TheVariants.{Enter, TryPut, TryTake}
+use Rattle.layer_traits.specs.declared.buffer_edits.BufferEdit.TheVariants.{Enter, TryPut, TryTake, Shut}
 use Rattle.layer_traits.specs.declared.buffer_edits.BufferOut.{BufferOut}
 use Rattle.layer_traits.specs.declared.buffer_edits.BufferOut.TheVariants as told
 use Rattle.layer_traits.specs.declared.calls.Call.{Call}
-use Rattle.layer_traits.specs.declared.calls.Call.TheVariants.{Send, Recv}
+use Rattle.layer_traits.specs.declared.calls.Call.TheVariants.{Send, Recv, Close}
 use Rattle.layer_traits.specs.declared.calls.Effect.{Effect}
 use Rattle.layer_traits.specs.declared.conditions.CvEdit.TheVariants.{Edit, SignalFront}
 use Rattle.layer_traits.specs.declared.conditions.CvLeave.TheVariants.{Leave, Wait}
@@ -41,8 +43,10 @@ use Rattle.layer_traits.specs.Protocol.{section}
 use Rattle.layer_traits.proofs.CountLemmas.{count_append, not_counted}
 use Rattle.thread_blocks.specs.Queues.{same_tid, is_in, rest}
 use Rattle.thread_blocks.proofs.Members.{same_tid_self}
-use Rattle.fifo_buffer.specs.Stances.{Grip, Holds, InCall, IsFreeOf, Stance, TalkFits, heard_by, line_at, same_side, slept_by, talk_in, waits_by}
-use Rattle.fifo_buffer.proofs.Apart.{above_asked, out_of_rest, side_self}
+use Rattle.fifo_buffer.specs.BlockSteps.{kind_counts}
+use Rattle.fifo_buffer.specs.Stances.{Grip, Holds, InCall, IsFreeOf, Stance, TalkFits, done_at, heard_by, line_at, same_side}
+use Rattle.fifo_buffer.specs.Stances.{slept_by, talk_in, waits_by}
+use Rattle.fifo_buffer.proofs.Apart.{above_asked, line_shut, out_of_rest, side_self}
 
 and_true : (x : Bool) → (x && true) ≡ x
 and_true true = refl
@@ -190,6 +194,13 @@ module _ (opening : LockId → Option BufferLock) (past : List BufferSection) (c
       test : (same_lock (Buffer b) (Buffer b) && is_enter side t (Inside (Edit (Enter t side)))) ≡ true
       test = rw (same_lock_self (Buffer b), enter_own side t) refl
 
+  -- a close changes no line and keeps the owner
+  has_shut : (position : ℕ) → Stance opening past t b side true false false position
+      → Stance opening (section c (Buffer b) (Inside (Edit (Shut t))) ∷ past) t b side true false false position
+  has_shut position stance =
+      own_stance opening past c t b side (Inside (Edit (Shut t))) lock is true false false true false false position position stance
+      (λ grip. grip) (λ at now. ap (count_in t) (line_shut at lock.above) ∙ now) (λ lines. absurd cc)
+
   -- a section that edits no line and keeps the owner
   same_there : (holds lined : Bool) (position : ℕ) (signalled : Side) → Stance opening past t b side holds false lined position
       → Stance opening (section c (Buffer b) (Inside (SignalFront t signalled)) ∷ past) t b side holds false lined position
@@ -290,6 +301,7 @@ module _ (opening : LockId → Option BufferLock) (past : List BufferSection) (c
           called = refl;
           stance = took_lock opening past c t (buffer_of call) (side_of call) lock is false position free now.stance;
           vain = λ w. absurd cc;
+          joins = λ w. absurd cc;
           effect_is = now.effect_is;
           slept_here = tt;
           waits_here = tt;
@@ -304,6 +316,7 @@ module _ (opening : LockId → Option BufferLock) (past : List BufferSection) (c
           called = refl;
           stance = asked_lock opening past c t (buffer_of call) (side_of call) lock is false position now.stance;
           vain = λ w. absurd cc;
+          joins = λ w. absurd cc;
           effect_is = now.effect_is;
           slept_here = (refl, refl);
           waits_here = tt;
@@ -328,6 +341,7 @@ module _ (opening : LockId → Option BufferLock) (past : List BufferSection) (c
           called = refl;
           stance = took_lock opening past c t (buffer_of call) (side_of call) lock is true position free now.stance;
           vain = λ w. absurd cc;
+          joins = λ w. now.joins refl;
           effect_is = now.effect_is;
           slept_here = tt;
           waits_here = tt;
@@ -342,6 +356,7 @@ module _ (opening : LockId → Option BufferLock) (past : List BufferSection) (c
           called = refl;
           stance = asked_lock opening past c t (buffer_of call) (side_of call) lock is true position now.stance;
           vain = λ w. absurd cc;
+          joins = λ w. now.joins refl;
           effect_is = now.effect_is;
           slept_here = (refl, refl);
           waits_here = tt;
@@ -352,14 +367,22 @@ module _ (opening : LockId → Option BufferLock) (past : List BufferSection) (c
         stays = λ w. refl;
       }
 
+  none_before : (call : Call) (stage : Stage) → done_at stage ≡ false → InCall opening past t call None None stage position effect → effect ≡ None
+  none_before call stage begins now = go effect (now.effect_is ∙ begins)
+    where
+      go : (f : Option Effect) → is_some f ≡ false → f ≡ None
+      go None is = refl
+      go (Some x) is = absurd cc
+
   enters_step : (call : Call) → t.0 < THREADS → buffer_at opening past (Buffer (buffer_of call)) ≡ Some lock
       → InCall opening past t call None None Enters position effect
-      → Stepped opening past c t call Enters position effect (Did (answer.Did (told.Entered (places_of (side_of call) lock.above))))
+      → Stepped opening past c t call Enters position effect (lock_out buffer_rules (section_at t call Enters) lock)
   enters_step (Send b m) small is now = record {
     fits = record {
       called = refl;
       stance = entered_line opening past c t b Senders lock is position small now.stance;
       vain = λ w. absurd cc;
+      joins = λ w. tt;
       effect_is = now.effect_is;
       slept_here = tt;
       waits_here = tt;
@@ -374,6 +397,7 @@ module _ (opening : LockId → Option BufferLock) (past : List BufferSection) (c
       called = refl;
       stance = entered_line opening past c t b Receivers lock is position small now.stance;
       vain = λ w. absurd cc;
+      joins = λ w. tt;
       effect_is = now.effect_is;
       slept_here = tt;
       waits_here = tt;
@@ -383,13 +407,27 @@ module _ (opening : LockId → Option BufferLock) (past : List BufferSection) (c
     fresh = λ f w. absurd cc;
     stays = λ w. refl;
   }
-
-  none_before : (call : Call) → InCall opening past t call None None Tries position effect → effect ≡ None
-  none_before call now = go effect now.effect_is
+  enters_step (Close b) small is now = record {
+    fits = record {
+      called = refl;
+      stance = has_shut opening past c t b Senders lock is position now.stance;
+      vain = λ w. absurd cc;
+      joins = λ w. absurd cc;
+      effect_is = refl;
+      slept_here = tt;
+      waits_here = tt;
+    };
+    mine = Some closed;
+    is = ap (λ x. effect_on c b (Inside (Edit (Shut t))) (λ side u. drawn opening (Buffer b) side u past) x) is;
+    fresh = λ f same. (none_before (Close b) Enters refl now, same, ap (λ (g : Effect). group_of g.kind) (sym (done f same)));
+    stays = λ w. absurd cc;
+  }
     where
-      go : (f : Option Effect) → is_some f ≡ false → f ≡ None
-      go None is = refl
-      go (Some x) is = absurd cc
+      closed : Effect
+      closed = record { kind = kind.Close; value = no_message; op = lock.above.effects; pos = lock.above.closes }
+
+      done : (f : Effect) → Some closed ≡ Some f → closed ≡ f
+      done f same = cc
 
   put_step : (b : BufId) (m : Message) (v : Bool) → is_turn Senders t lock.above ≡ v → buffer_at opening past (Buffer b) ≡ Some lock
       → InCall opening past t (Send b m) None None Tries position effect
@@ -400,6 +438,7 @@ module _ (opening : LockId → Option BufferLock) (past : List BufferSection) (c
       called = refl;
       stance = has_put opening past c t b lock is position m turn now.stance;
       vain = λ w. absurd cc;
+      joins = λ w. absurd cc;
       effect_is = refl;
       slept_here = tt;
       waits_here = tt;
@@ -410,7 +449,11 @@ module _ (opening : LockId → Option BufferLock) (past : List BufferSection) (c
         (record { kind = effect_kind Senders lock.above; value = m; op = lock.above.effects; pos = drawn opening (Buffer b) Senders t past })) else None) turn
         ∙ ap (λ p. Some (entry_of c t b (record { kind = effect_kind Senders lock.above; value = m; op = lock.above.effects; pos = p })))
         (sym (now.stance.place refl));
-    fresh = λ f same. (none_before (Send b m) now, same, (ap (λ (g : Effect). g.kind) (sym (done f same)), ap (λ (g : Effect). g.value) (sym (done f same))));
+    fresh = λ f same. (
+      none_before (Send b m) Tries refl now,
+      same,
+      (ap (λ (g : Effect). group_of g.kind) (sym (done f same)) ∙ kind_counts Senders lock.above, ap (λ (g : Effect). g.value) (sym (done f same))),
+    );
     stays = λ w. absurd cc;
   }
     where
@@ -422,6 +465,7 @@ module _ (opening : LockId → Option BufferLock) (past : List BufferSection) (c
       called = refl;
       stance = put_in_vain opening past c t b lock is position m turn now.stance;
       vain = λ w. vain_put opening past c t b lock is position m turn;
+      joins = λ w. tt;
       effect_is = now.effect_is;
       slept_here = tt;
       waits_here = tt;
@@ -443,6 +487,7 @@ module _ (opening : LockId → Option BufferLock) (past : List BufferSection) (c
       called = refl;
       stance = has_taken opening past c t b lock is position turn now.stance;
       vain = λ w. absurd cc;
+      joins = λ w. absurd cc;
       effect_is = refl;
       slept_here = tt;
       waits_here = tt;
@@ -464,14 +509,25 @@ module _ (opening : LockId → Option BufferLock) (past : List BufferSection) (c
               = lock.above.effects;
           pos = p;
         }))) (sym (now.stance.place refl));
-    fresh = λ f same. (none_before (Recv b) now, same, cc);
+    fresh = λ f same. (
+      none_before (Recv b) Tries refl now,
+      same,
+      ap (λ (g : Effect). group_of g.kind) (sym (done f same)) ∙ kind_counts Receivers lock.above,
+    );
     stays = λ w. absurd cc;
   }
+    where
+      taken : Effect
+      taken = record { kind = effect_kind Receivers lock.above; value = first_item lock.above.items; op = lock.above.effects; pos = position }
+
+      done : (f : Effect) → Some taken ≡ Some f → taken ≡ f
+      done f same = cc
   take_step b false turn is now = record {
     fits = record {
       called = refl;
       stance = took_in_vain opening past c t b lock is position turn now.stance;
       vain = λ w. vain_take opening past c t b lock is position turn;
+      joins = λ w. tt;
       effect_is = now.effect_is;
       slept_here = tt;
       waits_here = tt;
@@ -494,6 +550,7 @@ module _ (opening : LockId → Option BufferLock) (past : List BufferSection) (c
       → Stepped opening past c t call Tries position effect (lock_out buffer_rules (section_at t call Tries) lock)
   tries_step (Send b m) is now = put_step b m (is_turn Senders t lock.above) refl is now
   tries_step (Recv b) is now = take_step b (is_turn Receivers t lock.above) refl is now
+  tries_step (Close b) is now = absurd (now.joins refl)
 
   waits_step : (call : Call) → buffer_at opening past (Buffer (buffer_of call)) ≡ Some lock → InCall opening past t call None None Waits position effect
       → Stepped opening past c t call Waits position effect (Released (answer.Waited (side_of call)))
@@ -502,6 +559,7 @@ module _ (opening : LockId → Option BufferLock) (past : List BufferSection) (c
       called = refl;
       stance = waited_there opening past c t (buffer_of call) (side_of call) lock is true position (side_of call) now.stance;
       vain = λ w. absurd cc;
+      joins = λ w. now.joins refl;
       effect_is = now.effect_is;
       slept_here = tt;
       waits_here = (refl, refl);
@@ -521,6 +579,7 @@ module _ (opening : LockId → Option BufferLock) (past : List BufferSection) (c
       stance = subst (λ e. Stance opening (section c (Buffer (buffer_of call)) e ∷ past) t (buffer_of call) (side_of call) true false false position) (sym same)
           (same_there opening past c t (buffer_of call) (side_of call) lock is true false position far now.stance);
       vain = λ w. absurd cc;
+      joins = λ w. absurd cc;
       effect_is = now.effect_is;
       slept_here = tt;
       waits_here = tt;
@@ -539,6 +598,7 @@ module _ (opening : LockId → Option BufferLock) (past : List BufferSection) (c
       called = refl;
       stance = same_there opening past c t (buffer_of call) (side_of call) lock is true false position (side_of call) now.stance;
       vain = λ w. absurd cc;
+      joins = λ w. absurd cc;
       effect_is = now.effect_is;
       slept_here = tt;
       waits_here = tt;
@@ -575,12 +635,12 @@ module _ (opening : LockId → Option BufferLock) (past : List BufferSection) (c
       false_true : false ≡ true → ⊥
       false_true is = absurd cc
   own_step call Acquires small is now = asks_step call is now
-  own_step (Send b m) Enters small is now = enters_step (Send b m) small is now
-  own_step (Recv b) Enters small is now = enters_step (Recv b) small is now
+  own_step call Enters small is now = enters_step call small is now
   own_step call Tries small is now = tries_step call is now
   own_step call Waits small is now = waits_step call is now
   own_step call AcquiresAgain small is now = asks_again_step call is now
   own_step (Send b m) Signals small is now = signals_step (Send b m) Receivers _ is refl now
   own_step (Recv b) Signals small is now = signals_step (Recv b) Senders _ is refl now
+  own_step (Close b) Signals small is now = signals_step (Close b) Receivers _ is refl now
   own_step call SignalsOwn small is now = signals_own_step call _ is now
   own_step call Releases small is now = releases_step call is now

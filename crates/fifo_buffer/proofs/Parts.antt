@@ -10,7 +10,7 @@ use Rattle.event_log.specs.declared.ids.LockId.TheVariants.{Buffer}
 use Rattle.event_log.specs.declared.ids.Tid.{Tid}
 use Rattle.event_log.specs.History.{AreForeign, AreOthers, IsLawful, same_cpu}
 use Rattle.layer_traits.specs.declared.buffer_edits.BufferEdit.{BufferEdit}
-use Rattle.layer_traits.specs.declared.buffer_edits.BufferEdit.TheVariants.{Enter, TryPut, TryTake}
+use Rattle.layer_traits.specs.declared.buffer_edits.BufferEdit.TheVariants.{Enter, TryPut, TryTake, Shut}
 use Rattle.layer_traits.specs.declared.buffer_edits.BufferOut.{BufferOut}
 use Rattle.layer_traits.specs.declared.calls.Call.{Call}
 use Rattle.layer_traits.specs.declared.conditions.CvEdit.TheVariants.{Edit, SignalFront}
@@ -60,6 +60,7 @@ one_entry d cpu b (Inside (Edit (TryTake t))) position (Some lock) other = go (i
         (entry cpu t (effect_kind Receivers lock.above) b (first_item lock.above.items) lock.above.effects (position Receivers t)) else None))
     go true = (other, tt)
     go false = tt
+one_entry d cpu b (Inside (Edit (Shut t))) position (Some lock) other = (other, tt)
 one_entry d cpu b (Inside (SignalFront t side)) position (Some lock) other = tt
 one_entry d cpu b (Release leave) position (Some lock) other = tt
 

@@ -13,9 +13,8 @@ use Rattle.event_log.specs.declared.ids.TheConstants.{THREADS}
 use Rattle.event_log.specs.History.{AreForeign, IsLawful}
 use Rattle.layer_traits.specs.declared.buffer_edits.BufferEdit.{BufferEdit}
 use Rattle.layer_traits.specs.declared.buffer_edits.BufferOut.{BufferOut}
-use Rattle.layer_traits.specs.declared.buffer_edits.BufferOut.TheVariants as told
 use Rattle.layer_traits.specs.declared.calls.Call.{Call}
-use Rattle.layer_traits.specs.declared.calls.Call.TheVariants.{Send, Recv}
+use Rattle.layer_traits.specs.declared.calls.Call.TheVariants.{Send, Recv, Close}
 use Rattle.layer_traits.specs.declared.calls.Effect.{Effect}
 use Rattle.layer_traits.specs.declared.conditions.CvLeave.TheVariants.{Wait}
 use Rattle.layer_traits.specs.declared.conditions.CvOut.{CvOut}
@@ -33,7 +32,7 @@ use Rattle.layer_traits.specs.declared.talks.Stage.{Stage}
 use Rattle.layer_traits.specs.declared.talks.Stage.TheVariants.{Between, Acquires, Enters, Tries, Waits, AcquiresAgain, Signals, SignalsOwn, Releases}
 use Rattle.layer_traits.specs.declared.talks.Talk.{Talk}
 use Rattle.layer_traits.specs.BufferEffects.{effects_in}
-use Rattle.layer_traits.specs.BufferLaw.{IsEffectOf, buffer_of, heard, placed, section_at, side_of, told_by}
+use Rattle.layer_traits.specs.BufferLaw.{IsEffectOf, buffer_of, heard, section_at, side_of}
 use Rattle.layer_traits.specs.BufferProtocol.{BufferLock, BufferSection, buffer_at, buffer_deeds, buffer_rules}
 use Rattle.layer_traits.specs.Conditions.{CvCall, cv_rules}
 use Rattle.layer_traits.specs.CvLaw.{MayWait, Waiting, left_waiting}
@@ -217,20 +216,18 @@ no_wait_plain t call Signals lock plain = refl
 no_wait_plain t call SignalsOwn lock plain = refl
 no_wait_plain t call Releases lock plain = refl
 
-placed_effect : (talk : Talk) (out : BufferOut) → (placed talk out).effect ≡ talk.effect
-placed_effect talk (told.Entered p) = refl
-placed_effect talk told.NotYet = refl
-placed_effect talk (told.Done kind op value) = refl
-
 -- a section that wakes somebody has no effect
 quiet_or_none : (t : Tid) (call : Call) (stage : Stage) (talk : Talk) (lock : BufferLock)
     → ((heard talk stage (lock_out buffer_rules (section_at t call stage) lock)).effect ≡ talk.effect)
     ⊎ ((lock_answer buffer_rules (section_at t call stage) lock).woke ≡ None)
 quiet_or_none t call Between talk lock = inl refl
 quiet_or_none t call Acquires talk lock = inl refl
-quiet_or_none t call Enters talk lock = inl (placed_effect talk (told_by (lock_out buffer_rules (section_at t call Enters) lock)))
+quiet_or_none t (Send b m) Enters talk lock = inl refl
+quiet_or_none t (Recv b) Enters talk lock = inl refl
+quiet_or_none t (Close b) Enters talk lock = inr refl
 quiet_or_none t (Send b m) Tries talk lock = inr refl
 quiet_or_none t (Recv b) Tries talk lock = inr refl
+quiet_or_none t (Close b) Tries talk lock = inr refl
 quiet_or_none t call Waits talk lock = inl refl
 quiet_or_none t call AcquiresAgain talk lock = inl refl
 quiet_or_none t call Signals talk lock = inl refl

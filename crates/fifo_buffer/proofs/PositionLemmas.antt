@@ -12,7 +12,7 @@ use Rattle.event_log.specs.History.{IsLawful, same_lock}
 use Rattle.event_log.proofs.Same.{same_lock_true}
 use Rattle.event_log.specs.Messages.{Message}
 use Rattle.layer_traits.specs.declared.buffer_edits.BufferEdit.{BufferEdit}
-use Rattle.layer_traits.specs.declared.buffer_edits.BufferEdit.TheVariants.{Enter, TryPut, TryTake}
+use Rattle.layer_traits.specs.declared.buffer_edits.BufferEdit.TheVariants.{Enter, TryPut, TryTake, Shut}
 use Rattle.layer_traits.specs.declared.conditions.CvEdit.TheVariants.{Edit, SignalFront}
 use Rattle.layer_traits.specs.declared.locked.QEdit.TheVariants.{Acquire, Inside, Release}
 use Rattle.layer_traits.specs.declared.locked.Side.{Side}
@@ -20,7 +20,7 @@ use Rattle.layer_traits.specs.declared.locked.Side.TheVariants.{Receivers, Sende
 use Rattle.layer_traits.specs.declared.queue_edits.QueueBlock.{QueueBlock}
 use Rattle.layer_traits.specs.declared.queues.QueueCall.{QueueCall}
 use Rattle.layer_traits.specs.declared.queues.QueueCall.TheVariants.{Push, TakeAll, OnBuffer}
-use Rattle.layer_traits.specs.BufferBlocks.{BufferState, counted, entered, is_turn, line_of, may_join, places_of, put_in, taken_out}
+use Rattle.layer_traits.specs.BufferBlocks.{BufferState, counted, entered, is_turn, line_of, may_join, places_of, put_in, shut, taken_out}
 use Rattle.layer_traits.specs.BufferEffects.{fresh_lock, places_in}
 use Rattle.layer_traits.specs.BufferProtocol.{BufferLock, BufferSection, IsDue, buffer_at, buffer_deeds, buffer_rules, is_in_line}
 use Rattle.layer_traits.specs.Conditions.{CvCall, cv_rules}
@@ -64,6 +64,10 @@ taken_same Receivers x false = refl
 taken_same Senders x true = refl
 taken_same Senders x false = refl
 
+shut_same : (side : Side) (x : BufferState) → places_of side (shut x) ≡ places_of side x
+shut_same Receivers x = refl
+shut_same Senders x = refl
+
 joins_now : (t : Tid) (queue : List Tid) → t.0 < THREADS → is_in t queue ≡ false → may_join t queue ≡ true
 joins_now t queue small out = ap (λ v. v && not (is_in t queue)) (lt-ltb t.0 THREADS small) ∙ ap not out
 
@@ -80,6 +84,7 @@ section_counts side O past d (Inside (Edit (Enter t to))) lock at due small =
     out Senders = sym (ap (is_in_line Senders t) at) ∙ due.0
 section_counts side O past d (Inside (Edit (TryPut t m))) lock at due small = put_same side m lock.above (is_turn Senders t lock.above)
 section_counts side O past d (Inside (Edit (TryTake t))) lock at due small = taken_same side lock.above (is_turn Receivers t lock.above)
+section_counts side O past d (Inside (Edit (Shut t))) lock at due small = shut_same side lock.above
 section_counts side O past d (Inside (SignalFront t to)) lock at due small = refl
 section_counts side O past d (Release leave) lock at due small = refl
 

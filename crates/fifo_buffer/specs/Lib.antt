@@ -1,6 +1,7 @@
 pub mod Stances
 pub mod Turns
 pub mod FifoFits
+pub mod BlockSteps
 pub mod Tallies
 pub mod FifoLaws
 pub mod OwnedLaws

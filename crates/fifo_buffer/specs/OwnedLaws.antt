@@ -13,6 +13,7 @@ use Rattle.event_log.specs.declared.ids.TheConstants.{CPUS}
 use Rattle.event_log.specs.Buffers.{items_of}
 use Rattle.event_log.specs.History.{IsLawful, same_lock}
 use Rattle.event_log.specs.Messages.{Message}
+use Rattle.event_log.specs.Runs.{is_closed}
 use Rattle.event_log.specs.Sections.{sections_in}
 use Rattle.layer_traits.specs.declared.buffer_edits.BufferEdit.{BufferEdit}
 use Rattle.layer_traits.specs.declared.moves.Line.{Line}
@@ -37,9 +38,12 @@ use Rattle.fifo_buffer.specs.FifoFits.{BootsSo, caps_in}
 use Rattle.fifo_buffer.specs.Tallies.{all_tallied, effect_place}
 use Rattle.fifo_buffer.specs.Turns.{BufferEvent}
 
--- the items of a lock's buffer, its owner, and its waiting lists
+-- the items of a lock's buffer, whether it is closed, its owner, and its waiting lists
 abbrev pub items_in : BufferLock → List Message
 items_in lock = lock.above.items
+
+abbrev pub closed_of : BufferLock → Bool
+closed_of lock = lock.above.closed
 
 abbrev pub owner_of : BufferLock → Option Tid
 owner_of lock = lock.owner
@@ -94,11 +98,18 @@ module _ (opening : LockId → Option (QueueBlock BufferLock)) (boots : BootsSo 
       let lock = found past in
       ap (option_map items_in) lock.1 ∙ ap Some (sym (all_tallied opening (caps_in opening) boots past lawful b lock.0 lock.1).items)
 
+  -- and it is closed where one of them closed it
+  pub closed_told : (past : List BufferEvent) → IsLawful (QueueAllowed (lock_kernel (cv_rules buffer_deeds) opening)) past
+      → option_map closed_of (lock_of opening past b) ≡ Some (is_closed (effects_in (inner opening) (buffer_sections past)) b.0)
+  closed_told past lawful =
+      let lock = found past in
+      ap (option_map closed_of) lock.1 ∙ ap Some (sym (all_tallied opening (caps_in opening) boots past lawful b lock.0 lock.1).closed)
+
   -- and where they are those of the actions' sections, they are what these leave in its lock
   pub items_acted : (past : List BufferEvent) (acts : BufferActs) → StartsWell opening → AreProper (sections_in acts)
       → past ≡ map event_of (sections_in acts) → IsLawful (QueueAllowed (lock_kernel (cv_rules buffer_deeds) opening)) past
       → ItemsAre opening acts b (items_of (contents_of (caps_in opening) (effects_in (inner opening) (buffer_sections past))) b.0)
-      (slice_index (caps_in opening) b.0)
+      (slice_index (caps_in opening) b.0) (is_closed (effects_in (inner opening) (buffer_sections past)) b.0)
   items_acted past acts starts proper past_is lawful =
       let lock = found past in
       let tally = all_tallied opening (caps_in opening) boots past lawful b lock.0 lock.1 in
@@ -107,6 +118,7 @@ module _ (opening : LockId → Option (QueueBlock BufferLock)) (boots : BootsSo 
         there = sym (lock_is opening acts starts proper past past_is b) ∙ lock.1;
         holds = tally.items;
         may_hold = tally.capacity;
+        shut = tally.closed;
       }
 
   pub owner_told : (past : List BufferEvent) → option_map owner_of (lock_of opening past b) ≡ Some (owner_in (lock_of opening past b))

@@ -5,7 +5,7 @@ use Rattle.event_log.specs.declared.ids.LockId.{LockId}
 use Rattle.event_log.specs.declared.ids.LockId.TheVariants.{Buffer}
 use Rattle.event_log.specs.History.{IsLawful, how_many, same_lock}
 use Rattle.layer_traits.specs.declared.buffer_edits.BufferEdit.{BufferEdit}
-use Rattle.layer_traits.specs.declared.buffer_edits.BufferEdit.TheVariants.{Enter, TryPut, TryTake}
+use Rattle.layer_traits.specs.declared.buffer_edits.BufferEdit.TheVariants.{Enter, TryPut, TryTake, Shut}
 use Rattle.layer_traits.specs.declared.conditions.CvEdit.TheVariants.{Edit, SignalFront}
 use Rattle.layer_traits.specs.declared.locked.QEdit.TheVariants.{Acquire, Inside, Release}
 use Rattle.layer_traits.specs.declared.locked.Side.{Side}
@@ -26,6 +26,7 @@ enters side (Acquire t) = false
 enters side (Inside (Edit (Enter t at))) = same_side side at
 enters side (Inside (Edit (TryPut t m))) = false
 enters side (Inside (Edit (TryTake t))) = false
+enters side (Inside (Edit (Shut t))) = false
 enters side (Inside (SignalFront t at)) = false
 enters side (Release leave) = false
 

@@ -7,6 +7,7 @@ use Rattle.event_log.specs.declared.ids.LockId.TheVariants.{Buffer}
 use Rattle.event_log.specs.declared.ids.Tid.{Tid}
 use Rattle.event_log.specs.History.{same_lock}
 use Rattle.layer_traits.specs.declared.calls.Call.{Call}
+use Rattle.layer_traits.specs.declared.calls.Call.TheVariants.{Send, Recv, Close}
 use Rattle.layer_traits.specs.declared.calls.Effect.{Effect}
 use Rattle.layer_traits.specs.declared.buffer_edits.BufferOut.{BufferOut}
 use Rattle.layer_traits.specs.declared.conditions.CvOut.{CvOut}
@@ -31,6 +32,12 @@ same_side Receivers Receivers = true
 same_side Receivers Senders = false
 same_side Senders Receivers = false
 same_side Senders Senders = true
+
+-- a call enters a line: a close does not
+abbrev pub IsLined : Call → Type 0
+IsLined (Send b m) = Unit {0}
+IsLined (Recv b) = Unit {0}
+IsLined (Close b) = ⊥
 
 -- a thread owns a lock, and does not sleep for it
 abbrev pub Holds : Tid → Option BufferLock → Type 0
@@ -140,6 +147,7 @@ module _ (opening : LockId → Option BufferLock) (past : List BufferSection) (t
     pub called : called_at stage ≡ true
     pub stance : Stance (buffer_of call) (side_of call) (holds_at stage (is_some waits)) (is_some slept) (lined_at stage) position
     pub vain : (waits_at stage && not (is_some waits)) ≡ true → has_tried_in_vain opening (Buffer (buffer_of call)) (side_of call) t past ≡ true
+    pub joins : lined_at stage ≡ true → IsLined call
     pub effect_is : is_some effect ≡ done_at stage
     pub slept_here : IsMark (buffer_of call) (asks_at stage) slept
     pub waits_here : IsMark (buffer_of call) (waits_at stage) waits

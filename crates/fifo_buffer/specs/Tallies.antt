@@ -1,11 +1,10 @@
 -- What a buffer's block tells of its effects; so each effect may come after those before it.
-use Rattle.std.proofs.Common.{◌≡◌, ℕ, zero, suc, ◌+◌, ◌<◌, ◌%◌, ◌^◌, Bool, true, false, ◌&&◌, ◌||◌, ◌==◌, List, [], ◌∷◌}
-use Rattle.std.proofs.Common.{◌++◌, length, drop, Option, Some, None, option_map, option_to_list, slice_get, slice_index}
-use Rattle.std.specs.Prelude.{nat_lt}
-use Rattle.std.proofs.Common.{slice_set, if◌then◌else◌, refl, ap, sym, ◌∙◌, subst, arith, length-append}
-use Rattle.std.proofs.lemmas.Bool.{and_parts, and_right, eq-eqb, eqb-false, ltb-true, ne_eqb, or_parts}
+use Rattle.std.proofs.Common.{◌≡◌, ℕ, ◌+◌, ◌<◌, ◌%◌, ◌^◌, Bool, true, false, ◌&&◌, ◌==◌, List, [], ◌∷◌}
+use Rattle.std.proofs.Common.{◌++◌, length, Option, Some, None, option_map, option_to_list, slice_get, slice_index}
+use Rattle.std.specs.Prelude.{count_by, nat_lt}
+use Rattle.std.proofs.Common.{slice_set, if◌then◌else◌, refl, ap, sym, ◌∙◌, subst, arith, length-append, lt-ltb}
+use Rattle.std.proofs.lemmas.Bool.{and_right, eqb-false, ne_eqb, or_parts}
 use Rattle.std.proofs.lemmas.List.{get_or-set_other, get_or-set_same, length-map, length-set}
-use Rattle.std.proofs.lemmas.List.Sums.{sum_by-cons}
 use Rattle.std.proofs.lemmas.Option.{get_or_from_slice_get, slice_get_within}
 use Rattle.event_log.specs.declared.entries.Entry.{Entry}
 use Rattle.event_log.specs.declared.entries.Kind.{Kind}
@@ -15,14 +14,14 @@ use Rattle.event_log.specs.declared.ids.CpuId.{CpuId}
 use Rattle.event_log.specs.declared.ids.LockId.{LockId}
 use Rattle.event_log.specs.declared.ids.LockId.TheVariants.{Buffer}
 use Rattle.event_log.specs.declared.ids.Tid.{Tid}
-use Rattle.event_log.specs.Buffers.{after_effect, empty_buffers, items_of}
+use Rattle.event_log.specs.Buffers.{after_effect, items_of}
 use Rattle.event_log.specs.History.{IsLawful, same_lock}
 use Rattle.event_log.proofs.Same.{same_lock_self, same_lock_true}
-use Rattle.event_log.specs.Messages.{Message}
-use Rattle.event_log.specs.Runs.{count_of, count_of_kind, is_closed, kind_eq}
+use Rattle.event_log.specs.Messages.{Message, no_message}
+use Rattle.event_log.specs.Runs.{count_of, count_of_kind, group_of, is_closed, kind_eq, same_group}
 use Rattle.event_log.proofs.RunLemmas.{count_cons, counts_here, items_none, kind_cons, kinds_here}
 use Rattle.layer_traits.specs.declared.buffer_edits.BufferEdit.{BufferEdit}
-use Rattle.layer_traits.specs.declared.buffer_edits.BufferEdit.TheVariants.{Enter, TryPut, TryTake}
+use Rattle.layer_traits.specs.declared.buffer_edits.BufferEdit.TheVariants.{Enter, TryPut, TryTake, Shut}
 use Rattle.layer_traits.specs.declared.conditions.CvEdit.TheVariants.{Edit, SignalFront}
 use Rattle.layer_traits.specs.declared.locked.QEdit.TheVariants.{Acquire, Inside, Release}
 use Rattle.layer_traits.specs.declared.locked.Side.{Side}
@@ -30,9 +29,8 @@ use Rattle.layer_traits.specs.declared.locked.Side.TheVariants.{Receivers, Sende
 use Rattle.layer_traits.specs.declared.queue_edits.QueueBlock.{QueueBlock}
 use Rattle.layer_traits.specs.declared.queues.QueueCall.{QueueCall}
 use Rattle.layer_traits.specs.declared.queues.QueueCall.TheVariants.{Push, TakeAll, OnBuffer}
-use Rattle.layer_traits.specs.BufferBlocks.{BufferState, counted, other_items, effect_kind, empty_block, entered}
-use Rattle.layer_traits.specs.BufferBlocks.{first_item, is_first, is_turn, line_of, may_go, may_join, places_of, put_in}
-use Rattle.layer_traits.specs.BufferBlocks.{taken_out}
+use Rattle.layer_traits.specs.BufferBlocks.{BufferState, effect_kind, empty_block, entered, first_item, is_first, is_turn}
+use Rattle.layer_traits.specs.BufferBlocks.{line_of, may_join, places_of, put_in, shut, taken_out}
 use Rattle.layer_traits.specs.BufferEffects.{MayTakeEffect, contents_of, drawn, effect_of, effect_on, effects_in, entry}
 use Rattle.layer_traits.specs.BufferEffects.{fresh_lock, is_enter, opening_locks, places_in}
 use Rattle.layer_traits.specs.BufferProtocol.{BufferLock, BufferSection, IsDue, buffer_at, buffer_deeds, buffer_rules, is_in_line}
@@ -42,15 +40,12 @@ use Rattle.layer_traits.specs.Locking.{asked, lock_edited}
 use Rattle.layer_traits.specs.Protocol.{section}
 use Rattle.layer_traits.specs.QueueBlocks.{inner}
 use Rattle.layer_traits.specs.Queues.{QueueAllowed, buffer_sections, with_section}
-use Rattle.layer_traits.proofs.ItemLemmas.{drop_one, first_there, one_more}
+use Rattle.layer_traits.proofs.ItemLemmas.{one_more}
 use Rattle.thread_blocks.specs.Queues.{same_tid, is_in, rest}
 use Rattle.thread_blocks.proofs.Members.{same_tid_self, same_tid_true}
+use Rattle.fifo_buffer.specs.BlockSteps.{Step, kind_on, put_step, take_step}
+use Rattle.fifo_buffer.specs.Stances.{same_side}
 use Rattle.fifo_buffer.specs.Turns.{BufferEvent}
-
--- the kind with which a side's effects are counted
-abbrev pub kind_on : Side → Kind
-kind_on Receivers = Recv
-kind_on Senders = Send
 
 -- the threads of a line have drawn the positions n, n + 1 and so on, modulo 2^64
 abbrev pub IsNumbered : (Tid → ℕ) → ℕ → List Tid → Type 0
@@ -58,13 +53,14 @@ IsNumbered position n [] = Unit {0}
 IsNumbered position n (t ∷ queue) = (position t ≡ n % 2 ^ 64) × IsNumbered position (n + 1) queue
 
 -- a buffer's block tells its effects: the items are what they leave, the counters their numbers, and the threads in line have the next
--- positions; no effect has closed it
+-- positions; it is closed exactly where one of them closed it
 pub record Tally (caps : List ℕ) (b : ℕ) (es : List Entry) (position : Side → Tid → ℕ) (x : BufferState) : Type 0 where
   pub known : b < length caps
   pub wide : length (contents_of caps es) ≡ length caps
   pub items : items_of (contents_of caps es) b ≡ x.items
   pub capacity : slice_index caps b ≡ x.capacity
-  pub closed : is_closed es b ≡ false
+  pub closed : is_closed es b ≡ x.closed
+  pub closes : x.closes ≡ count_of_kind es b Close % 2 ^ 64
   pub effects : x.effects ≡ count_of es b % 2 ^ 64
   pub places : (side : Side) → places_of side x ≡ (count_of_kind es b (kind_on side) + length (line_of side x)) % 2 ^ 64
   pub numbered : (side : Side) → IsNumbered (position side) (count_of_kind es b (kind_on side)) (line_of side x)
@@ -87,6 +83,43 @@ numbered_behind p n u [] numbered is = (is ∙ ap (λ k. k % 2 ^ 64) (omega arit
 numbered_behind p n u (t ∷ queue) numbered is =
     (numbered.0, numbered_behind p (n + 1) u queue numbered.1 (is ∙ ap (λ k. k % 2 ^ 64) (omega arith)))
 
+-- effects are counted by their groups: those of a side with its kind, a close by itself
+sides_counted : (side at : Side) → kind_eq (kind_on side) (kind_on at) ≡ same_side side at
+sides_counted Receivers Receivers = refl
+sides_counted Receivers Senders = refl
+sides_counted Senders Receivers = refl
+sides_counted Senders Senders = refl
+
+side_counted : (side : Side) (kind : Kind) → group_of kind ≡ group_of (kind_on side) → (at : Side) → kind_eq kind (kind_on at) ≡ same_side side at
+side_counted side kind is at = ap (λ g. same_group g (group_of (kind_on at))) is ∙ sides_counted side at
+
+side_no_close : (side : Side) → kind_eq (kind_on side) Close ≡ false
+side_no_close Receivers = refl
+side_no_close Senders = refl
+
+no_close : (side : Side) (kind : Kind) → group_of kind ≡ group_of (kind_on side) → kind_eq kind Close ≡ false
+no_close side kind is = ap (λ g. same_group g (group_of Close)) is ∙ side_no_close side
+
+no_side : (side : Side) → kind_eq Close (kind_on side) ≡ false
+no_side Receivers = refl
+no_side Senders = refl
+
+count_alike : (es : List Entry) (b : ℕ) (kind like : Kind) → group_of kind ≡ group_of like → count_of_kind es b kind ≡ count_of_kind es b like
+count_alike es b kind like is = ap (λ g. count_by (λ (e : Entry). (e.buffer.0 == b) && same_group (group_of e.kind) g) es) is
+
+side_one : (side at : Side) → same_side side at ≡ true → side ≡ at
+side_one Receivers Receivers is = refl
+side_one Receivers Senders is = absurd cc
+side_one Senders Receivers is = absurd cc
+side_one Senders Senders is = refl
+
+-- how many of a kind there are with an effect of another, or of the same, on this buffer
+counted_here : (e : Entry) (es : List Entry) (b : ℕ) (kind of : Kind) (v : Bool) → e.buffer.0 ≡ b → e.kind ≡ of → kind_eq of kind ≡ v
+    → count_of_kind (e ∷ es) b kind ≡ (if v then 1 else 0) + count_of_kind es b kind
+counted_here e es b kind of v here is alike =
+    kinds_here e es b kind here ∙ ap (λ k. (if kind_eq k kind then 1 else 0) + count_of_kind es b kind) is
+    ∙ ap (λ (w : Bool). (if w then 1 else 0) + count_of_kind es b kind) alike
+
 module _ (caps : List ℕ) (b : ℕ) (es : List Entry) where
   -- no effect, or one on another buffer
   elsewhere : (o : Option Entry) → ((e : Entry) → o ≡ Some e → (e.buffer.0 == b) ≡ false) → (p q : Side → Tid → ℕ) (x : BufferState)
@@ -98,6 +131,7 @@ module _ (caps : List ℕ) (b : ℕ) (es : List Entry) where
     items = tally.items;
     capacity = tally.capacity;
     closed = tally.closed;
+    closes = tally.closes;
     effects = tally.effects;
     places = tally.places;
     numbered = λ side. numbered_same (p side) (q side) (count_of_kind es b (kind_on side)) (line_of side x) (same side) (tally.numbered side);
@@ -114,6 +148,7 @@ module _ (caps : List ℕ) (b : ℕ) (es : List Entry) where
         items = get_or-set_other (contents_of caps es) e.buffer.0 b _ [] (λ at. eqb-false e.buffer.0 b other (sym at)) ∙ tally.items;
         capacity = tally.capacity;
         closed = ap (nat_lt 0) (kinds Close) ∙ tally.closed;
+        closes = tally.closes ∙ ap (λ n. n % 2 ^ 64) (sym (kinds Close));
         effects = tally.effects ∙ ap (λ n. n % 2 ^ 64) (sym count);
         places = λ side. tally.places side ∙ ap (λ n. (n + length (line_of side x)) % 2 ^ 64) (sym (kinds (kind_on side)));
         numbered = λ side. subst (λ n. IsNumbered (q side) n (line_of side x)) (sym (kinds (kind_on side)))
@@ -130,6 +165,7 @@ module _ (caps : List ℕ) (b : ℕ) (es : List Entry) where
     items = tally.items;
     capacity = tally.capacity;
     closed = tally.closed;
+    closes = tally.closes;
     effects = tally.effects;
     places = λ side. places_in_line side;
     numbered = λ side. numbers side;
@@ -156,6 +192,7 @@ module _ (caps : List ℕ) (b : ℕ) (es : List Entry) where
     items = tally.items;
     capacity = tally.capacity;
     closed = tally.closed;
+    closes = tally.closes;
     effects = tally.effects;
     places = λ side. places_in_line side;
     numbered = λ side. numbers side;
@@ -188,119 +225,109 @@ module _ (caps : List ℕ) (b : ℕ) (es : List Entry) where
   rest_length u [] is = absurd cc
   rest_length u (v ∷ queue) is = omega arith
 
-  put_may : (cpu : CpuId) (at : BufId) → at.0 ≡ b → (p : Side → Tid → ℕ) (x : BufferState) (u : Tid) (m : Message) → is_turn Senders u x ≡ true
-      → Tally caps b es p x
-      → MayTakeEffect caps es (entry cpu u Send at m x.effects (p Senders u))
-  put_may cpu at here p x u m turn tally =
-      let both = and_parts (is_first u x.send_line) (may_go Senders x) turn in
-      let room : length x.items < x.capacity = ltb-true (length x.items) x.capacity both.1 in
-      rw here (record {
-        known = tally.known;
-        allowed = (tally.closed, rw (tally.items, tally.capacity) room);
-        op = tally.effects;
-        pos = first_number (p Senders) (count_of_kind es b Send) u x.send_line both.0 (tally.numbered Senders);
-      })
+  -- the effect of a step may come, and the block after it tells the effects with it
+  step_may : (cpu : CpuId) (at : BufId) → at.0 ≡ b → (side : Side) (kind : Kind) (u : Tid) (value : Message) (x y : BufferState)
+      → Step side kind u value x y → (p : Side → Tid → ℕ) → Tally caps b es p x → MayTakeEffect caps es (entry cpu u kind at value x.effects (p side u))
+  step_may cpu at here side kind u value x y step p tally = rw here (record {
+    known = tally.known;
+    allowed = rw (tally.closed, tally.capacity, tally.items) step.allowed;
+    op = tally.effects;
+    pos = first_number (p side) (count_of_kind es b (kind_on side)) u (line_of side x) step.leads (tally.numbered side)
+        ∙ ap (λ n. n % 2 ^ 64) (sym (count_alike es b kind (kind_on side) step.counts));
+  })
 
-  take_may : (cpu : CpuId) (at : BufId) → at.0 ≡ b → (p : Side → Tid → ℕ) (x : BufferState) (u : Tid) → is_turn Receivers u x ≡ true → Tally caps b es p x
-      → MayTakeEffect caps es (entry cpu u Recv at (first_item x.items) x.effects (p Receivers u))
-  take_may cpu at here p x u turn tally =
-      let both = and_parts (is_first u x.receive_line) (may_go Receivers x) turn in
-      let some : 0 < length x.items = ltb-true 0 (length x.items) both.1 in
-      rw here (record {
-        known = tally.known;
-        allowed = ap (λ l. slice_get l 0) tally.items ∙ first_there x.items some;
-        op = tally.effects;
-        pos = first_number (p Receivers) (count_of_kind es b Recv) u x.receive_line both.0 (tally.numbered Receivers);
-      })
+  left_by : (e : Entry) → e.buffer.0 ≡ b → (kind : Kind) → e.kind ≡ kind → (value : Message) → e.value ≡ value → (items : List Message)
+      → b < length caps → length (contents_of caps es) ≡ length caps → items_of (contents_of caps es) b ≡ items
+      → items_of (contents_of caps (e ∷ es)) b ≡ after_effect kind items value
+  left_by e here kind is_kind value is_value items inside wide is =
+      ap (λ k. items_of (slice_set (contents_of caps es) k (after_effect e.kind (items_of (contents_of caps es) e.buffer.0) e.value)) b) here
+      ∙ get_or-set_same (contents_of caps es) b (after_effect e.kind (items_of (contents_of caps es) e.buffer.0) e.value) [] (omega (arith, inside, wide))
+      ∙ ap (λ k. after_effect k (items_of (contents_of caps es) e.buffer.0) e.value) is_kind
+      ∙ ap (λ i. after_effect kind (items_of (contents_of caps es) i) e.value) here ∙ ap (λ l. after_effect kind l e.value) is
+      ∙ ap (after_effect kind items) is_value
 
-  put_tally : (e : Entry) → e.buffer.0 ≡ b → e.kind ≡ Send → (p q : Side → Tid → ℕ) (x : BufferState) (u : Tid) (m : Message) → e.value ≡ m
-      → is_first u x.send_line ≡ true
-      → ((side : Side) (t : Tid) → q side t ≡ p side t) → Tally caps b es p x → Tally caps b (e ∷ es) q (put_in m x)
-  put_tally e here sends p q x u m value leads same tally = record {
+  step_tally : (e : Entry) → e.buffer.0 ≡ b → (side : Side) (kind : Kind) → e.kind ≡ kind → (u : Tid) (value : Message) → e.value ≡ value
+      → (x y : BufferState) → Step side kind u value x y
+      → (p q : Side → Tid → ℕ) → ((at : Side) (t : Tid) → q at t ≡ p at t) → Tally caps b es p x → Tally caps b (e ∷ es) q y
+  step_tally e here side kind is_kind u value is_value x y step p q same tally = record {
     known = tally.known;
     wide = length-set (contents_of caps es) e.buffer.0 _ ∙ tally.wide;
-    items = ap (λ k. items_of (slice_set (contents_of caps es) k (after_effect e.kind (items_of (contents_of caps es) e.buffer.0) e.value)) b) here
-        ∙ get_or-set_same (contents_of caps es) b (after_effect e.kind (items_of (contents_of caps es) e.buffer.0) e.value) [] (omega (arith, inside, wide))
-        ∙ ap (λ k. after_effect k (items_of (contents_of caps es) e.buffer.0) e.value) sends
-        ∙ ap (λ i. items_of (contents_of caps es) i ++ e.value ∷ []) here ∙ ap (λ l. l ++ e.value ∷ []) tally.items ∙ ap (λ w. x.items ++ w ∷ []) value;
+    items = left_by e here kind is_kind value is_value x.items tally.known tally.wide tally.items ∙ sym step.items;
+    capacity = tally.capacity ∙ sym step.capacity;
+    closed = ap (nat_lt 0) none_closed ∙ tally.closed ∙ sym step.closed;
+    closes = step.closes ∙ tally.closes ∙ ap (λ n. n % 2 ^ 64) (sym none_closed);
+    effects = step.effects ∙ one_more x.effects (count_of es b) tally.effects ∙ ap (λ n. n % 2 ^ 64) (sym (counts_here e es b here));
+    places = λ at. step.places at ∙ places_now at (same_side side at) refl;
+    numbered = λ at. numbers at (same_side side at) refl;
+  }
+    where
+      none_closed : count_of_kind (e ∷ es) b Close ≡ count_of_kind es b Close
+      none_closed = counted_here e es b Close kind false here is_kind (no_close side kind step.counts) ∙ omega arith
+
+      more : (at : Side) (v : Bool) → same_side side at ≡ v
+          → count_of_kind (e ∷ es) b (kind_on at) ≡ (if v then 1 else 0) + count_of_kind es b (kind_on at)
+      more at v is = counted_here e es b (kind_on at) kind v here is_kind (side_counted side kind step.counts at ∙ is)
+
+      places_now : (at : Side) (v : Bool) → same_side side at ≡ v
+          → places_of at x ≡ (count_of_kind (e ∷ es) b (kind_on at) + length (line_of at y)) % 2 ^ 64
+      places_now at true is =
+          let less : length (line_of at x) ≡ length (line_of at y) + 1 = subst (λ s. length (line_of s x) ≡ length (line_of s y) + 1) (side_one side at is)
+          (rest_length u (line_of side x) step.leads ∙ ap (λ l. length l + 1) (sym step.behind)) in
+          let one = more at true is in
+          tally.places at ∙ ap (λ n. n % 2 ^ 64) (omega (arith, less, one))
+      places_now at false is =
+          let none = more at false is in
+          let line = step.others at is in
+          tally.places at ∙ ap (λ n. n % 2 ^ 64) (omega (arith, none)) ∙ ap (λ l. (count_of_kind (e ∷ es) b (kind_on at) + length l) % 2 ^ 64) (sym line)
+
+      numbers : (at : Side) (v : Bool) → same_side side at ≡ v → IsNumbered (q at) (count_of_kind (e ∷ es) b (kind_on at)) (line_of at y)
+      numbers at true is =
+          let one : count_of_kind (e ∷ es) b (kind_on at) ≡ count_of_kind es b (kind_on at) + 1 = more at true is ∙ omega arith in
+          let first : is_first u (line_of at x) ≡ true = subst (λ s. is_first u (line_of s x) ≡ true) (side_one side at is) step.leads in
+          let line : line_of at y ≡ rest (line_of at x) = subst (λ s. line_of s y ≡ rest (line_of s x)) (side_one side at is) step.behind in
+          rw (one, line) (numbered_same (p at) (q at) (count_of_kind es b (kind_on at) + 1) (rest (line_of at x)) (same at)
+          (rest_numbers (p at) (count_of_kind es b (kind_on at)) u (line_of at x) first (tally.numbered at)))
+      numbers at false is =
+          let none : count_of_kind (e ∷ es) b (kind_on at) ≡ count_of_kind es b (kind_on at) = more at false is ∙ omega arith in
+          rw (none, step.others at is)
+          (numbered_same (p at) (q at) (count_of_kind es b (kind_on at)) (line_of at x) (same at) (tally.numbered at))
+
+  -- a close may come, and the block is closed then; the items stay
+  shut_may : (cpu : CpuId) (at : BufId) → at.0 ≡ b → (u : Tid) (x : BufferState) (p : Side → Tid → ℕ) → Tally caps b es p x
+      → MayTakeEffect caps es (entry cpu u Close at no_message x.effects x.closes)
+  shut_may cpu at here u x p tally = rw here (record { known = tally.known; allowed = refl; op = tally.effects; pos = tally.closes })
+
+  shut_tally : (e : Entry) → e.buffer.0 ≡ b → e.kind ≡ Close → (x : BufferState) (p q : Side → Tid → ℕ) → ((at : Side) (t : Tid) → q at t ≡ p at t)
+      → Tally caps b es p x → Tally caps b (e ∷ es) q (shut x)
+  shut_tally e here closes x p q same tally = record {
+    known = tally.known;
+    wide = length-set (contents_of caps es) e.buffer.0 _ ∙ tally.wide;
+    items = left_by e here Close closes e.value refl x.items tally.known tally.wide tally.items;
     capacity = tally.capacity;
-    closed = ap (nat_lt 0) none_closed ∙ tally.closed;
+    closed = ap (nat_lt 0) more ∙ lt-ltb 0 (1 + count_of_kind es b Close) (omega arith);
+    closes = one_more x.closes (count_of_kind es b Close) tally.closes ∙ ap (λ n. n % 2 ^ 64) (omega (arith, more));
     effects = one_more x.effects (count_of es b) tally.effects ∙ ap (λ n. n % 2 ^ 64) (sym (counts_here e es b here));
     places = λ side. places_now side;
     numbered = λ side. numbers side;
   }
     where
-      inside : b < length caps
-      inside = tally.known
+      more : count_of_kind (e ∷ es) b Close ≡ 1 + count_of_kind es b Close
+      more = counted_here e es b Close Close true here closes refl
 
-      wide : length (contents_of caps es) ≡ length caps
-      wide = tally.wide
+      none : (side : Side) → count_of_kind (e ∷ es) b (kind_on side) ≡ count_of_kind es b (kind_on side)
+      none side = counted_here e es b (kind_on side) Close false here closes (no_side side) ∙ omega arith
 
-      none_closed : count_of_kind (e ∷ es) b Close ≡ count_of_kind es b Close
-      none_closed = kinds_here e es b Close here ∙ ap (λ k. (if kind_eq k Close then 1 else 0) + count_of_kind es b Close) sends ∙ omega arith
+      places_now : (side : Side) → places_of side (shut x) ≡ (count_of_kind (e ∷ es) b (kind_on side) + length (line_of side (shut x))) % 2 ^ 64
+      places_now Receivers = tally.places Receivers ∙ ap (λ n. (n + length x.receive_line) % 2 ^ 64) (sym (none Receivers))
+      places_now Senders = tally.places Senders ∙ ap (λ n. (n + length x.send_line) % 2 ^ 64) (sym (none Senders))
 
-      sent : count_of_kind (e ∷ es) b Send ≡ count_of_kind es b Send + 1
-      sent = kinds_here e es b Send here ∙ ap (λ k. (if kind_eq k Send then 1 else 0) + count_of_kind es b Send) sends ∙ omega arith
-
-      received : count_of_kind (e ∷ es) b Recv ≡ count_of_kind es b Recv
-      received = kinds_here e es b Recv here ∙ ap (λ k. (if kind_eq k Recv then 1 else 0) + count_of_kind es b Recv) sends ∙ omega arith
-
-      places_now : (side : Side) → places_of side (put_in m x) ≡ (count_of_kind (e ∷ es) b (kind_on side) + length (line_of side (put_in m x))) % 2 ^ 64
-      places_now Receivers = tally.places Receivers ∙ ap (λ n. (n + length x.receive_line) % 2 ^ 64) (sym received)
-      places_now Senders = tally.places Senders ∙ ap (λ n. n % 2 ^ 64) (let less = rest_length u x.send_line leads in omega (arith, less, sent))
-
-      numbers : (side : Side) → IsNumbered (q side) (count_of_kind (e ∷ es) b (kind_on side)) (line_of side (put_in m x))
+      numbers : (side : Side) → IsNumbered (q side) (count_of_kind (e ∷ es) b (kind_on side)) (line_of side (shut x))
       numbers Receivers =
-          subst (λ n. IsNumbered (q Receivers) n x.receive_line) (sym received)
+          subst (λ n. IsNumbered (q Receivers) n x.receive_line) (sym (none Receivers))
           (numbered_same (p Receivers) (q Receivers) (count_of_kind es b Recv) x.receive_line (same Receivers) (tally.numbered Receivers))
       numbers Senders =
-          subst (λ n. IsNumbered (q Senders) n (rest x.send_line)) (sym sent)
-          (numbered_same (p Senders) (q Senders) (count_of_kind es b Send + 1) (rest x.send_line) (same Senders)
-          (rest_numbers (p Senders) (count_of_kind es b Send) u x.send_line leads (tally.numbered Senders)))
-
-  take_tally : (e : Entry) → e.buffer.0 ≡ b → e.kind ≡ Recv → (p q : Side → Tid → ℕ) (x : BufferState) (u : Tid) → is_first u x.receive_line ≡ true
-      → ((side : Side) (t : Tid) → q side t ≡ p side t) → Tally caps b es p x → Tally caps b (e ∷ es) q (taken_out x)
-  take_tally e here takes p q x u leads same tally = record {
-    known = tally.known;
-    wide = length-set (contents_of caps es) e.buffer.0 _ ∙ tally.wide;
-    items = ap (λ k. items_of (slice_set (contents_of caps es) k (after_effect e.kind (items_of (contents_of caps es) e.buffer.0) e.value)) b) here
-        ∙ get_or-set_same (contents_of caps es) b (after_effect e.kind (items_of (contents_of caps es) e.buffer.0) e.value) [] (omega (arith, inside, wide))
-        ∙ ap (λ k. after_effect k (items_of (contents_of caps es) e.buffer.0) e.value) takes
-        ∙ ap (λ i. drop 1 (items_of (contents_of caps es) i)) here ∙ ap (λ l. drop 1 l) tally.items ∙ drop_one x.items;
-    capacity = tally.capacity;
-    closed = ap (nat_lt 0) none_closed ∙ tally.closed;
-    effects = one_more x.effects (count_of es b) tally.effects ∙ ap (λ n. n % 2 ^ 64) (sym (counts_here e es b here));
-    places = λ side. places_now side;
-    numbered = λ side. numbers side;
-  }
-    where
-      inside : b < length caps
-      inside = tally.known
-
-      wide : length (contents_of caps es) ≡ length caps
-      wide = tally.wide
-
-      none_closed : count_of_kind (e ∷ es) b Close ≡ count_of_kind es b Close
-      none_closed = kinds_here e es b Close here ∙ ap (λ k. (if kind_eq k Close then 1 else 0) + count_of_kind es b Close) takes ∙ omega arith
-
-      received : count_of_kind (e ∷ es) b Recv ≡ count_of_kind es b Recv + 1
-      received = kinds_here e es b Recv here ∙ ap (λ k. (if kind_eq k Recv then 1 else 0) + count_of_kind es b Recv) takes ∙ omega arith
-
-      sent : count_of_kind (e ∷ es) b Send ≡ count_of_kind es b Send
-      sent = kinds_here e es b Send here ∙ ap (λ k. (if kind_eq k Send then 1 else 0) + count_of_kind es b Send) takes ∙ omega arith
-
-      places_now : (side : Side) → places_of side (taken_out x) ≡ (count_of_kind (e ∷ es) b (kind_on side) + length (line_of side (taken_out x))) % 2 ^ 64
-      places_now Senders = tally.places Senders ∙ ap (λ n. (n + length x.send_line) % 2 ^ 64) (sym sent)
-      places_now Receivers = tally.places Receivers ∙ ap (λ n. n % 2 ^ 64) (let less = rest_length u x.receive_line leads in omega (arith, less, received))
-
-      numbers : (side : Side) → IsNumbered (q side) (count_of_kind (e ∷ es) b (kind_on side)) (line_of side (taken_out x))
-      numbers Senders =
-          subst (λ n. IsNumbered (q Senders) n x.send_line) (sym sent)
+          subst (λ n. IsNumbered (q Senders) n x.send_line) (sym (none Senders))
           (numbered_same (p Senders) (q Senders) (count_of_kind es b Send) x.send_line (same Senders) (tally.numbered Senders))
-      numbers Receivers =
-          subst (λ n. IsNumbered (q Receivers) n (rest x.receive_line)) (sym received)
-          (numbered_same (p Receivers) (q Receivers) (count_of_kind es b Recv + 1) (rest x.receive_line) (same Receivers)
-          (rest_numbers (p Receivers) (count_of_kind es b Recv) u x.receive_line leads (tally.numbered Receivers)))
 
   -- one section at this buffer: its effect may come, and the block tells the effects with it
   abbrev StepHere : CpuId → BufId → CvCall BufferEdit → (Side → Tid → ℕ) → (Side → Tid → ℕ) → BufferLock → Type 0
@@ -332,15 +359,17 @@ module _ (caps : List ℕ) (b : ℕ) (es : List Entry) where
       (ap (λ (w : Bool). if w then Some (entry cpu u (effect_kind Senders lock.above) at m lock.above.effects (p Senders u)) else None) turn)
       (sym (ap (λ (w : Bool). if w then put_in m lock.above else lock.above) turn)) same tally
   put_here cpu at here u m p q lock same tally true turn =
-      let it : Entry = entry cpu u Send at m lock.above.effects (p Senders u) in
+      let it : Entry = entry cpu u (effect_kind Senders lock.above) at m lock.above.effects (p Senders u) in
+      let step = put_step u m lock.above turn in
       let done : effect_on cpu at (Inside (Edit (TryPut u m))) p (Some lock) ≡ Some it
       = ap (λ (w : Bool). if w then Some (entry cpu u (effect_kind Senders lock.above) at m lock.above.effects (p Senders u)) else None) turn in
       let after : put_in m lock.above ≡ (lock_edited buffer_rules (Inside (Edit (TryPut u m))) lock).above
       = sym (ap (λ (w : Bool). if w then put_in m lock.above else lock.above) turn) in (
-        λ e is. subst (MayTakeEffect caps es) (one it e (sym done ∙ is)) (put_may cpu at here p lock.above u m turn tally),
+        λ e is. subst (MayTakeEffect caps es) (one it e (sym done ∙ is))
+            (step_may cpu at here Senders (effect_kind Senders lock.above) u m lock.above (put_in m lock.above) step p tally),
         subst (λ o. Tally caps b (option_to_list o ++ es) q (lock_edited buffer_rules (Inside (Edit (TryPut u m))) lock).above) (sym done)
             (subst (λ x. Tally caps b (it ∷ es) q x) after
-            (put_tally it here refl p q lock.above u m refl (and_parts (is_first u lock.above.send_line) (may_go Senders lock.above) turn).0 same tally)),
+            (step_tally it here Senders (effect_kind Senders lock.above) refl u m refl lock.above (put_in m lock.above) step p q same tally)),
       )
     where
       one : (x y : Entry) → Some x ≡ Some y → x ≡ y
@@ -354,16 +383,30 @@ module _ (caps : List ℕ) (b : ℕ) (es : List Entry) where
       (p Receivers u)) else None) turn)
       (sym (ap (λ (w : Bool). if w then taken_out lock.above else lock.above) turn)) same tally
   take_here cpu at here u p q lock same tally true turn =
-      let it : Entry = entry cpu u Recv at (first_item lock.above.items) lock.above.effects (p Receivers u) in
+      let it : Entry = entry cpu u (effect_kind Receivers lock.above) at (first_item lock.above.items) lock.above.effects (p Receivers u) in
+      let step = take_step u lock.above turn in
       let done : effect_on cpu at (Inside (Edit (TryTake u))) p (Some lock) ≡ Some it
       = ap (λ (w : Bool). if w then Some (entry cpu u (effect_kind Receivers lock.above) at (first_item lock.above.items) lock.above.effects
       (p Receivers u)) else None) turn in
       let after : taken_out lock.above ≡ (lock_edited buffer_rules (Inside (Edit (TryTake u))) lock).above
       = sym (ap (λ (w : Bool). if w then taken_out lock.above else lock.above) turn) in (
-        λ e is. subst (MayTakeEffect caps es) (one it e (sym done ∙ is)) (take_may cpu at here p lock.above u turn tally),
+        λ e is. subst (MayTakeEffect caps es) (one it e (sym done ∙ is))
+            (step_may cpu at here Receivers (effect_kind Receivers lock.above) u (first_item lock.above.items) lock.above (taken_out lock.above) step p tally),
         subst (λ o. Tally caps b (option_to_list o ++ es) q (lock_edited buffer_rules (Inside (Edit (TryTake u))) lock).above) (sym done)
             (subst (λ x. Tally caps b (it ∷ es) q x) after
-            (take_tally it here refl p q lock.above u (and_parts (is_first u lock.above.receive_line) (may_go Receivers lock.above) turn).0 same tally)),
+            (step_tally it here Receivers (effect_kind Receivers lock.above) refl u (first_item lock.above.items) refl lock.above (taken_out lock.above)
+            step p q same tally)),
+      )
+    where
+      one : (x y : Entry) → Some x ≡ Some y → x ≡ y
+      one x y is = cc
+
+  shut_here : (cpu : CpuId) (at : BufId) → at.0 ≡ b → (u : Tid) (p q : Side → Tid → ℕ) (lock : BufferLock) → ((side : Side) (t : Tid) → q side t ≡ p side t)
+      → Tally caps b es p lock.above → StepHere cpu at (Inside (Edit (Shut u))) p q lock
+  shut_here cpu at here u p q lock same tally =
+      let it : Entry = entry cpu u Close at no_message lock.above.effects lock.above.closes in (
+        λ e is. subst (MayTakeEffect caps es) (one it e is) (shut_may cpu at here u lock.above p tally),
+        shut_tally it here refl lock.above p q same tally,
       )
     where
       one : (x y : Entry) → Some x ≡ Some y → x ≡ y
@@ -386,6 +429,7 @@ module _ (caps : List ℕ) (b : ℕ) (es : List Entry) where
         items = tally.items;
         capacity = tally.capacity;
         closed = tally.closed;
+        closes = tally.closes;
         effects = tally.effects;
         places = tally.places;
         numbered = λ to. numbered_apart (p to) (q to) (count_of_kind es b (kind_on to)) u (line_of to lock.above) (nowhere to) (others to) (tally.numbered to);
@@ -412,6 +456,8 @@ effect_place cpu d (Inside (Edit (TryPut u m))) p (Some lock) e is =
 effect_place cpu d (Inside (Edit (TryTake u))) p (Some lock) e is =
     placed_as cpu d u (effect_kind Receivers lock.above) (first_item lock.above.items) lock.above.effects (p Receivers u)
     (is_turn Receivers u lock.above) e is
+effect_place cpu d (Inside (Edit (Shut u))) p (Some lock) e is =
+    placed_as cpu d u Close no_message lock.above.effects lock.above.closes true e is
 effect_place cpu d (Inside (SignalFront u side)) p (Some lock) e is = absurd cc
 effect_place cpu d (Release leave) p (Some lock) e is = absurd cc
 
@@ -472,6 +518,10 @@ here_step O caps past cpu d (Inside (Edit (TryTake u))) lock at due tally =
     take_here caps d.0 (effects_in O past) cpu d refl u (Before O caps past cpu d (Inside (Edit (TryTake u))) d)
     (After O caps past cpu d (Inside (Edit (TryTake u))) d) lock
     (λ side t. drawn_quiet O caps past cpu d (Inside (Edit (TryTake u))) side t refl) tally (is_turn Receivers u lock.above) refl
+here_step O caps past cpu d (Inside (Edit (Shut u))) lock at due tally =
+    shut_here caps d.0 (effects_in O past) cpu d refl u (Before O caps past cpu d (Inside (Edit (Shut u))) d)
+    (After O caps past cpu d (Inside (Edit (Shut u))) d) lock
+    (λ side t. drawn_quiet O caps past cpu d (Inside (Edit (Shut u))) side t refl) tally
 here_step O caps past cpu d (Inside (SignalFront u side)) lock at due tally =
     nothing_here caps d.0 (effects_in O past) cpu d (Inside (SignalFront u side)) (Before O caps past cpu d (Inside (SignalFront u side)) d)
     (After O caps past cpu d (Inside (SignalFront u side)) d) lock refl refl
@@ -551,6 +601,7 @@ start_tallied caps b (Some n) lock is at p =
       items = items_none caps b.0;
       capacity = get_or_from_slice_get caps b.0 n 0 is;
       closed = refl;
+      closes = refl;
       effects = refl;
       places = λ side. start_places side;
       numbered = λ side. start_numbers side;

@@ -237,6 +237,7 @@ impl<C: OwnedConds<BufferEdit>> OwnedBuffers for Fifo<C> {
     ghost use Rattle.std.specs.Prelude.{◌≡◌, true, option_map};
     ghost use Rattle.event_log.specs.Actions.{phase};
     ghost use Rattle.event_log.specs.Buffers.{items_of};
+    ghost use Rattle.event_log.specs.Runs.{is_closed};
     ghost use Rattle.layer_traits.proofs.ActedLemmas.{owner_by_acts};
     ghost use Rattle.layer_traits.specs.BufferEffects.{contents_of, effects_in};
     ghost use Rattle.layer_traits.specs.BufferProtocol.{buffer_deeds};
@@ -248,7 +249,7 @@ impl<C: OwnedConds<BufferEdit>> OwnedBuffers for Fifo<C> {
     ghost use Rattle.layer_traits.specs.QueueBlocks.{inner};
     ghost use Rattle.layer_traits.specs.Queues.{buffer_sections, moves_in};
     ghost use Rattle.fifo_buffer.specs.FifoFits.{caps_in};
-    ghost use Rattle.fifo_buffer.specs.OwnedLaws.{block_there, effects_known, items_acted, items_in, items_told, lines_of};
+    ghost use Rattle.fifo_buffer.specs.OwnedLaws.{block_there, closed_of, closed_told, effects_known, items_acted, items_in, items_told, lines_of};
     ghost use Rattle.fifo_buffer.specs.OwnedLaws.{lines_told, lock_of, lock_told, owner_of, owner_told, queue_told};
 
     ghost owner = { λ m b. owner_in (lock_of (C.opening m) (C.seen m) b) };
@@ -256,6 +257,10 @@ impl<C: OwnedConds<BufferEdit>> OwnedBuffers for Fifo<C> {
     ghost items_at = { λ m b. option_map items_in (C.lock_at m b) };
 
     ghost items_with = { λ p b. option_map items_in (C.lock_with p.lower b) };
+
+    ghost closed_at = { λ m b. option_map closed_of (C.lock_at m b) };
+
+    ghost closed_with = { λ p b. option_map closed_of (C.lock_with p.lower b) };
 
     ghost owner_at = { λ m b. option_map owner_of (C.lock_at m b) };
 
@@ -290,6 +295,20 @@ impl<C: OwnedConds<BufferEdit>> OwnedBuffers for Fifo<C> {
         match self.lower.block_here(b) {
             None => None,
             Some(block) => Some(block.items()),
+        }
+    }
+
+    fn closed_in(m: &C::Machine, b: BufId) -> Option<bool> {
+        match C::block_in(m, b) {
+            None => None,
+            Some(block) => Some(block.is_closed()),
+        }
+    }
+
+    fn closed_here(&self, b: BufId) -> Option<bool> {
+        match self.lower.block_here(b) {
+            None => None,
+            Some(block) => Some(block.is_closed()),
         }
     }
 
@@ -330,6 +349,13 @@ impl<C: OwnedConds<BufferEdit>> OwnedBuffers for Fifo<C> {
         (lock_of (C.opening m) (C.seen m) b) items_in (λ p. C.lock_with p b) (C.lock_at m b)
         (items_of (contents_of (caps_in (C.opening m)) (effects_in (inner (C.opening m)) (buffer_sections (C.seen m)))) b.0)
         (items_told (C.opening m) acts.1 b within (C.seen m) (C.lawful m c acts.0))
+        (C.shown m c b acts.0 (block_there (C.opening m) acts.1 b within)) };
+
+    ghost closed = { λ m c b acts within. lock_told (λ (p : Self). p.lower) (λ p. C.Fits p m) (λ (p : Self). Self.Fits p m)
+        (λ p. C.cpu_of p) (λ d. C.IsStepwise × (is_in_section (phase d (C.acts m)) ≡ true)) (λ p fits. fits.0)
+        (lock_of (C.opening m) (C.seen m) b) closed_of (λ p. C.lock_with p b) (C.lock_at m b)
+        (is_closed (effects_in (inner (C.opening m)) (buffer_sections (C.seen m))) b.0)
+        (closed_told (C.opening m) acts.1 b within (C.seen m) (C.lawful m c acts.0))
         (C.shown m c b acts.0 (block_there (C.opening m) acts.1 b within)) };
 
     ghost owners = { λ m c b acts within. lock_told (λ (p : Self). p.lower) (λ p. C.Fits p m) (λ (p : Self). Self.Fits p m)

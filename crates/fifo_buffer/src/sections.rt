@@ -16,17 +16,17 @@ pub fn buffer_in(call: &Call) -> BufId
     ensures { result ≡ buffer_of call.now }
 {
     match *call {
-        Call::Send(buffer, _) | Call::Recv(buffer) => buffer,
+        Call::Send(buffer, _) | Call::Recv(buffer) | Call::Close(buffer) => buffer,
     }
 }
 
-/// A call's own side.
+/// A call's own side; a close signals to the senders last.
 #[inline(always)]
 fn own_side(call: &Call) -> Side
     ensures { result ≡ side_of call.now }
 {
     match *call {
-        Call::Send(_, _) => Side::Senders,
+        Call::Send(_, _) | Call::Close(_) => Side::Senders,
         Call::Recv(_) => Side::Receivers,
     }
 }
@@ -37,12 +37,12 @@ fn far_side(call: &Call) -> Side
     ensures { result ≡ other_side call.now }
 {
     match *call {
-        Call::Send(_, _) => Side::Receivers,
+        Call::Send(_, _) | Call::Close(_) => Side::Receivers,
         Call::Recv(_) => Side::Senders,
     }
 }
 
-/// The edit with which a call enters its line.
+/// The edit with which a call enters its line, or closes the buffer.
 #[inline(always)]
 fn first_edit(t: Tid, call: &Call) -> BufferEdit
     ensures { result ≡ first_of t call.now }
@@ -50,10 +50,11 @@ fn first_edit(t: Tid, call: &Call) -> BufferEdit
     match *call {
         Call::Send(_, _) => BufferEdit::Enter(t, Side::Senders),
         Call::Recv(_) => BufferEdit::Enter(t, Side::Receivers),
+        Call::Close(_) => BufferEdit::Shut(t),
     }
 }
 
-/// The edit that a call tries.
+/// The edit that a call tries; a close never does.
 #[inline(always)]
 fn next_try(t: Tid, call: &Call) -> BufferEdit
     ensures { result ≡ try_of t call.now }
@@ -61,6 +62,7 @@ fn next_try(t: Tid, call: &Call) -> BufferEdit
     match *call {
         Call::Send(_, message) => BufferEdit::TryPut(t, message),
         Call::Recv(_) => BufferEdit::TryTake(t),
+        Call::Close(_) => BufferEdit::Shut(t),
     }
 }
 
@@ -69,10 +71,16 @@ fn next_try(t: Tid, call: &Call) -> BufferEdit
 fn answer_by(call: &Call, kind: Kind, value: Msg) -> Reply
     ensures { result ≡ reply_by call.now kind value }
 {
-    let _ = kind;
     match *call {
-        Call::Send(_, _) => Reply::Sent,
-        Call::Recv(_) => Reply::Got(value),
+        Call::Send(_, _) => match kind {
+            Kind::SendClosed => Reply::Closed,
+            Kind::Send | Kind::Recv | Kind::Close | Kind::RecvClosed => Reply::Sent,
+        },
+        Call::Recv(_) => match kind {
+            Kind::RecvClosed => Reply::Closed,
+            Kind::Send | Kind::Recv | Kind::Close | Kind::SendClosed => Reply::Got(value),
+        },
+        Call::Close(_) => Reply::Shut,
     }
 }
 
@@ -119,14 +127,27 @@ fn told(out: &QOut<CvOut<BufferOut>>) -> BufferOut
     }
 }
 
-/// Keeps what a thread that entered its line was told: its position.
+/// Keeps what a thread that entered its line was told: its position; or what one that closed the
+/// buffer was told: its effect.
 #[inline(always)]
 fn hear_entry(talk: &mut Talk, told: BufferOut)
     ensures { talk.new ≡ placed talk.old told }
 {
-    if let BufferOut::Entered(position) = told {
-        talk.stage = Stage::Tries;
-        talk.position = position;
+    match told {
+        BufferOut::Entered(position) => {
+            talk.stage = Stage::Tries;
+            talk.position = position;
+        }
+        BufferOut::WasShut(op, pos) => {
+            talk.stage = Stage::Signals;
+            talk.effect = Some(Effect {
+                kind: Kind::Close,
+                value: Msg::none(),
+                op,
+                pos,
+            });
+        }
+        BufferOut::NotYet | BufferOut::Done(_, _, _) => {}
     }
 }
 
@@ -145,7 +166,9 @@ fn hear_try(talk: &mut Talk, told: BufferOut)
                 pos: talk.position,
             });
         }
-        BufferOut::NotYet | BufferOut::Entered(_) => talk.stage = Stage::Waits,
+        BufferOut::NotYet | BufferOut::Entered(_) | BufferOut::WasShut(_, _) => {
+            talk.stage = Stage::Waits
+        }
     }
 }
 

@@ -235,6 +235,14 @@ fn holds<B: OwnedBuffers>(m: &B::Machine, message: Option<Msg>) -> bool
     }
 }
 
+/// Whether buffer 0 is closed, as the machine tells.
+fn is_closed<B: OwnedBuffers>(m: &B::Machine) -> bool
+    requires acts { B.ActsFor m.now (record { 0 = 0 }) }
+    requires buffer { 0 < length (B.caps m.now) }
+{
+    B::closed_in(m, BufId(0)) == Some(true)
+}
+
 /// A thread alone sends in 18 polls and receives in 18, with the effect in the ninth.
 fn alone<B: OwnedBuffers>(part: &mut B, m: &mut B::Machine) -> bool
     requires fits { B.Fits part.old m.old }
@@ -244,7 +252,7 @@ fn alone<B: OwnedBuffers>(part: &mut B, m: &mut B::Machine) -> bool
     requires start { B.doing part.old ≡ None }
     requires free { (next : _) → MayTalk (talk_of (B.own part.old).talks (record { 0 = 0 })) next }
 {
-    let send = Call::Send(BufId(0), 7);
+    let send = Call::Send(BufId(0), Msg::one(7));
     if !switch(part, m) || part.hand().is_some() || !polls(part, m, Tid(0), &send, 8) {
         return false;
     }
@@ -253,35 +261,100 @@ fn alone<B: OwnedBuffers>(part: &mut B, m: &mut B::Machine) -> bool
     }
     let sent = Effect {
         kind: Kind::Send,
-        value: 7,
+        value: Msg::one(7),
         op: 0,
         pos: 0,
     };
     if part.effect(Tid(0)) != Some(sent) || !polls(part, m, Tid(0), &send, 8) {
         return false;
     }
-    if last(part, m, Tid(0), &send) != Some(Reply::Sent) || !holds::<B>(m, Some(7)) {
+    if last(part, m, Tid(0), &send) != Some(Reply::Sent) || !holds::<B>(m, Some(Msg::one(7))) {
         return false;
     }
     let got = takes(part, m, Tid(0), &Call::Recv(BufId(0)), 17);
-    got == Some(Reply::Got(7)) && holds::<B>(m, None)
+    got == Some(Reply::Got(Msg::one(7))) && holds::<B>(m, None)
 }
 
-/// Thread 1 does this call, which wakes thread 0 on the other CPU, in 21 polls; then thread 0 goes
-/// on with its call, and ends it in 15.
+/// A thread alone closes in 15 polls, with the effect in the sixth, behind one effect.
+fn closes<B: BufferLayer>(part: &mut B, m: &mut B::Machine) -> bool
+    requires fits { B.Fits part.old m.old }
+    requires buffer { 0 < length (B.caps m.old) }
+    requires room { 15 ≤ B.room m.old }
+    requires start { B.doing part.old ≡ None }
+    requires free { (next : _) → MayTalk (talk_of (B.own part.old).talks (record { 0 = 0 })) next }
+    ensures fits { B.Fits part.new m.new }
+    ensures idle { result ≡ true → B.doing part.new ≡ None }
+    ensures free { result ≡ true → (next : _) → MayTalk (talk_of (B.own part.new).talks (record { 0 = 0 })) next }
+    ensures caps { B.caps m.new ≡ B.caps m.old }
+    ensures room { B.room m.old ≤ B.room m.new + 15 }
+    ensures acts { (c : _) → B.ActsFor m.old c → B.ActsFor m.new c }
+{
+    let close = Call::Close(BufId(0));
+    if part.hand().is_some() || !polls(part, m, Tid(0), &close, 5) {
+        return false;
+    }
+    if part.effect(Tid(0)).is_some() || !polls(part, m, Tid(0), &close, 1) {
+        return false;
+    }
+    let closed = Effect {
+        kind: Kind::Close,
+        value: Msg::none(),
+        op: 1,
+        pos: 0,
+    };
+    if part.effect(Tid(0)) != Some(closed) || !polls(part, m, Tid(0), &close, 8) {
+        return false;
+    }
+    match last(part, m, Tid(0), &close) {
+        Some(reply) => reply == Reply::Shut,
+        None => false,
+    }
+}
+
+/// A thread alone sends and closes. A further send puts nothing, and answers so in 18 polls; a
+/// receive drains what was put, and the next one answers that the buffer is closed, in 18 each.
+fn drains<B: OwnedBuffers>(part: &mut B, m: &mut B::Machine) -> bool
+    requires fits { B.Fits part.old m.old }
+    requires acts { B.ActsFor m.old (record { 0 = 0 }) }
+    requires buffer { 0 < length (B.caps m.old) }
+    requires room { 100 ≤ B.room m.old }
+    requires start { B.doing part.old ≡ None }
+    requires free { (next : _) → MayTalk (talk_of (B.own part.old).talks (record { 0 = 0 })) next }
+{
+    if !switch(part, m) {
+        return false;
+    }
+    let sent = takes(part, m, Tid(0), &Call::Send(BufId(0), Msg::one(7)), 17);
+    if sent != Some(Reply::Sent) || is_closed::<B>(m) || !closes(part, m) || !is_closed::<B>(m) {
+        return false;
+    }
+    let offered = takes(part, m, Tid(0), &Call::Send(BufId(0), Msg::one(8)), 17);
+    if offered != Some(Reply::Closed) || !holds::<B>(m, Some(Msg::one(7))) {
+        return false;
+    }
+    let got = takes(part, m, Tid(0), &Call::Recv(BufId(0)), 17);
+    if got != Some(Reply::Got(Msg::one(7))) || !holds::<B>(m, None) {
+        return false;
+    }
+    takes(part, m, Tid(0), &Call::Recv(BufId(0)), 17) == Some(Reply::Closed)
+}
+
+/// Thread 1 does this call, which wakes thread 0 on the other CPU, in so many polls and one more;
+/// then thread 0 goes on with its call, and ends it in 15.
 fn goes_on<B: BufferLayer>(
     home: &mut B,
     away: &mut B,
     m: &mut B::Machine,
     waiting: &Call,
     waking: &Call,
+    before: usize,
 ) -> (Option<Reply>, Option<Reply>)
     requires home { B.Fits home.old m.old }
     requires away { B.Fits away.old m.old }
     requires apart { B.cpu_of home.old ≢ B.cpu_of away.old }
     requires first { (buffer_of waiting.now).0 < length (B.caps m.old) }
     requires second { (buffer_of waking.now).0 < length (B.caps m.old) }
-    requires room { 60 ≤ B.room m.old }
+    requires room { before + 40 ≤ B.room m.old }
     requires home_start { B.doing home.old ≡ None }
     requires away_start { B.doing away.old ≡ None }
     requires home_same { MayTalk (talk_of (B.own home.old).talks (record { 0 = 0 })) waiting.now }
@@ -289,7 +362,7 @@ fn goes_on<B: BufferLayer>(
     ensures acts { (c : _) → B.ActsFor m.old c → B.ActsFor m.new c }
     ensures caps { B.caps m.new ≡ B.caps m.old }
 {
-    let waker = takes(away, m, Tid(1), waking, 20);
+    let waker = takes(away, m, Tid(1), waking, before);
     if waker.is_none() || !drain(home, m) || !switch(home, m) {
         return (waker, None);
     }
@@ -297,7 +370,13 @@ fn goes_on<B: BufferLayer>(
     (waker, woken)
 }
 
-/// A receiver finds nothing and waits after 12 polls; a sender of the other CPU wakes it.
+/// A message of more than one word.
+fn two_words() -> Msg {
+    Msg::new(&[5, 6])
+}
+
+/// A receiver finds nothing and waits after 12 polls; a sender of the other CPU wakes it, and its
+/// message of two words comes out whole.
 fn receiver_waits<B: OwnedBuffers>(home: &mut B, away: &mut B, m: &mut B::Machine) -> bool
     requires home { B.Fits home.old m.old }
     requires away { B.Fits away.old m.old }
@@ -317,8 +396,9 @@ fn receiver_waits<B: OwnedBuffers>(home: &mut B, away: &mut B, m: &mut B::Machin
     if B::line_in(m, BufId(0), Tid(0)) != Some(Line::Receivers) || !holds::<B>(m, None) {
         return false;
     }
-    let (sent, got) = goes_on(home, away, m, &recv, &Call::Send(BufId(0), 5));
-    sent == Some(Reply::Sent) && got == Some(Reply::Got(5)) && holds::<B>(m, None)
+    let send = Call::Send(BufId(0), two_words());
+    let (sent, got) = goes_on(home, away, m, &recv, &send, 20);
+    sent == Some(Reply::Sent) && got == Some(Reply::Got(two_words())) && holds::<B>(m, None)
 }
 
 /// A sender finds no room and waits after 12 polls; a receiver of the other CPU wakes it.
@@ -337,18 +417,45 @@ fn sender_waits<B: OwnedBuffers>(home: &mut B, away: &mut B, m: &mut B::Machine)
     if !switch(home, m) || !switch(away, m) {
         return false;
     }
-    if takes(home, m, Tid(0), &Call::Send(BufId(0), 1), 17) != Some(Reply::Sent) {
+    if takes(home, m, Tid(0), &Call::Send(BufId(0), Msg::one(1)), 17) != Some(Reply::Sent) {
         return false;
     }
-    let send = Call::Send(BufId(0), 2);
-    if !waits(home, m, Tid(0), &send, 12) || !holds::<B>(m, Some(1)) {
+    let send = Call::Send(BufId(0), Msg::one(2));
+    if !waits(home, m, Tid(0), &send, 12) || !holds::<B>(m, Some(Msg::one(1))) {
         return false;
     }
     if B::line_in(m, BufId(0), Tid(0)) != Some(Line::Senders) {
         return false;
     }
-    let (got, sent) = goes_on(home, away, m, &send, &Call::Recv(BufId(0)));
-    got == Some(Reply::Got(1)) && sent == Some(Reply::Sent) && holds::<B>(m, Some(2))
+    let (got, sent) = goes_on(home, away, m, &send, &Call::Recv(BufId(0)), 20);
+    got == Some(Reply::Got(Msg::one(1)))
+        && sent == Some(Reply::Sent)
+        && holds::<B>(m, Some(Msg::one(2)))
+}
+
+/// A receiver finds nothing and waits; the other CPU closes the buffer in 18 polls, which wakes it,
+/// and it learns that the buffer is closed.
+fn receiver_learns<B: OwnedBuffers>(home: &mut B, away: &mut B, m: &mut B::Machine) -> bool
+    requires home { B.Fits home.old m.old }
+    requires away { B.Fits away.old m.old }
+    requires apart { B.cpu_of home.old ≢ B.cpu_of away.old }
+    requires acts { B.ActsFor m.old (record { 0 = 0 }) }
+    requires buffer { 0 < length (B.caps m.old) }
+    requires room { 100 ≤ B.room m.old }
+    requires home_start { B.doing home.old ≡ None }
+    requires away_start { B.doing away.old ≡ None }
+    requires home_free { (next : _) → MayTalk (talk_of (B.own home.old).talks (record { 0 = 0 })) next }
+    requires away_free { (next : _) → MayTalk (talk_of (B.own away.old).talks (record { 0 = 1 })) next }
+{
+    let recv = Call::Recv(BufId(0));
+    if !switch(home, m) || !switch(away, m) || !waits(home, m, Tid(0), &recv, 12) {
+        return false;
+    }
+    if is_closed::<B>(m) {
+        return false;
+    }
+    let (shut, learned) = goes_on(home, away, m, &recv, &Call::Close(BufId(0)), 17);
+    shut == Some(Reply::Shut) && learned == Some(Reply::Closed) && is_closed::<B>(m)
 }
 
 /// While a section of `part` holds the buffer's block the part tells of it and the machine does not;
@@ -370,6 +477,9 @@ fn told_in_hand<B: OwnedBuffers>(part: &mut B, m: &mut B::Machine) -> bool
         return false;
     }
     if B::items_in(m, BufId(0)).is_some() || B::owner_in(m, BufId(0)).is_some() {
+        return false;
+    }
+    if B::closed_in(m, BufId(0)).is_some() || part.closed_here(BufId(0)) != Some(false) {
         return false;
     }
     if part.owner_here(BufId(0)) != Some(None) || part.line_here(BufId(0), Tid(0)).is_some() {
@@ -453,6 +563,16 @@ where
     Ok(alone(&mut home, &mut m))
 }
 
+/// A row of one CPU that closes.
+fn row_closes<L: OwnedLocks<TowerEdit> + Drop>(alloc: Global) -> Result<bool, NoMemory>
+where
+    L::Machine: Drop,
+{
+    let mut m = machine::<L>(alloc)?;
+    let mut home = part::<L>(&m, CpuId(0));
+    Ok(drains(&mut home, &mut m))
+}
+
 /// A row of what is told.
 fn row_told<L: OwnedLocks<TowerEdit> + Drop>(alloc: Global) -> Result<bool, NoMemory>
 where
@@ -474,27 +594,39 @@ where
 }
 
 /// A row of two CPUs.
-fn row_of_two<L: OwnedLocks<TowerEdit> + Drop>(alloc: Global, full: bool) -> Result<bool, NoMemory>
+fn row_of_two<L: OwnedLocks<TowerEdit> + Drop>(alloc: Global, row: Two) -> Result<bool, NoMemory>
 where
     L::Machine: Drop,
 {
     let mut m = machine::<L>(alloc)?;
     let mut home = part::<L>(&m, CpuId(0));
     let mut away = part::<L>(&m, CpuId(1));
-    if full {
-        return Ok(sender_waits(&mut home, &mut away, &mut m));
+    match row {
+        Two::ReceiverWaits => Ok(receiver_waits(&mut home, &mut away, &mut m)),
+        Two::SenderWaits => Ok(sender_waits(&mut home, &mut away, &mut m)),
+        Two::ReceiverLearns => Ok(receiver_learns(&mut home, &mut away, &mut m)),
     }
-    Ok(receiver_waits(&mut home, &mut away, &mut m))
+}
+
+/// The rows of two CPUs.
+#[derive(Drop)]
+enum Two {
+    /// A receiver waits for a sender.
+    ReceiverWaits,
+    /// A sender waits for a receiver.
+    SenderWaits,
+    /// A receiver waits, and the buffer is closed.
+    ReceiverLearns,
 }
 
 /// The rows that a tower runs.
 enum Row {
     /// A thread alone sends and receives.
     Alone,
-    /// A receiver waits for a sender.
-    ReceiverWaits,
-    /// A sender waits for a receiver.
-    SenderWaits,
+    /// A thread alone closes, and drains what is left.
+    Closes,
+    /// Two CPUs.
+    OfTwo(Two),
     /// The part tells of the block that it has in hand.
     ToldInHand,
     /// A thread ends.
@@ -508,8 +640,8 @@ where
 {
     match row {
         Row::Alone => row_alone::<L>(alloc),
-        Row::ReceiverWaits => row_of_two::<L>(alloc, false),
-        Row::SenderWaits => row_of_two::<L>(alloc, true),
+        Row::Closes => row_closes::<L>(alloc),
+        Row::OfTwo(row) => row_of_two::<L>(alloc, row),
         Row::ToldInHand => row_told::<L>(alloc),
         Row::Ends => row_ends::<L>(alloc),
     }
@@ -529,13 +661,25 @@ fn a_send_alone_and_a_receive_alone_take_18_polls_each(rt: HostRuntime) -> Resul
 
 #[test]
 fn a_receiver_that_waits_is_woken_by_a_sender(rt: HostRuntime) -> Result<(), Fail> {
-    assert!(rt; tower_goes(rt.alloc(), Row::ReceiverWaits)?);
+    assert!(rt; tower_goes(rt.alloc(), Row::OfTwo(Two::ReceiverWaits))?);
     Ok(())
 }
 
 #[test]
 fn a_sender_that_waits_is_woken_by_a_receiver(rt: HostRuntime) -> Result<(), Fail> {
-    assert!(rt; tower_goes(rt.alloc(), Row::SenderWaits)?);
+    assert!(rt; tower_goes(rt.alloc(), Row::OfTwo(Two::SenderWaits))?);
+    Ok(())
+}
+
+#[test]
+fn a_close_takes_15_polls_and_what_is_left_is_drained(rt: HostRuntime) -> Result<(), Fail> {
+    assert!(rt; tower_goes(rt.alloc(), Row::Closes)?);
+    Ok(())
+}
+
+#[test]
+fn a_receiver_that_waits_learns_that_the_buffer_is_closed(rt: HostRuntime) -> Result<(), Fail> {
+    assert!(rt; tower_goes(rt.alloc(), Row::OfTwo(Two::ReceiverLearns))?);
     Ok(())
 }
 

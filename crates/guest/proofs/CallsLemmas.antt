@@ -1,14 +1,17 @@
 -- One step of a thread keeps the relation of its program to its calls.
-use Rattle.std.proofs.Common.{◌≡◌, ◌==◌, ℕ, Bool, true, false, List, ◌∷◌, refl, sym, ◌∙◌, subst, if◌then◌else◌, eqb-true}
+use Rattle.std.proofs.Common.{◌≡◌, ◌==◌, ℕ, Bool, true, false, List, ◌∷◌, Option, refl, sym, ◌∙◌, subst, if◌then◌else◌, eqb-true}
 use Rattle.std.proofs.lemmas.Bool.{false≢true}
 use Rattle.event_log.specs.declared.ids.BufId.{BufId}
-use Rattle.event_log.specs.declared.entries.Kind.TheVariants.{Send as SendKind, Recv as RecvKind}
+use Rattle.event_log.specs.declared.entries.Kind.TheVariants.{Send as SendKind, Recv as RecvKind, Close as CloseKind, SendClosed, RecvClosed}
 use Rattle.event_log.specs.declared.entries.Entry.{Entry}
 use Rattle.guest.specs.declared.instructions.Register.{Register}
+use Rattle.guest.specs.declared.instructions.Source.{Source}
+use Rattle.guest.specs.declared.instructions.Into.{Into}
 use Rattle.guest.specs.declared.instructions.Instruction.{Instruction}
-use Rattle.guest.specs.declared.instructions.Instruction.TheVariants.{Set, Add, Sub, Jnz, Send, Recv, Yield, Exit}
-use Rattle.guest.specs.State.{State, next_of, value_in, sent_from, moved_on, moved_to, after_local, after_send, after_recv, after_yield}
-use Rattle.guest.specs.Calls.{IsProgramsCalls, sets, adds, subtracts, jumps, goes_on, yields, sends, receives}
+use Rattle.guest.specs.declared.instructions.Instruction.TheVariants.{Set, Add, Sub, Jnz, Send, Recv, Close, Yield, Exit}
+use Rattle.guest.specs.State.{State, next_of, value_in, message_from, moved_on, moved_to, after_local, after_send, after_recv, after_close, after_closed}
+use Rattle.guest.specs.State.{after_yield}
+use Rattle.guest.specs.Calls.{IsProgramsCalls, sets, adds, subtracts, jumps, goes_on, yields, sends, receives, closes, offers, asks}
 
 after_jump : (program : List Instruction) (es : List Entry) (s : State) (r : Register) (k : ℕ) (b : Bool) → b ≡ (value_in s r == 0)
     → IsProgramsCalls program es s → next_of program s ≡ Jnz r k
@@ -22,8 +25,9 @@ local_at program es s (Set r n) at calls = sets r n calls at
 local_at program es s (Add r q) at calls = adds r q calls at
 local_at program es s (Sub r q) at calls = subtracts r q calls at
 local_at program es s (Jnz r k) at calls = after_jump program es s r k (value_in s r == 0) refl calls at
-local_at program es s (Send b r) at calls = calls
-local_at program es s (Recv b r) at calls = calls
+local_at program es s (Send b from k) at calls = calls
+local_at program es s (Recv b into k) at calls = calls
+local_at program es s (Close b) at calls = calls
 local_at program es s Yield at calls = calls
 local_at program es s Exit at calls = calls
 
@@ -39,8 +43,9 @@ yield_at program es s (Set r n) at calls = calls
 yield_at program es s (Add r q) at calls = calls
 yield_at program es s (Sub r q) at calls = calls
 yield_at program es s (Jnz r k) at calls = calls
-yield_at program es s (Send b r) at calls = calls
-yield_at program es s (Recv b r) at calls = calls
+yield_at program es s (Send b from k) at calls = calls
+yield_at program es s (Recv b into k) at calls = calls
+yield_at program es s (Close b) at calls = calls
 yield_at program es s Exit at calls = calls
 
 -- and so does a yield
@@ -49,17 +54,40 @@ pub calls-yield : (program : List Instruction) (es : List Entry) (s : State) →
 calls-yield program es s calls = yield_at program es s (next_of program s) refl calls
 
 -- a send that returns has its entry, newest first
-pub calls-send : (program : List Instruction) (es : List Entry) (s : State) (b : BufId) (r : Register) (e : Entry) → IsProgramsCalls program es s
-    → next_of program s ≡ Send b r
-    → e.kind ≡ SendKind → e.buffer ≡ b → e.value ≡ sent_from s r → IsProgramsCalls program (e ∷ es) (after_send (next_of program s) s)
-calls-send program es s b r e calls at kind buffer value =
+pub calls-send : (program : List Instruction) (es : List Entry) (s : State) (b : BufId) (from : Source) (k : Option ℕ) (e : Entry)
+    → IsProgramsCalls program es s → next_of program s ≡ Send b from k
+    → e.kind ≡ SendKind → e.buffer ≡ b → e.value ≡ message_from s from → IsProgramsCalls program (e ∷ es) (after_send (next_of program s) s)
+calls-send program es s b from k e calls at kind buffer value =
     let P : Instruction → Type 0 = λ i. IsProgramsCalls program (e ∷ es) (after_send i s) in
-    subst P (sym at) (sends b r e calls at kind buffer value)
+    subst P (sym at) (sends b from k e calls at kind buffer value)
 
 -- a receive that returns has its entry, newest first
-pub calls-recv : (program : List Instruction) (es : List Entry) (s : State) (b : BufId) (r : Register) (e : Entry) → IsProgramsCalls program es s
-    → next_of program s ≡ Recv b r
+pub calls-recv : (program : List Instruction) (es : List Entry) (s : State) (b : BufId) (into : Into) (k : Option ℕ) (e : Entry)
+    → IsProgramsCalls program es s → next_of program s ≡ Recv b into k
     → e.kind ≡ RecvKind → e.buffer ≡ b → IsProgramsCalls program (e ∷ es) (after_recv (next_of program s) e.value s)
-calls-recv program es s b r e calls at kind buffer =
+calls-recv program es s b into k e calls at kind buffer =
     let P : Instruction → Type 0 = λ i. IsProgramsCalls program (e ∷ es) (after_recv i e.value s) in
-    subst P (sym at) (receives b r e calls at kind buffer)
+    subst P (sym at) (receives b into k e calls at kind buffer)
+
+-- a close that returns has its entry, newest first
+pub calls-close : (program : List Instruction) (es : List Entry) (s : State) (b : BufId) (e : Entry) → IsProgramsCalls program es s
+    → next_of program s ≡ Close b → e.kind ≡ CloseKind → e.buffer ≡ b → IsProgramsCalls program (e ∷ es) (after_close (next_of program s) s)
+calls-close program es s b e calls at kind buffer =
+    let P : Instruction → Type 0 = λ i. IsProgramsCalls program (e ∷ es) (after_close i s) in
+    subst P (sym at) (closes b e calls at kind buffer)
+
+-- a send that returns and found its buffer closed has its entry, newest first
+pub calls-offer : (program : List Instruction) (es : List Entry) (s : State) (b : BufId) (from : Source) (k : Option ℕ) (e : Entry)
+    → IsProgramsCalls program es s → next_of program s ≡ Send b from k
+    → e.kind ≡ SendClosed → e.buffer ≡ b → e.value ≡ message_from s from → IsProgramsCalls program (e ∷ es) (after_closed (next_of program s) s)
+calls-offer program es s b from k e calls at kind buffer value =
+    let P : Instruction → Type 0 = λ i. IsProgramsCalls program (e ∷ es) (after_closed i s) in
+    subst P (sym at) (offers b from k e calls at kind buffer value)
+
+-- a receive that returns and found its buffer closed and empty has its entry, newest first
+pub calls-ask : (program : List Instruction) (es : List Entry) (s : State) (b : BufId) (into : Into) (k : Option ℕ) (e : Entry)
+    → IsProgramsCalls program es s → next_of program s ≡ Recv b into k
+    → e.kind ≡ RecvClosed → e.buffer ≡ b → IsProgramsCalls program (e ∷ es) (after_closed (next_of program s) s)
+calls-ask program es s b into k e calls at kind buffer =
+    let P : Instruction → Type 0 = λ i. IsProgramsCalls program (e ∷ es) (after_closed i s) in
+    subst P (sym at) (asks b into k e calls at kind buffer)

@@ -1,13 +1,15 @@
 -- The calls that a program makes, given what it receives. Lists of entries are newest first.
-use Rattle.std.specs.Prelude.{◌≡◌, ◌≢◌, ℕ, List, [], ◌∷◌, reverse}
+use Rattle.std.specs.Prelude.{◌≡◌, ◌≢◌, ℕ, List, [], ◌∷◌, Option, reverse}
 use Rattle.event_log.specs.declared.ids.BufId.{BufId}
-use Rattle.event_log.specs.declared.entries.Kind.TheVariants.{Send as SendKind, Recv as RecvKind}
+use Rattle.event_log.specs.declared.entries.Kind.TheVariants.{Send as SendKind, Recv as RecvKind, Close as CloseKind, SendClosed, RecvClosed}
 use Rattle.event_log.specs.declared.entries.Entry.{Entry}
-use Rattle.event_log.specs.Messages.{first_word}
 use Rattle.guest.specs.declared.instructions.Register.{Register}
+use Rattle.guest.specs.declared.instructions.Source.{Source}
+use Rattle.guest.specs.declared.instructions.Into.{Into}
 use Rattle.guest.specs.declared.instructions.Instruction.{Instruction}
-use Rattle.guest.specs.declared.instructions.Instruction.TheVariants.{Set, Add, Sub, Jnz, Send, Recv, Yield, Exit}
-use Rattle.guest.specs.State.{State, at_start, next_of, value_in, sent_from, moved_on, moved_with, moved_to, wrapped_sum, wrapped_difference}
+use Rattle.guest.specs.declared.instructions.Instruction.TheVariants.{Set, Add, Sub, Jnz, Send, Recv, Close, Yield, Exit}
+use Rattle.guest.specs.State.{State, at_start, next_of, value_in, message_from, moved_on, moved_with, moved_into, moved_to, moved_aside}
+use Rattle.guest.specs.State.{wrapped_sum, wrapped_difference}
 
 -- the program has made just the calls of these entries, newest first, when it stands in this state
 pub data IsProgramsCalls (program : List Instruction) : List Entry → State → Type 0 where
@@ -23,10 +25,20 @@ pub data IsProgramsCalls (program : List Instruction) : List Entry → State →
   goes_on : {es : List Entry} {s : State} (r : Register) (k : ℕ) → IsProgramsCalls program es s → next_of program s ≡ Jnz r k → value_in s r ≡ 0
       → IsProgramsCalls program es (moved_on s)
   yields : {es : List Entry} {s : State} → IsProgramsCalls program es s → next_of program s ≡ Yield → IsProgramsCalls program es (moved_on s)
-  sends : {es : List Entry} {s : State} (b : BufId) (r : Register) (e : Entry) → IsProgramsCalls program es s → next_of program s ≡ Send b r
-      → e.kind ≡ SendKind → e.buffer ≡ b → e.value ≡ sent_from s r → IsProgramsCalls program (e ∷ es) (moved_on s)
-  receives : {es : List Entry} {s : State} (b : BufId) (r : Register) (e : Entry) → IsProgramsCalls program es s → next_of program s ≡ Recv b r
-      → e.kind ≡ RecvKind → e.buffer ≡ b → IsProgramsCalls program (e ∷ es) (moved_with s r (first_word e.value))
+  sends : {es : List Entry} {s : State} (b : BufId) (from : Source) (k : Option ℕ) (e : Entry) → IsProgramsCalls program es s
+      → next_of program s ≡ Send b from k
+      → e.kind ≡ SendKind → e.buffer ≡ b → e.value ≡ message_from s from → IsProgramsCalls program (e ∷ es) (moved_on s)
+  receives : {es : List Entry} {s : State} (b : BufId) (into : Into) (k : Option ℕ) (e : Entry) → IsProgramsCalls program es s
+      → next_of program s ≡ Recv b into k
+      → e.kind ≡ RecvKind → e.buffer ≡ b → IsProgramsCalls program (e ∷ es) (moved_into s into e.value)
+  closes : {es : List Entry} {s : State} (b : BufId) (e : Entry) → IsProgramsCalls program es s → next_of program s ≡ Close b
+      → e.kind ≡ CloseKind → e.buffer ≡ b → IsProgramsCalls program (e ∷ es) (moved_on s)
+  offers : {es : List Entry} {s : State} (b : BufId) (from : Source) (k : Option ℕ) (e : Entry) → IsProgramsCalls program es s
+      → next_of program s ≡ Send b from k
+      → e.kind ≡ SendClosed → e.buffer ≡ b → e.value ≡ message_from s from → IsProgramsCalls program (e ∷ es) (moved_aside s k)
+  asks : {es : List Entry} {s : State} (b : BufId) (into : Into) (k : Option ℕ) (e : Entry) → IsProgramsCalls program es s
+      → next_of program s ≡ Recv b into k
+      → e.kind ≡ RecvClosed → e.buffer ≡ b → IsProgramsCalls program (e ∷ es) (moved_aside s k)
 
 -- the program has ended: it stands at `exit`, or past its last line
 abbrev pub HasEnded : List Instruction → State → Type 0

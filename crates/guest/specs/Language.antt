@@ -5,10 +5,13 @@ use Rattle.event_log.specs.declared.ids.BufId.{BufId}
 use Rattle.event_log.specs.declared.ids.TheConstants.{BUFFERS}
 use Rattle.event_log.specs.Digits.{is_number, number_to}
 use Rattle.event_log.specs.Reading.{◌>>=◌, read_from}
+use Rattle.guest.specs.declared.instructions.TheConstants.{REGISTERS}
 use Rattle.guest.specs.declared.instructions.Register.{Register}
-use Rattle.guest.specs.declared.instructions.Register.TheVariants.{Reg0, Reg1, Reg2, Reg3}
+use Rattle.guest.specs.declared.instructions.Register.TheVariants.{Reg0, Reg1, Reg2, Reg3, Reg4, Reg5, Reg6, Reg7}
+use Rattle.guest.specs.declared.instructions.Source.TheVariants.{One as FromOne, First}
+use Rattle.guest.specs.declared.instructions.Into.TheVariants.{One as IntoOne, All}
 use Rattle.guest.specs.declared.instructions.Instruction.{Instruction}
-use Rattle.guest.specs.declared.instructions.Instruction.TheVariants.{Set, Add, Sub, Jnz, Send, Recv, Yield, Exit}
+use Rattle.guest.specs.declared.instructions.Instruction.TheVariants.{Set, Add, Sub, Jnz, Send, Recv, Close, Yield, Exit}
 use Rattle.guest.specs.declared.refusals.GuestFault.{GuestFault}
 use Rattle.guest.specs.declared.refusals.GuestFault.TheVariants.{UnknownWord, BadRegister, BadNumber, BadTarget, TooLong, Empty}
 use Rattle.guest.specs.declared.refusals.GuestError.{GuestError}
@@ -26,6 +29,10 @@ register_in piece =
     else if bytes_eq piece (codes "r1") then Ok Reg1
     else if bytes_eq piece (codes "r2") then Ok Reg2
     else if bytes_eq piece (codes "r3") then Ok Reg3
+    else if bytes_eq piece (codes "r4") then Ok Reg4
+    else if bytes_eq piece (codes "r5") then Ok Reg5
+    else if bytes_eq piece (codes "r6") then Ok Reg6
+    else if bytes_eq piece (codes "r7") then Ok Reg7
     else Err BadRegister
 
 -- the number of 64 bits that a piece spells
@@ -35,6 +42,10 @@ word_in piece = or_fault BadNumber (number_to 18446744073709551615 piece)
 -- the buffer that a piece spells
 unfoldable pub buffer_in : List ℕ → Result BufId GuestFault
 buffer_in piece = or_fault BadNumber (number_to (BUFFERS - 1) piece) >>= λ b. Ok (record { 0 = b })
+
+-- how many words a message has, as a piece spells it: at least one, and no more than there are registers
+unfoldable pub words_in : List ℕ → Result ℕ GuestFault
+words_in piece = or_fault BadNumber (number_to REGISTERS piece) >>= λ n. if n == 0 then Err BadNumber else Ok n
 
 -- the line that a piece spells, of so many
 unfoldable pub target_in : ℕ → List ℕ → Result ℕ GuestFault
@@ -47,6 +58,13 @@ one_piece word =
     else if bytes_eq word (codes "exit") then Ok Exit
     else Err UnknownWord
 
+-- the instruction of two pieces
+unfoldable pub two_pieces : List ℕ → List ℕ → Result Instruction GuestFault
+two_pieces word a =
+    if bytes_eq word (codes "close") then (buffer_in a >>= λ n. Ok (Close n))
+    else if bytes_eq word (codes "recvm") then (buffer_in a >>= λ n. Ok (Recv n All None))
+    else Err UnknownWord
+
 -- the instruction of three pieces, of a program of so many lines
 unfoldable pub three_pieces : ℕ → List ℕ → List ℕ → List ℕ → Result Instruction GuestFault
 three_pieces count word a b =
@@ -54,13 +72,26 @@ three_pieces count word a b =
     else if bytes_eq word (codes "add") then (register_in a >>= λ d. register_in b >>= λ s. Ok (Add d s))
     else if bytes_eq word (codes "sub") then (register_in a >>= λ d. register_in b >>= λ s. Ok (Sub d s))
     else if bytes_eq word (codes "jnz") then (register_in a >>= λ s. target_in count b >>= λ k. Ok (Jnz s k))
-    else if bytes_eq word (codes "send") then (buffer_in a >>= λ n. register_in b >>= λ s. Ok (Send n s))
-    else if bytes_eq word (codes "recv") then (buffer_in a >>= λ n. register_in b >>= λ d. Ok (Recv n d))
+    else if bytes_eq word (codes "send") then (buffer_in a >>= λ n. register_in b >>= λ s. Ok (Send n (FromOne s) None))
+    else if bytes_eq word (codes "recv") then (buffer_in a >>= λ n. register_in b >>= λ d. Ok (Recv n (IntoOne d) None))
+    else if bytes_eq word (codes "sendm") then (buffer_in a >>= λ n. words_in b >>= λ m. Ok (Send n (First m) None))
+    else if bytes_eq word (codes "recvm") then (buffer_in a >>= λ n. target_in count b >>= λ k. Ok (Recv n All (Some k)))
     else Err UnknownWord
 
+-- the instruction of four pieces, of a program of so many lines
+unfoldable pub four_pieces : ℕ → List ℕ → List ℕ → List ℕ → List ℕ → Result Instruction GuestFault
+four_pieces count word a b c =
+    if bytes_eq word (codes "send") then (buffer_in a >>= λ n. register_in b >>= λ s. target_in count c >>= λ k. Ok (Send n (FromOne s) (Some k)))
+    else if bytes_eq word (codes "recv") then (buffer_in a >>= λ n. register_in b >>= λ d. target_in count c >>= λ k. Ok (Recv n (IntoOne d) (Some k)))
+    else if bytes_eq word (codes "sendm") then (buffer_in a >>= λ n. words_in b >>= λ m. target_in count c >>= λ k. Ok (Send n (First m) (Some k)))
+    else Err UnknownWord
+
+-- the instruction of a line's pieces: their number is tested first
 abbrev pub pieces_in : ℕ → List (List ℕ) → Result Instruction GuestFault
 pieces_in count (word ∷ []) = one_piece word
+pieces_in count (word ∷ a ∷ []) = two_pieces word a
 pieces_in count (word ∷ a ∷ b ∷ []) = three_pieces count word a b
+pieces_in count (word ∷ a ∷ b ∷ c ∷ []) = four_pieces count word a b c
 pieces_in count _ = Err UnknownWord
 
 -- the instruction of a line of a program of so many lines: its pieces stand between single spaces

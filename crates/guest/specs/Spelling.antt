@@ -1,10 +1,12 @@
 -- The one spelling of an instruction.
-use Rattle.std.specs.Prelude.{◌≡◌, ℕ, List, [], ◌∷◌, Ok, codes, decimal}
+use Rattle.std.specs.Prelude.{◌≡◌, ℕ, List, [], ◌∷◌, Option, Some, None, Ok, codes, decimal}
 use Rattle.std.specs.List.{join_with_byte}
 use Rattle.guest.specs.declared.instructions.Register.{Register}
-use Rattle.guest.specs.declared.instructions.Register.TheVariants.{Reg0, Reg1, Reg2, Reg3}
+use Rattle.guest.specs.declared.instructions.Register.TheVariants.{Reg0, Reg1, Reg2, Reg3, Reg4, Reg5, Reg6, Reg7}
+use Rattle.guest.specs.declared.instructions.Source.TheVariants.{One as FromOne, First}
+use Rattle.guest.specs.declared.instructions.Into.TheVariants.{One as IntoOne, All}
 use Rattle.guest.specs.declared.instructions.Instruction.{Instruction}
-use Rattle.guest.specs.declared.instructions.Instruction.TheVariants.{Set, Add, Sub, Jnz, Send, Recv, Yield, Exit}
+use Rattle.guest.specs.declared.instructions.Instruction.TheVariants.{Set, Add, Sub, Jnz, Send, Recv, Close, Yield, Exit}
 use Rattle.guest.specs.Instructions.{IsWithin}
 use Rattle.guest.specs.Language.{line_in}
 
@@ -14,6 +16,15 @@ name_of Reg0 = codes "r0"
 name_of Reg1 = codes "r1"
 name_of Reg2 = codes "r2"
 name_of Reg3 = codes "r3"
+name_of Reg4 = codes "r4"
+name_of Reg5 = codes "r5"
+name_of Reg6 = codes "r6"
+name_of Reg7 = codes "r7"
+
+-- the piece of a target, where there is one
+abbrev pub target_of : Option ℕ → List (List ℕ)
+target_of None = []
+target_of (Some k) = decimal k ∷ []
 
 -- the pieces of an instruction's line
 abbrev pub pieces_of : Instruction → List (List ℕ)
@@ -21,8 +32,11 @@ pieces_of (Set r n) = codes "set" ∷ name_of r ∷ decimal n ∷ []
 pieces_of (Add r q) = codes "add" ∷ name_of r ∷ name_of q ∷ []
 pieces_of (Sub r q) = codes "sub" ∷ name_of r ∷ name_of q ∷ []
 pieces_of (Jnz r k) = codes "jnz" ∷ name_of r ∷ decimal k ∷ []
-pieces_of (Send b r) = codes "send" ∷ decimal b.0 ∷ name_of r ∷ []
-pieces_of (Recv b r) = codes "recv" ∷ decimal b.0 ∷ name_of r ∷ []
+pieces_of (Send b (FromOne r) k) = codes "send" ∷ decimal b.0 ∷ name_of r ∷ target_of k
+pieces_of (Send b (First n) k) = codes "sendm" ∷ decimal b.0 ∷ decimal n ∷ target_of k
+pieces_of (Recv b (IntoOne r) k) = codes "recv" ∷ decimal b.0 ∷ name_of r ∷ target_of k
+pieces_of (Recv b All k) = codes "recvm" ∷ decimal b.0 ∷ target_of k
+pieces_of (Close b) = codes "close" ∷ decimal b.0 ∷ []
 pieces_of Yield = codes "yield" ∷ []
 pieces_of Exit = codes "exit" ∷ []
 

@@ -1,9 +1,14 @@
 -- A thread's private state, and what each instruction makes of it.
-use Rattle.std.specs.Prelude.{ℕ, ◌+◌, ◌-◌, ◌^◌, ◌%◌, ◌==◌, List, [], ◌∷◌, slice_index, slice_set, if◌then◌else◌}
-use Rattle.event_log.specs.Messages.{Message, first_word}
+use Rattle.std.specs.Prelude.{ℕ, ◌+◌, ◌-◌, ◌^◌, ◌%◌, ◌==◌, List, [], ◌∷◌, take, replicate, Option, Some, None, slice_index, slice_set, if◌then◌else◌}
+use Rattle.event_log.specs.Messages.{Message, first_word, padded}
+use Rattle.guest.specs.declared.instructions.TheConstants.{REGISTERS}
 use Rattle.guest.specs.declared.instructions.Register.{Register}
+use Rattle.guest.specs.declared.instructions.Source.{Source}
+use Rattle.guest.specs.declared.instructions.Source.TheVariants.{One as FromOne, First}
+use Rattle.guest.specs.declared.instructions.Into.{Into}
+use Rattle.guest.specs.declared.instructions.Into.TheVariants.{One as IntoOne, All}
 use Rattle.guest.specs.declared.instructions.Instruction.{Instruction}
-use Rattle.guest.specs.declared.instructions.Instruction.TheVariants.{Set, Add, Sub, Jnz, Send, Recv, Yield, Exit}
+use Rattle.guest.specs.declared.instructions.Instruction.TheVariants.{Set, Add, Sub, Jnz, Send, Recv, Close, Yield, Exit}
 use Rattle.guest.specs.Instructions.{number_of, instruction_at}
 
 -- the line at which a thread stands, and its registers by number
@@ -13,7 +18,7 @@ pub record State : Type 0 where
 
 -- line 0, with registers 0
 abbrev pub at_start : State
-at_start = record { line = 0; registers = 0 ∷ 0 ∷ 0 ∷ 0 ∷ [] }
+at_start = record { line = 0; registers = replicate REGISTERS 0 }
 
 -- the instruction at which the thread stands
 abbrev pub next_of : List Instruction → State → Instruction
@@ -23,9 +28,10 @@ next_of program s = instruction_at program s.line
 abbrev pub value_in : State → Register → ℕ
 value_in s r = slice_index s.registers (number_of r)
 
--- the message that a thread sends which stands at a send of this register
-abbrev pub sent_from : State → Register → Message
-sent_from s r = value_in s r
+-- the message that a thread sends which stands at a send: one register's number, or the first registers' numbers
+abbrev pub message_from : State → Source → Message
+message_from s (FromOne r) = value_in s r ∷ []
+message_from s (First n) = take n s.registers
 
 -- at the following line
 abbrev pub moved_on : State → State
@@ -35,9 +41,19 @@ moved_on s = record { line = s.line + 1; registers = s.registers }
 abbrev pub moved_with : State → Register → ℕ → State
 moved_with s r n = record { line = s.line + 1; registers = slice_set s.registers (number_of r) n }
 
+-- at the following line, with what a receive brings: the message's first word in one register, or its words in the first registers and 0 in the others
+abbrev pub moved_into : State → Into → Message → State
+moved_into s (IntoOne r) message = moved_with s r (first_word message)
+moved_into s All message = record { line = s.line + 1; registers = padded message }
+
 -- at another line
 abbrev pub moved_to : State → ℕ → State
 moved_to s line = record { line = line; registers = s.registers }
+
+-- at the target, or at the following line where there is none
+abbrev pub moved_aside : State → Option ℕ → State
+moved_aside s None = moved_on s
+moved_aside s (Some k) = moved_to s k
 
 -- sums and differences of 64 bits
 abbrev pub wrapped_sum : ℕ → ℕ → ℕ
@@ -52,20 +68,32 @@ after_local (Set r n) s = moved_with s r n
 after_local (Add r q) s = moved_with s r (wrapped_sum (value_in s r) (value_in s q))
 after_local (Sub r q) s = moved_with s r (wrapped_difference (value_in s r) (value_in s q))
 after_local (Jnz r k) s = if value_in s r == 0 then moved_on s else moved_to s k
-after_local (Send b r) s = s
-after_local (Recv b r) s = s
+after_local (Send b from k) s = s
+after_local (Recv b into k) s = s
+after_local (Close b) s = s
 after_local Yield s = s
 after_local Exit s = s
 
 -- after a send has returned
 abbrev pub after_send : Instruction → State → State
-after_send (Send b r) s = moved_on s
+after_send (Send b from k) s = moved_on s
 after_send _ s = s
 
--- after a receive has returned with this message, whose first word goes to the register
+-- after a receive has returned with this message
 abbrev pub after_recv : Instruction → Message → State → State
-after_recv (Recv b r) message s = moved_with s r (first_word message)
+after_recv (Recv b into k) message s = moved_into s into message
 after_recv _ message s = s
+
+-- after a close has returned
+abbrev pub after_close : Instruction → State → State
+after_close (Close b) s = moved_on s
+after_close _ s = s
+
+-- after a send or a receive has returned that found its buffer closed: no register changes
+abbrev pub after_closed : Instruction → State → State
+after_closed (Send b from k) s = moved_aside s k
+after_closed (Recv b into k) s = moved_aside s k
+after_closed _ s = s
 
 -- after the thread has let another one run
 abbrev pub after_yield : Instruction → State → State

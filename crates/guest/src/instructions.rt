@@ -2,12 +2,15 @@
 
 use crate::reading::instructions_in;
 use crate::refusals::{GuestError, GuestFault};
-use event_log::{BufId, NoMemory};
+use event_log::{BufId, NoMemory, WORDS};
 use std::alloc::Global;
 use std::marker::Model;
 
 /// How many lines a program may have.
 pub const LINES: usize = 256;
+
+/// How many registers a thread has: as many as a message has words at most.
+pub const REGISTERS: usize = WORDS;
 
 /// A register. Each holds a number from 0 to 2^64 - 1, and 0 at the start.
 #[derive(Clone, Copy, Debug, PartialEq, Eq)]
@@ -20,25 +23,56 @@ pub enum Register {
     Reg2,
     /// `r3`
     Reg3,
+    /// `r4`
+    Reg4,
+    /// `r5`
+    Reg5,
+    /// `r6`
+    Reg6,
+    /// `r7`
+    Reg7,
 }
 
 impl Register {
     ghost use Rattle.std.specs.Prelude.{◌≡◌, ◌<◌};
+    ghost use Rattle.guest.specs.declared.instructions.TheConstants.{REGISTERS};
     ghost use Rattle.guest.specs.Instructions.{number_of};
 
-    /// The register's number, from 0 to 3.
+    /// The register's number, counted from 0.
     #[inline(always)]
     pub fn number(self) -> usize
         ensures number { result ≡ number_of self }
-        ensures below { result < 4 }
+        ensures below { result < REGISTERS }
     {
         match self {
             Register::Reg0 => 0,
             Register::Reg1 => 1,
             Register::Reg2 => 2,
             Register::Reg3 => 3,
+            Register::Reg4 => 4,
+            Register::Reg5 => 5,
+            Register::Reg6 => 6,
+            Register::Reg7 => 7,
         }
     }
+}
+
+/// What a send takes its words from.
+#[derive(Clone, Copy, Debug, PartialEq, Eq)]
+pub enum Source {
+    /// One register: a message of one word.
+    One(Register),
+    /// The first registers, so many: a message of as many words.
+    First(usize),
+}
+
+/// Where a receive puts its words.
+#[derive(Clone, Copy, Debug, PartialEq, Eq)]
+pub enum Into {
+    /// The message's first word to one register. The other registers stay.
+    One(Register),
+    /// The message's words to the first registers, and 0 to the others.
+    All,
 }
 
 /// One instruction. A line of a program is one of these.
@@ -52,10 +86,16 @@ pub enum Instruction {
     Sub(Register, Register),
     /// `jnz rS k`: where the register is not 0 the next line is `k`, counted from 0.
     Jnz(Register, usize),
-    /// `send b rS`: sends the register to the buffer.
-    Send(BufId, Register),
-    /// `recv b rD`: receives from the buffer into the register.
-    Recv(BufId, Register),
+    /// `send b rS` sends the register to the buffer, `sendm b n` the first `n` registers. Where the
+    /// buffer is closed the next line is `k`, the last piece of `send b rS k` and `sendm b n k`, or
+    /// the following one where there is no `k`.
+    Send(BufId, Source, Option<usize>),
+    /// `recv b rD` receives a message from the buffer, of which the register takes the first word;
+    /// `recvm b` receives one into all registers. Where the buffer is closed and empty the
+    /// registers stay, and the next line is as for a send: `recv b rD k`, `recvm b k`.
+    Recv(BufId, Into, Option<usize>),
+    /// `close b`: closes the buffer.
+    Close(BufId),
     /// `yield`: lets another thread of the CPU run.
     Yield,
     /// `exit`: ends the thread.
@@ -71,8 +111,9 @@ impl Instruction {
         ensures { result ≡ names_below buffers self.now }
     {
         match self {
-            Instruction::Send(buffer, _) | Instruction::Recv(buffer, _) => usize::from(buffer.0)
-                < buffers,
+            Instruction::Send(buffer, ..)
+            | Instruction::Recv(buffer, ..)
+            | Instruction::Close(buffer) => usize::from(buffer.0) < buffers,
             Instruction::Set(..)
             | Instruction::Add(..)
             | Instruction::Sub(..)
@@ -83,8 +124,8 @@ impl Instruction {
     }
 }
 
-/// A program: 1 to 256 instructions, each jump to one of its lines, each call of one of the
-/// buffers 0 to `BUFFERS - 1`.
+/// A program: 1 to 256 instructions, each jump and each target of a call to one of its lines, each
+/// call of one of the buffers 0 to `BUFFERS - 1`.
 #[derive(Drop)]
 pub struct Program {
     lines: Vec<Instruction>,
@@ -106,7 +147,7 @@ impl Program {
     ghost use Rattle.std.specs.Prelude.{◌≡◌, ◌≢◌, ◌<◌, length, map, IfOk};
     ghost use Rattle.guest.specs.declared.instructions.Instruction.TheVariants.{Exit};
     ghost use Rattle.std.specs.List.{list_all};
-    ghost use Rattle.guest.specs.Instructions.{IsProgram, instruction_at, names_below};
+    ghost use Rattle.guest.specs.Instructions.{IsProgram, IsWithin, instruction_at, names_below};
     ghost use Rattle.guest.specs.Language.{program_in, Gives};
 
     /// Reads the lines of a program, one instruction each.
@@ -168,6 +209,7 @@ impl Program {
         // Only `exit` stands past the last line.
         ensures inside { result ≢ Exit → line < length self.now }
         ensures within { IsProgram self.now }
+        ensures fits { IsWithin (length self.now) result }
     {
         self.lines.get(line).copied().unwrap_or(Instruction::Exit)
     }

@@ -1,4 +1,4 @@
-//! The guest language: programs of a few instructions over four registers, and the threads that
+//! The guest language: programs of a few instructions over eight registers, and the threads that
 //! run them one instruction at a time.
 //!
 //! A program's next call is a function of what it received: the relation of a program to the calls
@@ -13,7 +13,7 @@ mod refusals;
 mod tests;
 mod threads;
 
-pub use instructions::{Instruction, LINES, Program, Register};
+pub use instructions::{Instruction, Into, LINES, Program, REGISTERS, Register, Source};
 pub use laws::{instruction_has_one_line, steps_keep_calls};
 pub use refusals::{GuestError, GuestFault};
 pub use threads::Thread;

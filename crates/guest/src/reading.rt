@@ -3,11 +3,13 @@
 
 ghost use Rattle.std.specs.Prelude.{◌≡◌, ◌<◌, ◌≤◌, ◌^◌, ℕ, List, Ok, map, length, All, IfOk};
 ghost use Rattle.event_log.specs.declared.ids.TheConstants.{BUFFERS};
-ghost use Rattle.guest.specs.Instructions.{IsWithin};
+ghost use Rattle.guest.specs.Instructions.{IsSource, IsWithin};
+ghost use Rattle.guest.specs.declared.instructions.Source.TheVariants.{First};
 ghost use Rattle.event_log.specs.Reading.{read_from};
-ghost use Rattle.guest.specs.Language.{register_in, word_in, buffer_in, target_in, one_piece, three_pieces, pieces_in, line_in, at_line, program_lines, Gives};
+ghost use Rattle.guest.specs.Language.{register_in, word_in, buffer_in, words_in, target_in, one_piece, two_pieces, three_pieces, four_pieces};
+ghost use Rattle.guest.specs.Language.{pieces_in, line_in, at_line, program_lines, Gives};
 
-use crate::instructions::{Instruction, Register};
+use crate::instructions::{Instruction, Into, REGISTERS, Register, Source};
 use crate::refusals::{GuestError, GuestFault};
 use event_log::{BUFFERS, BufId};
 use std::alloc::Global;
@@ -22,6 +24,10 @@ fn register(piece: &str) -> Result<Register, GuestFault>
         "r1" => Ok(Register::Reg1),
         "r2" => Ok(Register::Reg2),
         "r3" => Ok(Register::Reg3),
+        "r4" => Ok(Register::Reg4),
+        "r5" => Ok(Register::Reg5),
+        "r6" => Ok(Register::Reg6),
+        "r7" => Ok(Register::Reg7),
         _ => Err(GuestFault::BadRegister),
     }
 }
@@ -43,6 +49,18 @@ fn buffer(piece: &str) -> Result<BufId, GuestFault>
     match event_log::number_to(piece.as_bytes(), BUFFERS as u64 - 1) {
         Some(number) => Ok(BufId(number as u8)),
         None => Err(GuestFault::BadNumber),
+    }
+}
+
+/// How many words a message has, as a piece spells it, from 1 to `REGISTERS`.
+#[tactic(auto, unfolding(crate::specs::Language::words_in))]
+fn words(piece: &str) -> Result<usize, GuestFault>
+    ensures words { result ≡ words_in piece.now }
+    ensures within { IfOk result (λ count. IsSource (First count)) }
+{
+    match event_log::number_to(piece.as_bytes(), REGISTERS as u64) {
+        Some(0) | None => Err(GuestFault::BadNumber),
+        Some(count) => Ok(count as usize),
     }
 }
 
@@ -79,8 +97,56 @@ fn three_pieces(
         "add" => Ok(Instruction::Add(register(first)?, register(second)?)),
         "sub" => Ok(Instruction::Sub(register(first)?, register(second)?)),
         "jnz" => Ok(Instruction::Jnz(register(first)?, target(second, count)?)),
-        "send" => Ok(Instruction::Send(buffer(first)?, register(second)?)),
-        "recv" => Ok(Instruction::Recv(buffer(first)?, register(second)?)),
+        "send" => Ok(Instruction::Send(buffer(first)?, Source::One(register(second)?), None)),
+        "recv" => Ok(Instruction::Recv(buffer(first)?, Into::One(register(second)?), None)),
+        "sendm" => Ok(Instruction::Send(buffer(first)?, Source::First(words(second)?), None)),
+        "recvm" => Ok(Instruction::Recv(buffer(first)?, Into::All, Some(target(second, count)?))),
+        _ => Err(GuestFault::UnknownWord),
+    }
+}
+
+/// The instruction of four pieces.
+#[tactic(auto, unfolding(crate::specs::Language::four_pieces))]
+fn four_pieces(
+    word: &str,
+    first: &str,
+    second: &str,
+    third: &str,
+    count: usize,
+) -> Result<Instruction, GuestFault>
+    requires { 0 < count }
+    ensures instruction { result ≡ four_pieces count word.now first.now second.now third.now }
+    ensures within { IfOk result (IsWithin count) }
+{
+    match word {
+        "send" => Ok(Instruction::Send(
+            buffer(first)?,
+            Source::One(register(second)?),
+            Some(target(third, count)?),
+        )),
+        "recv" => Ok(Instruction::Recv(
+            buffer(first)?,
+            Into::One(register(second)?),
+            Some(target(third, count)?),
+        )),
+        "sendm" => Ok(Instruction::Send(
+            buffer(first)?,
+            Source::First(words(second)?),
+            Some(target(third, count)?),
+        )),
+        _ => Err(GuestFault::UnknownWord),
+    }
+}
+
+/// The instruction of two pieces.
+#[tactic(auto, unfolding(crate::specs::Language::two_pieces))]
+fn two_pieces(word: &str, first: &str) -> Result<Instruction, GuestFault>
+    ensures instruction { result ≡ two_pieces word.now first.now }
+    ensures within { IfOk result (IsWithin 0) }
+{
+    match word {
+        "close" => Ok(Instruction::Close(buffer(first)?)),
+        "recvm" => Ok(Instruction::Recv(buffer(first)?, Into::All, None)),
         _ => Err(GuestFault::UnknownWord),
     }
 }
@@ -106,7 +172,9 @@ fn pieces(pieces: &[&str], count: usize) -> Result<Instruction, GuestFault>
 {
     match pieces {
         [word] => one_piece(word),
+        [word, first] => two_pieces(word, first),
         [word, first, second] => three_pieces(word, first, second, count),
+        [word, first, second, third] => four_pieces(word, first, second, third, count),
         _ => Err(GuestFault::UnknownWord),
     }
 }

@@ -5,16 +5,16 @@ use thiserror::Error;
 /// What is wrong with a line of a program. Each prints as its name and its number.
 #[derive(Clone, Copy, Debug, PartialEq, Eq, Error)]
 pub enum GuestFault {
-    /// The first piece is none of the eight words, or the line has not the word's number of pieces.
+    /// The first piece is none of the eleven words, or the line has not the word's number of pieces.
     #[error("UnknownWord(10)")]
     UnknownWord,
-    /// A register is wanted, and the piece is none of `r0` to `r3`.
+    /// A register is wanted, and the piece is none of `r0` to `r7`.
     #[error("BadRegister(11)")]
     BadRegister,
     /// A number is wanted, and the piece spells none, or one that is too large.
     #[error("BadNumber(12)")]
     BadNumber,
-    /// A jump's target is no line of the program.
+    /// The target of a jump or of a call is no line of the program.
     #[error("BadTarget(13)")]
     BadTarget,
     /// The program has more than 256 lines.

@@ -1,7 +1,7 @@
 //! Programs that are read and refused, and each instruction once.
 
-use crate::{GuestError, GuestFault, Instruction, Program, Register, Thread};
-use event_log::{BufId, NoMemory};
+use crate::{GuestError, GuestFault, Instruction, Into, Program, Register, Source, Thread};
+use event_log::{BufId, Msg, NoMemory};
 use std::test::Fail;
 
 /// The text of the refusal of a program, or `read`.
@@ -24,9 +24,12 @@ fn each_line_is_its_instruction(rt: HostRuntime) -> Result<(), Fail> {
         "recv 0 r3",
         "yield",
         "exit",
+        "send 3 r2 9",
+        "recv 4 r0 0",
+        "close 15",
     ];
     let program = Program::read(rt.alloc(), &lines)?;
-    assert_eq!(rt; program.len(), 8);
+    assert_eq!(rt; program.len(), 11);
     assert_eq!(rt;
         program.instruction(0),
         Instruction::Set(Register::Reg0, 18446744073709551615)
@@ -42,15 +45,57 @@ fn each_line_is_its_instruction(rt: HostRuntime) -> Result<(), Fail> {
     assert_eq!(rt; program.instruction(3), Instruction::Jnz(Register::Reg2, 7));
     assert_eq!(rt;
         program.instruction(4),
-        Instruction::Send(BufId(15), Register::Reg1)
+        Instruction::Send(BufId(15), Source::One(Register::Reg1), None)
     );
     assert_eq!(rt;
         program.instruction(5),
-        Instruction::Recv(BufId(0), Register::Reg3)
+        Instruction::Recv(BufId(0), Into::One(Register::Reg3), None)
     );
     assert_eq!(rt; program.instruction(6), Instruction::Yield);
     assert_eq!(rt; program.instruction(7), Instruction::Exit);
-    assert_eq!(rt; program.instruction(8), Instruction::Exit);
+    assert_eq!(rt;
+        program.instruction(8),
+        Instruction::Send(BufId(3), Source::One(Register::Reg2), Some(9))
+    );
+    assert_eq!(rt;
+        program.instruction(9),
+        Instruction::Recv(BufId(4), Into::One(Register::Reg0), Some(0))
+    );
+    assert_eq!(rt; program.instruction(10), Instruction::Close(BufId(15)));
+    assert_eq!(rt; program.instruction(11), Instruction::Exit);
+    Ok(())
+}
+
+#[test]
+fn messages_of_words_are_instructions(rt: HostRuntime) -> Result<(), Fail> {
+    let lines = [
+        "sendm 15 1",
+        "sendm 0 8 4",
+        "recvm 3",
+        "recvm 4 0",
+        "add r4 r7",
+    ];
+    let program = Program::read(rt.alloc(), &lines)?;
+    assert_eq!(rt;
+        program.instruction(0),
+        Instruction::Send(BufId(15), Source::First(1), None)
+    );
+    assert_eq!(rt;
+        program.instruction(1),
+        Instruction::Send(BufId(0), Source::First(8), Some(4))
+    );
+    assert_eq!(rt;
+        program.instruction(2),
+        Instruction::Recv(BufId(3), Into::All, None)
+    );
+    assert_eq!(rt;
+        program.instruction(3),
+        Instruction::Recv(BufId(4), Into::All, Some(0))
+    );
+    assert_eq!(rt;
+        program.instruction(4),
+        Instruction::Add(Register::Reg4, Register::Reg7)
+    );
     Ok(())
 }
 
@@ -62,7 +107,7 @@ fn a_copy_has_the_lines_of_its_program(rt: HostRuntime) -> Result<(), Fail> {
     assert_eq!(rt; copy.instruction(0), Instruction::Set(Register::Reg1, 7));
     assert_eq!(rt;
         copy.instruction(1),
-        Instruction::Send(BufId(0), Register::Reg1)
+        Instruction::Send(BufId(0), Source::One(Register::Reg1), None)
     );
     Ok(())
 }
@@ -135,26 +180,35 @@ fn each_fault_has_its_line_and_number(rt: HostRuntime) -> Result<(), Fail> {
 }
 
 /// Lines that are no instruction, alone in a program, each with its fault.
-const BAD_LINES: [(&str, &str); 29] = [
+const BAD_LINES: [(&str, &str); 66] = [
     ("SET r0 7", "UnknownWord(10)"),
     ("set\tr0 7", "UnknownWord(10)"),
     ("set r0 7 ", "UnknownWord(10)"),
     ("set r0 7 8", "UnknownWord(10)"),
     ("sub r0", "UnknownWord(10)"),
     ("jnz r0", "UnknownWord(10)"),
-    ("send 0 r0 r1", "UnknownWord(10)"),
+    ("send 0 r0 0 0", "UnknownWord(10)"),
+    ("recv 0 r0 0 0", "UnknownWord(10)"),
     ("recv 0", "UnknownWord(10)"),
+    ("add r0 r1 0", "UnknownWord(10)"),
+    ("jnz r0 0 0", "UnknownWord(10)"),
     ("yield 0", "UnknownWord(10)"),
-    ("close 0", "UnknownWord(10)"),
+    ("close", "UnknownWord(10)"),
+    ("close 0 0", "UnknownWord(10)"),
+    ("close 16 r9", "UnknownWord(10)"),
+    ("closed 0", "UnknownWord(10)"),
+    ("recv 16 r9 x y", "UnknownWord(10)"),
     ("set  r9 07", "UnknownWord(10)"),
     ("mul r9 07", "UnknownWord(10)"),
-    ("set r4 7", "BadRegister(11)"),
+    ("set r8 7", "BadRegister(11)"),
     ("set r00 7", "BadRegister(11)"),
     ("sub r0 R0", "BadRegister(11)"),
     ("jnz 0 0", "BadRegister(11)"),
     ("recv 0 7", "BadRegister(11)"),
     ("add r0 ", "BadRegister(11)"),
     ("jnz r9 x", "BadRegister(11)"),
+    ("send 0 r8 x", "BadRegister(11)"),
+    ("recv 0 0 9", "BadRegister(11)"),
     ("set r0 -7", "BadNumber(12)"),
     ("set r0 7a", "BadNumber(12)"),
     ("send 00 r0", "BadNumber(12)"),
@@ -164,7 +218,35 @@ const BAD_LINES: [(&str, &str); 29] = [
     ("recv 18446744073709551616 r9", "BadNumber(12)"),
     ("set r0 ", "BadNumber(12)"),
     ("jnz r0 00", "BadNumber(12)"),
+    ("close 16", "BadNumber(12)"),
+    ("close r0", "BadNumber(12)"),
+    ("close 00", "BadNumber(12)"),
+    ("send 0 r0 r1", "BadNumber(12)"),
+    ("recv 0 r0 00", "BadNumber(12)"),
+    ("send 16 r9 x", "BadNumber(12)"),
+    ("send 0 r0 ", "BadNumber(12)"),
     ("jnz r0 1", "BadTarget(13)"),
+    ("send 0 r0 1", "BadTarget(13)"),
+    ("recv 0 r0 1", "BadTarget(13)"),
+    ("recv 0 r0 99999999999999999999", "BadTarget(13)"),
+    ("sendm 0", "UnknownWord(10)"),
+    ("recvm", "UnknownWord(10)"),
+    ("sendm 0 1 0 0", "UnknownWord(10)"),
+    ("recvm 0 0 0", "UnknownWord(10)"),
+    ("sendm 0 0", "BadNumber(12)"),
+    ("sendm 0 9", "BadNumber(12)"),
+    ("sendm 0 02", "BadNumber(12)"),
+    ("sendm 0 r1", "BadNumber(12)"),
+    ("sendm 16 1", "BadNumber(12)"),
+    ("sendm 0 9 1", "BadNumber(12)"),
+    ("sendm 0 0 x", "BadNumber(12)"),
+    ("sendm 0 1 r0", "BadNumber(12)"),
+    ("recvm 16", "BadNumber(12)"),
+    ("recvm 16 1", "BadNumber(12)"),
+    ("recvm r0", "BadNumber(12)"),
+    ("recvm 0 r0", "BadNumber(12)"),
+    ("sendm 0 8 1", "BadTarget(13)"),
+    ("recvm 0 1", "BadTarget(13)"),
 ];
 
 #[test]
@@ -189,6 +271,10 @@ fn the_first_fault_of_the_first_line_counts(rt: HostRuntime) -> Result<(), Fail>
     assert_eq!(rt;
         refusal(&rt, &["exit", "jnz r9 9", "what"])?.as_str(),
         "line 1 BadRegister(11)"
+    );
+    assert_eq!(rt;
+        refusal(&rt, &["recv 0 r0 2", "send 0 r0 2", "exit r0"])?.as_str(),
+        "line 2 UnknownWord(10)"
     );
     Ok(())
 }
@@ -245,17 +331,141 @@ fn calls_move_the_thread_only_where_it_stands_at_them(rt: HostRuntime) -> Result
     let mut thread = Thread::new();
     thread.step_local(&program);
     thread.after_yield(&program);
-    thread.after_recv(&program, 7);
+    thread.after_recv(&program, Msg::one(7));
     assert_eq!(rt;
         thread.next(&program),
-        Instruction::Send(BufId(0), Register::Reg0)
+        Instruction::Send(BufId(0), Source::One(Register::Reg0), None)
+    );
+    thread.after_close(&program);
+    assert_eq!(rt;
+        thread.next(&program),
+        Instruction::Send(BufId(0), Source::One(Register::Reg0), None)
     );
     thread.after_send(&program);
-    thread.after_recv(&program, 7);
+    thread.after_recv(&program, Msg::one(7));
     assert_eq!(rt; thread.value(Register::Reg3), 7);
+    assert_eq!(rt; thread.next(&program), Instruction::Yield);
+    thread.after_closed(&program);
     assert_eq!(rt; thread.next(&program), Instruction::Yield);
     thread.after_yield(&program);
     assert_eq!(rt; thread.next(&program), Instruction::Exit);
+    Ok(())
+}
+
+#[test]
+fn a_closed_buffer_sends_the_thread_to_its_target(rt: HostRuntime) -> Result<(), Fail> {
+    let lines = [
+        "recv 0 r1 2",
+        "exit",
+        "send 0 r1",
+        "close 0",
+        "send 0 r1 6",
+        "exit",
+        "recv 0 r1",
+    ];
+    let program = Program::read(rt.alloc(), &lines)?;
+    let mut thread = Thread::new();
+    thread.after_closed(&program);
+    assert_eq!(rt; thread.value(Register::Reg1), 0);
+    assert_eq!(rt;
+        thread.next(&program),
+        Instruction::Send(BufId(0), Source::One(Register::Reg1), None)
+    );
+    thread.after_closed(&program);
+    assert_eq!(rt; thread.next(&program), Instruction::Close(BufId(0)));
+    thread.after_closed(&program);
+    thread.after_send(&program);
+    thread.step_local(&program);
+    assert_eq!(rt; thread.next(&program), Instruction::Close(BufId(0)));
+    thread.after_close(&program);
+    assert_eq!(rt;
+        thread.next(&program),
+        Instruction::Send(BufId(0), Source::One(Register::Reg1), Some(6))
+    );
+    thread.after_closed(&program);
+    assert_eq!(rt;
+        thread.next(&program),
+        Instruction::Recv(BufId(0), Into::One(Register::Reg1), None)
+    );
+    thread.after_closed(&program);
+    assert_eq!(rt; thread.next(&program), Instruction::Exit);
+    Ok(())
+}
+
+#[test]
+fn a_call_with_a_target_that_is_not_closed_goes_on(rt: HostRuntime) -> Result<(), Fail> {
+    let program = Program::read(rt.alloc(), &["send 0 r0 0", "recv 0 r1 0", "exit"])?;
+    let mut thread = Thread::new();
+    thread.after_send(&program);
+    assert_eq!(rt;
+        thread.next(&program),
+        Instruction::Recv(BufId(0), Into::One(Register::Reg1), Some(0))
+    );
+    thread.after_recv(&program, Msg::one(7));
+    assert_eq!(rt; thread.value(Register::Reg1), 7);
+    assert_eq!(rt; thread.next(&program), Instruction::Exit);
+    Ok(())
+}
+
+#[test]
+fn a_message_of_words_fills_the_registers(rt: HostRuntime) -> Result<(), Fail> {
+    let lines = [
+        "set r0 1",
+        "set r1 2",
+        "sendm 0 2",
+        "set r2 9",
+        "recvm 0",
+        "recv 0 r2",
+        "sendm 0 8",
+    ];
+    let program = Program::read(rt.alloc(), &lines)?;
+    let mut thread = Thread::new();
+    thread.step_local(&program);
+    thread.step_local(&program);
+    let sent = thread.message(Source::First(2));
+    assert_eq!(rt; sent, Msg::new(&[1, 2]));
+    thread.after_send(&program);
+    thread.step_local(&program);
+    assert_eq!(rt; thread.value(Register::Reg2), 9);
+    thread.after_recv(&program, sent);
+    assert_eq!(rt; thread.message(Source::First(3)), Msg::new(&[1, 2, 0]));
+    thread.after_recv(&program, Msg::new(&[7, 8]));
+    assert_eq!(rt; thread.message(Source::One(Register::Reg2)), Msg::one(7));
+    assert_eq!(rt;
+        thread.message(Source::First(8)),
+        Msg::new(&[1, 2, 7, 0, 0, 0, 0, 0])
+    );
+    assert_eq!(rt;
+        thread.next(&program),
+        Instruction::Send(BufId(0), Source::First(8), None)
+    );
+    Ok(())
+}
+
+#[test]
+fn all_registers_travel_in_one_message(rt: HostRuntime) -> Result<(), Fail> {
+    let program = Program::read(rt.alloc(), &["recvm 0 2", "sendm 0 8 0", "exit"])?;
+    let mut thread = Thread::new();
+    let words = Msg::new(&[1, 2, 3, 4, 5, 6, 7, 18446744073709551615]);
+    thread.after_recv(&program, words);
+    assert_eq!(rt; thread.message(Source::First(8)), words);
+    assert_eq!(rt; thread.value(Register::Reg7), 18446744073709551615);
+    thread.after_closed(&program);
+    assert_eq!(rt;
+        thread.next(&program),
+        Instruction::Recv(BufId(0), Into::All, Some(2))
+    );
+    thread.after_closed(&program);
+    assert_eq!(rt; thread.message(Source::First(8)), words);
+    assert_eq!(rt; thread.next(&program), Instruction::Exit);
+    Ok(())
+}
+
+#[test]
+fn a_program_names_the_buffers_that_it_closes(rt: HostRuntime) -> Result<(), Fail> {
+    let program = Program::read(rt.alloc(), &["send 1 r0 1", "close 3"])?;
+    assert!(rt; program.names_below(4));
+    assert!(rt; !program.names_below(3));
     Ok(())
 }
 

@@ -1,14 +1,14 @@
 //! One thread's private state, and what each instruction makes of it.
 
-use crate::instructions::{Instruction, Program, Register};
+use crate::instructions::{Instruction, Into, Program, REGISTERS, Register, Source};
 use event_log::Msg;
 use std::marker::Model;
 
-/// A thread of a program: the line at which it stands and its four registers.
+/// A thread of a program: the line at which it stands and its registers.
 #[derive(Clone, Copy)]
 pub struct Thread {
     line: usize,
-    registers: [u64; 4],
+    registers: [u64; REGISTERS],
 }
 
 impl Model for Thread {
@@ -22,8 +22,11 @@ impl Model for Thread {
 }
 
 impl Thread {
-    ghost use Rattle.std.specs.Prelude.{◌≡◌, ◌<◌};
-    ghost use Rattle.guest.specs.State.{at_start, next_of, after_local, after_yield, after_send, after_recv, value_in, moved_on, moved_with};
+    ghost use Rattle.std.specs.Prelude.{◌≡◌, ◌<◌, length};
+    ghost use Rattle.guest.specs.Instructions.{IsSource, IsWithin};
+    ghost use Rattle.guest.specs.declared.instructions.Into.TheVariants.{All};
+    ghost use Rattle.guest.specs.State.{at_start, next_of, after_local, after_yield, after_send, after_recv, after_close, after_closed, value_in};
+    ghost use Rattle.guest.specs.State.{message_from, moved_on, moved_with, moved_into, moved_aside};
 
     /// A thread before its first instruction: at line 0, each register 0.
     pub fn new() -> Thread
@@ -31,14 +34,15 @@ impl Thread {
     {
         Thread {
             line: 0,
-            registers: [0; 4],
+            registers: [0; REGISTERS],
         }
     }
 
     /// The instruction at which the thread stands. Past the program's last line it is `exit`.
     #[inline(always)]
     pub fn next(&self, program: &Program) -> Instruction
-        ensures { result ≡ next_of program.now self.now }
+        ensures next { result ≡ next_of program.now self.now }
+        ensures fits { IsWithin (length program.now) result }
     {
         let line = self.line;
         program.instruction(line)
@@ -50,6 +54,18 @@ impl Thread {
         ensures { result ≡ value_in self.now register }
     {
         self.registers[register.number()]
+    }
+
+    /// The message that a send takes from here: the number of one register, or those of the first
+    /// registers.
+    pub fn message(&self, from: Source) -> Msg
+        requires { IsSource from }
+        ensures { result ≡ message_from self.now from }
+    {
+        match from {
+            Source::One(register) => Msg::one(self.value(register)),
+            Source::First(count) => Msg::new(&self.registers[..count]),
+        }
     }
 
     /// Does the instruction at which the thread stands where that is `set`, `add`, `sub` or `jnz`,
@@ -78,12 +94,13 @@ impl Thread {
             }
             Instruction::Send(..)
             | Instruction::Recv(..)
+            | Instruction::Close(..)
             | Instruction::Yield
             | Instruction::Exit => {}
         }
     }
 
-    /// Moves the thread past the `send` at which it stands, once the call has returned. At another
+    /// Moves the thread past the `send` or `sendm` at which it stands, once the call has returned. At another
     /// instruction nothing changes. Takes no memory.
     #[inline(always)]
     pub fn after_send(&mut self, program: &Program)
@@ -94,15 +111,43 @@ impl Thread {
         }
     }
 
-    /// Moves the thread past the `recv` at which it stands, once the call has returned with
-    /// `message`, whose first word goes to the instruction's register. At another instruction
-    /// nothing changes. Takes no memory.
+    /// Moves the thread past the `recv` or `recvm` at which it stands, once the call has returned
+    /// with `message`: the first word goes to the register of `recv`, all words go to the registers
+    /// from the first on with `recvm`, and 0 to those behind. At another instruction nothing
+    /// changes. Takes no memory.
     #[inline(always)]
     pub fn after_recv(&mut self, program: &Program, message: Msg)
         ensures { self.new ≡ after_recv (next_of program.now self.old) message self.old }
     {
-        if let Instruction::Recv(_, into) = program.instruction(self.line) {
-            self.put(into, message);
+        if let Instruction::Recv(_, into, _) = program.instruction(self.line) {
+            match into {
+                Into::One(register) => self.put(register, message.first()),
+                Into::All => self.put_all(message),
+            }
+        }
+    }
+
+    /// Moves the thread past the `close` at which it stands, once the call has returned. At another
+    /// instruction nothing changes. Takes no memory.
+    #[inline(always)]
+    pub fn after_close(&mut self, program: &Program)
+        ensures { self.new ≡ after_close (next_of program.now self.old) self.old }
+    {
+        if let Instruction::Close(..) = program.instruction(self.line) {
+            self.move_on();
+        }
+    }
+
+    /// Moves the thread from the send or receive at which it stands to the call's target, or past
+    /// it where it has none, once the call has returned and found its buffer closed. The registers
+    /// stay. At another instruction nothing changes. Takes no memory.
+    #[inline(always)]
+    pub fn after_closed(&mut self, program: &Program)
+        ensures { self.new ≡ after_closed (next_of program.now self.old) self.old }
+    {
+        let instruction = program.instruction(self.line);
+        if let Instruction::Send(.., target) | Instruction::Recv(.., target) = instruction {
+            self.move_aside(target);
         }
     }
 
@@ -126,6 +171,30 @@ impl Thread {
         let index = register.number();
         self.registers[index] = number;
         self.line += 1;
+    }
+
+    /// Writes a message's words to the first registers and 0 to the others, and moves to the
+    /// following line.
+    fn put_all(&mut self, message: Msg)
+        requires { self.old.line < 256 }
+        ensures { self.new ≡ moved_into self.old All message }
+    {
+        let count = message.len();
+        self.registers = [0; REGISTERS];
+        self.registers[..count].copy_from_slice(message.words());
+        self.line += 1;
+    }
+
+    /// Moves to the target, or to the following line where there is none.
+    #[inline(always)]
+    fn move_aside(&mut self, target: Option<usize>)
+        requires { self.old.line < 256 }
+        ensures { self.new ≡ moved_aside self.old target }
+    {
+        match target {
+            Some(line) => self.line = line,
+            None => self.move_on(),
+        }
     }
 
     /// Moves to the following line.

@@ -23,7 +23,7 @@ fn buffer_in(call: &Call) -> BufId
     ensures { result ≡ buffer_of call.now }
 {
     match *call {
-        Call::Send(buffer, _) | Call::Recv(buffer) => buffer,
+        Call::Send(buffer, _) | Call::Recv(buffer) | Call::Close(buffer) => buffer,
     }
 }
 
@@ -274,6 +274,7 @@ impl<B: OwnedBuffers> Ipc<B> {
 impl<B: OpensBuffers> Owned for Ipc<B> {
     ghost use Rattle.event_log.specs.Actions.{phase};
     ghost use Rattle.event_log.specs.Buffers.{items_of};
+    ghost use Rattle.event_log.specs.Runs.{is_closed};
     ghost use Rattle.layer_traits.proofs.OwnedLemmas.{told_under};
     ghost use Rattle.layer_traits.specs.BufferEffects.{contents_of};
     ghost use Rattle.layer_traits.specs.Places.{pending_by};
@@ -287,6 +288,10 @@ impl<B: OpensBuffers> Owned for Ipc<B> {
     ghost items_in = { λ m b. B.items_at m b };
 
     ghost items_here = { λ p b. B.items_with p.lower b };
+
+    ghost closed_in = { λ m b. B.closed_at m b };
+
+    ghost closed_here = { λ p b. B.closed_with p.lower b };
 
     ghost owner_in = { λ m b. B.owner_at m b };
 
@@ -311,6 +316,14 @@ impl<B: OpensBuffers> Owned for Ipc<B> {
 
     fn buffer_here(&self, b: BufId) -> Option<ArrayVec<Msg, CAPACITY>> {
         self.lower.items_here(b)
+    }
+
+    fn closed_at_home(m: &B::Machine, b: BufId) -> Option<bool> {
+        B::closed_in(m, b)
+    }
+
+    fn closed_in_hands(&self, b: BufId) -> Option<bool> {
+        self.lower.closed_here(b)
     }
 
     fn busy_in(m: &B::Machine, b: BufId) -> Option<Option<Tid>> {
@@ -339,6 +352,11 @@ impl<B: OpensBuffers> Owned for Ipc<B> {
         (λ (p : Self). B.cpu_of p.lower) (λ d. B.IsStepwise × (is_in_section (phase d (B.acts m)) ≡ true))
         (λ d. B.IsStepwise × (is_in_section (phase d (B.acts m)) ≡ true)) (λ p. B.items_with p b) (B.items_at m b)
         (items_of (contents_of (B.caps m) (B.seen m)) b.0) (λ p fits. fits.0) (λ p fits. refl) (λ d inside. inside) (B.items m c b acts within) };
+
+    ghost closed = { λ m c b acts within. told_under (λ (p : Self). p.lower) (λ p. B.Fits p m) (λ (p : Self). Self.Fits p m) (λ p. B.cpu_of p)
+        (λ (p : Self). B.cpu_of p.lower) (λ d. B.IsStepwise × (is_in_section (phase d (B.acts m)) ≡ true))
+        (λ d. B.IsStepwise × (is_in_section (phase d (B.acts m)) ≡ true)) (λ p. B.closed_with p b) (B.closed_at m b)
+        (is_closed (B.seen m) b.0) (λ p fits. fits.0) (λ p fits. refl) (λ d inside. inside) (B.closed m c b acts within) };
 
     ghost owners = { λ m c b acts within. told_under (λ (p : Self). p.lower) (λ p. B.Fits p m) (λ (p : Self). Self.Fits p m) (λ p. B.cpu_of p)
         (λ (p : Self). B.cpu_of p.lower) (λ d. B.IsStepwise × (is_in_section (phase d (B.acts m)) ≡ true))

@@ -83,9 +83,9 @@ fn called<I: IpcLayer>(
 }
 
 /// Whether a buffer's items were told and are this message alone.
-fn is_one(items: Option<ArrayVec<Msg, CAPACITY>>, message: Msg) -> bool {
+fn is_one(items: Option<ArrayVec<Msg, CAPACITY>>, message: &Msg) -> bool {
     match items {
-        Some(items) => items.as_slice() == [message].as_slice(),
+        Some(items) => items.as_slice() == [*message].as_slice(),
         None => false,
     }
 }
@@ -104,12 +104,35 @@ where
     starts(rt, &mut part, &mut m, Tid(0));
     refuses(rt, &mut part, &mut m, Tid(0));
     assert!(rt;
-        called(&mut part, &mut m, Tid(0), &Call::Send(BufId(1), 7), 30) == Some(Reply::Sent)
+        called(
+            &mut part,
+            &mut m,
+            Tid(0),
+            &Call::Send(BufId(1), Msg::one(7)),
+            30
+        ) == Some(Reply::Sent)
     );
-    assert!(rt; is_one(I::buffer_in(&m, BufId(1)), 7));
+    assert!(rt; is_one(I::buffer_in(&m, BufId(1)), &Msg::one(7)));
     assert!(rt; I::busy_in(&m, BufId(1)) == Some(None));
     assert!(rt; part.buffer_here(BufId(1)).is_none() && part.busy_here(BufId(1)).is_none());
     assert!(rt; part.place_at(&m, Tid(0)) == Some(Place::Running(CpuId(0))));
+    Ok(())
+}
+
+/// The same machine, of whose buffers one is closed.
+fn closes<I: Owned + Drop>(rt: &impl Abort, alloc: Global) -> Result<(), NoMemory>
+where
+    I::Machine: Drop,
+{
+    let homes = [CpuId(0), CpuId(1)];
+    let mut m = I::open(alloc, 2, &[1, 2], &homes, 40)?;
+    let mut part = I::part(CpuId(0), &homes, 2);
+    assert!(rt; I::closed_at_home(&m, BufId(1)) == Some(false));
+    starts(rt, &mut part, &mut m, Tid(0));
+    assert!(rt; called(&mut part, &mut m, Tid(0), &Call::Close(BufId(1)), 15) == Some(Reply::Shut));
+    assert!(rt; I::closed_at_home(&m, BufId(1)) == Some(true));
+    assert!(rt; I::closed_at_home(&m, BufId(0)) == Some(false));
+    assert!(rt; part.closed_in_hands(BufId(1)).is_none());
     Ok(())
 }
 
@@ -134,6 +157,8 @@ enum Row {
     Boots,
     /// A machine tells of its plan, and a message is sent.
     Sends,
+    /// A buffer is closed.
+    Closes,
 }
 
 /// Runs a row over a layer of critical sections.
@@ -148,6 +173,7 @@ where
     match row {
         Row::Boots => is_ready_at_boot::<L>(rt, alloc),
         Row::Sends => runs::<Ipc<Over<L>>>(rt, alloc),
+        Row::Closes => closes::<Ipc<Over<L>>>(rt, alloc),
     }
 }
 
@@ -166,5 +192,11 @@ fn a_part_over_fresh_locks(rt: HostRuntime) -> Result<(), Fail> {
 #[test]
 fn a_tower_opens_and_sends(rt: HostRuntime) -> Result<(), Fail> {
     tower_goes(&rt, rt.alloc(), Row::Sends)?;
+    Ok(())
+}
+
+#[test]
+fn a_buffer_of_a_tower_is_closed(rt: HostRuntime) -> Result<(), Fail> {
+    tower_goes(&rt, rt.alloc(), Row::Closes)?;
     Ok(())
 }

@@ -16,7 +16,7 @@ turned : {E : Type 0} (e : E) (es : List E) → reverse (e ∷ es) ≡ reverse e
 turned e es = reverse-append (e ∷ []) es
 
 -- how many a test picks does not go by the order
-count_reversed : {E : Type 0} (picks : E → Bool) (es : List E) → count_by picks (reverse es) ≡ count_by picks es
+pub count_reversed : {E : Type 0} (picks : E → Bool) (es : List E) → count_by picks (reverse es) ≡ count_by picks es
 count_reversed picks [] = refl
 count_reversed {E} picks (e ∷ es) =
     let one = λ (x : E). if picks x then 1 else 0 in

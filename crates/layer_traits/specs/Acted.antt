@@ -1,5 +1,5 @@
 -- What the layers tell of threads is what the sections of the actions make of it.
-use Rattle.std.specs.Prelude.{◌≡◌, ℕ, List, Option, Some, map}
+use Rattle.std.specs.Prelude.{◌≡◌, ℕ, Bool, List, Option, Some, map}
 use Rattle.event_log.specs.declared.ids.BufId.{BufId}
 use Rattle.event_log.specs.declared.ids.CpuId.{CpuId}
 use Rattle.event_log.specs.declared.ids.LockId.{LockId}
@@ -33,12 +33,14 @@ guarded opening acts lock = block_after (queue_edited (lock_edited buffer_rules)
 abbrev pub owner_after : (LockId → Option (QueueBlock BufferLock)) → BufferActs → BufId → Option Tid
 owner_after opening acts b = owner_in (above_of (guarded opening acts (Buffer b)))
 
--- a buffer has a lock after these actions, and in it these items, first in front, and this capacity
-pub record ItemsAre (opening : LockId → Option (QueueBlock BufferLock)) (acts : BufferActs) (b : BufId) (items : List Message) (capacity : ℕ) : Type 0 where
+-- a buffer has a lock after these actions, and in it these items, first in front, and this capacity; and it is closed or not
+pub record ItemsAre (opening : LockId → Option (QueueBlock BufferLock)) (acts : BufferActs) (b : BufId) (items : List Message) (capacity : ℕ)
+    (closed : Bool) : Type 0 where
   pub lock : BufferLock
   pub there : above_of (guarded opening acts (Buffer b)) ≡ Some lock
   pub holds : items ≡ lock.above.items
   pub may_hold : capacity ≡ lock.above.capacity
+  pub shut : closed ≡ lock.above.closed
 
 -- the moves are those of the actions' sections; so each pending queue that is there holds who is pending by the moves; and the waiting
 -- lists of each buffer are those of its lock

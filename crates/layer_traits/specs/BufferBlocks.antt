@@ -1,20 +1,21 @@
--- A buffer's block: its two lines, its items and its counters, and what the edits make of it.
-use Rattle.std.specs.Prelude.{ℕ, ◌+◌, ◌%◌, ◌^◌, Bool, false, not, ◌&&◌, List, [], ◌∷◌, ◌++◌, length, nat_lt, Option, None, if◌then◌else◌}
+-- A buffer's block: its two lines, its items, whether it is closed, and its counters, and what the edits make of it.
+use Rattle.std.specs.Prelude.{ℕ, ◌+◌, ◌%◌, ◌^◌, Bool, true, false, not, ◌&&◌, ◌||◌, List, [], ◌∷◌, ◌++◌, length, nat_lt, Option, None, if◌then◌else◌}
 use Rattle.event_log.specs.declared.entries.Kind.{Kind}
-use Rattle.event_log.specs.declared.entries.Kind.TheVariants.{Send, Recv}
+use Rattle.event_log.specs.declared.entries.Kind.TheVariants.{Send, Recv, SendClosed, RecvClosed}
 use Rattle.event_log.specs.declared.ids.Tid.{Tid}
 use Rattle.event_log.specs.declared.ids.TheConstants.{THREADS}
 use Rattle.event_log.specs.Messages.{Message, no_message}
 use Rattle.layer_traits.specs.declared.locked.Side.{Side}
 use Rattle.layer_traits.specs.declared.locked.Side.TheVariants.{Receivers, Senders}
 use Rattle.layer_traits.specs.declared.buffer_edits.BufferEdit.{BufferEdit}
-use Rattle.layer_traits.specs.declared.buffer_edits.BufferEdit.TheVariants.{Enter, TryPut, TryTake}
+use Rattle.layer_traits.specs.declared.buffer_edits.BufferEdit.TheVariants.{Enter, TryPut, TryTake, Shut}
 use Rattle.layer_traits.specs.declared.buffer_edits.BufferOut.{BufferOut}
-use Rattle.layer_traits.specs.declared.buffer_edits.BufferOut.TheVariants.{Entered, NotYet, Done}
+use Rattle.layer_traits.specs.declared.buffer_edits.BufferOut.TheVariants.{Entered, NotYet, Done, WasShut}
 use Rattle.thread_blocks.specs.Queues.{same_tid, is_in, first, rest}
 
 -- what a buffer's block holds: who stands in line, first in front, on either side; the items, first in front; how many there is
--- room for; and, modulo 2^64, how many effects it had and how many threads entered the send line and the receive line
+-- room for; whether it is closed; and, modulo 2^64, how many effects it had, how many threads entered the send line and the receive
+-- line, and how often it was closed
 pub record BufferState : Type 0 where
   pub receive_line : List Tid
   pub send_line : List Tid
@@ -23,6 +24,8 @@ pub record BufferState : Type 0 where
   pub effects : ℕ
   pub sends : ℕ
   pub receives : ℕ
+  pub closed : Bool
+  pub closes : ℕ
 
 -- a counter of 64 bits, one further
 abbrev pub counted : ℕ → ℕ
@@ -47,15 +50,17 @@ is_first t (u ∷ queue) = same_tid t u
 abbrev pub may_join : Tid → List Tid → Bool
 may_join t queue = nat_lt t.0 THREADS && not (is_in t queue)
 
--- whether the first of a side's line may go on: a sender where there is room, a receiver where there is a message
+-- whether the first of a side's line may go on: a sender where there is room, a receiver where there is a message, and either where the
+-- buffer is closed
 abbrev pub may_go : Side → BufferState → Bool
-may_go Receivers x = nat_lt 0 (length x.items)
-may_go Senders x = nat_lt (length x.items) x.capacity
+may_go Receivers x = x.closed || nat_lt 0 (length x.items)
+may_go Senders x = x.closed || nat_lt (length x.items) x.capacity
 
--- the kind of the effect that the first of a side has where it goes on
+-- the kind of the effect that the first of a side has where it goes on: a sender puts nothing into a closed buffer, a receiver drains
+-- it first
 abbrev pub effect_kind : Side → BufferState → Kind
-effect_kind Receivers x = Recv
-effect_kind Senders x = Send
+effect_kind Receivers x = if nat_lt 0 (length x.items) then Recv else RecvClosed
+effect_kind Senders x = if x.closed then SendClosed else Send
 
 -- whether it is this thread's turn: it stands first in the line of its side, and may go on
 abbrev pub is_turn : Side → Tid → BufferState → Bool
@@ -79,31 +84,43 @@ abbrev pub entered : Side → Tid → BufferState → BufferState
 entered Receivers t x = record x { receive_line = x.receive_line ++ t ∷ []; receives = counted x.receives }
 entered Senders t x = record x { send_line = x.send_line ++ t ∷ []; sends = counted x.sends }
 
--- the first of the send line has put this message
-abbrev pub put_in : Message → BufferState → BufferState
-put_in m x = record x { send_line = rest x.send_line; items = x.items ++ m ∷ []; effects = counted x.effects }
+-- the items behind a put of this message: a closed buffer takes none
+abbrev pub items_put : Bool → Message → List Message → List Message
+items_put true m items = items
+items_put false m items = items ++ m ∷ []
 
--- the first of the receive line has taken the first message
+-- the first of the send line has put this message, or was answered that the buffer is closed
+abbrev pub put_in : Message → BufferState → BufferState
+put_in m x = record x { send_line = rest x.send_line; items = items_put x.closed m x.items; effects = counted x.effects }
+
+-- the first of the receive line has taken the first message, or was answered that the buffer is closed, where there is none
 abbrev pub taken_out : BufferState → BufferState
 taken_out x = record x { receive_line = rest x.receive_line; items = other_items x.items; effects = counted x.effects }
+
+-- the buffer has been closed
+abbrev pub shut : BufferState → BufferState
+shut x = record x { closed = true; effects = counted x.effects; closes = counted x.closes }
 
 -- the thread that edits
 abbrev pub editor : BufferEdit → Tid
 editor (Enter t side) = t
 editor (TryPut t m) = t
 editor (TryTake t) = t
+editor (Shut t) = t
 
 -- the block after an edit: a try whose turn it is not leaves it as it was
 abbrev pub buffer_edited : BufferEdit → BufferState → BufferState
 buffer_edited (Enter t side) x = if may_join t (line_of side x) then entered side t x else x
 buffer_edited (TryPut t m) x = if is_turn Senders t x then put_in m x else x
 buffer_edited (TryTake t) x = if is_turn Receivers t x then taken_out x else x
+buffer_edited (Shut t) x = shut x
 
--- the answer of an edit: the position drawn; the effect; or that it is not the thread's turn yet
+-- the answer of an edit: the position drawn; the effect; that it is not the thread's turn yet; or the numbers of the close
 abbrev pub buffer_answer : BufferEdit → BufferState → BufferOut
 buffer_answer (Enter t side) x = Entered (places_of side x)
 buffer_answer (TryPut t m) x = if is_turn Senders t x then Done (effect_kind Senders x) x.effects m else NotYet
 buffer_answer (TryTake t) x = if is_turn Receivers t x then Done (effect_kind Receivers x) x.effects (first_item x.items) else NotYet
+buffer_answer (Shut t) x = WasShut x.effects x.closes
 
 -- a buffer at the start
 abbrev pub empty_block : ℕ → BufferState
@@ -115,4 +132,6 @@ empty_block capacity = record {
   effects = 0;
   sends = 0;
   receives = 0;
+  closed = false;
+  closes = 0;
 }

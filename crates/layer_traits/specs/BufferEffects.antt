@@ -4,6 +4,7 @@ use Rattle.std.specs.Prelude.{◌≡◌, ℕ, ◌%◌, ◌^◌, ◌<◌, Bool, f
 use Rattle.std.specs.Prelude.{slice_index, Option, Some, None, option_map, option_to_list, if◌then◌else◌}
 use Rattle.event_log.specs.declared.entries.Entry.{Entry}
 use Rattle.event_log.specs.declared.entries.Kind.{Kind}
+use Rattle.event_log.specs.declared.entries.Kind.TheVariants.{Close}
 use Rattle.event_log.specs.declared.ids.BufId.{BufId}
 use Rattle.event_log.specs.declared.ids.CpuId.{CpuId}
 use Rattle.event_log.specs.declared.ids.LockId.{LockId}
@@ -11,14 +12,14 @@ use Rattle.event_log.specs.declared.ids.LockId.TheVariants.{Pending, Buffer}
 use Rattle.event_log.specs.declared.ids.Tid.{Tid}
 use Rattle.event_log.specs.Buffers.{IsAllowedEffect, empty_buffers, items_of}
 use Rattle.event_log.specs.History.{same_lock}
-use Rattle.event_log.specs.Messages.{Message}
+use Rattle.event_log.specs.Messages.{Message, no_message}
 use Rattle.event_log.specs.Runs.{after_entry, count_of, count_of_kind, is_closed}
 use Rattle.layer_traits.specs.declared.locked.QEdit.TheVariants.{Acquire, Inside, Release}
 use Rattle.layer_traits.specs.declared.locked.Side.{Side}
 use Rattle.layer_traits.specs.declared.locked.Side.TheVariants.{Receivers, Senders}
 use Rattle.layer_traits.specs.declared.conditions.CvEdit.TheVariants.{Edit, SignalFront}
 use Rattle.layer_traits.specs.declared.buffer_edits.BufferEdit.{BufferEdit}
-use Rattle.layer_traits.specs.declared.buffer_edits.BufferEdit.TheVariants.{Enter, TryPut, TryTake}
+use Rattle.layer_traits.specs.declared.buffer_edits.BufferEdit.TheVariants.{Enter, TryPut, TryTake, Shut}
 use Rattle.layer_traits.specs.Conditions.{CvCall}
 use Rattle.layer_traits.specs.BufferBlocks.{effect_kind, empty_block, first_item, is_turn, places_of}
 use Rattle.layer_traits.specs.BufferProtocol.{BufferLock, BufferSection, buffer_at}
@@ -33,6 +34,7 @@ is_enter Senders t (Inside (Edit (Enter u Receivers))) = false
 is_enter Senders t (Inside (Edit (Enter u Senders))) = same_tid u t
 is_enter side t (Inside (Edit (TryPut u m))) = false
 is_enter side t (Inside (Edit (TryTake u))) = false
+is_enter side t (Inside (Edit (Shut u))) = false
 is_enter side t (Inside (SignalFront u at)) = false
 is_enter side t (Release leave) = false
 
@@ -53,7 +55,8 @@ drawn opening lock side t (s ∷ past) =
 abbrev pub entry : CpuId → Tid → Kind → BufId → Message → ℕ → ℕ → Entry
 entry cpu t kind b value op pos = record { cpu = cpu; thread = t; kind = kind; buffer = b; value = value; op = op; pos = pos }
 
--- the effect of a call on a lock's buffer: a try at its thread's turn has one, with the position that its thread drew
+-- the effect of a call on a lock's buffer: a try at its thread's turn has one, with the position that its thread drew; a close has one,
+-- whose position is the number of those before it
 abbrev pub effect_on : CpuId → BufId → CvCall BufferEdit → (Side → Tid → ℕ) → Option BufferLock → Option Entry
 effect_on cpu b call position None = None
 effect_on cpu b (Acquire t) position (Some lock) = None
@@ -66,6 +69,7 @@ effect_on cpu b (Inside (Edit (TryTake t))) position (Some lock) =
     if is_turn Receivers t lock.above
     then Some (entry cpu t (effect_kind Receivers lock.above) b (first_item lock.above.items) lock.above.effects (position Receivers t))
     else None
+effect_on cpu b (Inside (Edit (Shut t))) position (Some lock) = Some (entry cpu t Close b no_message lock.above.effects lock.above.closes)
 effect_on cpu b (Inside (SignalFront t side)) position (Some lock) = None
 effect_on cpu b (Release leave) position (Some lock) = None
 

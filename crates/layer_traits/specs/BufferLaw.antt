@@ -10,9 +10,9 @@ use Rattle.event_log.specs.declared.ids.CpuId.{CpuId}
 use Rattle.event_log.specs.declared.ids.Tid.{Tid}
 use Rattle.event_log.specs.declared.ids.TheConstants.{THREADS}
 use Rattle.event_log.specs.Buffers.{IsAllowedEffect, items_of}
-use Rattle.event_log.specs.Runs.{is_closed}
+use Rattle.event_log.specs.Runs.{Closes, Receives, Sends, group_of, is_closed}
 use Rattle.event_log.specs.History.{AreForeign}
-use Rattle.event_log.specs.Messages.{Message}
+use Rattle.event_log.specs.Messages.{Message, no_message}
 use Rattle.layer_traits.specs.declared.locked.QEdit.TheVariants.{Acquire, Inside, Release}
 use Rattle.layer_traits.specs.declared.locked.QOut.{QOut}
 use Rattle.layer_traits.specs.declared.locked.QOut.TheVariants as out
@@ -23,14 +23,14 @@ use Rattle.layer_traits.specs.declared.conditions.CvLeave.TheVariants.{Leave, Wa
 use Rattle.layer_traits.specs.declared.conditions.CvOut.{CvOut}
 use Rattle.layer_traits.specs.declared.conditions.CvOut.TheVariants as answer
 use Rattle.layer_traits.specs.declared.buffer_edits.BufferEdit.{BufferEdit}
-use Rattle.layer_traits.specs.declared.buffer_edits.BufferEdit.TheVariants.{Enter, TryPut, TryTake}
+use Rattle.layer_traits.specs.declared.buffer_edits.BufferEdit.TheVariants.{Enter, TryPut, TryTake, Shut}
 use Rattle.layer_traits.specs.declared.buffer_edits.BufferOut.{BufferOut}
-use Rattle.layer_traits.specs.declared.buffer_edits.BufferOut.TheVariants.{Entered, NotYet, Done}
+use Rattle.layer_traits.specs.declared.buffer_edits.BufferOut.TheVariants.{Entered, NotYet, Done, WasShut}
 use Rattle.layer_traits.specs.declared.calls.Call.{Call}
-use Rattle.layer_traits.specs.declared.calls.Call.TheVariants.{Send, Recv}
+use Rattle.layer_traits.specs.declared.calls.Call.TheVariants.{Send, Recv, Close}
 use Rattle.layer_traits.specs.declared.calls.Effect.{Effect}
 use Rattle.layer_traits.specs.declared.calls.Reply.{Reply}
-use Rattle.layer_traits.specs.declared.calls.Reply.TheVariants.{Sent, Got}
+use Rattle.layer_traits.specs.declared.calls.Reply.TheVariants as reply
 use Rattle.layer_traits.specs.declared.queue_edits.QueueEdit.{QueueEdit}
 use Rattle.layer_traits.specs.declared.queues.QueueAnswer.{QueueAnswer}
 use Rattle.layer_traits.specs.declared.passes.Pass.{Pass}
@@ -50,34 +50,56 @@ use Rattle.layer_traits.specs.Plans.{Left, Plan, Now, Act, raised}
 abbrev pub buffer_of : Call → BufId
 buffer_of (Send b m) = b
 buffer_of (Recv b) = b
+buffer_of (Close b) = b
 
--- its own side, and the far one
+-- its own side, and the far one: a close signals to the receivers first
 abbrev pub side_of : Call → Side
 side_of (Send b m) = Senders
 side_of (Recv b) = Receivers
+side_of (Close b) = Senders
 
 abbrev pub other_side : Call → Side
 other_side (Send b m) = Receivers
 other_side (Recv b) = Senders
+other_side (Close b) = Receivers
 
--- its first edit once it owns the lock, and the edit that it tries
+-- its first edit once it owns the lock, and the edit that it tries: a close has done all with its first
 abbrev pub first_of : Tid → Call → BufferEdit
 first_of t (Send b m) = Enter t Senders
 first_of t (Recv b) = Enter t Receivers
+first_of t (Close b) = Shut t
 
 abbrev pub try_of : Tid → Call → BufferEdit
 try_of t (Send b m) = TryPut t m
 try_of t (Recv b) = TryTake t
+try_of t (Close b) = Shut t
 
--- whether an effect is one of this call
+-- whether an effect is one of this call: a send's offers its message, whether or not it was put
 abbrev pub IsEffectOf : Call → Effect → Type 0
-IsEffectOf (Send b m) f = (f.kind ≡ kind.Send) × (f.value ≡ m)
-IsEffectOf (Recv b) f = f.kind ≡ kind.Recv
+IsEffectOf (Send b m) f = (group_of f.kind ≡ Sends) × (f.value ≡ m)
+IsEffectOf (Recv b) f = group_of f.kind ≡ Receives
+IsEffectOf (Close b) f = group_of f.kind ≡ Closes
+
+-- the reply of a send, and of a receive of this message, after an effect of this kind
+abbrev pub reply_to_send : Kind → Reply
+reply_to_send kind.Send = reply.Sent
+reply_to_send kind.Recv = reply.Sent
+reply_to_send kind.Close = reply.Sent
+reply_to_send kind.SendClosed = reply.Closed
+reply_to_send kind.RecvClosed = reply.Sent
+
+abbrev pub reply_to_recv : Kind → Message → Reply
+reply_to_recv kind.Send value = reply.Got value
+reply_to_recv kind.Recv value = reply.Got value
+reply_to_recv kind.Close value = reply.Got value
+reply_to_recv kind.SendClosed value = reply.Got value
+reply_to_recv kind.RecvClosed value = reply.Closed
 
 -- the reply of a call after an effect of this kind with this message
 abbrev pub reply_by : Call → Kind → Message → Reply
-reply_by (Send b m) kind value = Sent
-reply_by (Recv b) kind value = Got value
+reply_by (Send b m) kind value = reply_to_send kind
+reply_by (Recv b) kind value = reply_to_recv kind value
+reply_by (Close b) kind value = reply.Shut
 
 abbrev pub reply_of : Call → Effect → Reply
 reply_of call f = reply_by call f.kind f.value
@@ -196,11 +218,15 @@ pub record RunsOn {A : Type 0} (t : Tid) (own left : Threads) (answer : Option A
   pub hand : (a : A) → answer ≡ Some a → left.hand ≡ None
   pub ended : left.ended ≡ own.ended
 
--- why a machine that does a whole call in one poll answers nothing: the buffer allows the call no effect
+-- a buffer allows an effect of this kind with this message after these
+abbrev pub Allows : List ℕ → List Entry → BufId → Kind → Message → Type 0
+Allows caps past b kind m = IsAllowedEffect kind (is_closed past b.0) (slice_index caps b.0) (items_of (contents_of caps past) b.0) m
+
+-- why a machine that does a whole call in one poll answers nothing: the buffer allows the call no effect. A close may always come
 abbrev pub IsRefused : Call → List ℕ → List Entry → Type 0
-IsRefused (Send b m) caps past = IsAllowedEffect kind.Send (is_closed past b.0) (slice_index caps b.0) (items_of (contents_of caps past) b.0) m → ⊥
-IsRefused (Recv b) caps past =
-    (m : Message) → IsAllowedEffect kind.Recv (is_closed past b.0) (slice_index caps b.0) (items_of (contents_of caps past) b.0) m → ⊥
+IsRefused (Send b m) caps past = (Allows caps past b kind.Send m → ⊥) × (Allows caps past b kind.SendClosed m → ⊥)
+IsRefused (Recv b) caps past = (m : Message) → (Allows caps past b kind.Recv m → ⊥) × (Allows caps past b kind.RecvClosed m → ⊥)
+IsRefused (Close b) caps past = ⊥
 
 -- a CPU's own state: that of its conditions, and the talk of each thread
 pub record Buffering : Type 0 where
@@ -239,16 +265,23 @@ told_by out.Queued = NotYet
 told_by (out.Did cv) = told_in cv
 told_by (out.Released cv) = NotYet
 
--- the thread has entered its line: it keeps its position, and tries next
+-- the thread has entered its line: it keeps its position, and tries next; or it has closed the buffer, and signals
 abbrev pub placed : Talk → BufferOut → Talk
 placed talk (Entered position) = record { stage = Tries; call = talk.call; position = position; effect = talk.effect }
 placed talk NotYet = talk
 placed talk (Done kind op value) = talk
+placed talk (WasShut op pos) = record {
+  stage = Signals;
+  call = talk.call;
+  position = talk.position;
+  effect = Some (record { kind = kind.Close; value = no_message; op = op; pos = pos });
+}
 
 -- the thread has tried: after its effect it signals, else it waits
 abbrev pub tried : Talk → BufferOut → Talk
 tried talk (Entered position) = record { stage = Waits; call = talk.call; position = talk.position; effect = talk.effect }
 tried talk NotYet = record { stage = Waits; call = talk.call; position = talk.position; effect = talk.effect }
+tried talk (WasShut op pos) = record { stage = Waits; call = talk.call; position = talk.position; effect = talk.effect }
 tried talk (Done kind op value) = record {
   stage = Signals;
   call = talk.call;

@@ -1,5 +1,5 @@
 -- Which section of a buffer which CPU may do after which sections: whoever enters stands in no line of the buffer, whoever tries
--- stands in the line of its side, and whoever waits tried in vain in its section before.
+-- stands in the line of its side, and whoever waits tried in vain in its section before; whoever owns the lock may close.
 use Rattle.std.specs.Prelude.{◌≡◌, Bool, true, false, not, ◌&&◌, List, [], ◌∷◌, Option, Some, None, if◌then◌else◌}
 use Rattle.event_log.specs.declared.ids.CpuId.{CpuId}
 use Rattle.event_log.specs.declared.ids.LockId.{LockId}
@@ -15,7 +15,7 @@ use Rattle.layer_traits.specs.declared.conditions.CvLeave.TheVariants.{Leave, Wa
 use Rattle.layer_traits.specs.declared.conditions.CvEdit.{CvEdit}
 use Rattle.layer_traits.specs.declared.conditions.CvOut.{CvOut}
 use Rattle.layer_traits.specs.declared.buffer_edits.BufferEdit.{BufferEdit}
-use Rattle.layer_traits.specs.declared.buffer_edits.BufferEdit.TheVariants.{Enter, TryPut, TryTake}
+use Rattle.layer_traits.specs.declared.buffer_edits.BufferEdit.TheVariants.{Enter, TryPut, TryTake, Shut}
 use Rattle.layer_traits.specs.declared.buffer_edits.BufferOut.{BufferOut}
 use Rattle.layer_traits.specs.Conditions.{CvCall, Deeds, cv_rules}
 use Rattle.layer_traits.specs.Locking.{LockRules, LockState, IsOwners, lock_after, lock_caller, owner_in}
@@ -64,9 +64,11 @@ is_try side (Acquire t) = false
 is_try Receivers (Inside (Edit (Enter t at))) = false
 is_try Receivers (Inside (Edit (TryPut t m))) = false
 is_try Receivers (Inside (Edit (TryTake t))) = true
+is_try Receivers (Inside (Edit (Shut t))) = false
 is_try Senders (Inside (Edit (Enter t at))) = false
 is_try Senders (Inside (Edit (TryPut t m))) = true
 is_try Senders (Inside (Edit (TryTake t))) = false
+is_try Senders (Inside (Edit (Shut t))) = false
 is_try side (Inside (SignalFront t at)) = false
 is_try side (Release leave) = false
 
@@ -85,6 +87,7 @@ IsDue opening past lock (Inside (Edit (Enter t side))) =
     (is_in_line Senders t (buffer_at opening past lock) ≡ false) × (is_in_line Receivers t (buffer_at opening past lock) ≡ false)
 IsDue opening past lock (Inside (Edit (TryPut t m))) = is_in_line Senders t (buffer_at opening past lock) ≡ true
 IsDue opening past lock (Inside (Edit (TryTake t))) = is_in_line Receivers t (buffer_at opening past lock) ≡ true
+IsDue opening past lock (Inside (Edit (Shut t))) = Unit {0}
 IsDue opening past lock (Inside (SignalFront t side)) = Unit {0}
 IsDue opening past lock (Release (Leave t)) = Unit {0}
 IsDue opening past lock (Release (Wait t side)) = has_tried_in_vain opening lock side t past ≡ true

@@ -1,8 +1,8 @@
-//! A buffer's block: its lines, its items and its counters.
+//! A buffer's block: its lines, its items, whether it is closed, and its counters.
 
 ghost use Rattle.std.specs.Prelude.{◌≡◌, ◌≤◌, ◌++◌, ◌∷◌, [], if◌then◌else◌};
 ghost use Rattle.event_log.specs.declared.ids.TheConstants.{CAPACITY};
-ghost use Rattle.layer_traits.specs.declared.buffer_edits.BufferEdit.TheVariants.{Enter, TryPut, TryTake};
+ghost use Rattle.layer_traits.specs.declared.buffer_edits.BufferEdit.TheVariants.{Enter, TryPut, TryTake, Shut};
 ghost use Rattle.layer_traits.specs.declared.locked.Side.TheVariants.{Receivers, Senders};
 ghost use Rattle.layer_traits.specs.BufferBlocks.{buffer_answer, buffer_edited, empty_block, front_ready, is_first, may_go, may_join};
 
@@ -14,9 +14,9 @@ use event_log::{CAPACITY, Kind, Msg, Ring, THREADS, Tid};
 use std::marker::Model;
 use thread_blocks::ThreadQueue;
 
-/// What the lock of a buffer guards: who stands in line to receive and to send, the items, and how
-/// many effects and how many entries of each line there were, modulo 2^64. No edit of it takes
-/// memory.
+/// What the lock of a buffer guards: who stands in line to receive and to send, the items, whether
+/// it is closed, and how many effects, entries of each line and closes there were, modulo 2^64. No
+/// edit of it takes memory.
 #[derive(Drop)]
 pub struct BufferBlock {
     receive_line: ThreadQueue,
@@ -26,6 +26,8 @@ pub struct BufferBlock {
     effects: u64,
     sends: u64,
     receives: u64,
+    closed: bool,
+    closes: u64,
 }
 
 impl Model for BufferBlock {
@@ -43,6 +45,8 @@ impl Model for BufferBlock {
       effects = b.effects;
       sends = b.sends;
       receives = b.receives;
+      closed = b.closed;
+      closes = b.closes;
     } };
 
     ghost invariant = { λ b. (b.capacity ≤ CAPACITY) × (length b.items ≤ b.capacity) };
@@ -57,11 +61,13 @@ impl BufferBlock {
         BufferBlock {
             receive_line: ThreadQueue::new(),
             send_line: ThreadQueue::new(),
-            items: Ring::new(0),
+            items: Ring::new(Msg::none()),
             capacity,
             effects: 0,
             sends: 0,
             receives: 0,
+            closed: false,
+            closes: 0,
         }
     }
 
@@ -72,18 +78,25 @@ impl BufferBlock {
         self.items.items()
     }
 
-    /// Whether there is room for one more item.
+    /// Whether the buffer is closed.
+    pub fn is_closed(&self) -> bool
+        ensures { result ≡ self.now.closed }
+    {
+        self.closed
+    }
+
+    /// Whether there is room for one more item, or the buffer is closed.
     fn may_put(&self) -> bool
         ensures { result ≡ may_go Senders self.now }
     {
-        self.items.len() < self.capacity
+        self.closed || self.items.len() < self.capacity
     }
 
-    /// Whether there is an item.
+    /// Whether there is an item, or the buffer is closed.
     fn may_take(&self) -> bool
         ensures { result ≡ may_go Receivers self.now }
     {
-        0 < self.items.len()
+        self.closed || 0 < self.items.len()
     }
 
     /// Lets `t` enter the line of this side, and gives its position in it.
@@ -109,7 +122,8 @@ impl BufferBlock {
         }
     }
 
-    /// Puts `message` for `t`, where it stands first in the send line and there is room.
+    /// Puts `message` for `t`, where it stands first in the send line and there is room; a closed
+    /// buffer takes no message, and tells `t` that it is closed.
     fn put(&mut self, t: Tid, message: Msg) -> BufferOut
         ensures block { self.new ≡ buffer_edited (TryPut t message) self.old }
         ensures answer { result ≡ buffer_answer (TryPut t message) self.old }
@@ -123,11 +137,15 @@ impl BufferBlock {
         let op = self.effects;
         let _ = self.send_line.pop();
         self.effects = op.wrapping_add(1);
+        if self.closed {
+            return BufferOut::Done(Kind::SendClosed, op, message);
+        }
         self.items.put(message);
         BufferOut::Done(Kind::Send, op, message)
     }
 
-    /// Takes the first item for `t`, where it stands first in the receive line and there is one.
+    /// Takes the first item for `t`, where it stands first in the receive line and there is one; a
+    /// buffer that is closed and has none tells `t` that it is closed.
     fn take(&mut self, t: Tid) -> BufferOut
         ensures block { self.new ≡ buffer_edited (TryTake t) self.old }
         ensures answer { result ≡ buffer_answer (TryTake t) self.old }
@@ -135,15 +153,30 @@ impl BufferBlock {
         if !leads(&self.receive_line, t) {
             return BufferOut::NotYet;
         }
-        match self.items.take() {
-            None => BufferOut::NotYet,
-            Some(message) => {
-                let op = self.effects;
-                let _ = self.receive_line.pop();
-                self.effects = op.wrapping_add(1);
-                BufferOut::Done(Kind::Recv, op, message)
-            }
+        if !self.may_take() {
+            return BufferOut::NotYet;
         }
+        let op = self.effects;
+        let _ = self.receive_line.pop();
+        self.effects = op.wrapping_add(1);
+        match self.items.take() {
+            None => BufferOut::Done(Kind::RecvClosed, op, Msg::none()),
+            Some(message) => BufferOut::Done(Kind::Recv, op, message),
+        }
+    }
+
+    /// Closes the buffer, which may be closed already, and tells how many effects and how many
+    /// closes it had before.
+    fn shut(&mut self, t: Tid) -> BufferOut
+        ensures block { self.new ≡ buffer_edited (Shut t) self.old }
+        ensures answer { result ≡ buffer_answer (Shut t) self.old }
+    {
+        let op = self.effects;
+        let position = self.closes;
+        self.closed = true;
+        self.effects = op.wrapping_add(1);
+        self.closes = position.wrapping_add(1);
+        BufferOut::WasShut(op, position)
     }
 
     /// The front of this side's line, where it may go on.
@@ -205,7 +238,10 @@ impl Guarded for BufferEdit {
 
     fn caller(self) -> Tid {
         match self {
-            BufferEdit::Enter(t, _) | BufferEdit::TryPut(t, _) | BufferEdit::TryTake(t) => t,
+            BufferEdit::Enter(t, _)
+            | BufferEdit::TryPut(t, _)
+            | BufferEdit::TryTake(t)
+            | BufferEdit::Shut(t) => t,
         }
     }
 
@@ -214,6 +250,7 @@ impl Guarded for BufferEdit {
             BufferEdit::Enter(t, side) => block.enter(t, side),
             BufferEdit::TryPut(t, message) => block.put(t, message),
             BufferEdit::TryTake(t) => block.take(t),
+            BufferEdit::Shut(t) => block.shut(t),
         }
     }
 

@@ -8,11 +8,14 @@ use event_log::{Kind, Msg, Tid};
 pub enum BufferEdit {
     /// This thread enters the line of this side and draws its position in it.
     Enter(Tid, Side),
-    /// This thread puts this message, where it stands first in the send line and there is room.
+    /// This thread puts this message, where it stands first in the send line and there is room; it
+    /// learns that the buffer is closed, where it is.
     TryPut(Tid, Msg),
     /// This thread takes the first message, where it stands first in the receive line and there is
-    /// one.
+    /// one; it learns that the buffer is closed, where it is and there is none.
     TryTake(Tid),
+    /// This thread closes the buffer, which may be closed already.
+    Shut(Tid),
 }
 
 /// What an edit of a buffer answers.
@@ -20,9 +23,12 @@ pub enum BufferEdit {
 pub enum BufferOut {
     /// The thread has this position: how many had entered this line before it, modulo 2^64.
     Entered(u64),
-    /// It was not the thread's turn, or the buffer had no room or no message: nothing was done.
+    /// It was not the thread's turn, or the buffer was open and had no room or no message: nothing
+    /// was done.
     NotYet,
     /// An effect of this kind was done, behind this many others on the buffer, modulo 2^64, with
     /// this message.
     Done(Kind, u64, Msg),
+    /// The buffer was closed, behind this many effects on it and this many closes, modulo 2^64.
+    WasShut(u64, u64),
 }

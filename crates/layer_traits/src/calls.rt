@@ -5,10 +5,14 @@ use event_log::{BufId, CpuId, Kind, Msg};
 /// A message call of a thread.
 #[derive(Clone, Copy, Debug, PartialEq, Eq)]
 pub enum Call {
-    /// Puts this message at the end of the buffer, once there is room and it is the thread's turn.
+    /// Puts this message at the end of the buffer, once there is room and it is the thread's turn;
+    /// puts nothing where the buffer is closed by then.
     Send(BufId, Msg),
-    /// Takes the first message of the buffer, once there is one and it is the thread's turn.
+    /// Takes the first message of the buffer, once there is one and it is the thread's turn; takes
+    /// nothing where the buffer is closed and empty by then.
     Recv(BufId),
+    /// Closes the buffer, which may be closed already.
+    Close(BufId),
 }
 
 /// What a message call answers.
@@ -18,21 +22,28 @@ pub enum Reply {
     Sent,
     /// This message was taken.
     Got(Msg),
+    /// The buffer was closed.
+    Shut,
+    /// The buffer is closed (error 16): no message was put, and none was left to take.
+    Closed,
     /// There is no buffer of this number (error 3): nothing was done.
     NoBuffer,
 }
 
-/// The effect of a message call: the one step in which its message was put or taken.
+/// The effect of a message call: the one step in which its message was put or taken, its buffer
+/// was closed, or it learned that the buffer is closed.
 #[derive(Clone, Copy, Debug, PartialEq, Eq)]
 pub struct Effect {
-    /// Whether a message was put or taken.
+    /// What was done to the buffer.
     pub kind: Kind,
-    /// The message.
+    /// The message; none, which is the one word 0, of a close, and of a receive that found the
+    /// buffer closed.
     pub value: Msg,
-    /// How many effects, of both kinds together, the buffer had before this one, modulo 2^64.
+    /// How many effects, of all kinds together, the buffer had before this one, modulo 2^64.
     pub op: u64,
     /// The position that the thread drew when it entered the line: how many threads had entered
-    /// that line of the buffer before it, modulo 2^64.
+    /// that line of the buffer before it, modulo 2^64; of a close, how many closes of the buffer were
+    /// before it.
     pub pos: u64,
 }
 

@@ -1,6 +1,6 @@
 //! A layer of message calls that opens a machine and tells of its blocks and threads.
 
-ghost use Rattle.std.specs.Prelude.{◌≡◌, ◌⊎◌, ◌<◌, true, [], List, Option, Some, None, IfOk, length, option_map, slice_index};
+ghost use Rattle.std.specs.Prelude.{◌≡◌, ◌⊎◌, ◌<◌, Bool, true, [], List, Option, Some, None, IfOk, length, option_map, slice_index};
 
 use crate::calls::Place;
 use crate::ipc_layers::IpcLayer;
@@ -19,6 +19,7 @@ pub trait Owned: IpcLayer {
     ghost use Rattle.event_log.specs.Actions.{phase};
     ghost use Rattle.event_log.specs.Buffers.{items_of};
     ghost use Rattle.event_log.specs.Messages.{Message};
+    ghost use Rattle.event_log.specs.Runs.{is_closed};
     ghost use Rattle.layer_traits.specs.declared.calls.Place.{Place};
     ghost use Rattle.layer_traits.specs.Acted.{ItemsAre, owner_after};
     ghost use Rattle.layer_traits.specs.BufferEffects.{contents_of};
@@ -35,6 +36,12 @@ pub trait Owned: IpcLayer {
 
     /// The items of a buffer, first in front, where its block is in the hands of the part's CPU.
     ghost items_here: { Self → BufId → Option (List Message) };
+
+    /// Whether a buffer is closed, where its block is at home in the machine.
+    ghost closed_in: { Self.Machine → BufId → Option Bool };
+
+    /// Whether a buffer is closed, where its block is in the hands of the part's CPU.
+    ghost closed_here: { Self → BufId → Option Bool };
 
     /// The owner of the lock of a buffer, where its block is at home in the machine.
     ghost owner_in: { Self.Machine → BufId → Option (Option Tid) };
@@ -73,6 +80,16 @@ pub trait Owned: IpcLayer {
     fn buffer_here(&self, b: BufId) -> Option<ArrayVec<Msg, CAPACITY>>
         ensures { option_map (λ items. items.items) result ≡ items_here self.now b };
 
+    /// Whether the buffer `b` is closed; `None` where its block is in the hands of a CPU.
+    fn closed_at_home(m: &Self::Machine, b: BufId) -> Option<bool>
+        requires acts { (c : CpuId) × Self.ActsFor m.now c }
+        requires buffer { b.0 < length (Self.caps m.now) }
+        ensures { result ≡ closed_in m.now b };
+
+    /// The same of a block in this CPU's hands; `None` where it is not there.
+    fn closed_in_hands(&self, b: BufId) -> Option<bool>
+        ensures { result ≡ closed_here self.now b };
+
     /// The owner of the lock of the buffer `b`; `None` where its block is in the hands of a CPU.
     fn busy_in(m: &Self::Machine, b: BufId) -> Option<Option<Tid>>
         requires acts { (c : CpuId) × Self.ActsFor m.now c }
@@ -103,6 +120,12 @@ pub trait Owned: IpcLayer {
         (λ p. items_here p b) (items_in m b)
         (items_of (contents_of (Self.caps m) (Self.seen m)) b.0) };
 
+    /// Law: what the machine or a part tells of whether a buffer is closed is what the effects say.
+    ghost closed: { (m : Self.Machine) (c : CpuId) (b : BufId) → Self.ActsFor m c → b.0 < length (Self.caps m)
+        → IsTold (λ (p : Self). Self.Fits p m) (λ p. Self.cpu_of p) (λ d. Self.IsStepwise × (is_in_section (phase d (Self.acts m)) ≡ true))
+        (λ p. closed_here p b) (closed_in m b)
+        (is_closed (Self.seen m) b.0) };
+
     /// Law: the owner that the machine or a part tells of a buffer's lock is the one that its last
     /// section left.
     ghost owners: { (m : Self.Machine) (c : CpuId) (b : BufId) → Self.ActsFor m c → b.0 < length (Self.caps m)
@@ -115,10 +138,11 @@ pub trait Owned: IpcLayer {
     ghost owner_is: { Self.IsStepwise → (m : Self.Machine) (c : CpuId) (b : BufId) → Self.ActsFor m c
         → owner m b ≡ owner_after (Self.opening m) (Self.acts m) b };
 
-    /// Law: where a poll is one action, what a buffer holds and may hold is what the sections of the
-    /// actions leave in its lock.
+    /// Law: where a poll is one action, what a buffer holds and may hold, and whether it is closed, is
+    /// what the sections of the actions leave in its lock.
     ghost items_are: { Self.IsStepwise → (m : Self.Machine) (c : CpuId) (b : BufId) → Self.ActsFor m c → b.0 < length (Self.caps m)
-        → ItemsAre (Self.opening m) (Self.acts m) b (items_of (contents_of (Self.caps m) (Self.seen m)) b.0) (slice_index (Self.caps m) b.0) };
+        → ItemsAre (Self.opening m) (Self.acts m) b (items_of (contents_of (Self.caps m) (Self.seen m)) b.0) (slice_index (Self.caps m) b.0)
+        (is_closed (Self.seen m) b.0) };
 
     /// Law: of each thread some CPU can tell where it stands: its home, the CPU that has it in its
     /// hand, or one that is in a section.

@@ -1,6 +1,6 @@
 //! A layer of buffers that tells of its blocks.
 
-ghost use Rattle.std.specs.Prelude.{◌≡◌, ◌<◌, true, List, Option, Some, IsSome, length, option_and_then, option_map, slice_index};
+ghost use Rattle.std.specs.Prelude.{◌≡◌, ◌<◌, Bool, true, List, Option, Some, IsSome, length, option_and_then, option_map, slice_index};
 
 use crate::buffer_layers::BufferLayer;
 use crate::moves::Line;
@@ -19,6 +19,7 @@ pub trait OwnedBuffers: BufferLayer {
     ghost use Rattle.event_log.specs.Actions.{phase};
     ghost use Rattle.event_log.specs.Buffers.{items_of};
     ghost use Rattle.event_log.specs.Messages.{Message};
+    ghost use Rattle.event_log.specs.Runs.{is_closed};
     ghost use Rattle.layer_traits.specs.declared.moves.Line.{Line};
     ghost use Rattle.layer_traits.specs.Acted.{ItemsAre, owner_after};
     ghost use Rattle.layer_traits.specs.BufferEffects.{contents_of};
@@ -36,6 +37,12 @@ pub trait OwnedBuffers: BufferLayer {
 
     /// The items of a buffer, first in front, where its block is in the hands of the part's CPU.
     ghost items_with: { Self → BufId → Option (List Message) };
+
+    /// Whether a buffer is closed, where its block is at home in the machine.
+    ghost closed_at: { Self.Machine → BufId → Option Bool };
+
+    /// Whether a buffer is closed, where its block is in the hands of the part's CPU.
+    ghost closed_with: { Self → BufId → Option Bool };
 
     /// The owner of the lock of a buffer, where its block is at home in the machine.
     ghost owner_at: { Self.Machine → BufId → Option (Option Tid) };
@@ -72,6 +79,16 @@ pub trait OwnedBuffers: BufferLayer {
     /// The same of a block in this CPU's hands; `None` where it is not there.
     fn items_here(&self, b: BufId) -> Option<ArrayVec<Msg, CAPACITY>>
         ensures { option_map (λ items. items.items) result ≡ items_with self.now b };
+
+    /// Whether the buffer `b` is closed; `None` where its block is in the hands of a CPU.
+    fn closed_in(m: &Self::Machine, b: BufId) -> Option<bool>
+        requires acts { (c : CpuId) × Self.ActsFor m.now c }
+        requires buffer { b.0 < length (Self.caps m.now) }
+        ensures { result ≡ closed_at m.now b };
+
+    /// The same of a block in this CPU's hands; `None` where it is not there.
+    fn closed_here(&self, b: BufId) -> Option<bool>
+        ensures { result ≡ closed_with self.now b };
 
     /// The owner of the lock of the buffer `b`; `None` where its block is in the hands of a CPU.
     fn owner_in(m: &Self::Machine, b: BufId) -> Option<Option<Tid>>
@@ -115,6 +132,12 @@ pub trait OwnedBuffers: BufferLayer {
         (λ p. items_with p b) (items_at m b)
         (items_of (contents_of (Self.caps m) (Self.seen m)) b.0) };
 
+    /// Law: what the machine or a part tells of whether a buffer is closed is what the effects say.
+    ghost closed: { (m : Self.Machine) (c : CpuId) (b : BufId) → Self.ActsFor m c → b.0 < length (Self.caps m)
+        → IsTold (λ (p : Self). Self.Fits p m) (λ p. Self.cpu_of p) (λ d. Self.IsStepwise × (is_in_section (phase d (Self.acts m)) ≡ true))
+        (λ p. closed_with p b) (closed_at m b)
+        (is_closed (Self.seen m) b.0) };
+
     /// Law: the owner that the machine or a part tells of a buffer's lock is the one that its last
     /// section left.
     ghost owners: { (m : Self.Machine) (c : CpuId) (b : BufId) → Self.ActsFor m c → b.0 < length (Self.caps m)
@@ -127,10 +150,11 @@ pub trait OwnedBuffers: BufferLayer {
     ghost owner_is: { Self.IsStepwise → (m : Self.Machine) (c : CpuId) (b : BufId) → Self.ActsFor m c
         → owner m b ≡ owner_after (Self.opening m) (Self.acts m) b };
 
-    /// Law: where a poll is one action, what a buffer holds and may hold is what the sections of the
-    /// actions leave in its lock.
+    /// Law: where a poll is one action, what a buffer holds and may hold, and whether it is closed, is
+    /// what the sections of the actions leave in its lock.
     ghost items_are: { Self.IsStepwise → (m : Self.Machine) (c : CpuId) (b : BufId) → Self.ActsFor m c → b.0 < length (Self.caps m)
-        → ItemsAre (Self.opening m) (Self.acts m) b (items_of (contents_of (Self.caps m) (Self.seen m)) b.0) (slice_index (Self.caps m) b.0) };
+        → ItemsAre (Self.opening m) (Self.acts m) b (items_of (contents_of (Self.caps m) (Self.seen m)) b.0) (slice_index (Self.caps m) b.0)
+        (is_closed (Self.seen m) b.0) };
 
     /// Law: the waiting lists that the machine or a part tells of a buffer are those that its last
     /// section left.

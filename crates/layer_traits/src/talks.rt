@@ -9,7 +9,7 @@ pub enum Stage {
     Between,
     /// It asks for the buffer's lock.
     Acquires,
-    /// It enters the line of its side.
+    /// It enters the line of its side, or closes the buffer.
     Enters,
     /// It tries to put or to take.
     Tries,

@@ -1,5 +1,5 @@
 -- The order of a system's traces has a spelling: there are few entries, and their numbers are in range.
-use Rattle.std.proofs.Common.{◌≡◌, ℕ, zero, suc, ◌+◌, ◌<◌, ◌≤◌, ◌^◌, Bool, List, [], ◌∷◌, ◌++◌, length, set, get_or, Some, refl, sym, ap, ◌∙◌}
+use Rattle.std.proofs.Common.{◌≡◌, ℕ, zero, suc, ◌+◌, ◌<◌, ◌≤◌, Bool, List, [], ◌∷◌, ◌++◌, length, set, get_or, Some, refl, sym, ap, ◌∙◌}
 use Rattle.std.proofs.Common.{subst, arith, inl, inr}
 use Rattle.std.specs.Prelude.{slice_get, ◌==◌, ◌&&◌}
 use Rattle.std.specs.List.{AllByRecursion, sum_by}
@@ -12,7 +12,7 @@ use Rattle.event_log.specs.Traces.{IsInterleaving}
 use Rattle.event_log.specs.Buffers.{IsAllowedEffect, items_of, empty_buffers, after_effect}
 use Rattle.event_log.specs.declared.entries.Kind.{Kind}
 use Rattle.event_log.specs.declared.entries.Kind.TheVariants.{Send, Recv, Close, SendClosed, RecvClosed}
-use Rattle.event_log.specs.Messages.{Message}
+use Rattle.event_log.specs.Messages.{IsMessage, Message}
 use Rattle.tracer.specs.TraceText.{IsValueOf}
 use Rattle.mctower.proofs.ListLemmas.{get_set}
 
@@ -50,7 +50,7 @@ order_all P traces (e ∷ order) each keeps =
 
 -- the message of an allowed effect is one of its kind
 value_allowed : (kind : Kind) (closed : Bool) (capacity : ℕ) (items : List Message) (value : Message) → IsAllowedEffect kind closed capacity items value
-    → value < 2 ^ 64 → IsValueOf kind value
+    → IsMessage value → IsValueOf kind value
 value_allowed Send closed capacity items value allowed small = small
 value_allowed Recv closed capacity items value allowed small = small
 value_allowed Close closed capacity items value allowed small = allowed
@@ -58,9 +58,9 @@ value_allowed SendClosed closed capacity items value allowed small = small
 value_allowed RecvClosed closed capacity items value allowed small = allowed.2
 
 -- the numbers of a run's entries are below any number that is not below its length, and their messages are of their kinds
-pub run_numbers : (n : ℕ) (caps : List ℕ) (earlier : List Entry) (contents : List (List ℕ)) (es : List Entry) (left : List (List ℕ))
+pub run_numbers : (n : ℕ) (caps : List ℕ) (earlier : List Entry) (contents : List (List Message)) (es : List Entry) (left : List (List Message))
     → length earlier + length es ≤ n → IsRunFrom caps earlier contents es left
-    → AllByRecursion (λ e. (e.buffer.0 < length caps) × (e.op < n) × (e.pos < n) × (e.value < 2 ^ 64 → IsValueOf e.kind e.value)) es
+    → AllByRecursion (λ e. (e.buffer.0 < length caps) × (e.op < n) × (e.pos < n) × (IsMessage e.value → IsValueOf e.kind e.value)) es
 run_numbers n caps earlier contents [] left few run = tt
 run_numbers n caps earlier contents (e ∷ es) left few run =
     let is : IsNext caps earlier contents e = run.0 in
@@ -73,11 +73,12 @@ run_numbers n caps earlier contents (e ∷ es) left few run =
     )
 
 -- what holds of the values of a run's entries holds of what the buffers hold
-push_all : (P : ℕ → Type 0) (xs : List ℕ) (x : ℕ) → AllByRecursion P xs → P x → AllByRecursion P (xs ++ x ∷ [])
+push_all : (P : Message → Type 0) (xs : List Message) (x : Message) → AllByRecursion P xs → P x → AllByRecursion P (xs ++ x ∷ [])
 push_all P [] x all here = (here, tt)
 push_all P (y ∷ xs) x all here = (all.0, push_all P xs x all.1 here)
 
-effect_all : (P : ℕ → Type 0) (kind : Kind) (items : List ℕ) (value : ℕ) → AllByRecursion P items → P value → AllByRecursion P (after_effect kind items value)
+effect_all : (P : Message → Type 0) (kind : Kind) (items : List Message) (value : Message) → AllByRecursion P items → P value
+    → AllByRecursion P (after_effect kind items value)
 effect_all P Send items value all here = push_all P items value all here
 effect_all P Recv [] value all here = tt
 effect_all P Recv (x ∷ items) value all here = all.1
@@ -85,23 +86,23 @@ effect_all P Close items value all here = all
 effect_all P SendClosed items value all here = all
 effect_all P RecvClosed items value all here = all
 
-items_all : (P : ℕ → Type 0) (contents : List (List ℕ)) (b : ℕ) → AllByRecursion (λ items. AllByRecursion P items) contents
+items_all : (P : Message → Type 0) (contents : List (List Message)) (b : ℕ) → AllByRecursion (λ items. AllByRecursion P items) contents
     → AllByRecursion P (items_of contents b)
 items_all P [] b all = tt
 items_all P (items ∷ contents) zero all = all.0
 items_all P (items ∷ contents) (suc b) all = items_all P contents b all.1
 
-set_all : (P : ℕ → Type 0) (contents : List (List ℕ)) (b : ℕ) (items : List ℕ) → AllByRecursion (λ x. AllByRecursion P x) contents
+set_all : (P : Message → Type 0) (contents : List (List Message)) (b : ℕ) (items : List Message) → AllByRecursion (λ x. AllByRecursion P x) contents
     → AllByRecursion P items → AllByRecursion (λ x. AllByRecursion P x) (set contents b items)
 set_all P [] b items all here = tt
 set_all P (x ∷ contents) zero items all here = (here, all.1)
 set_all P (x ∷ contents) (suc b) items all here = (all.0, set_all P contents b items all.1 here)
 
-pub empty_values : (P : ℕ → Type 0) (caps : List ℕ) → AllByRecursion (λ items. AllByRecursion P items) (empty_buffers caps)
+pub empty_values : (P : Message → Type 0) (caps : List ℕ) → AllByRecursion (λ items. AllByRecursion P items) (empty_buffers caps)
 empty_values P [] = tt
 empty_values P (capacity ∷ caps) = (tt, empty_values P caps)
 
-pub run_values : (P : ℕ → Type 0) (caps : List ℕ) (earlier : List Entry) (contents : List (List ℕ)) (es : List Entry) (left : List (List ℕ))
+pub run_values : (P : Message → Type 0) (caps : List ℕ) (earlier : List Entry) (contents : List (List Message)) (es : List Entry) (left : List (List Message))
     → AllByRecursion (λ items. AllByRecursion P items) contents → AllByRecursion (λ e. P e.value) es → IsRunFrom caps earlier contents es left
     → AllByRecursion (λ items. AllByRecursion P items) left
 run_values P caps earlier contents [] left now all run = subst (λ l. AllByRecursion (λ items. AllByRecursion P items) l) run now
@@ -112,7 +113,7 @@ run_values P caps earlier contents (e ∷ es) left now all run =
     all.1 run.1
 
 -- a run ends with as many buffers as it begins with
-pub run_length : (caps : List ℕ) (earlier : List Entry) (contents : List (List ℕ)) (es : List Entry) (left : List (List ℕ))
+pub run_length : (caps : List ℕ) (earlier : List Entry) (contents : List (List Message)) (es : List Entry) (left : List (List Message))
     → IsRunFrom caps earlier contents es left
     → length left ≡ length contents
 run_length caps earlier contents [] left run = sym (ap length run)

@@ -15,7 +15,7 @@ use Rattle.cpu.specs.Table.Steps.{Whole, whole_at_boot}
 use Rattle.cpu.proofs.Sounding.{setup_on}
 use Rattle.mctower.specs.Output.{IsUntouched, Output}
 use Rattle.mctower.specs.Plans.{IsOpened, IsSystemOf, table_run}
-use Rattle.mctower.specs.Running.{AreCpus, IsRunOf, IsTold, RunsPlan, first_of}
+use Rattle.mctower.specs.Running.{AreCpus, IsRunOf, IsTold, RunsPlan}
 use Rattle.mctower.specs.Texts.{IsOut, Writes}
 use Rattle.mctower.specs.declared.run.Fault.{Fault}
 use Rattle.mctower.specs.declared.run.Fault.TheVariants.{NoMemory, Boot, BadCpu, NoOrder, WriteFault}
@@ -74,11 +74,6 @@ run_of IsStepwise plan steps first last of ran boots planned table sound same on
   stay = stay;
   once = once;
 }
-
--- a fault is one without what is told beside an answer
-pub err_first : {A B : Type 0} (r : Result (A × B) Fault) (P : Fault → Type 0) → IsErrAnd r P → IsErrAnd (first_of r) P
-err_first (Ok pair) P is = is
-err_first (Err fault) P is = is
 
 -- a fault that is passed on
 err_runs : (IsStepwise : Type 0) (plan : BootPlan) (steps : List CpuId) (r : Result Shown Fault) (e : Fault) (out : Output)

@@ -1,5 +1,5 @@
 -- The text of the traces of a plan's CPUs has a spelling, and what writing it answers.
-use Rattle.std.proofs.Common.{◌≡◌, ℕ, zero, suc, ◌*◌, ◌^◌, ◌<◌, ◌≤◌, List, [], ◌∷◌}
+use Rattle.std.proofs.Common.{◌≡◌, ℕ, zero, suc, ◌*◌, ◌<◌, ◌≤◌, List, [], ◌∷◌}
 use Rattle.std.proofs.Common.{length, get_or, replicate, Some, refl, sym, ap, ◌∙◌, subst, arith}
 use Rattle.std.specs.Prelude.{slice_get, All, Result, Ok, Err, IsErrAnd}
 use Rattle.std.specs.List.{AllByRecursion, sum_by}
@@ -8,7 +8,7 @@ use Rattle.std.proofs.lemmas.List.Sums.{sum_by-cons}
 use Rattle.std.proofs.lemmas.Option.{slice_get_within}
 use Rattle.event_log.specs.declared.ids.TheConstants.{BUFFERS, CPUS, THREADS, TRACE, ENTRIES}
 use Rattle.event_log.specs.declared.entries.Entry.{Entry}
-use Rattle.event_log.specs.Messages.{Message}
+use Rattle.event_log.specs.Messages.{IsMessage, Message}
 use Rattle.event_log.specs.Runs.{IsRun}
 use Rattle.event_log.specs.Buffers.{empty_buffers, IsCapacity}
 use Rattle.event_log.specs.Traces.{IsInterleaving}
@@ -16,8 +16,12 @@ use Rattle.boot.specs.Plan.{BootPlan}
 use Rattle.tracer.specs.declared.gathering.GatherError.{GatherError}
 use Rattle.tracer.specs.declared.gathering.GatherError.TheVariants as gathering
 use Rattle.tracer.specs.Gather.{IsOrder, TakesFirstReady, HasNoOrder}
-use Rattle.tracer.specs.TraceText.{IsSpellable, IsEntryOf, IsValueOf, spelling}
+use Rattle.tracer.specs.TraceText.{AreItemsOf, IsItemOf, IsSpellable, IsEntryOf, IsValueOf, spelling}
+use Rattle.tracer.specs.Versions.{both, version_from, version_of, version_of_entry, version_of_kind, version_of_message}
+use Rattle.tracer.specs.declared.versions.Version.{Version}
+use Rattle.tracer.specs.declared.versions.Version.TheVariants.{One}
 use Rattle.tracer.proofs.OrderLemmas.{runs_have_order, run_alike}
+use Rattle.tracer.proofs.VersionLemmas.{covers_next, covers_second}
 use Rattle.event_log.specs.declared.ids.CpuId.{CpuId}
 use Rattle.cpu.specs.Boots.{homes_for}
 use Rattle.cpu.specs.Cpus.{IsOfHome}
@@ -50,18 +54,28 @@ own_range homes c few lt (e ∷ es) all =
     ((subst (λ n. n < CPUS) (sym is.cpu) lt, omega arith), own_range homes c few lt es all.1)
 
 in_range : (buffers : ℕ) (es : List Entry) → AllByRecursion (λ e. (e.cpu.0 < CPUS) × (e.thread.0 < THREADS)) es
-    → AllByRecursion (λ e. (e.buffer.0 < buffers) × (e.op < ENTRIES) × (e.pos < ENTRIES) × (e.value < 2 ^ 64 → IsValueOf e.kind e.value)) es
-    → AllByRecursion (λ e. e.value < 2 ^ 64) es → AllByRecursion (IsEntryOf buffers) es
+    → AllByRecursion (λ e. (e.buffer.0 < buffers) × (e.op < ENTRIES) × (e.pos < ENTRIES) × (IsMessage e.value → IsValueOf e.kind e.value)) es
+    → AllByRecursion (λ e. IsMessage e.value) es → AllByRecursion (IsEntryOf buffers) es
 in_range buffers [] own numbers values = tt
 in_range buffers (e ∷ es) own numbers values = (
   record { cpu = own.0.0; thread = own.0.1; buffer = numbers.0.0; value = numbers.0.3 values.0; op = numbers.0.1; pos = numbers.0.2 },
   in_range buffers es own.1 numbers.1 values.1,
 )
 
+-- the version of entries can spell the message of each
+items_of_version : (v : Version) (es : List Entry) → AllByRecursion (λ e. IsMessage e.value) es
+    → AllByRecursion (λ e. IsItemOf (version_from v es) e.value) es
+items_of_version v [] all = tt
+items_of_version v (e ∷ es) all =
+    let last = version_from (both v (version_of_entry e)) es in (
+      record { small = all.0; version = covers_second last (version_of_kind e.kind) (version_of_message e.value) (covers_next v e es) },
+      items_of_version (both v (version_of_entry e)) es all.1,
+    )
+
 -- an order of traces that have a text has a spelling
 pub has_spelling : (caps : List ℕ) (traces : List (List Entry)) (left : List (List Message)) (have : HaveText caps traces left) (order : List Entry)
-    → IsInterleaving traces order → IsRun caps order left → AllByRecursion (λ e. e.value < 2 ^ 64) order
-    → AllByRecursion (λ items. AllByRecursion (λ v. v < 2 ^ 64) items) left → IsSpellable caps order left
+    → IsInterleaving traces order → IsRun caps order left → AllByRecursion (λ e. IsMessage e.value) order
+    → AllByRecursion (AreItemsOf (version_of order)) left → IsSpellable caps order left
 has_spelling caps traces left have order keeps run values small =
     let plan = have.plan in
     let caps_are = have.caps_are in
@@ -83,7 +97,7 @@ has_spelling caps traces left have order keeps run values small =
     let here : k < CPUS = (let lt = slice_get_within traces k trace at in omega arith) in
     own_range (homes_for plan) k threads here trace (have.stay k trace at)) keeps in
     let numbers : AllByRecursion (λ (e : Entry). (e.buffer.0 < length caps) × (e.op < ENTRIES) × (e.pos < ENTRIES)
-    × (e.value < 2 ^ 64 → IsValueOf e.kind e.value)) order =
+    × (IsMessage e.value → IsValueOf e.kind e.value)) order =
     run_numbers ENTRIES caps [] (empty_buffers caps) order left (omega arith) run in
     record {
       some_buffer = subst (λ (l : List ℕ). 1 ≤ length l) (sym caps_are) have.within.caps.some;
@@ -102,16 +116,17 @@ ordered_run caps traces left order have is = run_alike traces caps have.order or
 
 -- what is to be written has a spelling
 pub spelled_so : (caps : List ℕ) (traces : List (List Entry)) (left : List (List Message)) (es : List Entry) → HaveText caps traces left
-    → IsOrder traces es → ((k : ℕ) (d : Entry) → k < length es → (get_or es k d).value < 2 ^ 64) → IsSpellable caps es left
+    → IsOrder traces es → ((k : ℕ) (d : Entry) → k < length es → IsMessage (get_or es k d).value) → IsSpellable caps es left
 spelled_so caps traces left es have is values =
-    let fit : AllByRecursion (λ (e : Entry). e.value < 2 ^ 64) es = all_by (λ e. e.value < 2 ^ 64) es (λ k d lt. values k d lt) in
+    let fit : AllByRecursion (λ (e : Entry). IsMessage e.value) es = all_by (λ e. IsMessage e.value) es (λ k d lt. values k d lt) in
     let run : IsRun caps es left = ordered_run caps traces left es have is in
     has_spelling caps traces left have es is.0 run fit
-    (run_values (λ v. v < 2 ^ 64) caps [] (empty_buffers caps) es left (empty_values (λ v. v < 2 ^ 64) caps) fit run)
+    (run_values (IsItemOf (version_of es)) caps [] (empty_buffers caps) es left (empty_values (IsItemOf (version_of es)) caps)
+    (items_of_version One es fit) run)
 
 -- what is out of it
 pub out_so : (caps : List ℕ) (traces : List (List Entry)) (left : List (List Message)) (es : List Entry) (out : Output) → HaveText caps traces left
-    → IsOrder traces es → TakesFirstReady traces es → ((k : ℕ) (d : Entry) → k < length es → (get_or es k d).value < 2 ^ 64)
+    → IsOrder traces es → TakesFirstReady traces es → ((k : ℕ) (d : Entry) → k < length es → IsMessage (get_or es k d).value)
     → IsPut out (spelling caps es left) → IsOut caps traces left out
 out_so caps traces left es out have is first values put = record {
   text = spelling caps es left;

@@ -27,6 +27,7 @@ use Rattle.layer_traits.specs.WordsProtocol.{edit_of, sections}
 use Rattle.table_machine.specs.Desks.{Board, Desk, site_of, new_desk, new_desks, Covers, IsOver, Closes}
 use Rattle.mctower.specs.declared.count.AddOne.{AddOne}
 use Rattle.mctower.specs.declared.count.TheConstants.{NUMBER}
+use Rattle.mctower.specs.declared.line.TheConstants.{MOST_TIMES}
 use Rattle.mctower.specs.Count.{counting, sections_at}
 use Rattle.mctower.specs.Workers.{made, MayGoOn, Both, HasMade, AllHaveMade, IsFresh, IsNumberOfFrees, nowhere}
 use Rattle.mctower.proofs.CountLemmas.{frees_are_sections, number_is}
@@ -229,7 +230,7 @@ module _ (times : ℕ) (board : Board ℕ) (came : List (Desk AddOne ℕ)) (bloc
   left_by_frees number is = record { log = closes.log; legal = closes.legal; keys = closes.keys; rest = closes.rest; is = is ∙ sym frees_are }
 
   -- the number that the workers left
-  pub number_is_left : board.start ≡ (NUMBER, 0) ∷ [] → board.cpus ≤ CPUS → times ≤ 1000
+  pub number_is_left : board.start ≡ (NUMBER, 0) ∷ [] → board.cpus ≤ CPUS → times ≤ MOST_TIMES
       → (slice_get blocks 0 ≡ Some (NUMBER, times * board.cpus)) × (0 < length blocks)
   number_is_left start few most =
       let secs = sections closes.log in
@@ -244,8 +245,8 @@ module _ (times : ℕ) (board : Board ℕ) (came : List (Desk AddOne ℕ)) (bloc
       let count : length blocks ≡ 1 = closes.count ∙ ap length start in
       (there.1 ∙ ap (λ (b : ℕ). Some (NUMBER, b)) number_is_that, omega arith)
     where
-      small_product : (a b : ℕ) → a ≤ 1000 → b ≤ CPUS → a * b < 2 ^ 64
-      small_product a b p q = let bound : a * b ≤ 1000 * CPUS = mul-le-mul p q in omega arith
+      small_product : (a b : ℕ) → a ≤ MOST_TIMES → b ≤ CPUS → a * b < 2 ^ 64
+      small_product a b p q = let bound : a * b ≤ MOST_TIMES * CPUS = mul-le-mul p q in omega arith
 
 pub number_read : (blocks : List (LockId × ℕ)) (n : ℕ) (o : LockId × ℕ) → slice_get blocks 0 ≡ Some (NUMBER, n) → o ≡ get_or blocks 0 o → o.1 ≡ n
 number_read blocks n o at is = ap (λ (p : LockId × ℕ). p.1) (is ∙ get_or_from_slice_get blocks 0 (NUMBER, n) o at)

@@ -15,6 +15,7 @@ use Rattle.boot.specs.declared.locks.LockKind.{LockKind}
 use Rattle.boot.specs.declared.locks.LockKind.TheVariants.{Grant}
 use Rattle.boot.specs.Locks.{lock_named}
 use Rattle.event_log.specs.declared.ids.TheConstants.{CPUS}
+use Rattle.mctower.specs.declared.line.TheConstants.{MOST_TIMES, MOST_TURNS}
 use Rattle.mctower.specs.declared.line.Order.{Order}
 use Rattle.mctower.specs.declared.line.Order.TheVariants.{Count, Run, Threads, Check}
 use Rattle.mctower.specs.declared.line.LineError.{LineError}
@@ -80,18 +81,18 @@ abbrev pub lock_asked : Option Text → Option LockKind
 lock_asked None = Some Grant
 lock_asked (Some name) = lock_named name
 
--- the order of the command `count` with these values: 1 to CPUS CPUs, 1 to 1000 sections for each, and the lock
+-- the order of the command `count` with these values: 1 to CPUS CPUs, 1 to MOST_TIMES sections for each, and the lock
 abbrev pub count_in : List Row → Option Meant
 count_in rows = option_and_then (λ cpus. option_and_then (λ times. option_map (λ lock. count cpus times lock)
-    (lock_asked (first_of (codes "lock") rows))) (number_at 1 1000 (codes "times") rows)) (number_at 1 CPUS (codes "cpus") rows)
+    (lock_asked (first_of (codes "lock") rows))) (number_at 1 MOST_TIMES (codes "times") rows)) (number_at 1 CPUS (codes "cpus") rows)
 
 -- the order of the command `run` with these values
 abbrev pub run_in : List Row → Option Meant
 run_in rows = Some (run (first_of (codes "schedule") rows))
 
--- the order of the command `threads` with these values: 1 to 1,000,000,000 turns
+-- the order of the command `threads` with these values: 1 to MOST_TURNS turns
 abbrev pub threads_in : List Row → Option Meant
-threads_in rows = option_map (λ turns. threads turns) (number_at 1 1000000000 (codes "turns") rows)
+threads_in rows = option_map (λ turns. threads turns) (number_at 1 MOST_TURNS (codes "turns") rows)
 
 -- the order of a command by its name and its values
 abbrev pub order_in : Text × List Row → Option Meant

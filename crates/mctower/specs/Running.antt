@@ -94,8 +94,3 @@ Refuses e (Err WriteFault) out = ⊥
 abbrev pub RunsText : {I J M N : Type 0} → (LockKind → Type 0) → Result BootPlan BootError → List CpuId → Result (RanOver I J M N) Fault → Output → Type 0
 RunsText IsStepwise (Ok plan) steps result out = IsOver plan.lock result × RunsPlan (IsStepwise plan.lock) plan steps (system_in result) out
 RunsText IsStepwise (Err e) steps result out = Refuses e (system_in result) out
-
--- an answer without what is told beside it
-abbrev pub first_of : {A B : Type 0} → Result (A × B) Fault → Result A Fault
-first_of (Ok pair) = Ok pair.0
-first_of (Err fault) = Err fault

@@ -5,6 +5,7 @@ use Rattle.std.specs.List.{after_first, before_first, position_or_len, slice_spl
 use Rattle.event_log.specs.Digits.{number_to}
 use Rattle.event_log.specs.declared.ids.CpuId.{CpuId}
 use Rattle.mctower.specs.declared.schedule.Item.{Item}
+use Rattle.mctower.specs.declared.schedule.TheConstants.{MOST_STEPS}
 use Rattle.mctower.specs.declared.schedule.StepsError.{StepsError}
 use Rattle.mctower.specs.declared.schedule.StepsError.TheVariants.{NoMemory, BadSchedule}
 
@@ -24,9 +25,9 @@ has_star text = nat_lt (position_or_len is_star text) (length text)
 abbrev pub cpu_of : List ℕ → Option CpuId
 cpu_of text = option_map (λ number. record { 0 = number }) (number_to 255 text)
 
--- the number of steps, 1 to 1,048,576, that a text spells
+-- the number of steps, from 1 to the most, that a text spells
 abbrev pub count_of : List ℕ → Option ℕ
-count_of text = option_and_then (λ number. if number == 0 then None else Some number) (number_to 1048576 text)
+count_of text = option_and_then (λ number. if number == 0 then None else Some number) (number_to MOST_STEPS text)
 
 -- the item `c*n` of the texts of its two numbers
 abbrev pub counted_item : List ℕ → List ℕ → Option Item
@@ -42,9 +43,9 @@ abbrev pub steps_in : List (List ℕ) → Option (List CpuId)
 steps_in [] = Some []
 steps_in (text ∷ texts) = option_and_then (λ item. option_map (λ more. replicate item.steps item.cpu ++ more) (steps_in texts)) (item_of text)
 
--- the steps, if they are at most 1,048,576
+-- the steps, if they are at most the most
 abbrev pub if_few : List CpuId → Option (List CpuId)
-if_few steps = if nat_le (length steps) 1048576 then Some steps else None
+if_few steps = if nat_le (length steps) MOST_STEPS then Some steps else None
 
 -- the steps that a text stands for: those of its items, cut at the commas
 abbrev pub steps_of : List ℕ → Option (List CpuId)

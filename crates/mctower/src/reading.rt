@@ -5,8 +5,10 @@ ghost use Rattle.event_log.specs.declared.ids.TheConstants.{CPUS, THREADS};
 ghost use Rattle.layer_traits.specs.declared.calls.Place.{Place};
 ghost use Rattle.cpu.specs.Claims.{IsPlaceOf, listed};
 ghost use Rattle.cpu.specs.Systems.{halted_in};
+ghost use Rattle.mctower.specs.Running.{lock_of, on_lock, system_of};
 ghost use Rattle.mctower.specs.State.{IsStateOf};
 
+use crate::run::Ran;
 use crate::states::State;
 use arrayvec::ArrayVec;
 use cpu::System;
@@ -44,23 +46,33 @@ where
     places
 }
 
-/// What the state lines tell of a system of so many CPUs and threads. Takes no memory.
-pub fn state_of<I: Owned + Drop>(cpus: u8, threads: usize, system: &System<I>) -> State
+/// What the state lines tell of a system. Takes no memory.
+pub fn state_of<I: Owned + Drop>(system: &System<I>) -> State
 where
     I::Machine: Drop,
-    requires few_cpus { cpus ≤ CPUS }
-    requires few_threads { threads ≤ THREADS }
-    requires cpus { length system.now.cpus ≡ cpus }
-    requires threads { length system.now.homes ≡ threads }
     ensures { IsStateOf I.IsStepwise system.now result }
 {
+    let threads = system.threads();
     let places = places_of(threads, system);
-    let halted = halted_of(cpus, system);
+    let halted = halted_of(system.cpus(), system);
     let is_quiet = system.is_quiet();
     State {
         halted,
         places,
         threads,
         is_quiet,
+    }
+}
+
+/// What the state lines tell of the system of a plan after a run. Takes no memory.
+pub fn state_after<I: Owned + Drop, J: Owned + Drop>(ran: &Ran<I, J>) -> State
+where
+    I::Machine: Drop,
+    J::Machine: Drop,
+    ensures { IsStateOf (on_lock I.IsStepwise J.IsStepwise (lock_of ran.now)) (system_of ran.now) result }
+{
+    match ran {
+        Ran::Ticket(system) => state_of(system),
+        Ran::Grant(system) => state_of(system),
     }
 }

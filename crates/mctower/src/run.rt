@@ -8,13 +8,11 @@ ghost use Rattle.tracer.specs.Sinks.{has_failed};
 ghost use Rattle.cpu.specs.Claims.{traces_of};
 ghost use Rattle.mctower.specs.Output.{between};
 ghost use Rattle.mctower.specs.Plans.{IsOfPlan, from_boot};
-ghost use Rattle.mctower.specs.Running.{RunsPlan, RunsText, first_of, lock_of, on_lock, system_of};
-ghost use Rattle.mctower.specs.State.{IsStateOf};
+ghost use Rattle.mctower.specs.Running.{RunsPlan, RunsText, on_lock};
 ghost use Rattle.mctower.specs.Texts.{Writes};
 ghost use Rattle.mctower.specs.declared.run.Fault.TheVariants.{NoMemory, NoOrder, BadCpu as BadCpuFault, WriteFault as WriteFailed};
 
-use crate::reading::state_of;
-use crate::states::State;
+use crate::schedule::MOST_STEPS;
 use crate::texts::write_text;
 use arrayvec::ArrayVec;
 use boot::{Boot, BootError, LockKind};
@@ -124,64 +122,27 @@ where
     Grant(System<J>),
 }
 
-/// What [`run_text`] does with the plan's system over these layers, and what the state lines tell of
-/// the system then.
+/// What [`run_text`] does with the plan's system over these layers.
 ///
-/// The sink must not have failed, and the steps are at most 1,048,576. Errors: those of
+/// The sink must not have failed, and the steps are at most `MOST_STEPS`. Errors: those of
 /// [`run_text`] but `Boot`.
 fn run_boot<I: Owned + Drop, W: Write>(
     alloc: Global,
     boot: &Boot,
     steps: &[CpuId],
     sink: &mut Sink<W>,
-) -> Result<(System<I>, State), Fault>
+) -> Result<System<I>, Fault>
 where
     I::Machine: Drop,
     requires live { has_failed sink.old ≡ false }
-    requires few { length steps.now ≤ 1048576 }
-    ensures runs { RunsPlan I.IsStepwise boot.now steps.now (first_of result) (between W.contents sink.old sink.new) }
-    ensures state { IfOk result (λ ran. IsStateOf I.IsStepwise ran.0 ran.1) }
+    requires few { length steps.now ≤ MOST_STEPS }
+    ensures { RunsPlan I.IsStepwise boot.now steps.now result (between W.contents sink.old sink.new) }
 {
-    let cpus = boot.cpus();
-    let threads = boot.threads();
     let caps = boot.caps();
     let mut system = System::open(alloc, boot, steps.len())?;
     system.run(steps)?;
-    write_system(alloc, cpus, caps.as_slice(), &system, sink)?;
-    let state = state_of(cpus, threads, &system);
-    Ok((system, state))
-}
-
-/// What [`run_text`] does, and what the state lines tell of the system then.
-///
-/// The sink must not have failed, and the steps are at most 1,048,576. Errors: those of
-/// [`run_text`].
-pub fn run_plan<I: Owned + Drop, J: Owned + Drop, W: Write>(
-    alloc: Global,
-    plan: &str,
-    steps: &[CpuId],
-    sink: &mut Sink<W>,
-) -> Result<(Ran<I, J>, State), Fault>
-where
-    I::Machine: Drop,
-    J::Machine: Drop,
-    requires live { has_failed sink.old ≡ false }
-    requires few { length steps.now ≤ 1048576 }
-    ensures runs { RunsText (on_lock I.IsStepwise J.IsStepwise) (plan_of plan.now) steps.now (first_of result)
-        (between W.contents sink.old sink.new) }
-    ensures state { IfOk result (λ ran. IsStateOf (on_lock I.IsStepwise J.IsStepwise (lock_of ran.0)) (system_of ran.0) ran.1) }
-{
-    let boot = Boot::read(alloc, plan)?;
-    match boot.lock() {
-        LockKind::Ticket => match run_boot::<I, W>(alloc, &boot, steps, sink) {
-            Ok((system, state)) => Ok((Ran::Ticket(system), state)),
-            Err(fault) => Err(fault),
-        },
-        LockKind::Grant => match run_boot::<J, W>(alloc, &boot, steps, sink) {
-            Ok((system, state)) => Ok((Ran::Grant(system), state)),
-            Err(fault) => Err(fault),
-        },
-    }
+    write_system(alloc, boot.cpus(), caps.as_slice(), &system, sink)?;
+    Ok(system)
 }
 
 /// Reads a plan, lets its system take the steps of a schedule, and writes the trace text: the
@@ -189,7 +150,7 @@ where
 /// last step. The system stands on the lock that the plan names, and has room for as many steps as
 /// the schedule has. Gives the system.
 ///
-/// The sink must not have failed, and the steps are at most 1,048,576.
+/// The sink must not have failed, and the steps are at most `MOST_STEPS`.
 ///
 /// Errors: the first of these. `Boot` where the plan is refused, and why; `BadCpu` where the
 /// schedule names a CPU that the plan has not; `WriteFault` exactly where the sink failed, and then
@@ -205,12 +166,19 @@ where
     I::Machine: Drop,
     J::Machine: Drop,
     requires live { has_failed sink.old ≡ false }
-    requires few { length steps.now ≤ 1048576 }
+    requires few { length steps.now ≤ MOST_STEPS }
     ensures { RunsText (on_lock I.IsStepwise J.IsStepwise) (plan_of plan.now) steps.now result (between W.contents sink.old sink.new) }
 {
-    match run_plan(alloc, plan, steps, sink) {
-        Ok((ran, _)) => Ok(ran),
-        Err(fault) => Err(fault),
+    let boot = Boot::read(alloc, plan)?;
+    match boot.lock() {
+        LockKind::Ticket => match run_boot::<I, W>(alloc, &boot, steps, sink) {
+            Ok(system) => Ok(Ran::Ticket(system)),
+            Err(fault) => Err(fault),
+        },
+        LockKind::Grant => match run_boot::<J, W>(alloc, &boot, steps, sink) {
+            Ok(system) => Ok(Ran::Grant(system)),
+            Err(fault) => Err(fault),
+        },
     }
 }
 

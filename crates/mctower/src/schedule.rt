@@ -104,7 +104,7 @@ fn read_cpu(text: &str) -> Option<CpuId>
 }
 
 fn push_steps(steps: &mut Vec<CpuId>, item: Item) -> Result<(), AllocError>
-    requires { length steps.old.items + item.steps ≤ 1048576 }
+    requires { length steps.old.items + item.steps ≤ MOST_STEPS }
     ensures { OnOk result (steps.new.items ≡ steps.old.items ++ replicate item.steps item.cpu) }
 {
     steps.resize(steps.len() + item.steps, item.cpu)

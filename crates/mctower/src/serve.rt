@@ -13,10 +13,11 @@ ghost use Rattle.mctower.specs.Serve.{Checks, Counts, Ends, OfBytes, OfInput, Pu
 use crate::count::count_plain;
 use crate::line::{MOST_TIMES, Order, read_line};
 use crate::print::print;
+use crate::reading::state_after;
 use crate::refusals::{
     Refusal, count_refused, line_refused, run_refused, status_of_refusal, steps_refused, tell,
 };
-use crate::run::run_plan;
+use crate::run::run_text;
 use crate::schedule::{MOST_STEPS, StepsError, read_steps};
 use crate::states::State;
 use crate::threads::{serve_threads, tell_stops};
@@ -187,11 +188,10 @@ where
     let Ok(plan) = str::from_utf8(bytes) else {
         return Err(Refusal::Plan(BootError::BadToml));
     };
-    let (_, state) = match run_plan::<I, J, O>(alloc, plan, steps, out) {
-        Ok(ran) => ran,
-        Err(fault) => return Err(run_refused(fault)),
-    };
-    put_out(out, &[], Done::Ran(state))
+    match run_text::<I, J, O>(alloc, plan, steps, out) {
+        Ok(ran) => put_out(out, &[], Done::Ran(state_after(&ran))),
+        Err(fault) => Err(run_refused(fault)),
+    }
 }
 
 /// Runs the plan on the input under a schedule's steps.

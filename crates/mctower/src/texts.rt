@@ -1,7 +1,8 @@
 //! The trace text of the traces of a plan's CPUs, which both a run of steps and a run in threads write.
 
-ghost use Rattle.std.specs.Prelude.{◌≡◌, ◌<◌, ◌^◌, ℕ, List, false, length, map, slice_index_or};
+ghost use Rattle.std.specs.Prelude.{◌≡◌, ◌<◌, ℕ, List, false, length, map, slice_index_or};
 ghost use Rattle.event_log.specs.declared.entries.Entry.{Entry as AnEntry};
+ghost use Rattle.event_log.specs.Messages.{IsMessage, Message};
 ghost use Rattle.tracer.specs.Gather.{traces_in};
 ghost use Rattle.tracer.specs.Judging.{verdict_of};
 ghost use Rattle.tracer.specs.Sinks.{has_failed};
@@ -19,7 +20,7 @@ use tracer::{Sink, gather, write_trace};
 /// A law: the judge says yes to the text of any traces, so `check` says yes to all that a run of
 /// steps or a run in threads writes with a good answer.
 pub fn texts_get_yes()
-    ensures { (text caps : List ℕ) (traces : List (List AnEntry)) (left : List (List ℕ)) → IsTextOf caps traces left text
+    ensures { (text caps : List ℕ) (traces : List (List AnEntry)) (left : List (List Message)) → IsTextOf caps traces left text
         → verdict_of text ≡ SaysYes }
 {}
 
@@ -45,17 +46,12 @@ pub(crate) fn write_text<W: Write>(
     Ok(())
 }
 
-// Each value has 64 bits, as its type says; a list of entries does not tell it by itself. It
-// computes nothing.
+// Each message is one, as its type says; a list of entries does not tell it by itself. It computes
+// nothing.
 fn values_fit(entries: &[Entry])
-    ensures { (k : ℕ) (d : AnEntry) → k < length entries.now → (slice_index_or entries.now k d).value < 2 ^ 64 }
+    ensures { (k : ℕ) (d : AnEntry) → k < length entries.now → IsMessage (slice_index_or entries.now k d).value }
 {
     for entry in entries {
-        value_fits(entry.value);
+        entry.value.fits();
     }
 }
-
-// A value has 64 bits.
-fn value_fits(value: Msg)
-    ensures { value < 2 ^ 64 }
-{}

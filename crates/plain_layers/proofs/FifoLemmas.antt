@@ -1,19 +1,19 @@
 -- Polls of buffers in one section a call: what they add to the effects and to the moves, and what they leave of the parts.
-use Rattle.std.proofs.Common.{◌≡◌, ◌≢◌, ℕ, ◌<◌, inl, inr, Bool, true, false, List, [], ◌∷◌, ◌++◌, length, Option, Some, None, IsSome, is_some, option_map}
+use Rattle.std.proofs.Common.{◌≡◌, ◌≢◌, ℕ, ◌<◌, inl, inr, Bool, true, false, ◌||◌, List, [], ◌∷◌, ◌++◌, length, Option, Some, None, IsSome, is_some, option_map}
 use Rattle.std.proofs.Common.{if◌then◌else◌, refl, ap, sym, ◌∙◌, subst, slice_get, option_to_list}
-use Rattle.std.proofs.Common.{slice_index, zero, suc, ◌≤◌, ◌==◌, get_or, replicate, slice_set, arith, subst₂, unwrap_or}
+use Rattle.std.specs.Prelude.{nat_lt}
+use Rattle.std.proofs.Common.{zero, suc, ◌≤◌, ◌==◌, get_or, replicate, slice_set, arith, subst₂, unwrap_or}
 use Rattle.std.proofs.lemmas.Bool.{eqb-true, eqb-false, lt-ltb}
 use Rattle.std.proofs.lemmas.List.{get_or-set_same, get_or-set_other}
 use Rattle.std.proofs.lemmas.Option.{slice_get-get_or, slice_get_within}
-use Rattle.event_log.specs.declared.entries.Kind.TheVariants as kind
+use Rattle.event_log.specs.Runs.{group_of}
 use Rattle.event_log.specs.declared.ids.Tid.{Tid}
 use Rattle.event_log.specs.declared.ids.TheConstants.{THREADS}
-use Rattle.event_log.specs.Messages.{Message, no_message}
+use Rattle.event_log.specs.Messages.{Message}
 use Rattle.layer_traits.specs.declared.calls.Call.{Call}
-use Rattle.layer_traits.specs.declared.calls.Call.TheVariants.{Send, Recv}
+use Rattle.layer_traits.specs.declared.calls.Call.TheVariants.{Send, Recv, Close}
 use Rattle.layer_traits.specs.declared.calls.Effect.{Effect}
 use Rattle.layer_traits.specs.declared.calls.Reply.{Reply}
-use Rattle.layer_traits.specs.declared.locked.Side.{Side}
 use Rattle.layer_traits.specs.declared.locked.Side.TheVariants.{Receivers, Senders}
 use Rattle.layer_traits.specs.declared.queues.QueueCall.TheVariants.{OnBuffer}
 use Rattle.layer_traits.specs.declared.talks.Stage.{Stage}
@@ -28,13 +28,12 @@ use Rattle.layer_traits.specs.Sleeping.{sleep_answer, sleep_moves}
 use Rattle.layer_traits.specs.SleepLaw.{Sleeping}
 use Rattle.layer_traits.proofs.PlaceLemmas.{current_at}
 use Rattle.sleep_wakeup.proofs.BootLemmas.{there_inside}
-use Rattle.plain_layers.specs.Attempts.{PlainState, allows, effect_at, told, wakes}
-use Rattle.plain_layers.specs.Fifos.{attempt_of, effect_by, locked_after, reply_to, talk_after}
+use Rattle.plain_layers.specs.declared.attempts.Ask.TheVariants as ask
+use Rattle.plain_layers.specs.declared.attempts.Tried.TheVariants.{Acted, Refused}
+use Rattle.plain_layers.specs.Attempts.{PlainState, allows, effect_at, effect_in, line_by, side_of, told, wakes}
+use Rattle.plain_layers.specs.Fifos.{ask_of, attempt_of, effect_by, locked_after, reply_to, talk_after}
 use Rattle.event_log.specs.declared.entries.Entry.{Entry}
-use Rattle.plain_layers.specs.FifoTallies.{Tally, plain_tally}
-use Rattle.event_log.specs.Buffers.{items_of}
-use Rattle.layer_traits.specs.BufferEffects.{contents_of}
-use Rattle.layer_traits.specs.Locking.{line_for}
+use Rattle.plain_layers.specs.FifoTallies.{Tally, kind_asked, plain_tally}
 use Rattle.plain_layers.specs.Wholes.{IsDoneWhole, asked}
 use Rattle.event_log.specs.declared.ids.BufId.{BufId}
 use Rattle.event_log.specs.declared.ids.CpuId.{CpuId}
@@ -219,29 +218,31 @@ runs_small homes c moves own legal stands room t runs =
     omega (arith, within, room)
 
 -- what an attempt answers that the buffer allows, or does not
-abbrev told_if : Bool → Message → Side → PlainState → Tried
-told_if allowed m side x =
-    if allowed then record { side = side; effect = Some (effect_at m side x); woke = wakes side x } else record { side = side; effect = None; woke = None }
+abbrev told_if : Bool → Attempt → PlainState → Tried
+told_if allowed a x = if allowed then Acted (effect_at a.ask x) (wakes a.ask x) else Refused (side_of a.ask)
 
-effect_kinds : (t : Tid) (call : Call) (x : PlainState) (f : Effect) → (told (attempt_of t call) x).effect ≡ Some f → IsEffectOf call f
-effect_kinds t (Send b m) x f is = go (allows Senders x) is
+-- its effect is the buffer's
+effect_of : (a : Attempt) (x : PlainState) (f : Effect) → effect_in (told a x) ≡ Some f → effect_at a.ask x ≡ f
+effect_of a x f is = go (allows a.ask x) is
   where
-    go : (y : Bool) → (told_if y m Senders x).effect ≡ Some f → (f.kind ≡ kind.Send) × (f.value ≡ m)
+    go : (y : Bool) → effect_in (told_if y a x) ≡ Some f → effect_at a.ask x ≡ f
     go false is = absurd cc
-    go true is =
-        let one : effect_at m Senders x ≡ f = ap (λ o. unwrap_or o f) is in
-        (sym (ap (λ (e : Effect). e.kind) one), sym (ap (λ (e : Effect). e.value) one))
-effect_kinds t (Recv b) x f is = go (allows Receivers x) is
-  where
-    go : (y : Bool) → (told_if y no_message Receivers x).effect ≡ Some f → f.kind ≡ kind.Recv
-    go false is = absurd cc
-    go true is =
-        let one : effect_at no_message Receivers x ≡ f = ap (λ o. unwrap_or o f) is in
-        sym (ap (λ (e : Effect). e.kind) one)
+    go true is = ap (λ o. unwrap_or o f) is
 
-slept_current : (side : Side) (own : Threads) → (own_slept (line_for (Some side)) own).current ≡ None
-slept_current Receivers own = refl
-slept_current Senders own = refl
+effect_kinds : (t : Tid) (call : Call) (x : PlainState) (f : Effect) → effect_in (told (attempt_of t call) x) ≡ Some f → IsEffectOf call f
+effect_kinds t (Send b m) x f is =
+    let one : f ≡ effect_at (ask.Send m) x = sym (effect_of (attempt_of t (Send b m)) x f is) in
+    (ap (λ (e : Effect). group_of e.kind) one ∙ kind_asked (ask.Send m) x, ap (λ (e : Effect). e.value) one)
+effect_kinds t (Recv b) x f is =
+    ap (λ (e : Effect). group_of e.kind) (sym (effect_of (attempt_of t (Recv b)) x f is)) ∙ kind_asked ask.Receive x
+effect_kinds t (Close b) x f is =
+    ap (λ (e : Effect). group_of e.kind) (sym (effect_of (attempt_of t (Close b)) x f is)) ∙ kind_asked ask.Close x
+
+-- who had no effect sleeps
+slept_current : (out : Tried) (own : Threads) → effect_in out ≡ None → (own_slept (line_by out) own).current ≡ None
+slept_current (Acted f woke) own none = absurd cc
+slept_current (Refused Receivers) own none = refl
+slept_current (Refused Senders) own none = refl
 
 -- a call that answers nothing had no effect
 pub reply_none : (call : Call) (effect : Option Effect) → reply_to call effect ≡ None → effect ≡ None
@@ -259,25 +260,25 @@ module _ (opening : LockId → Option (QueueBlock PlainLocked)) (c : CpuId) (b :
   sections_are (inl alone) = ap buffer_sections alone.seen
   sections_are (inr sending) = ap buffer_sections sending.seen
 
-  effect_is : (x : Option PlainLocked) → option_map (sleep_answer attempts a) x ≡ Some outcome → effect_by a x ≡ outcome.out.effect
+  effect_is : (x : Option PlainLocked) → option_map (sleep_answer attempts a) x ≡ Some outcome → effect_by a x ≡ effect_in outcome.out
   effect_is None is = absurd cc
-  effect_is (Some state) is = ap (λ (o : Option (Outcome Tried)). (unwrap_or o outcome).out.effect) is
+  effect_is (Some state) is = ap (λ (o : Option (Outcome Tried)). effect_in (unwrap_or o outcome).out) is
 
   -- the effects grow by the call's own, if it has one
   pub done_entries : entries_in (inner opening) (buffer_sections new)
-      ≡ option_to_list (option_map (entry_of c a.thread b) outcome.out.effect) ++ entries_in (inner opening) (buffer_sections old)
+      ≡ option_to_list (option_map (entry_of c a.thread b) (effect_in outcome.out)) ++ entries_in (inner opening) (buffer_sections old)
   done_entries = ap (entries_in (inner opening)) (sections_are done)
       ∙ ap (λ f. option_to_list (option_map (entry_of c a.thread b) f) ++ entries_in (inner opening) (buffer_sections old))
       (effect_is (locked_after (inner opening) (Buffer b) (buffer_sections old)) (out_is done))
 
   -- and it is one of the call
-  pub done_kind : (t : Tid) (call : Call) → a ≡ attempt_of t call → (f : Effect) → outcome.out.effect ≡ Some f → IsEffectOf call f
+  pub done_kind : (t : Tid) (call : Call) → a ≡ attempt_of t call → (f : Effect) → effect_in outcome.out ≡ Some f → IsEffectOf call f
   done_kind t call is f has = go (locked_after (inner opening) (Buffer b) (buffer_sections old)) (out_is done)
     where
       go : (x : Option PlainLocked) → option_map (sleep_answer attempts a) x ≡ Some outcome → IsEffectOf call f
       go None out = absurd cc
       go (Some state) out = effect_kinds t call state.above f
-          (subst (λ e. (told e state.above).effect ≡ Some f) is (effect_is (Some state) out ∙ has))
+          (subst (λ e. effect_in (told e state.above) ≡ Some f) is (effect_is (Some state) out ∙ has))
 
   pub done_kept : left.kept ≡ None
   done_kept = go done
@@ -315,32 +316,28 @@ module _ (opening : LockId → Option (QueueBlock PlainLocked)) (c : CpuId) (b :
   pub done_called : (Acts : CpuId → Type 0) (t : Tid) (call : Call) (talks now : List Talk) → a ≡ attempt_of t call → b ≡ buffer_of call
       → t.0 < length talks → MayTalk (talk_of talks t) call
       → ((u : Tid) → (talk_of talks u).stage ≢ Between → (talk_of talks u).effect ≡ None)
-      → now ≡ slice_set talks t.0 (talk_after call outcome.out.effect) → (answer : Option Reply) → answer ≡ reply_to call outcome.out.effect
+      → now ≡ slice_set talks t.0 (talk_after call (effect_in outcome.out)) → (answer : Option Reply) → answer ≡ reply_to call (effect_in outcome.out)
       → Called Acts c t call talks now (entries_in (inner opening) (buffer_sections old)) (entries_in (inner opening) (buffer_sections new)) answer
   done_called Acts t call talks now attempt at within may waits set answer replies = record {
     others = [];
-    mine = outcome.out.effect;
+    mine = effect_in outcome.out;
     foreign = λ d acts. tt;
-    is = done_entries ∙ ap (λ u. option_to_list (option_map (entry_of c u b) outcome.out.effect) ++ entries_in (inner opening) (buffer_sections old))
-        (by_caller call attempt)
-        ∙ ap (λ x. option_to_list (option_map (entry_of c t x) outcome.out.effect) ++ entries_in (inner opening) (buffer_sections old)) at;
+    is = done_entries ∙ ap (λ u. option_to_list (option_map (entry_of c u b) (effect_in outcome.out)) ++ entries_in (inner opening) (buffer_sections old))
+        (ap (λ (e : Attempt). e.thread) attempt)
+        ∙ ap (λ x. option_to_list (option_map (entry_of c t x) (effect_in outcome.out)) ++ entries_in (inner opening) (buffer_sections old)) at;
     fresh = λ f has. (
       none_before (talk_of talks t) (waits t),
       ap (λ (x : Talk). x.effect) mine_now
-          ∙ after_effect outcome.out.effect f has,
+          ∙ after_effect (effect_in outcome.out) f has,
       done_kind t call attempt f has,
     );
-    stays = λ none. ap (λ (x : Talk). x.effect) mine_now ∙ after_none outcome.out.effect none ∙ sym (none_before (talk_of talks t) (waits t));
-    answers = subst₂ (λ x r. Answered call x r) (sym mine_now) (sym replies) (answered outcome.out.effect);
-    apart = λ u other. ap (λ l. talk_of l u) set ∙ talk_there talks t.0 u.0 (talk_after call outcome.out.effect) other;
+    stays = λ none. ap (λ (x : Talk). x.effect) mine_now ∙ after_none (effect_in outcome.out) none ∙ sym (none_before (talk_of talks t) (waits t));
+    answers = subst₂ (λ x r. Answered call x r) (sym mine_now) (sym replies) (answered (effect_in outcome.out));
+    apart = λ u other. ap (λ l. talk_of l u) set ∙ talk_there talks t.0 u.0 (talk_after call (effect_in outcome.out)) other;
   }
     where
-      by_caller : (k : Call) → a ≡ attempt_of t k → a.thread ≡ t
-      by_caller (Send at m) is = ap (λ (e : Attempt). e.thread) is
-      by_caller (Recv at) is = ap (λ (e : Attempt). e.thread) is
-
-      mine_now : talk_of now t ≡ talk_after call outcome.out.effect
-      mine_now = ap (λ l. talk_of l t) set ∙ talk_here talks t.0 (talk_after call outcome.out.effect) within
+      mine_now : talk_of now t ≡ talk_after call (effect_in outcome.out)
+      mine_now = ap (λ l. talk_of l t) set ∙ talk_here talks t.0 (talk_after call (effect_in outcome.out)) within
 
       none_before : (talk : Talk) → (talk.stage ≢ Between → talk.effect ≡ None) → (going talk call).effect ≡ None
       none_before talk rests = by_stage talk.stage rests
@@ -370,50 +367,64 @@ module _ (opening : LockId → Option (QueueBlock PlainLocked)) (c : CpuId) (b :
 
   -- a call without an effect was refused: the buffer allows it none, and its thread sleeps
   pub done_refused : (t : Tid) (call : Call) → a ≡ attempt_of t call → b ≡ buffer_of call
-      → inner opening ≡ fresh_buffers (caps_in (inner opening)) → outcome.out.effect ≡ None
+      → inner opening ≡ fresh_buffers (caps_in (inner opening)) → effect_in outcome.out ≡ None
       → IsRefused call (caps_in (inner opening)) (entries_in (inner opening) (buffer_sections new))
   done_refused t call attempt at fresh none =
       subst (λ l. IsRefused call (caps_in (inner opening)) l)
       (sym (done_entries ∙ ap (λ f. option_to_list (option_map (entry_of c a.thread b) f) ++ entries_in (inner opening) (buffer_sections old)) none))
       (go (locked_after (inner opening) (Buffer b) (buffer_sections old)) refl (out_is done))
     where
-      refused : (k : Call) (x : PlainState) (b : ℕ) (es : List Entry) → b ≡ (buffer_of k).0 → Tally (caps_in (inner opening)) b es x
-          → (told (attempt_of t k) x).effect ≡ None → IsRefused k (caps_in (inner opening)) es
-      refused (Send at m) x n es is tally nothing = by_room (allows Senders x) refl nothing
+      E : List Entry
+      E = entries_in (inner opening) (buffer_sections old)
+
+      both : (v w : Bool) → (v || w) ≡ false → (v ≡ false) × (w ≡ false)
+      both true w none = absurd (cc none)
+      both false w none = (refl, none)
+
+      -- a buffer that does not allow it is open, and full or empty
+      barred : (k : Call) (x : PlainState) → effect_in (told (attempt_of t k) x) ≡ None → allows (ask_of k) x ≡ false
+      barred k x nothing = by (allows (ask_of k) x) nothing
         where
-          by_room : (y : Bool) → allows Senders x ≡ y → (told_if y m Senders x).effect ≡ None → IsRefused (Send at m) (caps_in (inner opening)) es
-          by_room true allowed nothing = absurd (cc nothing)
-          by_room false full nothing = λ room.
-              let here = subst (λ k. length (items_of (contents_of (caps_in (inner opening)) es) k) < slice_index (caps_in (inner opening)) k)
-              (sym is) room.1 in
-              let low : length x.items < x.capacity = subst₂ (λ (l : List Message) (n : ℕ). length l < n) tally.items tally.capacity here in
-              let yes : allows Senders x ≡ true = lt-ltb (length x.items) x.capacity low in
-              absurd (cc (yes, full))
-      refused (Recv at) x n es is tally nothing = by_item (allows Receivers x) refl nothing
-        where
-          by_item : (y : Bool) → allows Receivers x ≡ y → (told_if y no_message Receivers x).effect ≡ None → IsRefused (Recv at) (caps_in (inner opening)) es
-          by_item true allowed nothing = absurd (cc nothing)
-          by_item false empty nothing = λ m first.
-              let here = subst (λ k. slice_get (items_of (contents_of (caps_in (inner opening)) es) k) 0 ≡ Some m) (sym is) first in
-              let some : slice_get x.items 0 ≡ Some m = subst (λ (l : List Message). slice_get l 0 ≡ Some m) tally.items here in
-              let yes : allows Receivers x ≡ true = lt-ltb 0 (length x.items) (slice_get_within x.items 0 m some) in
-              absurd (cc (yes, empty))
+          by : (y : Bool) → effect_in (told_if y (attempt_of t k) x) ≡ None → y ≡ false
+          by true nothing = absurd (cc nothing)
+          by false nothing = refl
+
+      refused : (k : Call) (x : PlainState) → Tally (caps_in (inner opening)) (buffer_of k).0 E x
+          → effect_in (told (attempt_of t k) x) ≡ None → IsRefused k (caps_in (inner opening)) E
+      refused (Send at m) x tally nothing =
+          let full = both x.closed (nat_lt (length x.items) x.capacity) (barred (Send at m) x nothing) in (
+            λ room.
+                let low : length x.items < x.capacity = subst₂ (λ (l : List Message) (n : ℕ). length l < n) tally.items tally.capacity room.1 in
+                let yes : nat_lt (length x.items) x.capacity ≡ true = lt-ltb (length x.items) x.capacity low in
+                absurd (cc (yes, full.1)),
+            λ closed. absurd (cc (tally.closed, closed, full.0)),
+          )
+      refused (Recv at) x tally nothing =
+          let empty = both x.closed (nat_lt 0 (length x.items)) (barred (Recv at) x nothing) in
+          λ m. (
+            λ first.
+                let some : slice_get x.items 0 ≡ Some m = subst (λ (l : List Message). slice_get l 0 ≡ Some m) tally.items first in
+                let yes : nat_lt 0 (length x.items) ≡ true = lt-ltb 0 (length x.items) (slice_get_within x.items 0 m some) in
+                absurd (cc (yes, empty.1)),
+            λ closed. absurd (cc (tally.closed, closed.0, empty.0)),
+          )
+      refused (Close at) x tally nothing = absurd (cc nothing)
 
       go : (x : Option PlainLocked) → locked_after (inner opening) (Buffer b) (buffer_sections old) ≡ x → option_map (sleep_answer attempts a) x ≡ Some outcome
           → IsRefused call (caps_in (inner opening)) (entries_in (inner opening) (buffer_sections old))
       go None is out = absurd cc
-      go (Some state) is out = refused call state.above b.0 (entries_in (inner opening) (buffer_sections old)) (ap (λ (d : BufId). d.0) at)
-          (plain_tally (inner opening) (caps_in (inner opening)) (buffer_sections old) fresh b state is)
-          (subst (λ e. (told e state.above).effect ≡ None) attempt (effect_is (Some state) out ∙ none))
+      go (Some state) is out = refused call state.above
+          (subst (λ (d : BufId). Tally (caps_in (inner opening)) d.0 E state.above) at
+          (plain_tally (inner opening) (caps_in (inner opening)) (buffer_sections old) fresh b state is))
+          (subst (λ e. effect_in (told e state.above) ≡ None) attempt (effect_is (Some state) out ∙ none))
 
   -- and its thread sleeps
-  pub done_sleeps : outcome.out.effect ≡ None → left.threads.current ≡ None
+  pub done_sleeps : effect_in outcome.out ≡ None → left.threads.current ≡ None
   done_sleeps none = go done
     where
       asleep : (own_answered (sleep_moves attempts) (homes_in opening) c (Some outcome) own).current ≡ None
       asleep = woken_current (homes_in opening) c outcome.woke (own_slept (attempts.joins outcome.out) own)
-          ∙ ap (λ (e : Option Effect). (own_slept (if is_some e then None else line_for (Some outcome.out.side)) own).current) none
-          ∙ slept_current outcome.out.side own
+          ∙ slept_current outcome.out own none
 
       go : IsDoneWhole (asked (sleep_kernel attempts opening) c b a) old new own left outcome → left.threads.current ≡ None
       go (inl alone) = ap (λ (s : Sleeping Tried). s.threads.current) alone.leaves ∙ asleep

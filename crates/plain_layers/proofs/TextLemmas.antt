@@ -1,31 +1,50 @@
--- Entries of one buffer that may stand in a trace text.
-use Rattle.std.specs.Prelude.{◌≡◌, ◌<◌, ◌≤◌, ◌^◌}
-use Rattle.std.proofs.Common.{sym, subst, arith}
+-- Entries of one buffer, and messages of one word, that may stand in a trace text.
+use Rattle.std.specs.Prelude.{◌≡◌, ◌<◌, ◌≤◌, ◌==◌, Bool, true, ◌&&◌, length, if◌then◌else◌}
+use Rattle.std.specs.Str.{bytes_eq}
+use Rattle.std.proofs.Common.{arith, refl, subst, sym, ◌∙◌}
+use Rattle.std.proofs.lemmas.Bool.{le-ltb}
+use Rattle.std.proofs.lemmas.Slice.Eq.{bytes_eq-Decides}
+use Rattle.event_log.specs.Messages.{IsMessage, Message, no_message, padded}
 use Rattle.event_log.specs.declared.entries.Entry.{Entry}
-use Rattle.event_log.specs.declared.entries.Kind.TheVariants.{Send, Recv}
 use Rattle.event_log.specs.declared.ids.TheConstants.{CPUS, ENTRIES, THREADS}
-use Rattle.tracer.specs.TraceText.{IsEntryOf, IsValueOf}
+use Rattle.tracer.specs.declared.versions.Version.{Version}
+use Rattle.tracer.specs.declared.versions.Version.TheVariants.{One, Two, Three}
+use Rattle.tracer.specs.TraceText.{IsEntryOf, IsItemOf, IsValueOf}
+use Rattle.tracer.specs.Versions.{covers, version_of_message}
+use Rattle.tracer.proofs.MessageLemmas.{padded_eq}
 
--- a send whose numbers are in range
-pub sent : (e : Entry) → e.kind ≡ Send → e.cpu.0 < CPUS → e.thread.0 < THREADS → e.buffer.0 ≤ 0 → e.op < ENTRIES → e.pos < ENTRIES → e.value < 2 ^ 64
+-- an entry whose numbers are in range, with a message that its effect may tell
+pub entry_spelled : (e : Entry) → e.cpu.0 < CPUS → e.thread.0 < THREADS → e.buffer.0 ≤ 0 → e.op < ENTRIES → e.pos < ENTRIES → IsValueOf e.kind e.value
     → IsEntryOf 1 e
-sent e kind cpu thread buffer op pos value = record {
+entry_spelled e cpu thread buffer op pos value = record {
   cpu = cpu;
   thread = thread;
   buffer = omega (arith, buffer);
-  value = subst (λ k. IsValueOf k e.value) (sym kind) value;
+  value = value;
   op = op;
   pos = pos;
 }
 
--- and a receive
-pub received : (e : Entry) → e.kind ≡ Recv → e.cpu.0 < CPUS → e.thread.0 < THREADS → e.buffer.0 ≤ 0 → e.op < ENTRIES → e.pos < ENTRIES → e.value < 2 ^ 64
-    → IsEntryOf 1 e
-received e kind cpu thread buffer op pos value = record {
-  cpu = cpu;
-  thread = thread;
-  buffer = omega (arith, buffer);
-  value = subst (λ k. IsValueOf k e.value) (sym kind) value;
-  op = op;
-  pos = pos;
+-- a message of one word
+pub short_spelled : (m : Message) → IsMessage m → length m ≤ 1 → IsItemOf One m
+short_spelled m small few = record {
+  small = small;
+  version = subst (λ b. covers One (if b then Three else One) ≡ true) (sym (le-ltb 1 (length m) few)) refl;
 }
+
+-- what the first version covers each one does
+covers_more : (v of : Version) → covers One of ≡ true → covers v of ≡ true
+covers_more One of is = is
+covers_more Two One is = refl
+covers_more Two Two is = refl
+covers_more Two Three is = absurd (cc is)
+covers_more Three of is = refl
+
+-- so each can spell what the first can
+pub spelled_by_each : (v : Version) (m : Message) → IsItemOf One m → IsItemOf v m
+spelled_by_each v m item = record { small = item.small; version = covers_more v (version_of_message m) item.version }
+
+-- a message that was found equal to none
+pub is_none : (m none : Message) (same : Bool) → none ≡ no_message
+    → same ≡ (bytes_eq (padded m) (padded none) && (length m == length none)) → same ≡ true → m ≡ no_message
+is_none m none same nothing test is = (bytes_eq-Decides m none).0 (sym (padded_eq m none) ∙ sym test ∙ is) ∙ nothing

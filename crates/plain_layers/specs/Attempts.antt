@@ -1,78 +1,151 @@
--- A message call as one section on its buffer: a call that the buffer allows takes effect and wakes the first that waits on the other
--- side; any other waits on its own.
-use Rattle.std.specs.Prelude.{ℕ, Bool, List, [], ◌∷◌, ◌++◌, length, nat_lt, Option, Some, None, is_some, if◌then◌else◌}
+-- A message call as one section on its buffer: a call that the buffer allows takes effect and wakes at most one thread; any other waits
+-- on its own side. A close cannot wake both sides at once, so those who wait at a closed buffer are let go one after the other: a close
+-- wakes the first of them, and each that goes wakes the next.
+use Rattle.std.specs.Prelude.{ℕ, Bool, true, false, ◌&&◌, ◌||◌, List, [], length, nat_lt, Option, Some, None, is_some, if◌then◌else◌}
 use Rattle.event_log.specs.declared.entries.Kind.TheVariants as kind
 use Rattle.event_log.specs.declared.ids.Tid.{Tid}
-use Rattle.event_log.specs.Messages.{Message}
+use Rattle.event_log.specs.Messages.{Message, no_message}
 use Rattle.thread_blocks.specs.Queues.{first, rest}
 use Rattle.layer_traits.specs.declared.calls.Effect.{Effect}
 use Rattle.layer_traits.specs.declared.locked.Side.{Side}
 use Rattle.layer_traits.specs.declared.locked.Side.TheVariants.{Receivers, Senders}
+use Rattle.layer_traits.specs.declared.moves.Line.{Line}
 use Rattle.layer_traits.specs.declared.sleeps.Leave.{Leave}
 use Rattle.layer_traits.specs.declared.sleeps.Leave.TheVariants as leave
-use Rattle.layer_traits.specs.BufferBlocks.{counted, first_item, other_items}
+use Rattle.layer_traits.specs.BufferBlocks.{counted, first_item, items_put, other_items}
 use Rattle.layer_traits.specs.Locking.{line_for}
 use Rattle.layer_traits.specs.Sleeping.{SleepRules, joined}
+use Rattle.plain_layers.specs.declared.attempts.Ask.{Ask}
+use Rattle.plain_layers.specs.declared.attempts.Ask.TheVariants.{Send, Receive, Close}
 use Rattle.plain_layers.specs.declared.attempts.Attempt.{Attempt}
 use Rattle.plain_layers.specs.declared.attempts.Tried.{Tried}
+use Rattle.plain_layers.specs.declared.attempts.Tried.TheVariants.{Acted, Refused}
 
--- a buffer: its items, first in front; how many there is room for; how many effects, sends and receives it had, modulo 2^64; and who
--- waits at it, first in front
+-- a buffer: its items, first in front; how many there is room for; whether it is closed; how many effects, sends, receives and closes it
+-- had, modulo 2^64; and who waits at it, first in front
 pub record PlainState : Type 0 where
   pub items : List Message
   pub capacity : ℕ
+  pub closed : Bool
   pub effects : ℕ
   pub sends : ℕ
   pub receives : ℕ
+  pub closes : ℕ
   pub receivers : List Tid
   pub senders : List Tid
 
 -- a buffer at the start
 abbrev pub empty_buffer : ℕ → PlainState
-empty_buffer capacity =
-    record { items = []; capacity = capacity; effects = 0; sends = 0; receives = 0; receivers = []; senders = [] }
+empty_buffer capacity = record {
+  items = [];
+  capacity = capacity;
+  closed = false;
+  effects = 0;
+  sends = 0;
+  receives = 0;
+  closes = 0;
+  receivers = [];
+  senders = [];
+}
 
--- whether a call of this side may take effect: a send where there is room, a receive where there is an item
-abbrev pub allows : Side → PlainState → Bool
-allows Senders x = nat_lt (length x.items) x.capacity
-allows Receivers x = nat_lt 0 (length x.items)
+-- who waits on this side
+abbrev pub waiting_on : Side → PlainState → List Tid
+waiting_on Receivers x = x.receivers
+waiting_on Senders x = x.senders
 
--- the effect of a call of this side
-abbrev pub effect_at : Message → Side → PlainState → Effect
-effect_at m Senders x = record { kind = kind.Send; value = m; op = x.effects; pos = x.sends }
-effect_at m Receivers x = record { kind = kind.Recv; value = first_item x.items; op = x.effects; pos = x.receives }
+-- the side of a call; who closes stands with the receivers, whom a close lets go first
+abbrev pub side_of : Ask → Side
+side_of (Send m) = Senders
+side_of Receive = Receivers
+side_of Close = Receivers
 
--- the buffer after it
-abbrev pub done : Message → Side → PlainState → PlainState
-done m Senders x = record x { items = x.items ++ m ∷ []; effects = counted x.effects; sends = counted x.sends; receivers = rest x.receivers }
-done m Receivers x = record x { items = other_items x.items; effects = counted x.effects; receives = counted x.receives; senders = rest x.senders }
+abbrev pub far_side : Side → Side
+far_side Receivers = Senders
+far_side Senders = Receivers
 
--- who is woken by it: the first that waits on the other side
-abbrev pub wakes : Side → PlainState → Option Tid
-wakes Senders x = first x.receivers
-wakes Receivers x = first x.senders
+-- whether a call may take effect: a send where there is room, a receive where there is an item, both where the buffer is closed; a close
+-- always
+abbrev pub allows : Ask → PlainState → Bool
+allows (Send m) x = x.closed || nat_lt (length x.items) x.capacity
+allows Receive x = x.closed || nat_lt 0 (length x.items)
+allows Close x = true
 
--- the buffer once this thread waits on its side
+-- the effect of a call
+abbrev pub effect_at : Ask → PlainState → Effect
+effect_at (Send m) x = record { kind = if x.closed then kind.SendClosed else kind.Send; value = m; op = x.effects; pos = x.sends }
+effect_at Receive x =
+    record { kind = if nat_lt 0 (length x.items) then kind.Recv else kind.RecvClosed; value = first_item x.items; op = x.effects; pos = x.receives }
+effect_at Close x = record { kind = kind.Close; value = no_message; op = x.effects; pos = x.closes }
+
+-- whether the buffer is closed after it
+abbrev pub closed_after : Ask → PlainState → Bool
+closed_after (Send m) x = x.closed
+closed_after Receive x = x.closed
+closed_after Close x = true
+
+-- the side of which an effect of a side wakes the first, if somebody waits there: the other side; but where the buffer is closed its own,
+-- while somebody waits on that
+abbrev pub waking_by : Bool → Side → PlainState → Side
+waking_by closed own x = if closed && is_some (first (waiting_on own x)) then own else far_side own
+
+abbrev pub waking : Ask → PlainState → Side
+waking ask x = waking_by (closed_after ask x) (side_of ask) x
+
+-- who leaves, where this one of a side is woken
+abbrev pub leaving : Side → Option Tid → Leave
+leaving side None = leave.Nobody
+leaving Receivers (Some t) = leave.Receiver t
+leaving Senders (Some t) = leave.Sender t
+
+-- who is woken by the effect of a call
+abbrev pub wakes : Ask → PlainState → Leave
+wakes ask x = leaving (waking ask x) (first (waiting_on (waking ask x) x))
+
+-- who waits on a side once the first of a side was woken
+abbrev pub line_left : Side → Side → List Tid → List Tid
+line_left Receivers Receivers queue = rest queue
+line_left Receivers Senders queue = queue
+line_left Senders Receivers queue = queue
+line_left Senders Senders queue = rest queue
+
+-- the buffer once the first of this side was woken
+abbrev pub woken : Side → PlainState → PlainState
+woken side x = record x { receivers = line_left Receivers side x.receivers; senders = line_left Senders side x.senders }
+
+-- the buffer after the effect of a call
+abbrev pub done : Ask → PlainState → PlainState
+done (Send m) x =
+    record (woken (waking (Send m) x) x) { items = items_put x.closed m x.items; effects = counted x.effects; sends = counted x.sends }
+done Receive x = record (woken (waking Receive x) x) { items = other_items x.items; effects = counted x.effects; receives = counted x.receives }
+done Close x = record (woken (waking Close x) x) { closed = true; effects = counted x.effects; closes = counted x.closes }
+
+-- the buffer once this thread waits on a side
 abbrev pub waits : Tid → Side → PlainState → PlainState
 waits t Senders x = record x { senders = joined t x.senders }
 waits t Receivers x = record x { receivers = joined t x.receivers }
 
 -- the buffer after an attempt
 abbrev pub attempted : Attempt → PlainState → PlainState
-attempted a x = if allows a.side x then done a.message a.side x else waits a.thread a.side x
+attempted a x = if allows a.ask x then done a.ask x else waits a.thread (side_of a.ask) x
 
 -- what an attempt answers
 abbrev pub told : Attempt → PlainState → Tried
-told a x =
-    if allows a.side x
-    then record { side = a.side; effect = Some (effect_at a.message a.side x); woke = wakes a.side x }
-    else record { side = a.side; effect = None; woke = None }
+told a x = if allows a.ask x then Acted (effect_at a.ask x) (wakes a.ask x) else Refused (side_of a.ask)
 
--- who leaves the waiting lists: who was woken, of the other side
-abbrev pub leave_for : Side → Option Tid → Leave
-leave_for side None = leave.Nobody
-leave_for Senders (Some t) = leave.Receiver t
-leave_for Receivers (Some t) = leave.Sender t
+-- the effect of an attempt that answered this, if it had one
+abbrev pub effect_in : Tried → Option Effect
+effect_in (Acted effect woke) = Some effect
+effect_in (Refused side) = None
+
+-- which list its caller joins
+abbrev pub line_by : Tried → Option Line
+line_by (Acted effect woke) = None
+line_by (Refused side) = line_for (Some side)
+
+-- who leaves one
+abbrev pub left_by : Tried → Leave
+left_by (Acted effect woke) = woke
+left_by (Refused side) = leave.Nobody
 
 -- attempts as sections that put to sleep and wake
 abbrev pub attempts : SleepRules Attempt PlainState Tried
@@ -80,7 +153,7 @@ attempts = record {
   caller = λ a. a.thread;
   edited = λ a front x. attempted a x;
   answer = λ a front x. told a x;
-  joins = λ out. if is_some out.effect then None else line_for (Some out.side);
-  leaves = λ out. leave_for out.side out.woke;
+  joins = line_by;
+  leaves = left_by;
   allowed = λ opening past s. Unit {0};
 }

@@ -1,5 +1,5 @@
 -- What sleep and wakeup beneath tells of its locks, buffers in one section a call tell of their items and waiting lists.
-use Rattle.std.specs.Prelude.{◌≡◌, ◌<◌, List, [], ◌∷◌, ◌++◌, length, Option, Some, None, IsSome, option_map, option_to_list, refl}
+use Rattle.std.specs.Prelude.{◌≡◌, ◌<◌, Bool, List, [], ◌∷◌, ◌++◌, length, Option, Some, None, IsSome, option_map, option_to_list, refl}
 use Rattle.std.proofs.Common.{ap, sym, ◌∙◌, subst}
 use Rattle.std.proofs.lemmas.Option.{same_Some, slice_get-get_or}
 use Rattle.std.specs.List.{AllByRecursion}
@@ -13,6 +13,7 @@ use Rattle.event_log.specs.declared.ids.TheConstants.{CPUS}
 use Rattle.event_log.specs.Buffers.{items_of}
 use Rattle.event_log.specs.History.{IsLawful}
 use Rattle.event_log.specs.Messages.{Message}
+use Rattle.event_log.specs.Runs.{is_closed}
 use Rattle.event_log.specs.Sections.{Section}
 use Rattle.layer_traits.specs.declared.calls.Effect.{Effect}
 use Rattle.layer_traits.specs.declared.moves.Line.{Line}
@@ -34,9 +35,12 @@ use Rattle.plain_layers.specs.Attempts.{attempts}
 use Rattle.plain_layers.specs.Fifos.{PlainLocked, caps_in, effect_by, entries_in, fresh_buffer, fresh_buffers, lines_in, locked_after}
 use Rattle.plain_layers.specs.FifoTallies.{plain_tally}
 
--- the items of a lock's buffer, and its waiting lists
+-- the items of a lock's buffer, whether it is closed, and its waiting lists
 abbrev pub items_in : PlainLocked → List Message
 items_in state = state.above.items
+
+abbrev pub closed_of : PlainLocked → Bool
+closed_of state = state.above.closed
 
 abbrev pub lines_of : PlainLocked → Line → List Tid
 lines_of state line = line_at line (Some state)
@@ -77,6 +81,14 @@ module _ (opening : LockId → Option (QueueBlock PlainLocked)) (fresh : inner o
       let state = found past in
       ap (option_map items_in) state.1
       ∙ ap Some (sym (plain_tally (inner opening) (caps_in (inner opening)) past fresh b state.0 state.1).items)
+
+  -- it is closed where an effect has closed it
+  pub closed_told : (past : List (Section Attempt)) → option_map closed_of (locked_after (inner opening) (Buffer b) past)
+      ≡ Some (is_closed (entries_in (inner opening) past) b.0)
+  closed_told past =
+      let state = found past in
+      ap (option_map closed_of) state.1
+      ∙ ap Some (sym (plain_tally (inner opening) (caps_in (inner opening)) past fresh b state.0 state.1).closed)
 
   pub lines_told : (past : List (Section Attempt)) → option_map lines_of (locked_after (inner opening) (Buffer b) past)
       ≡ Some (λ (line : Line). lines_in (inner opening) past b line)

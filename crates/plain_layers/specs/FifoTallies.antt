@@ -1,8 +1,8 @@
 -- What a buffer tells of its effects; so each effect may come after those before it.
-use Rattle.std.proofs.Common.{◌≡◌, ℕ, ◌+◌, ◌<◌, ◌%◌, ◌^◌, Bool, true, false, ◌&&◌, ◌==◌, List, [], ◌∷◌, ◌++◌, length, drop, Option, Some, None}
-use Rattle.std.proofs.Common.{option_map, option_to_list, slice_get, slice_index, slice_set, if◌then◌else◌, refl, ap, sym, ◌∙◌, subst, arith}
+use Rattle.std.proofs.Common.{◌≡◌, ℕ, ◌+◌, ◌<◌, ◌%◌, ◌^◌, Bool, true, false, ◌&&◌, ◌||◌, ◌==◌, List, [], ◌∷◌, ◌++◌, length, Option, Some, None}
+use Rattle.std.proofs.Common.{option_map, option_to_list, slice_get, slice_index, if◌then◌else◌, refl, ap, sym, ◌∙◌, subst, arith}
 use Rattle.std.specs.Prelude.{nat_lt}
-use Rattle.std.proofs.lemmas.Bool.{eqb-false, eqb-true, ltb-true, ne_eqb}
+use Rattle.std.proofs.lemmas.Bool.{eqb-false, eqb-true, lt-ltb, ltb-true, ne_eqb}
 use Rattle.std.proofs.lemmas.List.{get_or-set_other, get_or-set_same, length-map, length-set}
 use Rattle.std.proofs.lemmas.Option.{get_or_from_slice_get, slice_get_within}
 use Rattle.event_log.specs.declared.entries.Entry.{Entry}
@@ -13,34 +13,147 @@ use Rattle.event_log.specs.declared.ids.CpuId.{CpuId}
 use Rattle.event_log.specs.declared.ids.LockId.{LockId}
 use Rattle.event_log.specs.declared.ids.LockId.TheVariants.{Pending, Buffer}
 use Rattle.event_log.specs.declared.ids.Tid.{Tid}
-use Rattle.event_log.specs.Buffers.{after_effect, items_of}
+use Rattle.event_log.specs.Buffers.{IsAllowedEffect, after_effect, items_of}
 use Rattle.event_log.specs.History.{IsLawful}
 use Rattle.event_log.specs.Messages.{Message}
-use Rattle.event_log.specs.Runs.{count_of, count_of_kind, is_closed, kind_eq}
+use Rattle.event_log.specs.Runs.{Closes, Group, Receives, Sends, count_of, count_of_kind, group_of, is_closed, kind_eq, same_group}
 use Rattle.event_log.specs.Sections.{Section}
 use Rattle.event_log.proofs.RunLemmas.{count_cons, counts_here, items_none, kind_cons, kinds_here}
 use Rattle.layer_traits.specs.declared.calls.Effect.{Effect}
 use Rattle.layer_traits.specs.declared.locked.Side.{Side}
 use Rattle.layer_traits.specs.declared.locked.Side.TheVariants.{Receivers, Senders}
+use Rattle.layer_traits.specs.BufferBlocks.{counted, first_item, items_put, other_items}
 use Rattle.layer_traits.specs.BufferEffects.{MayTakeEffect, contents_of}
 use Rattle.layer_traits.specs.BufferLaw.{entry_of}
 use Rattle.layer_traits.specs.Sleeping.{sleep_edited}
-use Rattle.layer_traits.proofs.ItemLemmas.{drop_one, first_there, one_more}
+use Rattle.layer_traits.proofs.ItemLemmas.{drop_one, one_more}
+use Rattle.plain_layers.specs.declared.attempts.Ask.{Ask}
+use Rattle.plain_layers.specs.declared.attempts.Ask.TheVariants.{Send, Receive, Close}
 use Rattle.plain_layers.specs.declared.attempts.Attempt.{Attempt}
 use Rattle.plain_layers.specs.declared.attempts.Tried.{Tried}
-use Rattle.plain_layers.specs.Attempts.{PlainState, allows, attempted, attempts, done, effect_at, told, waits, wakes}
+use Rattle.plain_layers.specs.declared.attempts.Tried.TheVariants.{Acted, Refused}
+use Rattle.plain_layers.specs.Attempts.{PlainState, allows, attempted, attempts, done, effect_at, effect_in, empty_buffer, side_of, told, waits, wakes}
 use Rattle.plain_layers.specs.Fifos.{PlainLocked, effect_by, entries_in, entry_at, fresh_buffer, fresh_buffers, locked_after}
 
--- a buffer tells its effects: the items are what they leave, and the counters their numbers; none has closed it
+-- how many effects of a group a buffer had, modulo 2^64
+abbrev pub counter : Group → PlainState → ℕ
+counter Sends x = x.sends
+counter Receives x = x.receives
+counter Closes x = x.closes
+
+-- a buffer tells its effects: the items are what they leave, it is closed where one has closed it, and the counters are their numbers
 pub record Tally (caps : List ℕ) (b : ℕ) (es : List Entry) (x : PlainState) : Type 0 where
   pub known : b < length caps
   pub wide : length (contents_of caps es) ≡ length caps
   pub items : items_of (contents_of caps es) b ≡ x.items
   pub capacity : slice_index caps b ≡ x.capacity
-  pub closed : is_closed es b ≡ false
+  pub closed : is_closed es b ≡ x.closed
   pub effects : x.effects ≡ count_of es b % 2 ^ 64
-  pub sends : x.sends ≡ count_of_kind es b kind.Send % 2 ^ 64
-  pub receives : x.receives ≡ count_of_kind es b kind.Recv % 2 ^ 64
+  pub counts : (k : Kind) → counter (group_of k) x ≡ count_of_kind es b k % 2 ^ 64
+
+some_there : (m : Message) (items : List Message) → nat_lt 0 (length (m ∷ items)) ≡ true
+some_there m items = lt-ltb 0 (length (m ∷ items)) (omega arith)
+
+-- The effect of a call that the buffer allows.
+
+-- what it is counted with
+abbrev pub group_asked : Ask → Group
+group_asked (Send m) = Sends
+group_asked Receive = Receives
+group_asked Close = Closes
+
+pub kind_asked : (ask : Ask) (x : PlainState) → group_of (effect_at ask x).kind ≡ group_asked ask
+kind_asked (Send m) x = go x.closed
+  where
+    go : (v : Bool) → group_of (if v then kind.SendClosed else kind.Send) ≡ Sends
+    go true = refl
+    go false = refl
+kind_asked Receive x = go (nat_lt 0 (length x.items))
+  where
+    go : (v : Bool) → group_of (if v then kind.Recv else kind.RecvClosed) ≡ Receives
+    go true = refl
+    go false = refl
+kind_asked Close x = refl
+
+-- its position is what its counter says, which it counts on
+pos_asked : (ask : Ask) (x : PlainState) → (effect_at ask x).pos ≡ counter (group_asked ask) x
+pos_asked (Send m) x = refl
+pos_asked Receive x = refl
+pos_asked Close x = refl
+
+counter_after : (ask : Ask) (g : Group) (x : PlainState)
+    → counter g (done ask x) ≡ (if same_group (group_asked ask) g then counted (counter g x) else counter g x)
+counter_after (Send m) Sends x = refl
+counter_after (Send m) Receives x = refl
+counter_after (Send m) Closes x = refl
+counter_after Receive Sends x = refl
+counter_after Receive Receives x = refl
+counter_after Receive Closes x = refl
+counter_after Close Sends x = refl
+counter_after Close Receives x = refl
+counter_after Close Closes x = refl
+
+-- the buffer allows it
+allowed_at : (ask : Ask) (x : PlainState) → allows ask x ≡ true
+    → IsAllowedEffect (effect_at ask x).kind x.closed x.capacity x.items (effect_at ask x).value
+allowed_at (Send m) x is = go x.closed is
+  where
+    go : (v : Bool) → (v || nat_lt (length x.items) x.capacity) ≡ true
+        → IsAllowedEffect (if v then kind.SendClosed else kind.Send) v x.capacity x.items m
+    go true is = refl
+    go false is = (refl, ltb-true (length x.items) x.capacity is)
+allowed_at Receive x is = go x.closed x.items is
+  where
+    go : (v : Bool) (items : List Message) → (v || nat_lt 0 (length items)) ≡ true
+        → IsAllowedEffect (if nat_lt 0 (length items) then kind.Recv else kind.RecvClosed) v x.capacity items (first_item items)
+    go v (m ∷ items) is =
+        subst (λ (w : Bool). IsAllowedEffect (if w then kind.Recv else kind.RecvClosed) v x.capacity (m ∷ items) m) (sym (some_there m items)) refl
+    go true [] is = (refl, refl, refl)
+    go false [] is = absurd (cc is)
+allowed_at Close x is = refl
+
+-- and the items are what it leaves
+items_after : (ask : Ask) (x : PlainState) → after_effect (effect_at ask x).kind x.items (effect_at ask x).value ≡ (done ask x).items
+items_after (Send m) x = go x.closed
+  where
+    go : (v : Bool) → after_effect (if v then kind.SendClosed else kind.Send) x.items m ≡ items_put v m x.items
+    go true = refl
+    go false = refl
+items_after Receive x = go x.items
+  where
+    go : (items : List Message)
+        → after_effect (if nat_lt 0 (length items) then kind.Recv else kind.RecvClosed) items (first_item items) ≡ other_items items
+    go [] = refl
+    go (m ∷ items) =
+        subst (λ (w : Bool). after_effect (if w then kind.Recv else kind.RecvClosed) (m ∷ items) m ≡ items) (sym (some_there m items))
+        (drop_one (m ∷ items))
+items_after Close x = refl
+
+-- a close has closed it, and no other effect changes that
+closed_more : (ask : Ask) (x : PlainState) (n : ℕ) → nat_lt 0 n ≡ x.closed
+    → nat_lt 0 ((if same_group (group_asked ask) Closes then 1 else 0) + n) ≡ (done ask x).closed
+closed_more (Send m) x n is = let same : 0 + n ≡ n = omega arith in ap (nat_lt 0) same ∙ is
+closed_more Receive x n is = let same : 0 + n ≡ n = omega arith in ap (nat_lt 0) same ∙ is
+closed_more Close x n is = lt-ltb 0 (1 + n) (omega arith)
+
+effects_after : (ask : Ask) (x : PlainState) → (done ask x).effects ≡ counted x.effects
+effects_after (Send m) x = refl
+effects_after Receive x = refl
+effects_after Close x = refl
+
+capacity_after : (ask : Ask) (x : PlainState) → (done ask x).capacity ≡ x.capacity
+capacity_after (Send m) x = refl
+capacity_after Receive x = refl
+capacity_after Close x = refl
+
+-- a thread that waits changes no counter
+counter_waits : (t : Tid) (side : Side) (g : Group) (x : PlainState) → counter g (waits t side x) ≡ counter g x
+counter_waits t Senders Sends x = refl
+counter_waits t Senders Receives x = refl
+counter_waits t Senders Closes x = refl
+counter_waits t Receivers Sends x = refl
+counter_waits t Receivers Receives x = refl
+counter_waits t Receivers Closes x = refl
 
 module _ (caps : List ℕ) (b : ℕ) (es : List Entry) where
   -- an effect on another buffer
@@ -57,8 +170,7 @@ module _ (caps : List ℕ) (b : ℕ) (es : List Entry) where
         capacity = tally.capacity;
         closed = ap (nat_lt 0) (kinds kind.Close) ∙ tally.closed;
         effects = tally.effects ∙ ap (λ n. n % 2 ^ 64) (sym count);
-        sends = tally.sends ∙ ap (λ n. n % 2 ^ 64) (sym (kinds kind.Send));
-        receives = tally.receives ∙ ap (λ n. n % 2 ^ 64) (sym (kinds kind.Recv));
+        counts = λ k. tally.counts k ∙ ap (λ n. n % 2 ^ 64) (sym (kinds k));
       }
 
   -- a thread waits
@@ -70,8 +182,7 @@ module _ (caps : List ℕ) (b : ℕ) (es : List Entry) where
     capacity = tally.capacity;
     closed = tally.closed;
     effects = tally.effects;
-    sends = tally.sends;
-    receives = tally.receives;
+    counts = λ k. counter_waits t Senders (group_of k) x ∙ tally.counts k;
   }
   waiting t Receivers x tally = record {
     known = tally.known;
@@ -80,116 +191,82 @@ module _ (caps : List ℕ) (b : ℕ) (es : List Entry) where
     capacity = tally.capacity;
     closed = tally.closed;
     effects = tally.effects;
-    sends = tally.sends;
-    receives = tally.receives;
+    counts = λ k. counter_waits t Receivers (group_of k) x ∙ tally.counts k;
   }
 
+module _ (caps : List ℕ) (es : List Entry) (c : CpuId) (t : Tid) (d : BufId) (ask : Ask) (x : PlainState) (tally : Tally caps d.0 es x) where
   -- an effect that the buffer allows may come
-  may : (c : CpuId) (t : Tid) (at : BufId) → at.0 ≡ b → (m : Message) (side : Side) (x : PlainState) → allows side x ≡ true → Tally caps b es x
-      → MayTakeEffect caps es (entry_of c t at (effect_at m side x))
-  may c t at here m Senders x allowed tally =
-      let room : length x.items < x.capacity = ltb-true (length x.items) x.capacity allowed in
-      rw here (record { known = tally.known; allowed = (tally.closed, rw (tally.items, tally.capacity) room); op = tally.effects; pos = tally.sends })
-  may c t at here m Receivers x allowed tally =
-      let some : 0 < length x.items = ltb-true 0 (length x.items) allowed in
-      rw here (record {
-        known = tally.known;
-        allowed = ap (λ l. slice_get l 0) tally.items ∙ first_there x.items some;
-        op = tally.effects;
-        pos = tally.receives;
-      })
+  may : allows ask x ≡ true → MayTakeEffect caps es (entry_of c t d (effect_at ask x))
+  may is = record {
+    known = tally.known;
+    allowed = rw (tally.closed, tally.items, tally.capacity) (allowed_at ask x is);
+    op = op_asked ask ∙ tally.effects;
+    pos = pos_asked ask x ∙ ap (λ g. counter g x) (sym (kind_asked ask x)) ∙ tally.counts (effect_at ask x).kind;
+  }
+    where
+      op_asked : (a : Ask) → (effect_at a x).op ≡ x.effects
+      op_asked (Send m) = refl
+      op_asked Receive = refl
+      op_asked Close = refl
+
+  -- how many there are with it
+  more : (k : Kind) → count_of_kind (entry_of c t d (effect_at ask x) ∷ es) d.0 k
+      ≡ (if same_group (group_asked ask) (group_of k) then 1 else 0) + count_of_kind es d.0 k
+  more k = kinds_here (entry_of c t d (effect_at ask x)) es d.0 k refl
+      ∙ ap (λ g. (if same_group g (group_of k) then 1 else 0) + count_of_kind es d.0 k) (kind_asked ask x)
 
   -- and the buffer tells the effects with it
-  tallied : (e : Entry) → e.buffer.0 ≡ b → (m : Message) (side : Side) (x : PlainState) → e.kind ≡ (effect_at m side x).kind
-      → e.value ≡ (effect_at m side x).value
-      → Tally caps b es x → Tally caps b (e ∷ es) (done m side x)
-  tallied e here m Senders x sends value tally = record {
+  tallied : Tally caps d.0 (entry_of c t d (effect_at ask x) ∷ es) (done ask x)
+  tallied = record {
     known = tally.known;
-    wide = length-set (contents_of caps es) e.buffer.0 _ ∙ tally.wide;
-    items = ap (λ k. items_of (slice_set (contents_of caps es) k (after_effect e.kind (items_of (contents_of caps es) e.buffer.0) e.value)) b) here
-        ∙ get_or-set_same (contents_of caps es) b (after_effect e.kind (items_of (contents_of caps es) e.buffer.0) e.value) [] (omega (arith, inside, wide))
-        ∙ ap (λ k. after_effect k (items_of (contents_of caps es) e.buffer.0) e.value) sends
-        ∙ ap (λ i. items_of (contents_of caps es) i ++ e.value ∷ []) here ∙ ap (λ l. l ++ e.value ∷ []) tally.items ∙ ap (λ w. x.items ++ w ∷ []) value;
-    capacity = tally.capacity;
-    closed = ap (nat_lt 0) none_closed ∙ tally.closed;
-    effects = one_more x.effects (count_of es b) tally.effects ∙ ap (λ n. n % 2 ^ 64) (sym (counts_here e es b here));
-    sends = one_more x.sends (count_of_kind es b kind.Send) tally.sends ∙ ap (λ n. n % 2 ^ 64) (sym sent);
-    receives = tally.receives ∙ ap (λ n. n % 2 ^ 64) (sym received);
+    wide = length-set (contents_of caps es) d.0 _ ∙ tally.wide;
+    items = get_or-set_same (contents_of caps es) d.0
+        (after_effect (effect_at ask x).kind (items_of (contents_of caps es) d.0) (effect_at ask x).value) [] (omega (arith, inside, wide))
+        ∙ ap (λ l. after_effect (effect_at ask x).kind l (effect_at ask x).value) tally.items ∙ items_after ask x;
+    capacity = tally.capacity ∙ sym (capacity_after ask x);
+    closed = ap (nat_lt 0) (more kind.Close) ∙ closed_more ask x (count_of_kind es d.0 kind.Close) tally.closed;
+    effects = effects_after ask x ∙ one_more x.effects (count_of es d.0) tally.effects
+        ∙ ap (λ n. n % 2 ^ 64) (sym (counts_here (entry_of c t d (effect_at ask x)) es d.0 refl));
+    counts = λ k. counter_after ask (group_of k) x
+        ∙ step (same_group (group_asked ask) (group_of k)) (counter (group_of k) x) (count_of_kind es d.0 k) (tally.counts k)
+        ∙ ap (λ n. n % 2 ^ 64) (sym (more k));
   }
     where
-      inside : b < length caps
+      inside : d.0 < length caps
       inside = tally.known
 
       wide : length (contents_of caps es) ≡ length caps
       wide = tally.wide
 
-      none_closed : count_of_kind (e ∷ es) b kind.Close ≡ count_of_kind es b kind.Close
-      none_closed = kinds_here e es b kind.Close here ∙ ap (λ k. (if kind_eq k kind.Close then 1 else 0) + count_of_kind es b kind.Close) sends
-          ∙ omega arith
-
-      sent : count_of_kind (e ∷ es) b kind.Send ≡ count_of_kind es b kind.Send + 1
-      sent = kinds_here e es b kind.Send here ∙ ap (λ k. (if kind_eq k kind.Send then 1 else 0) + count_of_kind es b kind.Send) sends ∙ omega arith
-
-      received : count_of_kind (e ∷ es) b kind.Recv ≡ count_of_kind es b kind.Recv
-      received = kinds_here e es b kind.Recv here ∙ ap (λ k. (if kind_eq k kind.Recv then 1 else 0) + count_of_kind es b kind.Recv) sends ∙ omega arith
-  tallied e here m Receivers x takes value tally = record {
-    known = tally.known;
-    wide = length-set (contents_of caps es) e.buffer.0 _ ∙ tally.wide;
-    items = ap (λ k. items_of (slice_set (contents_of caps es) k (after_effect e.kind (items_of (contents_of caps es) e.buffer.0) e.value)) b) here
-        ∙ get_or-set_same (contents_of caps es) b (after_effect e.kind (items_of (contents_of caps es) e.buffer.0) e.value) [] (omega (arith, inside, wide))
-        ∙ ap (λ k. after_effect k (items_of (contents_of caps es) e.buffer.0) e.value) takes
-        ∙ ap (λ i. drop 1 (items_of (contents_of caps es) i)) here ∙ ap (λ l. drop 1 l) tally.items ∙ drop_one x.items;
-    capacity = tally.capacity;
-    closed = ap (nat_lt 0) none_closed ∙ tally.closed;
-    effects = one_more x.effects (count_of es b) tally.effects ∙ ap (λ n. n % 2 ^ 64) (sym (counts_here e es b here));
-    sends = tally.sends ∙ ap (λ n. n % 2 ^ 64) (sym sent);
-    receives = one_more x.receives (count_of_kind es b kind.Recv) tally.receives ∙ ap (λ n. n % 2 ^ 64) (sym received);
-  }
-    where
-      inside : b < length caps
-      inside = tally.known
-
-      wide : length (contents_of caps es) ≡ length caps
-      wide = tally.wide
-
-      none_closed : count_of_kind (e ∷ es) b kind.Close ≡ count_of_kind es b kind.Close
-      none_closed = kinds_here e es b kind.Close here ∙ ap (λ k. (if kind_eq k kind.Close then 1 else 0) + count_of_kind es b kind.Close) takes
-          ∙ omega arith
-
-      received : count_of_kind (e ∷ es) b kind.Recv ≡ count_of_kind es b kind.Recv + 1
-      received = kinds_here e es b kind.Recv here ∙ ap (λ k. (if kind_eq k kind.Recv then 1 else 0) + count_of_kind es b kind.Recv) takes ∙ omega arith
-
-      sent : count_of_kind (e ∷ es) b kind.Send ≡ count_of_kind es b kind.Send
-      sent = kinds_here e es b kind.Send here ∙ ap (λ k. (if kind_eq k kind.Send then 1 else 0) + count_of_kind es b kind.Send) takes ∙ omega arith
+      step : (v : Bool) (a n : ℕ) → a ≡ n % 2 ^ 64 → (if v then counted a else a) ≡ ((if v then 1 else 0) + n) % 2 ^ 64
+      step true a n is = let same : n + 1 ≡ 1 + n = omega arith in one_more a n is ∙ ap (λ m. m % 2 ^ 64) same
+      step false a n is = let same : n ≡ 0 + n = omega arith in is ∙ ap (λ m. m % 2 ^ 64) same
 
 -- the effect of an attempt where the buffer allows one, or does not, and the buffer after it
 abbrev effect_if : Bool → Attempt → PlainState → Option Effect
-effect_if v a x = if v then Some (effect_at a.message a.side x) else None
+effect_if v a x = if v then Some (effect_at a.ask x) else None
 
 abbrev state_if : Bool → Attempt → PlainState → PlainState
-state_if v a x = if v then done a.message a.side x else waits a.thread a.side x
+state_if v a x = if v then done a.ask x else waits a.thread (side_of a.ask) x
 
 abbrev told_if : Bool → Attempt → PlainState → Tried
-told_if v a x =
-    if v then record { side = a.side; effect = Some (effect_at a.message a.side x); woke = wakes a.side x } else record
-    { side = a.side; effect = None; woke = None }
+told_if v a x = if v then Acted (effect_at a.ask x) (wakes a.ask x) else Refused (side_of a.ask)
 
-effect_told : (a : Attempt) (x : PlainState) → (told a x).effect ≡ effect_if (allows a.side x) a x
-effect_told a x = go (allows a.side x)
+effect_told : (a : Attempt) (x : PlainState) → effect_in (told a x) ≡ effect_if (allows a.ask x) a x
+effect_told a x = go (allows a.ask x)
   where
-    go : (v : Bool) → (told_if v a x).effect ≡ effect_if v a x
+    go : (v : Bool) → effect_in (told_if v a x) ≡ effect_if v a x
     go true = refl
     go false = refl
 
 -- so with a section at this buffer
-here_step : (caps : List ℕ) (es : List Entry) (c : CpuId) (d : BufId) (a : Attempt) (x : PlainState) (v : Bool) → allows a.side x ≡ v → Tally caps d.0 es x
+here_step : (caps : List ℕ) (es : List Entry) (c : CpuId) (d : BufId) (a : Attempt) (x : PlainState) (v : Bool) → allows a.ask x ≡ v → Tally caps d.0 es x
     → ((e : Entry) → option_map (entry_of c a.thread d) (effect_if v a x) ≡ Some e → MayTakeEffect caps es e)
     × Tally caps d.0 (option_to_list (option_map (entry_of c a.thread d) (effect_if v a x)) ++ es) (state_if v a x)
-here_step caps es c d a x false is tally = (λ e none. absurd (cc none), waiting caps d.0 es a.thread a.side x tally)
+here_step caps es c d a x false is tally = (λ e none. absurd (cc none), waiting caps d.0 es a.thread (side_of a.ask) x tally)
 here_step caps es c d a x true is tally = (
-  λ e some. subst (MayTakeEffect caps es) (just (entry_of c a.thread d (effect_at a.message a.side x)) e some)
-      (may caps d.0 es c a.thread d refl a.message a.side x is tally),
-  tallied caps d.0 es (entry_of c a.thread d (effect_at a.message a.side x)) refl a.message a.side x refl refl tally,
+  λ e some. subst (MayTakeEffect caps es) (just (entry_of c a.thread d (effect_at a.ask x)) e some) (may caps es c a.thread d a.ask x tally is),
+  tallied caps es c a.thread d a.ask x tally,
 )
   where
     just : (p q : Entry) → Some p ≡ Some q → p ≡ q
@@ -197,6 +274,13 @@ here_step caps es c d a x true is tally = (
 
 abbrev no_items : List Message
 no_items = []
+
+none_counted : (n : ℕ) (k : Kind) → counter (group_of k) (empty_buffer n) ≡ 0
+none_counted n kind.Send = refl
+none_counted n kind.Recv = refl
+none_counted n kind.Close = refl
+none_counted n kind.SendClosed = refl
+none_counted n kind.RecvClosed = refl
 
 start_told : (caps : List ℕ) (b : BufId) (o : Option ℕ) (state : PlainLocked) → slice_get caps b.0 ≡ o → option_map fresh_buffer o ≡ Some state
     → Tally caps b.0 [] state.above
@@ -210,8 +294,7 @@ start_told caps b (Some n) state is at =
       capacity = get_or_from_slice_get caps b.0 n 0 is;
       closed = refl;
       effects = refl;
-      sends = refl;
-      receives = refl;
+      counts = none_counted n;
     })
 
 module _ (caps : List ℕ) where
@@ -237,8 +320,8 @@ module _ (caps : List ℕ) where
       go (Some state) tells =
           subst (λ o. IsLawful (MayTakeEffect caps) (option_to_list (option_map (entry_of c a.thread d) o) ++ entries_in (fresh_buffers caps) past))
           (sym (effect_told a state.above))
-          (add (entries_in (fresh_buffers caps) past) (option_map (entry_of c a.thread d) (effect_if (allows a.side state.above) a state.above))
-          (here_step caps (entries_in (fresh_buffers caps) past) c d a state.above (allows a.side state.above) refl (tells state refl)).0 lawful)
+          (add (entries_in (fresh_buffers caps) past) (option_map (entry_of c a.thread d) (effect_if (allows a.ask state.above) a state.above))
+          (here_step caps (entries_in (fresh_buffers caps) past) c d a state.above (allows a.ask state.above) refl (tells state refl)).0 lawful)
 
   other_effect : (b : ℕ) (es : List Entry) (c : CpuId) (t : Tid) (d : BufId) (o : Option Effect) (x : PlainState) → (d.0 == b) ≡ false → Tally caps b es x
       → Tally caps b (option_to_list (option_map (entry_of c t d) o) ++ es) x
@@ -266,9 +349,9 @@ module _ (caps : List ℕ) where
           let above : attempted a y.above ≡ state.above = ap (λ (s : PlainLocked). s.above) same in
           subst (λ o. Tally caps d.0 (option_to_list (option_map (entry_of c a.thread d) o) ++ entries_in (fresh_buffers caps) past) state.above)
           (sym (effect_told a y.above))
-          (subst (λ x. Tally caps d.0 (option_to_list (option_map (entry_of c a.thread d) (effect_if (allows a.side y.above) a y.above))
+          (subst (λ x. Tally caps d.0 (option_to_list (option_map (entry_of c a.thread d) (effect_if (allows a.ask y.above) a y.above))
           ++ entries_in (fresh_buffers caps) past) x) above
-          (here_step caps (entries_in (fresh_buffers caps) past) c d a y.above (allows a.side y.above) refl (tells y refl)).1)
+          (here_step caps (entries_in (fresh_buffers caps) past) c d a y.above (allows a.ask y.above) refl (tells y refl)).1)
 
       go : (v : Bool) → (b.0 == d.0) ≡ v
           → (if v then option_map (sleep_edited attempts a) (locked_after (fresh_buffers caps) (Buffer b) past)

@@ -8,13 +8,11 @@ use Rattle.event_log.specs.declared.ids.LockId.{LockId}
 use Rattle.event_log.specs.declared.ids.LockId.TheVariants.{Pending, Buffer}
 use Rattle.event_log.specs.declared.ids.Tid.{Tid}
 use Rattle.event_log.specs.declared.ids.TheConstants.{CPUS, THREADS}
-use Rattle.event_log.specs.Messages.{no_message}
 use Rattle.event_log.specs.Sections.{Section, block_after}
 use Rattle.layer_traits.specs.declared.calls.Call.{Call}
-use Rattle.layer_traits.specs.declared.calls.Call.TheVariants.{Send, Recv}
+use Rattle.layer_traits.specs.declared.calls.Call.TheVariants.{Send, Recv, Close}
 use Rattle.layer_traits.specs.declared.calls.Effect.{Effect}
 use Rattle.layer_traits.specs.declared.calls.Reply.{Reply}
-use Rattle.layer_traits.specs.declared.locked.Side.TheVariants.{Receivers, Senders}
 use Rattle.layer_traits.specs.declared.moves.Line.{Line}
 use Rattle.layer_traits.specs.declared.scheds.SchedCall.{SchedCall}
 use Rattle.layer_traits.specs.declared.talks.Stage.TheVariants.{Between, Waits}
@@ -24,18 +22,25 @@ use Rattle.layer_traits.specs.BufferProtocol.{BufferLock}
 use Rattle.layer_traits.specs.Places.{Threads}
 use Rattle.layer_traits.specs.Sleeping.{SleepState, line_at, sleep_edited}
 use Rattle.layer_traits.specs.SleepLaw.{Sleeping}
+use Rattle.plain_layers.specs.declared.attempts.Ask.{Ask}
+use Rattle.plain_layers.specs.declared.attempts.Ask.TheVariants as ask
 use Rattle.plain_layers.specs.declared.attempts.Attempt.{Attempt}
 use Rattle.plain_layers.specs.declared.attempts.Tried.{Tried}
-use Rattle.plain_layers.specs.Attempts.{PlainState, attempts, empty_buffer, told}
+use Rattle.plain_layers.specs.Attempts.{PlainState, attempts, effect_in, empty_buffer, told}
 
 -- a buffer with the waiting lists of its lock
 abbrev pub PlainLocked : Type 0
 PlainLocked = SleepState PlainState
 
+-- what a call asks of its buffer
+abbrev pub ask_of : Call → Ask
+ask_of (Send b m) = ask.Send m
+ask_of (Recv b) = ask.Receive
+ask_of (Close b) = ask.Close
+
 -- the section of a call
 abbrev pub attempt_of : Tid → Call → Attempt
-attempt_of t (Send b m) = record { thread = t; side = Senders; message = m }
-attempt_of t (Recv b) = record { thread = t; side = Receivers; message = no_message }
+attempt_of t call = record { thread = t; ask = ask_of call }
 
 -- the talk of a thread after its section: in no call with its effect, or it waits
 abbrev pub talk_after : Call → Option Effect → Talk
@@ -53,7 +58,7 @@ locked_after opening lock past = block_after (sleep_edited attempts) opening loc
 -- the effect of an attempt at a buffer, if the buffer allows one
 abbrev pub effect_by : Attempt → Option PlainLocked → Option Effect
 effect_by a None = None
-effect_by a (Some state) = (told a state.above).effect
+effect_by a (Some state) = effect_in (told a state.above)
 
 -- the entry of a section at a lock
 abbrev pub entry_at : CpuId → LockId → Attempt → Option PlainLocked → Option Entry
@@ -104,9 +109,11 @@ shown state = record {
     send_line = [];
     items = state.above.items;
     capacity = state.above.capacity;
+    closed = state.above.closed;
     effects = state.above.effects;
     sends = state.above.sends;
     receives = state.above.receives;
+    closes = state.above.closes;
   };
 }
 

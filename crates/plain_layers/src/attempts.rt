@@ -1,10 +1,15 @@
 //! A message call as one section: the attempts on one buffer.
 
-ghost use Rattle.std.specs.Prelude.{◌≡◌, ◌≤◌, true, Some};
+ghost use Rattle.std.specs.Prelude.{◌≡◌, ◌≤◌, true, [], is_some};
 ghost use Rattle.event_log.specs.declared.ids.TheConstants.{CAPACITY};
 ghost use Rattle.layer_traits.specs.Sleeping.{joined};
-ghost use Rattle.layer_traits.specs.declared.locked.Side.TheVariants.{Receivers, Senders};
-ghost use Rattle.plain_layers.specs.Attempts.{allows, done, effect_at, empty_buffer, waits, wakes};
+ghost use Rattle.layer_traits.specs.declared.sleeps.Leave.TheVariants.{Nobody};
+ghost use Rattle.plain_layers.specs.Attempts.{PlainState, allows, closed_after, done, effect_at, effect_in, empty_buffer, leaving};
+ghost use Rattle.plain_layers.specs.Attempts.{side_of, waiting_on, waits, waking_by, wakes, woken};
+ghost use Rattle.plain_layers.specs.declared.attempts.Ask.{Ask};
+ghost use Rattle.plain_layers.specs.declared.attempts.Ask.TheVariants.{Close, Receive, Send};
+ghost use Rattle.plain_layers.specs.declared.attempts.Tried.TheVariants.{Acted};
+ghost use Rattle.thread_blocks.specs.Queues.{first};
 
 use arrayvec::ArrayVec;
 use event_log::{CAPACITY, Kind, Msg, Ring, THREADS, Tid};
@@ -12,37 +17,58 @@ use layer_traits::{Effect, Leave, Line, Side, Sleeps};
 use std::marker::Model;
 use thread_blocks::ThreadQueue;
 
-/// A thread's attempt to send a message or to receive one. The message of a receive means nothing.
+/// What a thread asks of a buffer.
+#[derive(Clone, Copy, Debug, PartialEq, Eq)]
+pub enum Ask {
+    /// To send this message.
+    Send(Msg),
+    /// To receive a message.
+    Receive,
+    /// To close the buffer.
+    Close,
+}
+
+/// A thread's attempt to do what it asks.
 #[derive(Clone, Copy, Debug, PartialEq, Eq)]
 pub struct Attempt {
     /// The thread that calls.
     pub thread: Tid,
-    /// Its side: a sender or a receiver.
-    pub side: Side,
-    /// The message of a send.
-    pub message: Msg,
+    /// What it asks.
+    pub ask: Ask,
 }
 
 /// What an attempt answers.
-#[derive(Drop)]
-pub struct Tried {
-    /// The side of the caller.
-    pub side: Side,
-    /// Its effect; `None` where the buffer allowed none, and the caller waits.
-    pub effect: Option<Effect>,
-    /// Who was woken from the other side.
-    pub woke: Option<Tid>,
+#[derive(Clone, Copy, Debug, PartialEq, Eq)]
+pub enum Tried {
+    /// The buffer allowed it this effect, and it woke this thread.
+    Acted(Effect, Leave),
+    /// The buffer allowed it no effect: its caller waits on this side.
+    Refused(Side),
 }
 
-/// A buffer with its items, its counters modulo 2^64, and who waits at it, first in front. No
-/// attempt takes memory.
+impl Tried {
+    /// The effect of the attempt, if it had one.
+    pub fn effect(&self) -> Option<Effect>
+        ensures { result ≡ effect_in self.now }
+    {
+        match *self {
+            Tried::Acted(effect, _) => Some(effect),
+            Tried::Refused(_) => None,
+        }
+    }
+}
+
+/// A buffer with its items, whether it is closed, its counters modulo 2^64, and who waits at it,
+/// first in front. No attempt takes memory.
 #[derive(Drop)]
 pub struct PlainBuffer {
     items: Ring<Msg>,
     capacity: usize,
+    closed: bool,
     effects: u64,
     sends: u64,
     receives: u64,
+    closes: u64,
     receivers: ThreadQueue,
     senders: ThreadQueue,
 }
@@ -57,9 +83,11 @@ impl Model for PlainBuffer {
     ghost view = { λ b. record {
       items = b.items;
       capacity = b.capacity;
+      closed = b.closed;
       effects = b.effects;
       sends = b.sends;
       receives = b.receives;
+      closes = b.closes;
       receivers = b.receivers;
       senders = b.senders;
     } };
@@ -74,11 +102,13 @@ impl PlainBuffer {
         ensures { result ≡ empty_buffer capacity }
     {
         PlainBuffer {
-            items: Ring::new(0),
+            items: Ring::new(Msg::none()),
             capacity,
+            closed: false,
             effects: 0,
             sends: 0,
             receives: 0,
+            closes: 0,
             receivers: ThreadQueue::new(),
             senders: ThreadQueue::new(),
         }
@@ -91,58 +121,128 @@ impl PlainBuffer {
         self.items.items()
     }
 
-    /// Whether a call of this side may take effect: a send where there is room, a receive where
-    /// there is an item.
-    fn allows(&self, side: Side) -> bool
-        ensures { result ≡ allows side self.now }
+    /// Whether it is closed.
+    pub fn is_closed(&self) -> bool
+        ensures { result ≡ self.now.closed }
     {
-        match side {
-            Side::Senders => self.items.len() < self.capacity,
-            Side::Receivers => 0 < self.items.len(),
+        self.closed
+    }
+
+    /// Whether a call may take effect: a send where there is room, a receive where there is an item,
+    /// both where the buffer is closed; a close always.
+    fn allows(&self, ask: &Ask) -> bool
+        ensures { result ≡ allows ask.now self.now }
+    {
+        match *ask {
+            Ask::Send(_) => self.closed || self.items.len() < self.capacity,
+            Ask::Receive => self.closed || 0 < self.items.len(),
+            Ask::Close => true,
         }
     }
 
-    /// Puts `message`, where there is room, and wakes the first receiver.
-    fn send(&mut self, message: Msg) -> Tried
-        requires { allows Senders self.old ≡ true }
-        ensures block { self.new ≡ done message Senders self.old }
-        ensures told { result ≡ record { side = Senders; effect = Some (effect_at message Senders self.old); woke = wakes Senders self.old } }
+    /// Whether somebody waits on this side.
+    fn has_waiting(&self, side: Side) -> bool
+        ensures { result ≡ is_some (first (waiting_on side self.now)) }
+    {
+        match side {
+            Side::Receivers => self.receivers.front().is_some(),
+            Side::Senders => self.senders.front().is_some(),
+        }
+    }
+
+    /// Wakes the first of this side; nobody, where nobody waits there.
+    fn wake(&mut self, side: Side) -> Leave
+        ensures block { self.new ≡ woken side self.old }
+        ensures told { result ≡ leaving side (first (waiting_on side self.old)) }
+    {
+        match side {
+            Side::Receivers => match self.receivers.pop() {
+                None => Leave::Nobody,
+                Some(t) => Leave::Receiver(t),
+            },
+            Side::Senders => match self.senders.pop() {
+                None => Leave::Nobody,
+                Some(t) => Leave::Sender(t),
+            },
+        }
+    }
+
+    /// Wakes whom an effect of this side wakes: the first of the other side; but where the buffer is
+    /// closed the first of its own, while somebody waits there.
+    fn wake_after(&mut self, own: Side) -> Leave
+        ensures block { self.new ≡ woken (waking_by self.old.closed own self.old) self.old }
+        ensures told { result ≡ leaving (waking_by self.old.closed own self.old) (first (waiting_on (waking_by self.old.closed own self.old) self.old)) }
+    {
+        if self.closed && self.has_waiting(own) {
+            return self.wake(own);
+        }
+        match own {
+            Side::Receivers => self.wake(Side::Senders),
+            Side::Senders => self.wake(Side::Receivers),
+        }
+    }
+
+    /// Puts `message`, where there is room and the buffer is open; in a closed one it puts nothing.
+    fn send(&mut self, message: &Msg) -> Tried
+        requires { allows (Send message.now) self.old ≡ true }
+        ensures block { self.new ≡ done (Send message.now) self.old }
+        ensures told { result ≡ Acted (effect_at (Send message.now) self.old) (wakes (Send message.now) self.old) }
     {
         let effect = Effect {
-            kind: Kind::Send,
-            value: message,
+            kind: if self.closed {
+                Kind::SendClosed
+            } else {
+                Kind::Send
+            },
+            value: *message,
             op: self.effects,
             pos: self.sends,
         };
-        self.items.put(message);
+        if !self.closed {
+            self.items.put(*message);
+        }
         self.effects = effect.op.wrapping_add(1);
         self.sends = effect.pos.wrapping_add(1);
-        Tried {
-            side: Side::Senders,
-            effect: Some(effect),
-            woke: self.receivers.pop(),
-        }
+        Tried::Acted(effect, self.wake_after(Side::Senders))
     }
 
-    /// Takes the first item, where there is one, and wakes the first sender.
-    fn receive(&mut self, unused: Msg) -> Tried
-        requires { allows Receivers self.old ≡ true }
-        ensures block { self.new ≡ done unused Receivers self.old }
-        ensures told { result ≡ record { side = Receivers; effect = Some (effect_at unused Receivers self.old); woke = wakes Receivers self.old } }
+    /// Takes the first item, where there is one; in a closed buffer that has none it takes nothing.
+    fn receive(&mut self) -> Tried
+        requires { allows Receive self.old ≡ true }
+        ensures block { self.new ≡ done Receive self.old }
+        ensures told { result ≡ Acted (effect_at Receive self.old) (wakes Receive self.old) }
     {
+        let item = self.items.take();
         let effect = Effect {
-            kind: Kind::Recv,
-            value: self.items.take().unwrap(),
+            kind: if item.is_some() {
+                Kind::Recv
+            } else {
+                Kind::RecvClosed
+            },
+            value: item.unwrap_or(Msg::none()),
             op: self.effects,
             pos: self.receives,
         };
         self.effects = effect.op.wrapping_add(1);
         self.receives = effect.pos.wrapping_add(1);
-        Tried {
-            side: Side::Receivers,
-            effect: Some(effect),
-            woke: self.senders.pop(),
-        }
+        Tried::Acted(effect, self.wake_after(Side::Receivers))
+    }
+
+    /// Closes the buffer.
+    fn close(&mut self) -> Tried
+        ensures block { self.new ≡ done Close self.old }
+        ensures told { result ≡ Acted (effect_at Close self.old) (wakes Close self.old) }
+    {
+        let effect = Effect {
+            kind: Kind::Close,
+            value: Msg::none(),
+            op: self.effects,
+            pos: self.closes,
+        };
+        self.closed = true;
+        self.effects = effect.op.wrapping_add(1);
+        self.closes = effect.pos.wrapping_add(1);
+        Tried::Acted(effect, self.wake_after(Side::Receivers))
     }
 
     /// Lets `t` wait on this side.
@@ -153,6 +253,23 @@ impl PlainBuffer {
             Side::Senders => join(&mut self.senders, t),
             Side::Receivers => join(&mut self.receivers, t),
         }
+    }
+}
+
+/// Law: a closed buffer lets all who wait go. Nobody begins to wait there, and an effect that wakes
+/// nobody found nobody waiting: so each that waits is woken, by an effect of the one before it.
+pub fn closed_buffers_let_all_go()
+    ensures goes { (ask : Ask) (x : PlainState) → x.closed ≡ true → allows ask x ≡ true }
+    ensures wakes { (ask : Ask) (x : PlainState) → closed_after ask x ≡ true → wakes ask x ≡ Nobody → (x.receivers ≡ []) × (x.senders ≡ []) }
+{}
+
+/// The side of a call.
+fn side_of(ask: &Ask) -> Side
+    ensures { result ≡ side_of ask.now }
+{
+    match *ask {
+        Ask::Send(_) => Side::Senders,
+        Ask::Receive | Ask::Close => Side::Receivers,
     }
 }
 
@@ -180,35 +297,30 @@ impl Sleeps for Attempt {
     }
 
     fn apply(self, _first: Option<Tid>, block: &mut PlainBuffer) -> Tried {
-        if !block.allows(self.side) {
-            block.wait(self.thread, self.side);
-            return Tried {
-                side: self.side,
-                effect: None,
-                woke: None,
-            };
+        if !block.allows(&self.ask) {
+            let side = side_of(&self.ask);
+            block.wait(self.thread, side);
+            return Tried::Refused(side);
         }
-        match self.side {
-            Side::Senders => block.send(self.message),
-            Side::Receivers => block.receive(self.message),
+        match &self.ask {
+            Ask::Send(message) => block.send(message),
+            Ask::Receive => block.receive(),
+            Ask::Close => block.close(),
         }
     }
 
     fn joins(out: &Tried) -> Option<Line> {
-        if out.effect.is_some() {
-            return None;
-        }
-        match out.side {
-            Side::Senders => Some(Line::Senders),
-            Side::Receivers => Some(Line::Receivers),
+        match *out {
+            Tried::Acted(_, _) => None,
+            Tried::Refused(Side::Senders) => Some(Line::Senders),
+            Tried::Refused(Side::Receivers) => Some(Line::Receivers),
         }
     }
 
     fn leaves(out: &Tried) -> Leave {
-        match (out.woke, out.side) {
-            (None, _) => Leave::Nobody,
-            (Some(t), Side::Senders) => Leave::Receiver(t),
-            (Some(t), Side::Receivers) => Leave::Sender(t),
+        match *out {
+            Tried::Acted(_, woke) => woke,
+            Tried::Refused(_) => Leave::Nobody,
         }
     }
 }

@@ -2,22 +2,22 @@
 
 ghost use Rattle.std.specs.Prelude.{◌≡◌, ◌<◌, [], None, Some, false, replicate, slice_set};
 ghost use Rattle.event_log.specs.declared.ids.TheConstants.{THREADS};
-ghost use Rattle.layer_traits.specs.BufferLaw.{buffer_of, quiet, talk_of};
-ghost use Rattle.plain_layers.specs.Fifos.{attempt_of, reply_to, talk_after};
+ghost use Rattle.layer_traits.specs.BufferLaw.{buffer_of, quiet, reply_of, talk_of};
+ghost use Rattle.plain_layers.specs.Fifos.{ask_of, attempt_of, reply_to, talk_after};
 
-use crate::attempts::{Attempt, Tried};
+use crate::attempts::{Ask, Attempt, Tried};
 use crate::wholes::whole;
 use arrayvec::ArrayVec;
-use event_log::{BufId, CAPACITY, CpuId, Msg, THREADS, Tid};
+use event_log::{BufId, CAPACITY, CpuId, Kind, Msg, THREADS, Tid};
 use layer_traits::{
-    BufferLayer, Call, Effect, Line, Outcome, OwnedBuffers, OwnedSleeps, Pass, Reply, Side,
-    SleepLayer, Stage, Talk,
+    BufferLayer, Call, Effect, Line, Outcome, OwnedBuffers, OwnedSleeps, Pass, Reply, SleepLayer,
+    Stage, Talk,
 };
 
 /// One CPU's part of first-in first-out blocking buffers as they are meant, over a part `S` of sleep
 /// and wakeup: a message call is one section. It takes effect if the buffer allows it, and else its
 /// thread sleeps and calls again once it is woken. A thread that comes anew may take what one was
-/// woken for, which then sleeps again.
+/// woken for, which then sleeps again. A close lets those who sleep go, each woken by the one before.
 #[derive(Drop)]
 pub struct PlainFifo<S> {
     lower: S,
@@ -29,7 +29,18 @@ fn buffer_in(call: &Call) -> BufId
     ensures { result ≡ buffer_of call.now }
 {
     match *call {
-        Call::Send(buffer, _) | Call::Recv(buffer) => buffer,
+        Call::Send(buffer, _) | Call::Recv(buffer) | Call::Close(buffer) => buffer,
+    }
+}
+
+/// What a call asks of its buffer.
+fn ask_in(call: &Call) -> Ask
+    ensures { result ≡ ask_of call.now }
+{
+    match *call {
+        Call::Send(_, message) => Ask::Send(message),
+        Call::Recv(_) => Ask::Receive,
+        Call::Close(_) => Ask::Close,
     }
 }
 
@@ -37,30 +48,22 @@ fn buffer_in(call: &Call) -> BufId
 fn attempt_in(t: Tid, call: &Call) -> Attempt
     ensures { result ≡ attempt_of t call.now }
 {
-    match *call {
-        Call::Send(_, message) => Attempt {
-            thread: t,
-            side: Side::Senders,
-            message,
-        },
-        Call::Recv(_) => Attempt {
-            thread: t,
-            side: Side::Receivers,
-            message: 0,
-        },
+    Attempt {
+        thread: t,
+        ask: ask_in(call),
     }
 }
 
 /// The talk of a thread after its section had this effect, or none.
-fn next(call: &Call, effect: Option<Effect>) -> Talk
-    ensures { result ≡ talk_after call.now effect }
+fn next(call: &Call, effect: &Option<Effect>) -> Talk
+    ensures { result ≡ talk_after call.now effect.now }
 {
     match effect {
         Some(_) => Talk {
             stage: Stage::Between,
             call: None,
             position: 0,
-            effect,
+            effect: *effect,
         },
         None => Talk {
             stage: Stage::Waits,
@@ -71,13 +74,30 @@ fn next(call: &Call, effect: Option<Effect>) -> Talk
     }
 }
 
-/// The reply of a call after this effect, or none.
-fn reply(call: &Call, effect: Option<Effect>) -> Option<Reply>
-    ensures { result ≡ reply_to call.now effect }
+/// The reply of a call after this effect.
+fn answer(call: &Call, effect: &Effect) -> Reply
+    ensures { result ≡ reply_of call.now effect.now }
 {
     match *call {
-        Call::Send(_, _) => effect.map(|_| Reply::Sent),
-        Call::Recv(_) => effect.map(|effect| Reply::Got(effect.value)),
+        Call::Send(_, _) => match effect.kind {
+            Kind::SendClosed => Reply::Closed,
+            _ => Reply::Sent,
+        },
+        Call::Recv(_) => match effect.kind {
+            Kind::RecvClosed => Reply::Closed,
+            _ => Reply::Got(effect.value),
+        },
+        Call::Close(_) => Reply::Shut,
+    }
+}
+
+/// The reply of a call after this effect, or none.
+fn reply(call: &Call, effect: &Option<Effect>) -> Option<Reply>
+    ensures { result ≡ reply_to call.now effect.now }
+{
+    match effect {
+        None => None,
+        Some(effect) => Some(answer(call, effect)),
     }
 }
 
@@ -173,9 +193,9 @@ impl<S: SleepLayer<Attempt>> BufferLayer for PlainFifo<S> {
 
     fn poll(&mut self, m: &mut S::Machine, t: Tid, call: &Call) -> Option<Reply> {
         let outcome = whole(&mut self.lower, m, buffer_in(call), attempt_in(t, call));
-        let effect = outcome.out.effect;
-        self.talks[usize::from(t.0)] = next(call, effect);
-        reply(call, effect)
+        let effect = outcome.out.effect();
+        self.talks[usize::from(t.0)] = next(call, &effect);
+        reply(call, &effect)
     }
 
     fn pass(&mut self, m: &mut S::Machine, call: Pass) -> Option<()> {
@@ -215,6 +235,7 @@ impl<S: OwnedSleeps<Attempt>> OwnedBuffers for PlainFifo<S> {
     ghost use Rattle.event_log.specs.declared.ids.LockId.TheVariants.{Buffer, Pending};
     ghost use Rattle.event_log.specs.Actions.{phase};
     ghost use Rattle.event_log.specs.Buffers.{items_of};
+    ghost use Rattle.event_log.specs.Runs.{is_closed};
     ghost use Rattle.layer_traits.specs.BufferEffects.{contents_of};
     ghost use Rattle.layer_traits.specs.Places.{pending_by};
     ghost use Rattle.layer_traits.specs.Plans.{is_in_section};
@@ -224,7 +245,7 @@ impl<S: OwnedSleeps<Attempt>> OwnedBuffers for PlainFifo<S> {
     ghost use Rattle.layer_traits.specs.SleepLaw.{sleep_kernel};
     ghost use Rattle.plain_layers.specs.Attempts.{attempts};
     ghost use Rattle.plain_layers.specs.Fifos.{caps_in, entries_in, lines_in, locked_after, shown};
-    ghost use Rattle.plain_layers.specs.FifoOwned.{buffer_there, entries_known, items_in, items_told, lines_of, lines_told};
+    ghost use Rattle.plain_layers.specs.FifoOwned.{buffer_there, closed_of, closed_told, entries_known, items_in, items_told, lines_of, lines_told};
     ghost use Rattle.plain_layers.specs.FifoOwned.{nobody, nobody_owns, nothing_told, pending_told, there_viewed, view_told};
 
     ghost owner = { λ m b. nobody };
@@ -232,6 +253,10 @@ impl<S: OwnedSleeps<Attempt>> OwnedBuffers for PlainFifo<S> {
     ghost items_at = { λ m b. option_map items_in (S.state_at m b) };
 
     ghost items_with = { λ p b. option_map items_in (S.state_with p.lower b) };
+
+    ghost closed_at = { λ m b. option_map closed_of (S.state_at m b) };
+
+    ghost closed_with = { λ p b. option_map closed_of (S.state_with p.lower b) };
 
     ghost owner_at = { λ m b. Some nobody };
 
@@ -267,6 +292,20 @@ impl<S: OwnedSleeps<Attempt>> OwnedBuffers for PlainFifo<S> {
         }
     }
 
+    fn closed_in(m: &S::Machine, b: BufId) -> Option<bool> {
+        match S::block_in(m, b) {
+            None => None,
+            Some(block) => Some(block.is_closed()),
+        }
+    }
+
+    fn closed_here(&self, b: BufId) -> Option<bool> {
+        match self.lower.block_here(b) {
+            None => None,
+            Some(block) => Some(block.is_closed()),
+        }
+    }
+
     fn owner_in(_m: &S::Machine, _b: BufId) -> Option<Option<Tid>> {
         Some(None)
     }
@@ -299,6 +338,14 @@ impl<S: OwnedSleeps<Attempt>> OwnedBuffers for PlainFifo<S> {
         (λ p. S.state_with p b) (S.state_at m b)
         (items_of (contents_of (caps_in (inner (S.opening m))) (entries_in (inner (S.opening m)) (buffer_sections (S.seen m)))) b.0)
         (items_told (S.opening m) acts.2.fresh b within (buffer_sections (S.seen m)))
+        (S.shown m c b acts.0 (buffer_there (S.opening m) acts.2.fresh b within)) };
+
+    ghost closed = { λ m c b acts within. view_told (λ (p : Self). p.lower) (λ p. S.Fits p m) (λ (p : Self). Self.Fits p m) (λ p. S.cpu_of p)
+        (λ d. S.IsStepwise × (is_in_section (phase d (S.acts m)) ≡ true)) (λ d. ⊥ × (is_in_section (phase d (Self.acts m)) ≡ true)) (λ p fits. fits.0)
+        (λ d inside. absurd (acts.1 inside.0)) (locked_after (inner (S.opening m)) (Buffer b) (buffer_sections (S.seen m))) closed_of
+        (λ p. S.state_with p b) (S.state_at m b)
+        (is_closed (entries_in (inner (S.opening m)) (buffer_sections (S.seen m))) b.0)
+        (closed_told (S.opening m) acts.2.fresh b within (buffer_sections (S.seen m)))
         (S.shown m c b acts.0 (buffer_there (S.opening m) acts.2.fresh b within)) };
 
     ghost owners = { λ m c b acts within. nobody_owns (λ (p : Self). Self.Fits p m) (λ p. S.cpu_of p.lower)

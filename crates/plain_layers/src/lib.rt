@@ -15,7 +15,7 @@ mod sleepers;
 mod wholes;
 
 pub use attempt_layers::{OpensAttempts, plain_buffers};
-pub use attempts::{Attempt, PlainBuffer, Tried};
+pub use attempts::{Ask, Attempt, PlainBuffer, Tried, closed_buffers_let_all_go};
 pub use fifos::PlainFifo;
 pub use ipcs::{PlainIpc, ipc_is_whole};
 pub use kernel::{Lists, Opening, PlainKernel};
@@ -28,6 +28,8 @@ pub use sleepers::{
 };
 pub use wholes::whole;
 
+#[cfg(test)]
+mod attempt_tests;
 #[cfg(test)]
 mod cond_tests;
 #[cfg(test)]

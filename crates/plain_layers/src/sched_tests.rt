@@ -12,14 +12,14 @@ ghost use Rattle.shared_queue.specs.Opening.{AreQueues};
 
 use crate::openings::Opens;
 use crate::{PlainLock, PlainQueues, PlainSched};
-use event_log::{BufId, CPUS, CpuId, NoMemory, Tid};
+use event_log::{BufId, CPUS, CpuId, LockId, NoMemory, Tid};
 use layer_traits::{
     Edit, Line, Moves, OwnedLocks, OwnedScheds, Pass, QueueEdit, SchedCall, SchedLayer,
 };
-use plain_machine::Plain;
+use plain_machine::{GrantLockWords, GrantPlain, Plain};
 use scheduler::Sched;
 use shared_queue::SharedQueues;
-use spinlock::Ticket;
+use spinlock::{Grant, Ticket};
 use std::alloc::Global;
 use std::process::Abort;
 use std::test::Fail;
@@ -467,5 +467,33 @@ fn one_step_queues_do_a_call_in_one_poll(rt: HostRuntime) -> Result<(), Fail> {
 #[test]
 fn one_step_schedulers_do_a_call_in_one_poll(rt: HostRuntime) -> Result<(), Fail> {
     in_one_poll::<PlainSched<Nap>>(&rt, rt.alloc())?;
+    Ok(())
+}
+
+/// A scheduler over locks with a grant word for each waiter.
+type OverGrants = Sched<SharedQueues<Grant<GrantPlain<QueueEdit<Nap>>>>>;
+
+/// The words of CPU 0's pending lock behind two drains of its empty queue, each in its third poll;
+/// `None` where one took other polls.
+fn words_behind_two_drains(alloc: Global) -> Result<Option<GrantLockWords>, NoMemory> {
+    let homes = [CpuId(1)];
+    let mut m = machine::<OverGrants>(alloc, 2, &homes)?;
+    let mut drains: OverGrants = part(&m, CpuId(0), &homes);
+    let first = passed_at(&mut drains, &mut m, Pass::Drain);
+    let second = passed_at(&mut drains, &mut m, Pass::Drain);
+    if first != 3 || second != 3 {
+        return Ok(None);
+    }
+    Ok(Some(m.words(LockId::Pending(CpuId(0)))))
+}
+
+#[test]
+fn two_drains_grant_the_third_place(rt: HostRuntime) -> Result<(), Fail> {
+    let mut words = [0; CPUS];
+    words[0] = 1;
+    words[1] = 2;
+    words[2] = 3;
+    let behind = words_behind_two_drains(rt.alloc())?;
+    assert_eq!(rt; behind, Some(GrantLockWords { next: 2, words }));
     Ok(())
 }

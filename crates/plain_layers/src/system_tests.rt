@@ -26,11 +26,155 @@ const TWO_SENDS: &str =
 const SEND_AND_RECEIVE: &str =
     "cpus = 2\ntrace = 4\nbuffers = [1]\n\n[[thread]]\ncpu = 0\nprogram = [\"recv 0 r0\"]\n\n[[thread]]\ncpu = 1\nprogram = [\"set r0 7\", \"send 0 r0\"]\n";
 
+/// A receiver on CPU 0, and on CPU 1 a thread that closes the buffer.
+const CLOSE_AND_RECEIVE: &str = "\
+cpus = 2
+trace = 4
+buffers = [1]
+
+[[thread]]
+cpu = 0
+program = [\"recv 0 r0\"]
+
+[[thread]]
+cpu = 1
+program = [\"close 0\"]
+";
+
+/// One thread that sends 7, closes the buffer, sends again and receives twice.
+const DRAIN: &str = "\
+cpus = 1
+trace = 8
+buffers = [1]
+
+[[thread]]
+cpu = 0
+program = [\"set r0 7\", \"send 0 r0\", \"close 0\", \"send 0 r0\", \"recv 0 r1\", \"recv 0 r1\"]
+";
+
+/// Three receivers, each on a CPU of its own, and on CPU 3 a thread that closes the buffer.
+const THREE_RECEIVERS: &str = "\
+cpus = 4
+trace = 4
+buffers = [1]
+
+[[thread]]
+cpu = 0
+program = [\"recv 0 r0\"]
+
+[[thread]]
+cpu = 1
+program = [\"recv 0 r0\"]
+
+[[thread]]
+cpu = 2
+program = [\"recv 0 r0\"]
+
+[[thread]]
+cpu = 3
+program = [\"close 0\"]
+";
+
+/// A thread that sends 7 twice into room for one, another that sends 8, and on CPU 2 one that closes
+/// the buffer and receives twice.
+const TWO_SENDERS: &str = "\
+cpus = 3
+trace = 4
+buffers = [1]
+
+[[thread]]
+cpu = 0
+program = [\"set r0 7\", \"send 0 r0\", \"send 0 r0\"]
+
+[[thread]]
+cpu = 1
+program = [\"set r0 8\", \"send 0 r0\"]
+
+[[thread]]
+cpu = 2
+program = [\"close 0\", \"recv 0 r0\", \"recv 0 r0\"]
+";
+
+/// One thread that sends two words as one message, and receives them.
+const TWO_WORDS: &str = "\
+cpus = 1
+trace = 4
+buffers = [1]
+
+[[thread]]
+cpu = 0
+program = [\"set r0 7\", \"set r1 8\", \"sendm 0 2\", \"recvm 0\"]
+";
+
 /// The trace text of a run without an effect.
 const EMPTY: &str = "mctower-trace 1\nbuffers 1\ncap 0 1\nleft 0\nend\n";
 
+/// That of a message of two words that was sent and received.
+const WORDS_RECEIVED: &str = "\
+mctower-trace 3
+buffers 1
+cap 0 1
+e 0 0 send 0 7,8 0 0
+e 0 0 recv 0 7,8 1 0
+left 0
+end
+";
+
 /// That of one send of 7.
 const SENT: &str = "mctower-trace 1\nbuffers 1\ncap 0 1\ne 0 0 send 0 7 0 0\nleft 0 7\nend\n";
+
+/// That of a close by CPU 1 that lets a receiver of CPU 0 go.
+const LET_GO: &str = "\
+mctower-trace 2
+buffers 1
+cap 0 1
+e 1 1 close 0 - 0 0
+e 0 0 recvc 0 - 1 0
+left 0
+end
+";
+
+/// That of a buffer that is drained after its close.
+const DRAINED: &str = "\
+mctower-trace 2
+buffers 1
+cap 0 1
+e 0 0 send 0 7 0 0
+e 0 0 close 0 - 1 0
+e 0 0 sendc 0 7 2 1
+e 0 0 recv 0 7 3 0
+e 0 0 recvc 0 - 4 1
+left 0
+end
+";
+
+/// That of a close that lets three receivers go, one after the other.
+const RECEIVERS_GONE: &str = "\
+mctower-trace 2
+buffers 1
+cap 0 1
+e 3 3 close 0 - 0 0
+e 0 0 recvc 0 - 1 0
+e 1 1 recvc 0 - 2 1
+e 2 2 recvc 0 - 3 2
+left 0
+end
+";
+
+/// That of a close that lets two senders go, with what was in the buffer taken behind them.
+const SENDERS_GONE: &str = "\
+mctower-trace 2
+buffers 1
+cap 0 1
+e 0 0 send 0 7 0 0
+e 2 2 close 0 - 1 0
+e 0 0 sendc 0 7 2 1
+e 1 1 sendc 0 8 3 2
+e 2 2 recv 0 7 4 0
+e 2 2 recvc 0 - 5 1
+left 0
+end
+";
 
 /// And that of a send of 7 by CPU 1 that CPU 0 receives.
 const RECEIVED: &str =
@@ -93,6 +237,8 @@ struct Row<'a> {
     /// Of each number: where this CPU is halted, and where this thread stands.
     stands: &'a [(Option<Reason>, Place)],
     quiet: bool,
+    /// Whether the buffer is closed.
+    closed: bool,
 }
 
 /// Whether each CPU is halted, and each thread stands, as these say.
@@ -123,7 +269,7 @@ where
     let text = text_of(rt, alloc, count, &system)?;
     assert!(rt; text.as_slice() == row.text.as_bytes());
     assert!(rt; stands(&system, row.stands) && system.is_quiet() == row.quiet);
-    assert!(rt; system.busy(BufId(0)).is_none());
+    assert!(rt; system.busy(BufId(0)).is_none() && system.is_closed(BufId(0)) == row.closed);
     Ok(())
 }
 
@@ -138,6 +284,7 @@ where
         text: EMPTY,
         stands: &[(None, Place::Running(CpuId(0)))],
         quiet: false,
+        closed: false,
     };
     goes::<I>(rt, alloc, &row)
 }
@@ -153,6 +300,7 @@ where
         text: SENT,
         stands: &[(Some(Reason::AllEnded), Place::Ended)],
         quiet: true,
+        closed: false,
     };
     goes::<I>(rt, alloc, &row)
 }
@@ -168,6 +316,7 @@ where
         text: SENT,
         stands: &[(None, Place::WaitSend(BufId(0)))],
         quiet: true,
+        closed: false,
     };
     goes::<I>(rt, alloc, &row)
 }
@@ -186,6 +335,7 @@ where
             (None, Place::Ready(CpuId(1))),
         ],
         quiet: false,
+        closed: false,
     };
     goes::<I>(rt, alloc, &row)
 }
@@ -202,6 +352,111 @@ where
         text: RECEIVED,
         stands: &[ended, ended],
         quiet: true,
+        closed: false,
+    };
+    goes::<I>(rt, alloc, &row)
+}
+
+/// The receiver waits, the close wakes it and sends it home, and it finds the buffer closed.
+fn close_lets_a_receiver_go<I: Owned + Drop>(rt: &impl Abort, alloc: Global) -> Result<(), NoMemory>
+where
+    I::Machine: Drop,
+{
+    let ended = (Some(Reason::AllEnded), Place::Ended);
+    let row = Row {
+        plan: CLOSE_AND_RECEIVE,
+        turns: &[(CpuId(0), 2), (CpuId(1), 3), (CpuId(0), 4)],
+        text: LET_GO,
+        stands: &[ended, ended],
+        quiet: true,
+        closed: true,
+    };
+    goes::<I>(rt, alloc, &row)
+}
+
+/// A closed buffer takes no message, gives the one that it has, and then answers that it is closed.
+fn closed_buffer_drains<I: Owned + Drop>(rt: &impl Abort, alloc: Global) -> Result<(), NoMemory>
+where
+    I::Machine: Drop,
+{
+    let row = Row {
+        plan: DRAIN,
+        turns: &[(CpuId(0), 8)],
+        text: DRAINED,
+        stands: &[(Some(Reason::AllEnded), Place::Ended)],
+        quiet: true,
+        closed: true,
+    };
+    goes::<I>(rt, alloc, &row)
+}
+
+/// A message of two words is received as it was sent.
+fn two_words_are_received<I: Owned + Drop>(rt: &impl Abort, alloc: Global) -> Result<(), NoMemory>
+where
+    I::Machine: Drop,
+{
+    let row = Row {
+        plan: TWO_WORDS,
+        turns: &[(CpuId(0), 6)],
+        text: WORDS_RECEIVED,
+        stands: &[(Some(Reason::AllEnded), Place::Ended)],
+        quiet: true,
+        closed: false,
+    };
+    goes::<I>(rt, alloc, &row)
+}
+
+/// Three receivers wait. The close wakes the first, the first wakes the second, and so on.
+fn close_lets_all_receivers_go<I: Owned + Drop>(
+    rt: &impl Abort,
+    alloc: Global,
+) -> Result<(), NoMemory>
+where
+    I::Machine: Drop,
+{
+    let ended = (Some(Reason::AllEnded), Place::Ended);
+    let row = Row {
+        plan: THREE_RECEIVERS,
+        turns: &[
+            (CpuId(0), 2),
+            (CpuId(1), 2),
+            (CpuId(2), 2),
+            (CpuId(3), 3),
+            (CpuId(0), 4),
+            (CpuId(1), 4),
+            (CpuId(2), 4),
+        ],
+        text: RECEIVERS_GONE,
+        stands: &[ended, ended, ended, ended],
+        quiet: true,
+        closed: true,
+    };
+    goes::<I>(rt, alloc, &row)
+}
+
+/// Two senders wait at a full buffer. The close wakes the first, which wakes the second.
+fn close_lets_all_senders_go<I: Owned + Drop>(
+    rt: &impl Abort,
+    alloc: Global,
+) -> Result<(), NoMemory>
+where
+    I::Machine: Drop,
+{
+    let ended = (Some(Reason::AllEnded), Place::Ended);
+    let row = Row {
+        plan: TWO_SENDERS,
+        turns: &[
+            (CpuId(0), 4),
+            (CpuId(1), 3),
+            (CpuId(2), 2),
+            (CpuId(0), 4),
+            (CpuId(1), 4),
+            (CpuId(2), 3),
+        ],
+        text: SENDERS_GONE,
+        stands: &[ended, ended, ended],
+        quiet: true,
+        closed: true,
     };
     goes::<I>(rt, alloc, &row)
 }
@@ -217,7 +472,12 @@ where
     sends_and_ends::<I>(rt, alloc)?;
     sender_waits::<I>(rt, alloc)?;
     receiver_waits::<I>(rt, alloc)?;
-    sends_and_receives::<I>(rt, alloc)
+    sends_and_receives::<I>(rt, alloc)?;
+    two_words_are_received::<I>(rt, alloc)?;
+    close_lets_a_receiver_go::<I>(rt, alloc)?;
+    closed_buffer_drains::<I>(rt, alloc)?;
+    close_lets_all_receivers_go::<I>(rt, alloc)?;
+    close_lets_all_senders_go::<I>(rt, alloc)
 }
 
 /// More room than there can be, from the most polls whose events can be counted on.

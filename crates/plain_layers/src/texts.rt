@@ -1,8 +1,10 @@
 //! The trace text of a system with one buffer, which has room for one message.
 
-ghost use Rattle.std.specs.Prelude.{◌≡◌, ◌<◌, ◌≤◌, ◌^◌, ◌∷◌, [], All, true, length};
+ghost use Rattle.std.specs.Prelude.{◌≡◌, ◌≤◌, ◌∷◌, [], All, true, length};
 ghost use Rattle.event_log.specs.declared.ids.TheConstants.{ENTRIES};
-ghost use Rattle.tracer.specs.TraceText.{IsEntryOf, IsSpellable};
+ghost use Rattle.event_log.specs.Messages.{no_message};
+ghost use Rattle.tracer.specs.declared.versions.Version.TheVariants.{One};
+ghost use Rattle.tracer.specs.TraceText.{IsEntryOf, IsItemOf, IsSpellable, IsValueOf};
 
 use arrayvec::ArrayVec;
 use cpu::System;
@@ -12,22 +14,49 @@ use std::alloc::Global;
 use std::process::Abort;
 use tracer::{GatherError, Sink, gather, write_trace};
 
-// A message has 64 bits, as its type says. It computes nothing.
-fn value_fits(value: Msg)
-    ensures { value < 2 ^ 64 }
-{}
-
-// And so has each of a list; the list does not tell it by itself.
-fn values_fit(items: &[Msg])
-    ensures { All (λ value. value < 2 ^ 64) items.now }
+/// Whether a message is what stands where there is none.
+fn is_none(value: &Msg) -> bool
+    ensures { result ≡ true → value.now ≡ no_message }
 {
-    for value in items {
-        value_fits(*value);
+    *value == Msg::none()
+}
+
+/// Whether an effect of this kind may tell this message: a close, and a receive that found its buffer
+/// closed, tell none.
+fn is_value(kind: Kind, value: &Msg) -> bool
+    ensures { result ≡ true → IsValueOf kind value.now }
+{
+    value.fits();
+    match kind {
+        Kind::Send | Kind::Recv | Kind::SendClosed => true,
+        Kind::Close | Kind::RecvClosed => is_none(value),
     }
 }
 
-/// Whether an entry may stand in the text: its numbers are in range, and its effect has a message.
-#[tactic(auto, using(crate::proofs::TextLemmas::sent, crate::proofs::TextLemmas::received))]
+/// Whether a text of the first version, and so of any, has a spelling for this message: it is one word.
+#[tactic(auto, using(crate::proofs::TextLemmas::short_spelled))]
+fn is_short(message: &Msg) -> bool
+    ensures { result ≡ true → IsItemOf One message.now }
+{
+    message.fits();
+    message.len() <= 1
+}
+
+/// Whether all of them are.
+fn are_short(items: &[Msg]) -> bool
+    ensures { result ≡ true → All (IsItemOf One) items.now }
+{
+    for message in items {
+        if !is_short(message) {
+            return false;
+        }
+    }
+    true
+}
+
+/// Whether an entry may stand in the text: its numbers are in range, and its message is one that its
+/// effect may tell.
+#[tactic(auto, using(crate::proofs::TextLemmas::entry_spelled))]
 fn is_entry(entry: &Entry) -> bool
     ensures { result ≡ true → IsEntryOf 1 entry.now }
 {
@@ -40,7 +69,6 @@ fn is_entry(entry: &Entry) -> bool
         op,
         pos,
     } = *entry;
-    value_fits(value);
     if usize::from(cpu.0) >= CPUS {
         return false;
     }
@@ -56,11 +84,7 @@ fn is_entry(entry: &Entry) -> bool
     if pos >= ENTRIES as u64 {
         return false;
     }
-    match kind {
-        Kind::Send => true,
-        Kind::Recv => true,
-        _ => false,
-    }
+    is_value(kind, &value)
 }
 
 /// Whether all of them may.
@@ -82,11 +106,13 @@ fn are_few(order: &[Entry]) -> bool
     order.len() <= ENTRIES
 }
 
-/// Whether there is a text of these entries, and of these messages that are left.
+/// Whether there is a text of these entries, and of these messages that are left, each of one word.
 fn is_spellable(order: &[Entry], items: &[Msg]) -> bool
     ensures { result ≡ true → IsSpellable (1 ∷ []) order.now (items.now ∷ []) }
 {
-    values_fit(items);
+    if !are_short(items) {
+        return false;
+    }
     let few = are_few(order);
     if few { are_entries(order) } else { false }
 }

@@ -13,10 +13,10 @@ use Rattle.tracer.specs.declared.next_lines.NextLine.TheVariants as wants
 use Rattle.tracer.specs.declared.verdicts.Verdict.TheVariants.{Yes}
 use Rattle.tracer.specs.TraceText.{line_of, version_word, head_pieces, count_pieces, cap_pieces, entry_pieces, left_pieces, end_pieces}
 use Rattle.tracer.specs.TraceText.{numbered, lines_of, spelling}
-use Rattle.tracer.specs.TraceText.{IsEntryOf, IsSpellable, IsTraceText, AreSmall}
+use Rattle.tracer.specs.TraceText.{IsEntryOf, IsSpellable, IsTraceText, AreItemsOf}
 use Rattle.tracer.specs.Judging.{Progress, opening, step, lines_in, verdict_from, verdict_of}
 use Rattle.tracer.specs.declared.versions.Version.{Version}
-use Rattle.tracer.specs.declared.versions.Version.TheVariants.{One, Two}
+use Rattle.tracer.specs.declared.versions.Version.TheVariants.{One, Two, Three}
 use Rattle.tracer.specs.Versions.{covers, version_from, version_of}
 use Rattle.tracer.proofs.VersionLemmas.{covers_itself, covers_next, version_more}
 use Rattle.tracer.proofs.SplitLemmas.{IsLine, line_read}
@@ -34,16 +34,17 @@ complete_end : (s : Progress) (n : ℕ) → s.at ≡ wants.End → covers s.lowe
 complete_end s n at low = line_read s (record s { at = wants.Done }) n (codes "end") [] [] end_is_line (step_end s at low)
 
 -- what is left of a buffer, and of those behind it
-first_of : (contents : List (List Message)) (b : ℕ) (x : List ℕ) (xs : List (List ℕ)) → drop b contents ≡ x ∷ xs → items_of contents b ≡ x
+first_of : (contents : List (List Message)) (b : ℕ) (x : List Message) (xs : List (List Message)) → drop b contents ≡ x ∷ xs → items_of contents b ≡ x
 first_of contents b x xs e =
     let none : b + 0 ≡ b = omega arith in
-    ap (λ (k : ℕ). get_or contents k []) (sym none) ∙ sym (get_or-drop b contents 0 []) ∙ ap (λ (t : List (List ℕ)). get_or t 0 []) e
+    ap (λ (k : ℕ). get_or contents k []) (sym none) ∙ sym (get_or-drop b contents 0 []) ∙ ap (λ (t : List (List Message)). get_or t 0 []) e
 
-behind_first : (contents : List (List Message)) (b : ℕ) (x : List ℕ) (xs : List (List ℕ)) → drop b contents ≡ x ∷ xs → drop (b + 1) contents ≡ xs
-behind_first contents b x xs e = sym (drop-drop 1 b contents) ∙ ap (λ (t : List (List ℕ)). drop 1 t) e
+behind_first : (contents : List (List Message)) (b : ℕ) (x : List Message) (xs : List (List Message)) → drop b contents ≡ x ∷ xs → drop (b + 1) contents ≡ xs
+behind_first contents b x xs e = sym (drop-drop 1 b contents) ∙ ap (λ (t : List (List Message)). drop 1 t) e
 
-complete_left : (v : Version) (caps : List ℕ) (earlier : List Entry) (contents : List (List Message)) (s : Progress) (b n : ℕ) (x : List ℕ) (xs : List (List ℕ))
-    → length contents ≡ length caps → length caps ≤ BUFFERS → b < length caps → drop b contents ≡ x ∷ xs → AllByRecursion AreSmall (x ∷ xs)
+complete_left : (v : Version) (caps : List ℕ) (earlier : List Entry) (contents : List (List Message)) (s : Progress) (b n : ℕ) (x : List Message)
+    (xs : List (List Message))
+    → length contents ≡ length caps → length caps ≤ BUFFERS → b < length caps → drop b contents ≡ x ∷ xs → AllByRecursion (AreItemsOf v) (x ∷ xs)
     → covers (version_of earlier) v ≡ true
     → step s (join_with_byte 32 (left_pieces b (items_of contents b))) ≡ Ok (progress v (behind_left b caps) caps earlier contents)
     → verdict_from s n (lines_in (flat_map line_of (numbered left_pieces b (x ∷ xs) ++ end_pieces ∷ []))) ≡ Yes
@@ -52,9 +53,9 @@ complete_left v caps earlier contents s b n x [] long few inside rest small low 
     let last : (b + 1 ≡ length caps) = omega (arith, ap length rest, length-drop b contents) in
     let stops : nat_lt (b + 1) (length caps) ≡ false = le-ltb (b + 1) (length caps) (omega arith) in
     let next : step s (join_with_byte 32 (left_pieces b x)) ≡ Ok (progress v wants.End caps earlier contents) =
-    subst (λ (t : List ℕ). step s (join_with_byte 32 (left_pieces b t)) ≡ Ok (progress v wants.End caps earlier contents)) here (taken ∙ rw stops refl) in
+    subst (λ (t : List Message). step s (join_with_byte 32 (left_pieces b t)) ≡ Ok (progress v wants.End caps earlier contents)) here (taken ∙ rw stops refl) in
     let fits : b < 2 ^ 64 = omega arith in
-    line_read s (progress v wants.End caps earlier contents) n (codes "left") _ (flat_map line_of (end_pieces ∷ [])) (left_is_line b x fits small.0) next
+    line_read s (progress v wants.End caps earlier contents) n (codes "left") _ (flat_map line_of (end_pieces ∷ [])) (left_is_line v b x fits small.0) next
     ∙ complete_end (progress v wants.End caps earlier contents) (n + 1) refl low
 complete_left v caps earlier contents s b n x (y ∷ ys) long few inside rest small low taken =
     let here = first_of contents b x (y ∷ ys) rest in
@@ -62,23 +63,23 @@ complete_left v caps earlier contents s b n x (y ∷ ys) long few inside rest sm
     let goes : nat_lt (b + 1) (length caps) ≡ true = lt-ltb (b + 1) (length caps) more in
     let s' = progress v (wants.Contents (b + 1)) caps earlier contents in
     let next : step s (join_with_byte 32 (left_pieces b x)) ≡ Ok s' =
-    subst (λ (t : List ℕ). step s (join_with_byte 32 (left_pieces b t)) ≡ Ok s') here (taken ∙ rw goes refl) in
+    subst (λ (t : List Message). step s (join_with_byte 32 (left_pieces b t)) ≡ Ok s') here (taken ∙ rw goes refl) in
     let behind = behind_first contents b x (y ∷ ys) rest in
     let fits : b < 2 ^ 64 = omega arith in
-    let following : AreSmall (items_of contents (b + 1)) = subst AreSmall (sym (first_of contents (b + 1) y ys behind)) small.1.0 in
-    line_read s s' n (codes "left") _ (flat_map line_of (numbered left_pieces (b + 1) (y ∷ ys) ++ end_pieces ∷ [])) (left_is_line b x fits small.0) next
+    let following : AreItemsOf v (items_of contents (b + 1)) = subst (AreItemsOf v) (sym (first_of contents (b + 1) y ys behind)) small.1.0 in
+    line_read s s' n (codes "left") _ (flat_map line_of (numbered left_pieces (b + 1) (y ∷ ys) ++ end_pieces ∷ [])) (left_is_line v b x fits small.0) next
     ∙ complete_left v caps earlier contents s' (b + 1) (n + 1) y ys long few more behind small.1 low (step_left v
     (b + 1) caps earlier contents more few following)
 
 -- the entries
 complete_first : (v : Version) (caps : List ℕ) (earlier : List Entry) (contents left : List (List Message)) (n : ℕ) → contents ≡ left
     → length contents ≡ length caps
-    → 1 ≤ length caps → length caps ≤ BUFFERS → AllByRecursion AreSmall left → v ≡ version_of earlier
+    → 1 ≤ length caps → length caps ≤ BUFFERS → AllByRecursion (AreItemsOf v) left → v ≡ version_of earlier
     → verdict_from (progress v wants.Entries caps earlier contents) n (lines_in (flat_map line_of (numbered left_pieces 0 left ++ end_pieces ∷ []))) ≡ Yes
 complete_first v caps earlier contents [] n same long some few small lowest = absurd (omega (arith, ap length same))
 complete_first v caps earlier contents (x ∷ xs) n same long some few small lowest =
     let inside : 0 < length caps = omega arith in
-    let first : AreSmall (items_of contents 0) = subst AreSmall (sym (first_of contents 0 x xs same)) small.0 in
+    let first : AreItemsOf v (items_of contents 0) = subst (AreItemsOf v) (sym (first_of contents 0 x xs same)) small.0 in
     let low : covers (version_of earlier) v ≡ true = rw lowest (covers_itself (version_of earlier)) in
     complete_left v caps earlier contents (progress v wants.Entries caps earlier contents) 0 n x xs long few inside same small low
     (step_first_left v caps earlier contents inside first)
@@ -86,7 +87,7 @@ complete_first v caps earlier contents (x ∷ xs) n same long some few small low
 pub complete_entries : (v : Version) (caps : List ℕ) (earlier : List Entry) (contents : List (List Message)) (es : List Entry) (left : List (List Message))
     (n : ℕ)
     → IsRunFrom caps earlier contents es left → AllByRecursion (IsEntryOf (length caps)) es → length earlier + length es ≤ ENTRIES
-    → length contents ≡ length caps → 1 ≤ length caps → length caps ≤ BUFFERS → AllByRecursion AreSmall left → v ≡ version_from (version_of earlier) es
+    → length contents ≡ length caps → 1 ≤ length caps → length caps ≤ BUFFERS → AllByRecursion (AreItemsOf v) left → v ≡ version_from (version_of earlier) es
     → verdict_from (progress v wants.Entries caps earlier contents) n
     (lines_in (flat_map line_of (map entry_pieces es ++ (numbered left_pieces 0 left ++ end_pieces ∷ [])))) ≡ Yes
 complete_entries v caps earlier contents [] left n run each room long some few small lowest =
@@ -134,6 +135,10 @@ head_is_line One = record {
   feeds = ((refl, (refl, (refl, (refl, (refl, (refl, (refl, (refl, (refl, (refl, (refl, (refl, (refl, tt))))))))))))), ((refl, tt), tt));
 }
 head_is_line Two = record {
+  spaces = ((refl, (refl, (refl, (refl, (refl, (refl, (refl, (refl, (refl, (refl, (refl, (refl, (refl, tt))))))))))))), ((refl, tt), tt));
+  feeds = ((refl, (refl, (refl, (refl, (refl, (refl, (refl, (refl, (refl, (refl, (refl, (refl, (refl, tt))))))))))))), ((refl, tt), tt));
+}
+head_is_line Three = record {
   spaces = ((refl, (refl, (refl, (refl, (refl, (refl, (refl, (refl, (refl, (refl, (refl, (refl, (refl, tt))))))))))))), ((refl, tt), tt));
   feeds = ((refl, (refl, (refl, (refl, (refl, (refl, (refl, (refl, (refl, (refl, (refl, (refl, (refl, tt))))))))))))), ((refl, tt), tt));
 }

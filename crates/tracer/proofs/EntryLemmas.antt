@@ -1,5 +1,5 @@
 -- Each line of a trace text is taken where it may stand, and a line that is taken is spelled so.
-use Rattle.std.proofs.Common.{◌-◌, ◌≡◌, ℕ, ◌<◌, ◌≤◌, ◌^◌, Bool, true, false, cond, List, [], ◌∷◌, length, Result, Ok, Err, refl, sym, ap}
+use Rattle.std.proofs.Common.{◌-◌, ◌≡◌, ℕ, ◌<◌, ◌≤◌, ◌^◌, Bool, true, false, cond, List, [], ◌∷◌, length, Result, Ok, Err, refl, sym, ap, ◌∙◌}
 use Rattle.std.proofs.Common.{subst, lit<, arith}
 use Rattle.std.specs.Prelude.{decimal, codes}
 use Rattle.std.specs.Str.{bytes_eq}
@@ -16,15 +16,17 @@ use Rattle.tracer.specs.declared.verdicts.Reason.{Reason}
 use Rattle.tracer.specs.declared.verdicts.Reason.TheVariants.{Spelling}
 use Rattle.tracer.specs.declared.next_lines.NextLine.{NextLine}
 use Rattle.tracer.specs.declared.versions.Version.{Version}
-use Rattle.tracer.specs.Versions.{covers, version_of_kind, version_of}
+use Rattle.tracer.specs.Versions.{covers, version_of_kind, version_of_message, version_of_entry, version_of}
 use Rattle.tracer.specs.TraceText.{kind_word, value_piece, IsValueOf}
 use Rattle.tracer.specs.Judging.{Digits, Progress, wanted, piece_at, digits_at, ended, in_range, kind_in, spells_value, value_in, is_of_version}
 use Rattle.tracer.specs.Judging.{entry_digits, entry_in}
 use Rattle.tracer.proofs.ReadLemmas.{bind_ok, fine, same_ok, in_range_taken, decimal_is_number}
 use Rattle.tracer.proofs.KnownLemmas.{known_from}
+use Rattle.tracer.proofs.VersionLemmas.{covers_first_one, covers_first, covers_second}
+use Rattle.tracer.proofs.MessageLemmas.{message_again, spells_message_again, item_taken}
 
 -- behind the earlier entries, in a text of this version
-abbrev pub progress : Version → NextLine → List ℕ → List Entry → List (List ℕ) → Progress
+abbrev pub progress : Version → NextLine → List ℕ → List Entry → List (List Message) → Progress
 progress v at caps earlier contents = record {
   at = at;
   version = v;
@@ -77,45 +79,51 @@ kind_taken word kind e =
 
 -- ---- the message of an entry
 
--- what it says that the message of an entry was taken
-pub record ValueTaken (kind : Kind) (piece : List ℕ) (value : Message) : Type 0 where
+-- what it says that the message of an entry was taken, in a text of this version
+pub record ValueTaken (v : Version) (kind : Kind) (piece : List ℕ) (value : Message) : Type 0 where
   pub spelled : piece ≡ value_piece kind value
   pub fits : IsValueOf kind value
+  pub version : covers v (version_of_message value) ≡ true
 
-number_taken : (piece : List ℕ) (value : Message) → in_range 18446744073709551615 piece ≡ Ok value → (piece ≡ decimal value) × (value < 2 ^ 64)
-number_taken piece value e =
-    let range = in_range_taken 18446744073709551615 piece value (lit< tt) e in
-    (range.spelled, (let h = range.within in omega arith))
+dash_taken : (v : Version) (piece : List ℕ) (value : Message) → bytes_eq piece (codes "-") ≡ true → fine no_message ≡ Ok value
+    → (piece ≡ codes "-") × (value ≡ no_message) × (covers v (version_of_message value) ≡ true)
+dash_taken v piece value dash e =
+    let none = sym (same_ok no_message value e) in
+    ((bytes_eq-Decides piece (codes "-")).0 dash, none, ap (λ (m : Message). covers v (version_of_message m)) none ∙ covers_first_one v)
 
-dash_taken : (piece : List ℕ) (value : Message) → bytes_eq piece (codes "-") ≡ true → fine no_message ≡ Ok value
-    → (piece ≡ codes "-") × (value ≡ no_message)
-dash_taken piece value dash e = ((bytes_eq-Decides piece (codes "-")).0 dash, sym (same_ok no_message value e))
-
-value_taken : (kind : Kind) (piece : List ℕ) (value : Message) → spells_value kind piece ≡ true → value_in kind piece ≡ Ok value → ValueTaken kind piece value
-value_taken Send piece value spells e = let taken = number_taken piece value e in record { spelled = taken.0; fits = taken.1 }
-value_taken Recv piece value spells e = let taken = number_taken piece value e in record { spelled = taken.0; fits = taken.1 }
-value_taken Close piece value spells e = let taken = dash_taken piece value spells e in record { spelled = taken.0; fits = taken.1 }
-value_taken SendClosed piece value spells e = let taken = number_taken piece value e in record { spelled = taken.0; fits = taken.1 }
-value_taken RecvClosed piece value spells e = let taken = dash_taken piece value spells e in record { spelled = taken.0; fits = taken.1 }
+value_taken : (v : Version) (kind : Kind) (piece : List ℕ) (value : Message) → spells_value v kind piece ≡ true → value_in kind piece ≡ Ok value
+    → ValueTaken v kind piece value
+value_taken v Send piece value spells e =
+    let taken = item_taken v piece value spells e in record { spelled = taken.spelled; fits = taken.is.small; version = taken.is.version }
+value_taken v Recv piece value spells e =
+    let taken = item_taken v piece value spells e in record { spelled = taken.spelled; fits = taken.is.small; version = taken.is.version }
+value_taken v Close piece value spells e = let taken = dash_taken v piece value spells e in record { spelled = taken.0; fits = taken.1; version = taken.2 }
+value_taken v SendClosed piece value spells e =
+    let taken = item_taken v piece value spells e in record { spelled = taken.spelled; fits = taken.is.small; version = taken.is.version }
+value_taken v RecvClosed piece value spells e = let taken = dash_taken v piece value spells e in record { spelled = taken.0; fits = taken.1; version = taken.2 }
 
 value_again : (kind : Kind) (value : Message) → IsValueOf kind value → value_in kind (value_piece kind value) ≡ Ok value
-value_again Send value fits = rw (number_to-decimal 18446744073709551615 value fits (omega arith)) refl
-value_again Recv value fits = rw (number_to-decimal 18446744073709551615 value fits (omega arith)) refl
+value_again Send value fits = message_again value fits
+value_again Recv value fits = message_again value fits
 value_again Close value fits = ap Ok (sym fits)
-value_again SendClosed value fits = rw (number_to-decimal 18446744073709551615 value fits (omega arith)) refl
+value_again SendClosed value fits = message_again value fits
 value_again RecvClosed value fits = ap Ok (sym fits)
 
-spells_again : (kind : Kind) (value : Message) → IsValueOf kind value → spells_value kind (value_piece kind value) ≡ true
-spells_again Send value fits = decimal_is_number value fits
-spells_again Recv value fits = decimal_is_number value fits
-spells_again Close value fits = refl
-spells_again SendClosed value fits = decimal_is_number value fits
-spells_again RecvClosed value fits = refl
+spells_again : (v : Version) (kind : Kind) (value : Message) → IsValueOf kind value → covers v (version_of_message value) ≡ true
+    → spells_value v kind (value_piece kind value) ≡ true
+spells_again v Send value fits high = spells_message_again v value (record { small = fits; version = high })
+spells_again v Recv value fits high = spells_message_again v value (record { small = fits; version = high })
+spells_again v Close value fits high = refl
+spells_again v SendClosed value fits high = spells_message_again v value (record { small = fits; version = high })
+spells_again v RecvClosed value fits high = refl
 
 -- the entry's line is one of this version
-pub of_version_again : (v : Version) (e : Entry) → covers v (version_of_kind e.kind) ≡ true → IsValueOf e.kind e.value
+pub of_version_again : (v : Version) (e : Entry) → covers v (version_of_entry e) ≡ true → IsValueOf e.kind e.value
     → is_of_version v (digits_in e) ≡ true
-of_version_again v e high fits = rw (high, spells_again e.kind e.value fits) refl
+of_version_again v e high fits =
+    let kind : covers v (version_of_kind e.kind) ≡ true = covers_first v (version_of_kind e.kind) (version_of_message e.value) high in
+    let message : covers v (version_of_message e.value) ≡ true = covers_second v (version_of_kind e.kind) (version_of_message e.value) high in
+    rw (kind, spells_again v e.kind e.value fits message) refl
 
 -- ---- the pieces of an entry
 
@@ -221,17 +229,19 @@ entry_digits_again e cpu thread buffer op pos =
     ) refl
 
 -- the numbers of an entry, where there may be so many buffers as there can be
-pub record IsSmall (digits : Digits) (e : Entry) : Type 0 where
+pub record IsSmall (v : Version) (digits : Digits) (e : Entry) : Type 0 where
   pub spelled : digits ≡ digits_in e
   pub cpu : e.cpu.0 ≤ CPUS - 1
   pub thread : e.thread.0 ≤ THREADS - 1
   pub value : IsValueOf e.kind e.value
+  pub version : covers v (version_of_message e.value) ≡ true
   pub op : e.op ≤ ENTRIES - 1
   pub pos : e.pos ≤ ENTRIES - 1
 
-pub entry_in_taken : (digits : Digits) (e : Entry) → spells_value digits.kind digits.value ≡ true → entry_in digits ≡ Ok e → IsSmall digits e
+pub entry_in_taken : (v : Version) (digits : Digits) (e : Entry) → spells_value v digits.kind digits.value ≡ true → entry_in digits ≡ Ok e
+    → IsSmall v digits e
 unfolding entry_in
-entry_in_taken digits e spells taken =
+entry_in_taken v digits e spells taken =
     let a0 = bind_ok (in_range (CPUS - 1) digits.cpu)
     (λ cpu. in_range (THREADS - 1) digits.thread >>= λ thread. in_range (BUFFERS - 1) digits.buffer >>= λ buffer.
     value_in digits.kind digits.value >>= λ value. in_range (ENTRIES - 1) digits.op >>= λ op. in_range (ENTRIES - 1) digits.pos >>= λ pos.
@@ -303,7 +313,7 @@ entry_in_taken digits e spells taken =
     let r0 = in_range_taken (CPUS - 1) digits.cpu a0.0 (lit< tt) a0.1 in
     let r1 = in_range_taken (THREADS - 1) digits.thread a1.0 (lit< tt) a1.1 in
     let r2 = in_range_taken (BUFFERS - 1) digits.buffer a2.0 (lit< tt) a2.1 in
-    let r3 = value_taken digits.kind digits.value a3.0 spells a3.1 in
+    let r3 = value_taken v digits.kind digits.value a3.0 spells a3.1 in
     let r4 = in_range_taken (ENTRIES - 1) digits.op a4.0 (lit< tt) a4.1 in
     let r5 = in_range_taken (ENTRIES - 1) digits.pos a5.0 (lit< tt) a5.1 in
     let made : Entry = record {
@@ -317,8 +327,8 @@ entry_in_taken digits e spells taken =
     } in
     let shape : digits ≡ digits_in made = six digits.cpu digits.thread digits.buffer digits.value digits.op digits.pos (decimal a0.0) (decimal a1.0)
     (decimal a2.0) (value_piece digits.kind a3.0) (decimal a4.0) (decimal a5.0) digits.kind r0.spelled r1.spelled r2.spelled r3.spelled r4.spelled r5.spelled in
-    subst (λ (x : Entry). IsSmall digits x) (same_ok made e a5.2)
-    (record { spelled = shape; cpu = r0.within; thread = r1.within; value = r3.fits; op = r4.within; pos = r5.within })
+    subst (λ (x : Entry). IsSmall v digits x) (same_ok made e a5.2)
+    (record { spelled = shape; cpu = r0.within; thread = r1.within; value = r3.fits; version = r3.version; op = r4.within; pos = r5.within })
 
 pub entry_in_again : (e : Entry) → e.cpu.0 ≤ CPUS - 1 → e.thread.0 ≤ THREADS - 1 → e.buffer.0 ≤ BUFFERS - 1 → IsValueOf e.kind e.value
     → e.op ≤ ENTRIES - 1 → e.pos ≤ ENTRIES - 1 → entry_in (digits_in e) ≡ Ok e

@@ -2,7 +2,9 @@
 use Rattle.std.proofs.Common.{◌≡◌, ◌≢◌, ℕ, zero, suc, ◌+◌, ◌<◌, ◌==◌, Bool, true, false, cond, List, [], ◌∷◌, ◌++◌, length, get_or, set, map, drop}
 use Rattle.std.proofs.Common.{Option, Some, None, Ok, refl, sym, ap, ◌∙◌, eq-eqb, ne_eqb, eqb-true, ltb-true, lt-ltb, add-zero, inl, inr, arith}
 use Rattle.std.specs.Prelude.{slice_get, slice_set, nat_lt}
+use Rattle.std.specs.Str.{bytes_eq}
 use Rattle.std.proofs.lemmas.Bool.{cases_eq}
+use Rattle.std.proofs.lemmas.Slice.Eq.{bytes_eq-Decides}
 use Rattle.std.proofs.lemmas.List.{get_or-set_same, get_or-set_other, length-set, nil_from_length, same_lists}
 use Rattle.std.proofs.lemmas.Option.{slice_get-get_or, slice_get_within}
 use Rattle.event_log.specs.Messages.{Message, no_message}
@@ -18,7 +20,7 @@ use Rattle.tracer.specs.Judging.{Seen, fresh, wanted, or_range, was_closed, next
 use Rattle.tracer.proofs.ReadLemmas.{bind_ok, wanted_ok, same_ok}
 
 -- what is known of buffer b, behind the earlier entries
-abbrev pub seen_of : List Entry → List (List ℕ) → ℕ → ℕ → Seen
+abbrev pub seen_of : List Entry → List (List Message) → ℕ → ℕ → Seen
 seen_of earlier contents b capacity = record {
   capacity = capacity;
   items = items_of contents b;
@@ -29,7 +31,7 @@ seen_of earlier contents b capacity = record {
 }
 
 -- what is known of the buffers from b on
-abbrev pub known_from : List Entry → List (List ℕ) → ℕ → List ℕ → List Seen
+abbrev pub known_from : List Entry → List (List Message) → ℕ → List ℕ → List Seen
 known_from earlier contents b [] = []
 known_from earlier contents b (k ∷ ks) = seen_of earlier contents b k ∷ known_from earlier contents (b + 1) ks
 
@@ -118,13 +120,13 @@ take_again : (value : Message) (items : List Message) → slice_get items 0 ≡ 
 take_again value [] first = absurd (cc)
 take_again value (x ∷ xs) first =
     let same : x ≡ value = cc in
-    rw (eq-eqb x value same) refl
+    rw ((bytes_eq-Decides x value).1 same) refl
 
 take_taken : (value : Message) (items after : List Message) → take_first value items ≡ Ok after → (slice_get items 0 ≡ Some value) × (after ≡ drop 1 items)
 take_taken value [] after e = absurd (cc)
 take_taken value (x ∷ xs) after e =
-    let test = wanted_ok (x == value) WrongValue (Ok xs) after e in
-    (ap Some (eqb-true x value test.0), sym (same_ok xs after test.1))
+    let test = wanted_ok (bytes_eq x value) WrongValue (Ok xs) after e in
+    (ap Some ((bytes_eq-Decides x value).0 test.0), sym (same_ok xs after test.1))
 
 effect_again : (kind : Kind) (value : Message) (closed : Bool) (capacity : ℕ) (items : List Message) → IsAllowedEffect kind closed capacity items value
     → effect_of kind value closed capacity items ≡ Ok (after_effect kind items value)

@@ -10,6 +10,7 @@ pub mod SplitLemmas
 pub mod ReadLemmas
 pub mod VersionLemmas
 pub mod KnownLemmas
+pub mod MessageLemmas
 pub mod EntryLemmas
 pub mod StepLemmas
 pub mod OpeningLemmas

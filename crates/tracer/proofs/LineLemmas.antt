@@ -1,18 +1,21 @@
 -- A line's text as it is written, and lines that have the number of their item.
-use Rattle.std.proofs.Common.{◌≡◌, ℕ, zero, suc, ◌+◌, ◌<◌, Bool, true, List, [], ◌∷◌, ◌++◌, Option, length, get_or, take, drop, map, refl, sym, ap, ◌∙◌}
+use Rattle.std.proofs.Common.{◌-◌, ◌≡◌, ℕ, zero, suc, ◌+◌, ◌<◌, ◌≤◌, Bool, true, List, [], ◌∷◌, ◌++◌, Option, length, get_or, take, drop, map}
+use Rattle.std.proofs.Common.{refl, sym, ap, ◌∙◌}
 use Rattle.std.proofs.Common.{append_assoc, add-zero, zero-add, arith}
 use Rattle.std.specs.Io.KnownBytes.{Appends}
 use Rattle.tracer.specs.Sinks.{Outs}
 use Rattle.tracer.proofs.SinkLemmas.{appends_then, outs_then, outs_before}
-use Rattle.std.proofs.lemmas.List.{append-nil}
+use Rattle.std.proofs.lemmas.List.{append-nil, take_all}
 use Rattle.std.proofs.lemmas.List.Concat.{flat_map-append}
 use Rattle.std.specs.Prelude.{decimal}
+use Rattle.event_log.specs.Messages.{Message, first_word}
 use Rattle.std.specs.List.{flat_map, join_with_byte}
 use Rattle.tracer.specs.declared.writing.Piece.{Piece}
-use Rattle.tracer.specs.Pieces.{text_of, spaced}
+use Rattle.tracer.specs.Pieces.{text_of, spaced, behind_comma}
 use Rattle.event_log.specs.declared.entries.Entry.{Entry}
 use Rattle.tracer.specs.Versions.{version_of}
-use Rattle.tracer.specs.TraceText.{line_of, numbered, head_pieces, count_pieces, cap_pieces, entry_pieces, left_pieces, end_pieces, spelling, lines_of}
+use Rattle.tracer.specs.TraceText.{line_of, numbered, message_text, head_pieces, count_pieces, cap_pieces, entry_pieces, left_pieces, end_pieces}
+use Rattle.tracer.specs.TraceText.{spelling, lines_of}
 
 -- pieces with a space between each two: the first, and each other behind a space
 pub join_spaced : (w : List ℕ) (ps : List (List ℕ)) → join_with_byte 32 (w ∷ ps) ≡ w ++ flat_map spaced ps
@@ -23,16 +26,28 @@ pub flat_map-map : {X Y : Type 0} (f : Y → List ℕ) (g : X → Y) (xs : List 
 flat_map-map f g [] = refl
 flat_map-map f g (x ∷ xs) = ap (λ (t : List ℕ). f (g x) ++ t) (flat_map-map f g xs)
 
--- a line as its first word, its pieces, its numbers and a line feed
-pub line_text : (w : List ℕ) (ps : List Piece) (ns : List ℕ) → line_of (w ∷ (map text_of ps ++ map decimal ns))
-    ≡ w ++ (flat_map (λ p. spaced (text_of p)) ps ++ (flat_map (λ n. spaced (decimal n)) ns ++ 10 ∷ []))
-line_text w ps ns =
-    let front : join_with_byte 32 (w ∷ (map text_of ps ++ map decimal ns)) ≡ w ++ flat_map spaced (map text_of ps ++ map decimal ns) =
-    join_spaced w (map text_of ps ++ map decimal ns) in
-    let both : flat_map spaced (map text_of ps ++ map decimal ns) ≡ flat_map (λ p. spaced (text_of p)) ps ++ flat_map (λ n. spaced (decimal n)) ns =
-    flat_map-append spaced (map text_of ps) (map decimal ns) ∙ rw (flat_map-map spaced text_of ps, flat_map-map spaced decimal ns) refl in
+-- a line as its first word, its pieces, its messages and a line feed
+pub line_text : (w : List ℕ) (ps : List Piece) (ms : List Message) → line_of (w ∷ (map text_of ps ++ map message_text ms))
+    ≡ w ++ (flat_map (λ p. spaced (text_of p)) ps ++ (flat_map (λ m. spaced (message_text m)) ms ++ 10 ∷ []))
+line_text w ps ms =
+    let front : join_with_byte 32 (w ∷ (map text_of ps ++ map message_text ms)) ≡ w ++ flat_map spaced (map text_of ps ++ map message_text ms) =
+    join_spaced w (map text_of ps ++ map message_text ms) in
+    let both : flat_map spaced (map text_of ps ++ map message_text ms) ≡ flat_map (λ p. spaced (text_of p)) ps ++ flat_map (λ m. spaced (message_text m)) ms =
+    flat_map-append spaced (map text_of ps) (map message_text ms) ∙ rw (flat_map-map spaced text_of ps, flat_map-map spaced message_text ms) refl in
     ap (λ (t : List ℕ). t ++ 10 ∷ []) (front ∙ ap (λ (t : List ℕ). w ++ t) both) ∙ append_assoc w _ (10 ∷ [])
-    ∙ ap (λ (t : List ℕ). w ++ t) (append_assoc (flat_map (λ p. spaced (text_of p)) ps) (flat_map (λ n. spaced (decimal n)) ns) (10 ∷ []))
+    ∙ ap (λ (t : List ℕ). w ++ t) (append_assoc (flat_map (λ p. spaced (text_of p)) ps) (flat_map (λ m. spaced (message_text m)) ms) (10 ∷ []))
+
+-- a message as its first word, and each other behind a comma
+join_words : (w : ℕ) (ws : List ℕ) → join_with_byte 44 (map decimal (w ∷ ws)) ≡ decimal w ++ flat_map behind_comma ws
+join_words w [] = sym (append-nil (decimal w))
+join_words w (v ∷ ws) = ap (λ (t : List ℕ). decimal w ++ 44 ∷ t) (join_words v ws)
+
+pub message_parts : (m : Message) (count : ℕ) → count ≡ length m → 0 < count
+    → spaced (message_text m) ≡ spaced (decimal (first_word m)) ++ flat_map behind_comma (take (count - 1) (drop 1 m))
+message_parts [] count is some = absurd (omega arith)
+message_parts (w ∷ ws) count is some =
+    let long : length ws ≤ count - 1 = omega arith in
+    rw (take_all (count - 1) ws long) (ap (λ (t : List ℕ). 32 ∷ t) (join_words w ws))
 
 -- numbered lines, cut round the item at i
 pub numbered_at : {X : Type 0} (line : ℕ → X → List (List ℕ)) (b : ℕ) (xs : List X) (i : ℕ) (d : X) → i < length xs
@@ -89,7 +104,7 @@ numbered_failed line xs i d failed old mid new lt front e here =
     rw text (outs_then failed old mid new _ _ front (outs_before failed mid new (line_of (line i (get_or xs i d))) (flat_map line_of rest) e here))
 
 -- the text of a trace in the parts in which it is written
-pub spelling_parts : {V : Type 0} (items : V → List ℕ) (caps : List ℕ) (es : List Entry) (left : List V)
+pub spelling_parts : {V : Type 0} (items : V → List Message) (caps : List ℕ) (es : List Entry) (left : List V)
     → spelling caps es (map items left) ≡ line_of (head_pieces (version_of es))
     ++ (line_of (count_pieces (length caps))
     ++ (flat_map line_of (numbered cap_pieces 0 caps)

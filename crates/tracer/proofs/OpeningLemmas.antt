@@ -1,5 +1,5 @@
 -- The lines before the entries, and the last line: each is taken where it may stand, and what is taken is spelled so.
-use Rattle.std.proofs.Common.{◌≡◌, ℕ, ◌+◌, ◌<◌, ◌≤◌, ◌^◌, Bool, true, false, cond, List, [], ◌∷◌, ◌++◌, length, map, Ok, Err, refl, sym, ap, subst, ◌∙◌}
+use Rattle.std.proofs.Common.{◌≡◌, ℕ, ◌+◌, ◌<◌, ◌≤◌, ◌^◌, Bool, true, false, cond, List, [], ◌∷◌, ◌++◌, length, map, Result, Ok, Err, refl, sym, ap, subst, ◌∙◌}
 use Rattle.std.proofs.Common.{lt-ltb, ltb-true, lit<, arith}
 use Rattle.std.specs.Prelude.{decimal, codes, nat_lt}
 use Rattle.std.specs.Str.{bytes_eq}
@@ -10,36 +10,40 @@ use Rattle.event_log.specs.Buffers.{IsCapacity}
 use Rattle.event_log.specs.declared.ids.TheConstants.{BUFFERS, CAPACITY}
 use Rattle.event_log.specs.Reading.{◌>>=◌}
 use Rattle.event_log.proofs.DigitsLemmas.{number_to-decimal}
+use Rattle.tracer.specs.declared.verdicts.Reason.{Reason}
 use Rattle.tracer.specs.declared.verdicts.Reason.TheVariants.{Spelling, Range, OfVersion}
 use Rattle.tracer.specs.declared.next_lines.NextLine.{NextLine}
 use Rattle.tracer.specs.declared.next_lines.NextLine.TheVariants as wants
 use Rattle.tracer.specs.declared.versions.Version.{Version}
-use Rattle.tracer.specs.declared.versions.Version.TheVariants.{One, Two}
+use Rattle.tracer.specs.declared.versions.Version.TheVariants.{One, Two, Three}
 use Rattle.tracer.specs.Versions.{covers}
 use Rattle.tracer.specs.TraceText.{head_pieces, cap_pieces, count_pieces}
 use Rattle.tracer.specs.Judging.{Progress, fresh, wanted, piece_at, word_at, digits_at, ended, in_range, is_value, count_digits, count_line, capacity_digits}
 use Rattle.tracer.specs.Judging.{capacity_line, version_in, head_line, end_line, step}
 use Rattle.tracer.proofs.SplitLemmas.{IsLine, decimal_lacks, pieces_again}
-use Rattle.tracer.proofs.ReadLemmas.{bind_ok, wanted_ok, fine, same_ok, piece_taken, word_taken, digits_taken, ended_taken}
+use Rattle.tracer.proofs.ReadLemmas.{bind_ok, wanted_ok, same_ok, piece_taken, word_taken, digits_taken, ended_taken}
 use Rattle.tracer.proofs.ReadLemmas.{IsInRange, in_range_taken, is_value_taken}
 use Rattle.tracer.proofs.ReadLemmas.{decimal_is_number, is_value_again}
 
 -- ---- the head and the last line
 
-second_taken : (line : List ℕ) (second : Bool) (v : Version) → bytes_eq line (codes "mctower-trace 2") ≡ second
-    → cond second (fine Two) (Err Spelling) ≡ Ok v → line ≡ join_with_byte 32 (head_pieces v)
-second_taken line true v is e =
-    let same : Two ≡ v = cc in
-    subst (λ (u : Version). line ≡ join_with_byte 32 (head_pieces u)) same ((bytes_eq-Decides line (codes "mctower-trace 2")).0 is)
-second_taken line false v is e = absurd (cc)
+-- one head of a choice of heads
+head_or : (line : List ℕ) (is : Bool) (here v : Version) (others : Result Version Reason)
+    → bytes_eq line (join_with_byte 32 (head_pieces here)) ≡ is → (others ≡ Ok v → line ≡ join_with_byte 32 (head_pieces v))
+    → cond is (Ok here) others ≡ Ok v → line ≡ join_with_byte 32 (head_pieces v)
+head_or line true here v others is behind e =
+    let same : here ≡ v = same_ok here v e in
+    subst (λ (u : Version). line ≡ join_with_byte 32 (head_pieces u)) same ((bytes_eq-Decides line (join_with_byte 32 (head_pieces here))).0 is)
+head_or line false here v others is behind e = behind e
 
-version_taken : (line : List ℕ) (first : Bool) (v : Version) → bytes_eq line (codes "mctower-trace 1") ≡ first
-    → cond first (fine One) (cond (bytes_eq line (codes "mctower-trace 2")) (Ok Two) (Err Spelling)) ≡ Ok v
-    → line ≡ join_with_byte 32 (head_pieces v)
-version_taken line true v is e =
-    let same : One ≡ v = cc in
-    subst (λ (u : Version). line ≡ join_with_byte 32 (head_pieces u)) same ((bytes_eq-Decides line (codes "mctower-trace 1")).0 is)
-version_taken line false v is e = second_taken line (bytes_eq line (codes "mctower-trace 2")) v refl e
+no_head : (line : List ℕ) (v : Version) → Err Spelling ≡ Ok v → line ≡ join_with_byte 32 (head_pieces v)
+no_head line v e = absurd (cc)
+
+version_taken : (line : List ℕ) (v : Version) → version_in line ≡ Ok v → line ≡ join_with_byte 32 (head_pieces v)
+version_taken line v e =
+    head_or line (bytes_eq line (codes "mctower-trace 1")) One v _ refl
+    (head_or line (bytes_eq line (codes "mctower-trace 2")) Two v _ refl
+    (head_or line (bytes_eq line (codes "mctower-trace 3")) Three v _ refl (no_head line v))) e
 
 -- a head that is taken names its version
 pub head_taken : (line : List ℕ) (s after : Progress) → head_line line s ≡ Ok after
@@ -47,13 +51,14 @@ pub head_taken : (line : List ℕ) (s after : Progress) → head_line line s ≡
 unfolding head_line
 head_taken line s after taken =
     let read = bind_ok (version_in line) (λ v. Ok (record s { at = wants.Count; version = v })) after taken in
-    (read.0, version_taken line (bytes_eq line (codes "mctower-trace 1")) read.0 refl read.1, sym (same_ok _ after read.2))
+    (read.0, version_taken line read.0 read.1, sym (same_ok _ after read.2))
 
 pub step_head : (v : Version) (s : Progress) → s.at ≡ wants.Head
     → step s (join_with_byte 32 (head_pieces v)) ≡ Ok (record s { at = wants.Count; version = v })
 unfolding step head_line
 step_head One s at = rw at refl
 step_head Two s at = rw at refl
+step_head Three s at = rw at refl
 
 -- the last line is taken where no lower version can spell the text
 pub end_taken : (line : List ℕ) (s after : Progress) → end_line line s ≡ Ok after

@@ -18,7 +18,7 @@ no_piece (p ∷ ps) reason e = absurd (cc)
 -- a number is wanted, and no piece is left
 pub piece_missing : (ps : List (List ℕ)) (reason : Reason) (ns : List Message) (i : ℕ) → piece_at ps ≡ Err reason → i < length ns
     → are_values ps (drop i ns) ≡ false
-piece_missing ps reason ns i e lt = rw (no_piece ps reason e, drop_more ns i 0 lt) refl
+piece_missing ps reason ns i e lt = rw (no_piece ps reason e, drop_more ns i [] lt) refl
 
 -- a line has a piece
 no_pieces : (line : List ℕ) (ps : List (List ℕ)) → pieces_of line ≡ ps → are_values ps [] ≡ false

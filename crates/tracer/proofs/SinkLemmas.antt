@@ -1,5 +1,5 @@
 -- One write after another.
-use Rattle.std.proofs.Common.{◌≡◌, ℕ, ◌+◌, ◌<◌, Bool, true, false, List, [], ◌∷◌, ◌++◌, length, get_or, take, drop, Option, Some, None, sym, ap, ◌∙◌}
+use Rattle.std.proofs.Common.{◌≡◌, ℕ, ◌+◌, ◌<◌, Bool, true, false, List, [], ◌∷◌, ◌++◌, length, get_or, take, drop, Option, Some, None, sym, ap, subst, ◌∙◌}
 use Rattle.std.proofs.Common.{append_assoc}
 use Rattle.std.proofs.lemmas.List.{append-nil, take-append-drop, drop_more}
 use Rattle.std.proofs.lemmas.List.Concat.{flat_map-append}
@@ -54,3 +54,9 @@ failed_in f xs i d failed old mid new lt front e out =
     rw (flat_map_at f xs i d lt)
     (outs_then failed old mid new (flat_map f (take i xs)) (f (get_or xs i d) ++ flat_map f (drop (i + 1) xs)) front
     (outs_before failed mid new (f (get_or xs i d)) (flat_map f (drop (i + 1) xs)) e out))
+
+-- the same, of a piece that was read at i
+pub failed_at : {X : Type 0} (f : X → List ℕ) (xs : List X) (i : ℕ) (x : X) (failed : Bool) (old mid new : Option (List ℕ)) → i < length xs
+    → x ≡ get_or xs i x → Appends old mid (flat_map f (take i xs)) → failed ≡ true → Outs failed mid new (f x) → Outs failed old new (flat_map f xs)
+failed_at f xs i x failed old mid new lt is front e out =
+    failed_in f xs i x failed old mid new lt front e (subst (λ y. Outs failed mid new (f y)) is out)

@@ -19,7 +19,7 @@ use Rattle.tracer.specs.declared.versions.Version.{Version}
 use Rattle.tracer.specs.declared.versions.Version.TheVariants.{One}
 use Rattle.tracer.specs.Versions.{covers, version_of_entry, version_from, version_of}
 use Rattle.tracer.specs.TraceText.{line_of, head_pieces, count_pieces, cap_pieces, entry_pieces, left_pieces, end_pieces, numbered, lines_of, spelling}
-use Rattle.tracer.specs.TraceText.{IsEntryOf, IsSpellable, AreSmall}
+use Rattle.tracer.specs.TraceText.{IsEntryOf, IsSpellable, AreItemsOf}
 use Rattle.tracer.specs.Verdicts.{IsTraceOfRun}
 use Rattle.tracer.specs.Judging.{Progress, opening, step, after_line, pieces_of, lines_in, verdict_from, verdict_of, head_line}
 use Rattle.tracer.specs.Judging.{end_line, count_line, capacity_line}
@@ -73,9 +73,9 @@ sound_end v low buffers entries n (line ∷ next ∷ more) e =
 -- ---- what is left
 
 -- the lines are what is left from buffer b on, and the end of a text of a version that is no higher than the entries want
-abbrev LeftText : Version → Version → ℕ → List (List ℕ) → List (List ℕ) → Type 0
+abbrev LeftText : Version → Version → ℕ → List (List Message) → List (List ℕ) → Type 0
 LeftText v low b contents lines = (join_with_byte 10 lines ≡ flat_map line_of (numbered left_pieces b (drop b contents) ++ end_pieces ∷ []))
-    × AllByRecursion AreSmall (drop b contents) × (covers low v ≡ true)
+    × AllByRecursion (AreItemsOf v) (drop b contents) × (covers low v ≡ true)
 
 behind_cases : (v : Version) (b : ℕ) (caps : List ℕ) (earlier : List Entry) (contents : List (List Message)) (n : ℕ) (lines : List (List ℕ)) (more : Bool)
     → nat_lt (b + 1) (length caps) ≡ more → length contents ≡ length caps
@@ -92,7 +92,7 @@ behind_cases v b caps earlier contents n lines false is long again e =
 -- a line of what is left of buffer b, and the lines behind it
 left_text : (v low : Version) (b : ℕ) (contents : List (List Message)) (line : List ℕ) (ps : List (List ℕ)) (next : List ℕ) (more : List (List ℕ))
     → pieces_of line ≡ ps
-    → b < length contents → ps ≡ left_pieces b (items_of contents b) → AreSmall (items_of contents b) → LeftText v low (b + 1) contents (next ∷ more)
+    → b < length contents → ps ≡ left_pieces b (items_of contents b) → AreItemsOf v (items_of contents b) → LeftText v low (b + 1) contents (next ∷ more)
     → LeftText v low b contents (line ∷ next ∷ more)
 left_text v low b contents line ps next more is inside spelled small behind =
     let cut : drop b contents ≡ items_of contents b ∷ drop (b + 1) contents = drop_more contents b [] inside in
@@ -100,8 +100,8 @@ left_text v low b contents line ps next more is inside spelled small behind =
     ++ flat_map line_of (numbered left_pieces (b + 1) (drop (b + 1) contents) ++ end_pieces ∷ []) =
     line_spelled line (left_pieces b (items_of contents b)) (join_with_byte 10 (next ∷ more)) (is ∙ spelled)
     ∙ ap (λ (t : List ℕ). line_of (left_pieces b (items_of contents b)) ++ t) behind.0 in
-    subst (λ (all : List (List ℕ)). (line ++ 10 ∷ join_with_byte 10 (next ∷ more) ≡ flat_map line_of (numbered left_pieces b all ++ end_pieces ∷ []))
-    × AllByRecursion AreSmall all × (covers low v ≡ true)) (sym cut) (text, (small, behind.1), behind.2)
+    subst (λ (all : List (List Message)). (line ++ 10 ∷ join_with_byte 10 (next ∷ more) ≡ flat_map line_of (numbered left_pieces b all ++ end_pieces ∷ []))
+    × AllByRecursion (AreItemsOf v) all × (covers low v ≡ true)) (sym cut) (text, (small, behind.1), behind.2)
 
 sound_left : (v : Version) (b : ℕ) (caps : List ℕ) (earlier : List Entry) (contents : List (List Message)) (n : ℕ) (lines : List (List ℕ))
     → length contents ≡ length caps
@@ -127,11 +127,11 @@ pub record Judged (v : Version) (caps : List ℕ) (earlier : List Entry) (conten
   pub small : AllByRecursion (IsEntryOf (length caps)) es
   pub few : length earlier + length es ≤ ENTRIES
   pub each : length left ≡ length caps
-  pub values : AllByRecursion AreSmall left
+  pub values : AllByRecursion (AreItemsOf v) left
   pub lowest : v ≡ version_from (version_of earlier) es
   pub text : join_with_byte 10 lines ≡ flat_map line_of (map entry_pieces es ++ (numbered left_pieces 0 left ++ end_pieces ∷ []))
 
-abbrev IsJudged : Version → List ℕ → List Entry → List (List ℕ) → List (List ℕ) → Type 0
+abbrev IsJudged : Version → List ℕ → List Entry → List (List Message) → List (List ℕ) → Type 0
 IsJudged v caps earlier contents lines = (es : List Entry) × (left : List (List Message)) × Judged v caps earlier contents lines es left
 
 -- an entry, and the lines behind it
@@ -277,7 +277,7 @@ tail_of v line next more n caps rest es left spelled some few counted small text
     few_entries = (let h = judged.few in omega arith);
     entries = judged.small;
     each_left = judged.each;
-    values = judged.values;
+    values = subst (λ (u : Version). AllByRecursion (AreItemsOf u) left) judged.lowest judged.values;
   },
   judged.run,
   judged.lowest,

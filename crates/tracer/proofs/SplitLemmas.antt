@@ -27,11 +27,12 @@ split_alone at text lacks = slice_split_none (λ b. b == at) text (All-from_recu
 split_behind : (at : ℕ) (front rest : List ℕ) → Lacks at front → slice_split (λ b. b == at) (front ++ at ∷ rest) ≡ front ∷ slice_split (λ b. b == at) rest
 split_behind at front rest lacks = slice_split_at (λ b. b == at) front at rest (All-from_recursion (λ b. (b == at) ≡ false) front lacks) (eq-eqb at at refl)
 
-split_join : (at : ℕ) (p : List ℕ) (ps : List (List ℕ)) → AllByRecursion (Lacks at) (p ∷ ps) → slice_split (λ b. b == at) (join_with_byte at (p ∷ ps)) ≡ p ∷ ps
+pub split_join : (at : ℕ) (p : List ℕ) (ps : List (List ℕ)) → AllByRecursion (Lacks at) (p ∷ ps)
+    → slice_split (λ b. b == at) (join_with_byte at (p ∷ ps)) ≡ p ∷ ps
 split_join at p [] lacks = split_alone at p lacks.0
 split_join at p (q ∷ qs) lacks = split_behind at p (join_with_byte at (q ∷ qs)) lacks.0 ∙ ap (λ (t : List (List ℕ)). p ∷ t) (split_join at q qs lacks.1)
 
-join_lacks : (at sep : ℕ) (ps : List (List ℕ)) → (sep == at) ≡ false → AllByRecursion (Lacks at) ps → Lacks at (join_with_byte sep ps)
+pub join_lacks : (at sep : ℕ) (ps : List (List ℕ)) → (sep == at) ≡ false → AllByRecursion (Lacks at) ps → Lacks at (join_with_byte sep ps)
 join_lacks at sep [] other lacks = tt
 join_lacks at sep (p ∷ []) other lacks = lacks.0
 join_lacks at sep (p ∷ q ∷ qs) other lacks = Lacks-append at p (sep ∷ join_with_byte sep (q ∷ qs)) lacks.0 (other, join_lacks at sep (q ∷ qs) other lacks.1)

@@ -13,21 +13,20 @@ use Rattle.event_log.specs.declared.entries.Kind.TheVariants.{Send, Recv, Close,
 use Rattle.event_log.specs.declared.entries.Entry.{Entry}
 use Rattle.event_log.specs.Buffers.{items_of}
 use Rattle.event_log.specs.Runs.{IsNext, after_entry}
-use Rattle.event_log.specs.Digits.{is_number, number_to}
 use Rattle.event_log.specs.Reading.{◌>>=◌}
-use Rattle.event_log.proofs.DigitsLemmas.{number_to-decimal, number_to-Some}
 use Rattle.tracer.specs.declared.verdicts.Reason.TheVariants.{Spelling, Range, Left}
 use Rattle.tracer.specs.declared.next_lines.NextLine.{NextLine}
 use Rattle.tracer.specs.declared.next_lines.NextLine.TheVariants as wants
-use Rattle.tracer.specs.TraceText.{kind_word, value_piece, entry_pieces, left_pieces, IsValueOf, IsEntryOf, AreSmall}
+use Rattle.tracer.specs.TraceText.{kind_word, message_text, value_piece, entry_pieces, left_pieces, IsValueOf, IsEntryOf, AreItemsOf}
 use Rattle.tracer.specs.declared.versions.Version.{Version}
-use Rattle.tracer.specs.Versions.{covers, both, version_of_kind, version_of_entry, version_of}
-use Rattle.tracer.specs.Judging.{Digits, Seen, Progress, wanted, piece_at, word_at, is_value, is_within, are_values, is_left, is_of_version}
-use Rattle.tracer.specs.Judging.{spells_value, entry_digits, entry_in}
+use Rattle.tracer.specs.Versions.{covers, both, version_of_kind, version_of_message, version_of_entry, version_of}
+use Rattle.tracer.specs.Judging.{Digits, Seen, Progress, wanted, piece_at, word_at, is_value, is_message, is_within, are_values, is_left, is_of_version}
+use Rattle.tracer.specs.Judging.{spells_message, spells_value, entry_digits, entry_in}
 use Rattle.tracer.specs.Judging.{entry_among, entry_line, left_digits, left_line, entries_line, step}
 use Rattle.tracer.proofs.SplitLemmas.{Lacks, IsLine, decimal_lacks, pieces_again}
-use Rattle.tracer.proofs.ReadLemmas.{bind_ok, wanted_ok, same_ok, piece_taken, word_taken, is_just_taken, is_value_taken, decimal_is_number, is_value_again}
-use Rattle.tracer.proofs.VersionLemmas.{version_more}
+use Rattle.tracer.proofs.ReadLemmas.{bind_ok, wanted_ok, same_ok, piece_taken, word_taken, is_value_taken, is_value_again}
+use Rattle.tracer.proofs.VersionLemmas.{covers_both, version_more}
+use Rattle.tracer.proofs.MessageLemmas.{same_pieces, spells_message_again, is_message_again, is_within_again, message_lacks, item_taken, is_message_taken}
 use Rattle.tracer.proofs.KnownLemmas.{HasNone, same_some, seen_of, known_from, length-known_from, slice_get-known, among_again, among_taken}
 use Rattle.std.proofs.lemmas.Option.{slice_get_within}
 use Rattle.std.proofs.lemmas.Bool.{and_parts}
@@ -51,17 +50,17 @@ kind_feeds SendClosed = (refl, (refl, (refl, (refl, (refl, tt)))))
 kind_feeds RecvClosed = (refl, (refl, (refl, (refl, (refl, tt)))))
 
 value_spaces : (kind : Kind) (value : Message) → IsValueOf kind value → Lacks 32 (value_piece kind value)
-value_spaces Send value fits = decimal_lacks 32 value (lit< tt) fits
-value_spaces Recv value fits = decimal_lacks 32 value (lit< tt) fits
+value_spaces Send value fits = message_lacks 32 value (lit< tt) fits
+value_spaces Recv value fits = message_lacks 32 value (lit< tt) fits
 value_spaces Close value fits = (refl, tt)
-value_spaces SendClosed value fits = decimal_lacks 32 value (lit< tt) fits
+value_spaces SendClosed value fits = message_lacks 32 value (lit< tt) fits
 value_spaces RecvClosed value fits = (refl, tt)
 
 value_feeds : (kind : Kind) (value : Message) → IsValueOf kind value → Lacks 10 (value_piece kind value)
-value_feeds Send value fits = decimal_lacks 10 value (lit< tt) fits
-value_feeds Recv value fits = decimal_lacks 10 value (lit< tt) fits
+value_feeds Send value fits = message_lacks 10 value (lit< tt) fits
+value_feeds Recv value fits = message_lacks 10 value (lit< tt) fits
 value_feeds Close value fits = (refl, tt)
-value_feeds SendClosed value fits = decimal_lacks 10 value (lit< tt) fits
+value_feeds SendClosed value fits = message_lacks 10 value (lit< tt) fits
 value_feeds RecvClosed value fits = (refl, tt)
 
 pub entry_is_line : (n : ℕ) (e : Entry) → n ≤ BUFFERS → IsEntryOf n e → IsLine (entry_pieces e)
@@ -164,7 +163,7 @@ none_of RecvClosed value fits = fits
 
 entry_found : (v : Version) (at : NextLine) (caps : List ℕ) (earlier : List Entry) (contents : List (List Message)) (ps : List (List ℕ)) (digits : Digits)
     (e : Entry)
-    (buffers : List Seen) (after : Progress) → length contents ≡ length caps → ps ≡ shape_of digits → IsSmall digits e
+    (buffers : List Seen) (after : Progress) → length contents ≡ length caps → ps ≡ shape_of digits → IsSmall v digits e
     → covers v (version_of_kind digits.kind) ≡ true → length earlier < ENTRIES
     → entry_among e (known_from earlier contents 0 caps) ≡ Ok buffers
     → record { at = at; version = v; lowest = both (version_of earlier) (version_of_entry e); buffers = buffers; entries = length earlier + 1 } ≡ after
@@ -181,7 +180,8 @@ entry_found v at caps earlier contents ps digits e buffers after long shape smal
         op = (let h = small.op in omega arith);
         pos = (let h = small.pos in omega arith);
       };
-      high = ap (λ (d : Digits). covers v (version_of_kind d.kind)) (sym small.spelled) ∙ high;
+      high = covers_both v (version_of_kind e.kind) (version_of_message e.value)
+          (ap (λ (d : Digits). covers v (version_of_kind d.kind)) (sym small.spelled) ∙ high) small.version;
       next = taken.0;
       room = room;
       is = sym is ∙ rw (taken.1, length_push earlier e, version_more earlier e) refl;
@@ -201,33 +201,34 @@ entry_line_taken v at caps earlier contents ps after long taken =
     wanted (nat_lt (length earlier) ENTRIES) Range (entry_among e s.buffers) >>= λ buffers.
     Ok (record s { lowest = both (version_of earlier) (version_of_entry e); buffers = buffers; entries = length earlier + 1 })) after digits.2 in
     let spells = wanted_ok (is_of_version v digits.0) Spelling (entry_in digits.0) entry.0 entry.1 in
-    let parts = and_parts (covers v (version_of_kind digits.0.kind)) (spells_value digits.0.kind digits.0.value) spells.0 in
+    let parts = and_parts (covers v (version_of_kind digits.0.kind)) (spells_value v digits.0.kind digits.0.value) spells.0 in
     let among = bind_ok (wanted (nat_lt (length earlier) ENTRIES) Range (entry_among entry.0 s.buffers))
     (λ buffers. Ok (record s { lowest = both (version_of earlier) (version_of_entry entry.0); buffers = buffers; entries = length earlier + 1 })) after
     entry.2 in
     let room = wanted_ok (nat_lt (length earlier) ENTRIES) Range (entry_among entry.0 s.buffers) among.0 among.1 in (
       entry.0,
       entry_found v at caps earlier contents ps digits.0 entry.0 among.0 after long (entry_digits_taken ps digits.0 digits.1)
-          (entry_in_taken digits.0 entry.0 parts.1 spells.1) parts.0 (ltb-true (length earlier) ENTRIES room.0) room.1 (same_ok _ after among.2),
+          (entry_in_taken v digits.0 entry.0 parts.1 spells.1) parts.0 (ltb-true (length earlier) ENTRIES room.0) room.1 (same_ok _ after among.2),
     )
 
 -- ---- what is left
 
-numbers_again : (items : List Message) → AreSmall items → list_all is_number (map decimal items) ≡ true
-numbers_again [] small = refl
-numbers_again (v ∷ vs) small = rw (decimal_is_number v small.0, numbers_again vs small.1) refl
+messages_again : (v : Version) (items : List Message) → AreItemsOf v items → list_all (spells_message v) (map message_text items) ≡ true
+messages_again v [] small = refl
+messages_again v (m ∷ ms) small = rw (spells_message_again v m small.0, messages_again v ms small.1) refl
 
-within_again : (items : List Message) → AreSmall items → list_all is_within (map decimal items) ≡ true
-within_again [] small = refl
-within_again (v ∷ vs) small = rw (number_to-decimal 18446744073709551615 v small.0 (let h = small.0 in omega arith), within_again vs small.1) refl
+within_again : (v : Version) (items : List Message) → AreItemsOf v items → list_all is_within (map message_text items) ≡ true
+within_again v [] small = refl
+within_again v (m ∷ ms) small = rw (is_within_again m small.0.small, within_again v ms small.1) refl
 
-values_again : (items : List Message) → AreSmall items → are_values (map decimal items) items ≡ true
-values_again [] small = refl
-values_again (v ∷ vs) small = rw (is_value_again v small.0, values_again vs small.1) refl
+values_again : (v : Version) (items : List Message) → AreItemsOf v items → are_values (map message_text items) items ≡ true
+values_again v [] small = refl
+values_again v (m ∷ ms) small = rw (is_message_again m small.0.small, values_again v ms small.1) refl
 
-left_digits_again : (b : ℕ) (items : List Message) → b < 2 ^ 64 → AreSmall items → left_digits b (left_pieces b items) ≡ Ok (map decimal items)
+left_digits_again : (v : Version) (b : ℕ) (items : List Message) → b < 2 ^ 64 → AreItemsOf v items
+    → left_digits v b (left_pieces b items) ≡ Ok (map message_text items)
 unfolding left_digits
-left_digits_again b items lt small = rw (is_value_again b lt, numbers_again items small) refl
+left_digits_again v b items lt small = rw (is_value_again b lt, messages_again v items small) refl
 
 -- which line comes behind what is left of buffer b
 abbrev pub behind_left : ℕ → List ℕ → NextLine
@@ -235,52 +236,56 @@ behind_left b caps = cond (nat_lt (b + 1) (length caps)) (wants.Contents (b + 1)
 
 pub left_line_again : (v : Version) (at : NextLine) (b : ℕ) (caps : List ℕ) (earlier : List Entry) (contents : List (List Message)) → b < length caps
     → b < 2 ^ 64
-    → AreSmall (items_of contents b) → left_line b (left_pieces b (items_of contents b)) (progress v at caps earlier contents)
+    → AreItemsOf v (items_of contents b) → left_line b (left_pieces b (items_of contents b)) (progress v at caps earlier contents)
     ≡ Ok (progress v (behind_left b caps) caps earlier contents)
 unfolding left_line
 left_line_again v at b caps earlier contents lt fits small =
     rw (
-      left_digits_again b (items_of contents b) fits small,
-      within_again (items_of contents b) small,
+      left_digits_again v b (items_of contents b) fits small,
+      within_again v (items_of contents b) small,
       slice_get-known earlier contents caps b lt,
-      values_again (items_of contents b) small,
+      values_again v (items_of contents b) small,
       length-known_from earlier contents 0 caps,
     ) refl
 
-small_value : (p : List ℕ) (v : ℕ) → is_value p v ≡ true → v < 2 ^ 64
-small_value p v e = let h = (number_to-Some 18446744073709551615 p v (is_just_taken (number_to 18446744073709551615 p) v e)).within in omega arith
-
-values_taken : (ps : List (List ℕ)) (items : List Message) → are_values ps items ≡ true → (ps ≡ map decimal items) × AreSmall items
-values_taken [] [] e = (refl, tt)
-values_taken [] (v ∷ vs) e = absurd (cc)
-values_taken (p ∷ ps) [] e = absurd (cc)
-values_taken (p ∷ ps) (v ∷ vs) e =
-    let parts = and_parts (is_value p v) (are_values ps vs) e in
-    let rest = values_taken ps vs parts.1 in
-    (rw (is_value_taken p v parts.0, rest.0) refl, (small_value p v parts.0, rest.1))
+values_taken : (v : Version) (ps : List (List ℕ)) (items : List Message) → list_all (spells_message v) ps ≡ true → are_values ps items ≡ true
+    → (ps ≡ map message_text items) × AreItemsOf v items
+values_taken v [] [] spells e = (refl, tt)
+values_taken v [] (m ∷ ms) spells e = absurd (cc)
+values_taken v (p ∷ ps) [] spells e = absurd (cc)
+values_taken v (p ∷ ps) (m ∷ ms) spells e =
+    let spelled = and_parts (spells_message v p) (list_all (spells_message v) ps) spells in
+    let parts = and_parts (is_message p m) (are_values ps ms) e in
+    let first = item_taken v p m spelled.0 (is_message_taken p m parts.0) in
+    let rest = values_taken v ps ms spelled.1 parts.1 in
+    (same_pieces p (message_text m) ps (map message_text ms) first.spelled rest.0, (first.is, rest.1))
 
 left_shape : (ps rest : List (List ℕ)) (number : List ℕ) (behind values : List (List ℕ)) (b : ℕ) → ps ≡ codes "left" ∷ rest → rest ≡ number ∷ behind
     → number ≡ decimal b → behind ≡ values → ps ≡ codes "left" ∷ decimal b ∷ values
 left_shape ps rest number behind values b e1 e2 e3 e4 = e1 ∙ ap (λ (t : List (List ℕ)). codes "left" ∷ t) (e2 ∙ rw (e3, e4) refl)
 
-left_digits_taken : (b : ℕ) (ps values : List (List ℕ)) → left_digits b ps ≡ Ok values → ps ≡ codes "left" ∷ decimal b ∷ values
+left_digits_taken : (v : Version) (b : ℕ) (ps values : List (List ℕ)) → left_digits v b ps ≡ Ok values
+    → (ps ≡ codes "left" ∷ decimal b ∷ values) × (list_all (spells_message v) values ≡ true)
 unfolding left_digits
-left_digits_taken b ps values taken =
+left_digits_taken v b ps values taken =
     let word = bind_ok (word_at (codes "left") ps) (λ rest. piece_at rest >>= λ number.
-    wanted (is_value number.0 b) Spelling (wanted (list_all is_number number.1) Spelling (Ok number.1))) values taken in
-    let number = bind_ok (piece_at word.0) (λ number. wanted (is_value number.0 b) Spelling (wanted (list_all is_number number.1) Spelling (Ok number.1)))
-    values word.2 in
-    let value = wanted_ok (is_value number.0.0 b) Spelling (wanted (list_all is_number number.0.1) Spelling (Ok number.0.1)) values number.2 in
-    let rest = wanted_ok (list_all is_number number.0.1) Spelling (Ok number.0.1) values value.1 in
-    left_shape ps word.0 number.0.0 number.0.1 values b (word_taken (codes "left") ps word.0 word.1) (piece_taken word.0 number.0 number.1)
-    (is_value_taken number.0.0 b value.0) (same_ok number.0.1 values rest.1)
+    wanted (is_value number.0 b) Spelling (wanted (list_all (spells_message v) number.1) Spelling (Ok number.1))) values taken in
+    let number = bind_ok (piece_at word.0)
+    (λ number. wanted (is_value number.0 b) Spelling (wanted (list_all (spells_message v) number.1) Spelling (Ok number.1))) values word.2 in
+    let value = wanted_ok (is_value number.0.0 b) Spelling (wanted (list_all (spells_message v) number.0.1) Spelling (Ok number.0.1)) values number.2 in
+    let rest = wanted_ok (list_all (spells_message v) number.0.1) Spelling (Ok number.0.1) values value.1 in
+    let same = same_ok number.0.1 values rest.1 in (
+      left_shape ps word.0 number.0.0 number.0.1 values b (word_taken (codes "left") ps word.0 word.1) (piece_taken word.0 number.0 number.1)
+          (is_value_taken number.0.0 b value.0) same,
+      ap (list_all (spells_message v)) (sym same) ∙ rest.0,
+    )
 
 -- what it says that what is left of buffer b was taken
 pub record LeftTaken (v : Version) (b : ℕ) (caps : List ℕ) (earlier : List Entry) (contents : List (List Message)) (ps : List (List ℕ))
     (after : Progress) : Type 0 where
   pub known : b < length caps
   pub spelled : ps ≡ left_pieces b (items_of contents b)
-  pub small : AreSmall (items_of contents b)
+  pub small : AreItemsOf v (items_of contents b)
   pub is : after ≡ progress v (behind_left b caps) caps earlier contents
 
 holds_of : (values : List (List ℕ)) (found : Option Seen) → is_left values found ≡ true
@@ -290,7 +295,8 @@ holds_of values (Some seen) e = (seen, refl, e)
 
 left_found : (v : Version) (at : NextLine) (b : ℕ) (caps : List ℕ) (earlier : List Entry) (contents : List (List Message)) (ps values : List (List ℕ))
     (after : Progress)
-    (seen : Seen) → ps ≡ codes "left" ∷ decimal b ∷ values → slice_get (known_from earlier contents 0 caps) b ≡ Some seen → are_values values seen.items ≡ true
+    (seen : Seen) → ps ≡ codes "left" ∷ decimal b ∷ values → list_all (spells_message v) values ≡ true
+    → slice_get (known_from earlier contents 0 caps) b ≡ Some seen → are_values values seen.items ≡ true
     → record {
       at = cond (nat_lt (b + 1) (length (known_from earlier contents 0 caps))) (wants.Contents (b + 1)) wants.End;
       version = v;
@@ -298,12 +304,12 @@ left_found : (v : Version) (at : NextLine) (b : ℕ) (caps : List ℕ) (earlier 
       buffers = known_from earlier contents 0 caps;
       entries = length earlier;
     } ≡ after → LeftTaken v b caps earlier contents ps after
-left_found v at b caps earlier contents ps values after seen shape found holds is =
+left_found v at b caps earlier contents ps values after seen shape spells found holds is =
     let inside : b < length caps = omega (arith, slice_get_within (known_from earlier contents 0 caps) b seen found, length-known_from earlier contents 0 caps)
     in
     let same : seen ≡ seen_of earlier contents b (get_or caps b 0) = same_some seen _ (sym found ∙ slice_get-known earlier contents caps b inside) in
     let items : seen.items ≡ items_of contents b = ap (λ (x : Seen). x.items) same in
-    let read = values_taken values (items_of contents b) (ap (are_values values) (sym items) ∙ holds) in
+    let read = values_taken v values (items_of contents b) spells (ap (are_values values) (sym items) ∙ holds) in
     record {
       known = inside;
       spelled = shape ∙ ap (λ (t : List (List ℕ)). codes "left" ∷ decimal b ∷ t) read.0;
@@ -318,25 +324,22 @@ unfolding left_line
 left_line_taken v at b caps earlier contents ps after taken =
     let s = progress v at caps earlier contents in
     let next : Progress = record s { at = cond (nat_lt (b + 1) (length s.buffers)) (wants.Contents (b + 1)) wants.End } in
-    let digits = bind_ok (left_digits b ps)
+    let digits = bind_ok (left_digits v b ps)
     (λ values. wanted (list_all is_within values) Range (wanted (is_left values (slice_get s.buffers b)) Left (Ok next))) after taken in
     let range = wanted_ok (list_all is_within digits.0) Range (wanted (is_left digits.0 (slice_get s.buffers b)) Left (Ok next)) after digits.2 in
     let left = wanted_ok (is_left digits.0 (slice_get s.buffers b)) Left (Ok next) after range.1 in
     let holds = holds_of digits.0 (slice_get s.buffers b) left.0 in
-    left_found v at b caps earlier contents ps digits.0 after holds.0 (left_digits_taken b ps digits.0 digits.1) holds.1 holds.2 (same_ok next after left.1)
+    let spelled = left_digits_taken v b ps digits.0 digits.1 in
+    left_found v at b caps earlier contents ps digits.0 after holds.0 spelled.0 spelled.1 holds.1 holds.2 (same_ok next after left.1)
 
-items_spaces : (items : List Message) → AreSmall items → AllByRecursion (Lacks 32) (map decimal items)
-items_spaces [] small = tt
-items_spaces (v ∷ vs) small = (decimal_lacks 32 v (lit< tt) small.0, items_spaces vs small.1)
+items_lack : (at : ℕ) (v : Version) (items : List Message) → at < 44 → AreItemsOf v items → AllByRecursion (Lacks at) (map message_text items)
+items_lack at v [] lt small = tt
+items_lack at v (m ∷ ms) lt small = (message_lacks at m lt small.0.small, items_lack at v ms lt small.1)
 
-items_feeds : (items : List Message) → AreSmall items → AllByRecursion (Lacks 10) (map decimal items)
-items_feeds [] small = tt
-items_feeds (v ∷ vs) small = (decimal_lacks 10 v (lit< tt) small.0, items_feeds vs small.1)
-
-pub left_is_line : (b : ℕ) (items : List Message) → b < 2 ^ 64 → AreSmall items → IsLine (left_pieces b items)
-left_is_line b items fits small = record {
-  spaces = ((refl, (refl, (refl, (refl, tt)))), (decimal_lacks 32 b (lit< tt) fits, items_spaces items small));
-  feeds = ((refl, (refl, (refl, (refl, tt)))), (decimal_lacks 10 b (lit< tt) fits, items_feeds items small));
+pub left_is_line : (v : Version) (b : ℕ) (items : List Message) → b < 2 ^ 64 → AreItemsOf v items → IsLine (left_pieces b items)
+left_is_line v b items fits small = record {
+  spaces = ((refl, (refl, (refl, (refl, tt)))), (decimal_lacks 32 b (lit< tt) fits, items_lack 32 v items (lit< tt) small));
+  feeds = ((refl, (refl, (refl, (refl, tt)))), (decimal_lacks 10 b (lit< tt) fits, items_lack 10 v items (lit< tt) small));
 }
 
 entries_left : (ps : List (List ℕ)) (s : Progress) → entries_line (codes "left" ∷ ps) s ≡ left_line 0 (codes "left" ∷ ps) s
@@ -344,29 +347,27 @@ unfolding entries_line
 entries_left ps s = refl
 
 -- what is left of the first buffer, behind the entries
-pub step_first_left : (v : Version) (caps : List ℕ) (earlier : List Entry) (contents : List (List Message)) → 0 < length caps → AreSmall (items_of contents 0)
+pub step_first_left : (v : Version) (caps : List ℕ) (earlier : List Entry) (contents : List (List Message)) → 0 < length caps
+    → AreItemsOf v (items_of contents 0)
     → step (progress v wants.Entries caps earlier contents) (join_with_byte 32 (left_pieces 0 (items_of contents 0)))
     ≡ Ok (progress v (behind_left 0 caps) caps earlier contents)
 unfolding step
 step_first_left v caps earlier contents lt small =
     let s = progress v wants.Entries caps earlier contents in
     ap (λ (ps : List (List ℕ)). entries_line ps s)
-    (pieces_again (codes "left") (decimal 0 ∷ map decimal (items_of contents 0)) (left_is_line 0 (items_of contents 0) (lit< tt) small))
-    ∙ entries_left (decimal 0 ∷ map decimal (items_of contents 0)) s ∙ left_line_again v wants.Entries 0 caps earlier contents lt (lit< tt) small
+    (pieces_again (codes "left") (decimal 0 ∷ map message_text (items_of contents 0)) (left_is_line v 0 (items_of contents 0) (lit< tt) small))
+    ∙ entries_left (decimal 0 ∷ map message_text (items_of contents 0)) s ∙ left_line_again v wants.Entries 0 caps earlier contents lt (lit< tt) small
 
 pub step_left : (v : Version) (b : ℕ) (caps : List ℕ) (earlier : List Entry) (contents : List (List Message)) → b < length caps → length caps ≤ BUFFERS
-    → AreSmall (items_of contents b) → step (progress v (wants.Contents b) caps earlier contents) (join_with_byte 32 (left_pieces b (items_of contents b)))
+    → AreItemsOf v (items_of contents b) → step (progress v (wants.Contents b) caps earlier contents) (join_with_byte 32 (left_pieces b (items_of contents b)))
     ≡ Ok (progress v (behind_left b caps) caps earlier contents)
 unfolding step
 step_left v b caps earlier contents lt few small =
     let s = progress v (wants.Contents b) caps earlier contents in
     let fits : b < 2 ^ 64 = omega arith in
     ap (λ (ps : List (List ℕ)). left_line b ps s)
-    (pieces_again (codes "left") (decimal b ∷ map decimal (items_of contents b)) (left_is_line b (items_of contents b) fits small))
+    (pieces_again (codes "left") (decimal b ∷ map message_text (items_of contents b)) (left_is_line v b (items_of contents b) fits small))
     ∙ left_line_again v (wants.Contents b) b caps earlier contents lt fits small
-
-same_pieces : (p w : List ℕ) (ps qs : List (List ℕ)) → p ≡ w → ps ≡ qs → p ∷ ps ≡ w ∷ qs
-same_pieces p w ps qs e1 e2 = rw (e1, e2) refl
 
 entries_cases : (v : Version) (caps : List ℕ) (earlier : List Entry) (contents : List (List Message)) (p : List ℕ) (ps : List (List ℕ)) (after : Progress)
     → length contents ≡ length caps → (first : Bool) → bytes_eq p (codes "e") ≡ first

@@ -1,9 +1,10 @@
 -- How a trace text is judged: line by line, up to the first fault.
-use Rattle.std.specs.Prelude.{◌-◌, ◌≡◌, ℕ, ◌+◌, Bool, true, false, ◌&&◌, ◌==◌, nat_lt, List, [], ◌∷◌, ◌++◌, length, codes, is_some, Option, Some, None, Result}
-use Rattle.std.specs.Prelude.{Ok, Err, slice_get, slice_set, if◌then◌else◌}
+use Rattle.std.specs.Prelude.{◌-◌, ◌≡◌, ℕ, ◌+◌, Bool, true, false, ◌&&◌, ◌==◌, nat_lt, nat_le, List, [], ◌∷◌, ◌++◌, length, codes, is_ok}
+use Rattle.std.specs.Prelude.{Option, Some, None, Result, Ok, Err, slice_get, slice_set, if◌then◌else◌}
 use Rattle.std.specs.List.{list_all, slice_split}
 use Rattle.std.specs.Str.{bytes_eq}
 use Rattle.event_log.specs.Messages.{Message, no_message}
+use Rattle.event_log.specs.declared.messages.TheConstants.{WORDS}
 use Rattle.event_log.specs.declared.ids.TheConstants.{CPUS, THREADS, BUFFERS, CAPACITY, ENTRIES}
 use Rattle.event_log.specs.declared.entries.Kind.{Kind}
 use Rattle.event_log.specs.declared.entries.Kind.TheVariants.{Send, Recv, Close, SendClosed, RecvClosed}
@@ -18,8 +19,8 @@ use Rattle.tracer.specs.declared.verdicts.Verdict.TheVariants.{Yes, No}
 use Rattle.tracer.specs.declared.next_lines.NextLine.{NextLine}
 use Rattle.tracer.specs.declared.next_lines.NextLine.TheVariants as wants
 use Rattle.tracer.specs.declared.versions.Version.{Version}
-use Rattle.tracer.specs.declared.versions.Version.TheVariants.{One, Two}
-use Rattle.tracer.specs.Versions.{covers, both, version_of_kind, version_of_entry}
+use Rattle.tracer.specs.declared.versions.Version.TheVariants.{One, Two, Three}
+use Rattle.tracer.specs.Versions.{covers, both, version_of_kind, version_of_count, version_of_entry}
 
 -- what a function returned, seen by view, is what reading gives
 abbrev pub Gives : {X Y : Type 0} → (X → Y) → Result X Reason → Result Y Reason → Type 0
@@ -129,7 +130,7 @@ put_in value capacity items = wanted (nat_lt (length items) capacity) Full (Ok (
 -- a receive wants its value as the first item
 abbrev pub take_first : Message → List Message → Result (List Message) Reason
 take_first value [] = Err EmptyTake
-take_first value (first ∷ rest) = wanted (first == value) WrongValue (Ok rest)
+take_first value (first ∷ rest) = wanted (bytes_eq first value) WrongValue (Ok rest)
 
 -- the items that an effect leaves, of a buffer that is closed or not
 abbrev pub effect_of : Kind → Message → Bool → ℕ → List Message → Result (List Message) Reason
@@ -176,13 +177,30 @@ has_message Close = false
 has_message SendClosed = true
 has_message RecvClosed = false
 
--- whether the piece spells a message of an effect of this kind, of any size
-abbrev pub spells_value : Kind → List ℕ → Bool
-spells_value kind piece = if has_message kind then is_number piece else bytes_eq piece (codes "-")
+-- the parts between commas
+abbrev pub words_of : List ℕ → List (List ℕ)
+words_of piece = slice_split (λ b. b == 44) piece
+
+-- whether the piece spells a message, of any size, as a text of this version may
+abbrev pub spells_message : Version → List ℕ → Bool
+spells_message v piece = covers v (version_of_count (length (words_of piece))) && list_all is_number (words_of piece)
+
+-- the numbers, if each of them has 64 bits
+abbrev pub numbers_in : List (List ℕ) → Result (List ℕ) Reason
+numbers_in [] = Ok []
+numbers_in (word ∷ words) = in_range 18446744073709551615 word >>= λ n. numbers_in words >>= λ ns. Ok (n ∷ ns)
+
+-- the message that the piece spells, if it has no more words than a message has
+abbrev pub message_in : List ℕ → Result Message Reason
+message_in piece = wanted (nat_le (length (words_of piece)) WORDS) Range (numbers_in (words_of piece))
+
+-- whether the piece spells a message of an effect of this kind, of any size, as a text of this version may
+abbrev pub spells_value : Version → Kind → List ℕ → Bool
+spells_value v kind piece = if has_message kind then spells_message v piece else bytes_eq piece (codes "-")
 
 -- the message that it spells
 abbrev pub value_in : Kind → List ℕ → Result Message Reason
-value_in kind piece = if has_message kind then in_range 18446744073709551615 piece else Ok no_message
+value_in kind piece = if has_message kind then message_in piece else Ok no_message
 
 -- an entry, spelled, with numbers of any size, and any piece for its message
 unfoldable pub entry_digits : List (List ℕ) → Result Digits Reason
@@ -199,7 +217,7 @@ entry_digits pieces = digits_at pieces
 
 -- whether a text of this version may have such an entry, and its message is spelled as its kind wants
 abbrev pub is_of_version : Version → Digits → Bool
-is_of_version v digits = covers v (version_of_kind digits.kind) && spells_value digits.kind digits.value
+is_of_version v digits = covers v (version_of_kind digits.kind) && spells_value v digits.kind digits.value
 
 -- its numbers, where each is in its range
 unfoldable pub entry_in : Digits → Result Entry Reason
@@ -260,21 +278,30 @@ capacity_line count pieces s = capacity_digits (length s.buffers) pieces
       buffers = s.buffers ++ fresh capacity ∷ [];
     }))
 
--- the pieces of the items of buffer b
-unfoldable pub left_digits : ℕ → List (List ℕ) → Result (List (List ℕ)) Reason
-left_digits b pieces = word_at (codes "left") pieces
+-- the pieces of the items of buffer b, in a text of this version
+unfoldable pub left_digits : Version → ℕ → List (List ℕ) → Result (List (List ℕ)) Reason
+left_digits v b pieces = word_at (codes "left") pieces
     >>= λ rest. piece_at rest
-    >>= λ number. wanted (is_value number.0 b) Spelling (wanted (list_all is_number number.1) Spelling (Ok number.1))
+    >>= λ number. wanted (is_value number.0 b) Spelling (wanted (list_all (spells_message v) number.1) Spelling (Ok number.1))
+
+-- this very message
+abbrev pub is_same : Result Message Reason → Message → Bool
+is_same (Err reason) m = false
+is_same (Ok read) m = bytes_eq read m
+
+abbrev pub is_message : List ℕ → Message → Bool
+is_message piece m = is_same (message_in piece) m
 
 -- the pieces are these messages
 abbrev pub are_values : List (List ℕ) → List Message → Bool
 are_values [] [] = true
-are_values [] (n ∷ ns) = false
+are_values [] (m ∷ ms) = false
 are_values (p ∷ ps) [] = false
-are_values (p ∷ ps) (n ∷ ns) = is_value p n && are_values ps ns
+are_values (p ∷ ps) (m ∷ ms) = is_message p m && are_values ps ms
 
+-- the piece spells a message whose words are in range, and no more than a message has
 abbrev pub is_within : List ℕ → Bool
-is_within digits = is_some (number_to 18446744073709551615 digits)
+is_within piece = is_ok (message_in piece)
 
 -- the items of buffer b are what the pieces say
 abbrev pub is_left : List (List ℕ) → Option Seen → Bool
@@ -282,7 +309,7 @@ is_left values None = false
 is_left values (Some seen) = are_values values seen.items
 
 unfoldable pub left_line : ℕ → List (List ℕ) → Progress → Result Progress Reason
-left_line b pieces s = left_digits b pieces
+left_line b pieces s = left_digits s.version b pieces
     >>= λ values. wanted (list_all is_within values) Range
     (wanted (is_left values (slice_get s.buffers b)) Left
     (Ok (record s { at = if nat_lt (b + 1) (length s.buffers) then wants.Contents (b + 1) else wants.End })))
@@ -295,7 +322,9 @@ entries_line pieces s = piece_at pieces >>= λ p. if bytes_eq p.0 (codes "e") th
 abbrev pub version_in : List ℕ → Result Version Reason
 version_in line = if bytes_eq line (codes "mctower-trace 1")
     then Ok One
-    else (if bytes_eq line (codes "mctower-trace 2") then Ok Two else Err Spelling)
+    else (if bytes_eq line (codes "mctower-trace 2")
+    then Ok Two
+    else (if bytes_eq line (codes "mctower-trace 3") then Ok Three else Err Spelling))
 
 unfoldable pub head_line : List ℕ → Progress → Result Progress Reason
 head_line line s = version_in line >>= λ v. Ok (record s { at = wants.Count; version = v })

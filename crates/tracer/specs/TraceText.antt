@@ -1,16 +1,16 @@
 -- The text of a trace: the one spelling of capacities, entries and what is left.
 -- The capacities are a list by buffer number; what is left is a list by buffer number of the buffer's items, front first.
-use Rattle.std.specs.Prelude.{◌≡◌, ℕ, ◌+◌, ◌<◌, ◌≤◌, ◌^◌, List, [], ◌∷◌, ◌++◌, length, map, codes, decimal, flat_map}
+use Rattle.std.specs.Prelude.{◌≡◌, ℕ, ◌+◌, ◌<◌, ◌≤◌, true, List, [], ◌∷◌, ◌++◌, length, map, codes, decimal, flat_map}
 use Rattle.std.specs.List.{AllByRecursion, join_with_byte}
-use Rattle.event_log.specs.Messages.{Message, no_message}
+use Rattle.event_log.specs.Messages.{Message, no_message, IsMessage}
 use Rattle.event_log.specs.Buffers.{IsCapacity}
 use Rattle.event_log.specs.declared.ids.TheConstants.{CPUS, THREADS, BUFFERS, ENTRIES}
 use Rattle.event_log.specs.declared.entries.Kind.{Kind}
 use Rattle.event_log.specs.declared.entries.Kind.TheVariants.{Send, Recv, Close, SendClosed, RecvClosed}
 use Rattle.event_log.specs.declared.entries.Entry.{Entry}
 use Rattle.tracer.specs.declared.versions.Version.{Version}
-use Rattle.tracer.specs.declared.versions.Version.TheVariants.{One, Two}
-use Rattle.tracer.specs.Versions.{version_of}
+use Rattle.tracer.specs.declared.versions.Version.TheVariants.{One, Two, Three}
+use Rattle.tracer.specs.Versions.{covers, version_of_message, version_of}
 
 -- a line: its pieces with one space between each two, and a line feed
 abbrev pub line_of : List (List ℕ) → List ℕ
@@ -20,6 +20,7 @@ line_of pieces = join_with_byte 32 pieces ++ 10 ∷ []
 abbrev pub version_word : Version → List ℕ
 version_word One = codes "1"
 version_word Two = codes "2"
+version_word Three = codes "3"
 
 abbrev pub head_pieces : Version → List (List ℕ)
 head_pieces v = codes "mctower-trace" ∷ version_word v ∷ []
@@ -39,12 +40,16 @@ kind_word Close = codes "close"
 kind_word SendClosed = codes "sendc"
 kind_word RecvClosed = codes "recvc"
 
+-- a message: its words with one comma between each two
+abbrev pub message_text : Message → List ℕ
+message_text m = join_with_byte 44 (map decimal m)
+
 -- the message of an effect that has one, and a dash for one that has none
 abbrev pub value_piece : Kind → Message → List ℕ
-value_piece Send value = decimal value
-value_piece Recv value = decimal value
+value_piece Send value = message_text value
+value_piece Recv value = message_text value
 value_piece Close value = codes "-"
-value_piece SendClosed value = decimal value
+value_piece SendClosed value = message_text value
 value_piece RecvClosed value = codes "-"
 
 -- an entry
@@ -54,7 +59,7 @@ entry_pieces e = codes "e" ∷ decimal e.cpu.0 ∷ decimal e.thread.0 ∷ kind_w
 
 -- what is left in a buffer, front first
 abbrev pub left_pieces : ℕ → List Message → List (List ℕ)
-left_pieces b items = codes "left" ∷ decimal b ∷ map decimal items
+left_pieces b items = codes "left" ∷ decimal b ∷ map message_text items
 
 abbrev pub end_pieces : List (List ℕ)
 end_pieces = codes "end" ∷ []
@@ -73,16 +78,21 @@ lines_of caps es left = head_pieces (version_of es) ∷ count_pieces
 unfoldable pub spelling : List ℕ → List Entry → List (List Message) → List ℕ
 spelling caps es left = flat_map line_of (lines_of caps es left)
 
--- messages whose numbers have 64 bits
-abbrev pub AreSmall : List Message → Type 0
-AreSmall items = AllByRecursion (λ v. v < 2 ^ 64) items
+-- a message that a text of this version can spell
+pub record IsItemOf (v : Version) (m : Message) : Type 0 where
+  pub small : IsMessage m
+  pub version : covers v (version_of_message m) ≡ true
 
--- the message of an effect that has one has 64 bits; one that has none has no other
+-- messages that a text of this version can spell
+abbrev pub AreItemsOf : Version → List Message → Type 0
+AreItemsOf v items = AllByRecursion (IsItemOf v) items
+
+-- an effect that has a message has one to eight words of 64 bits; one that has none has no other
 abbrev pub IsValueOf : Kind → Message → Type 0
-IsValueOf Send value = value < 2 ^ 64
-IsValueOf Recv value = value < 2 ^ 64
+IsValueOf Send value = IsMessage value
+IsValueOf Recv value = IsMessage value
 IsValueOf Close value = value ≡ no_message
-IsValueOf SendClosed value = value < 2 ^ 64
+IsValueOf SendClosed value = IsMessage value
 IsValueOf RecvClosed value = value ≡ no_message
 
 -- the numbers of an entry are in range, where there are n buffers
@@ -94,7 +104,7 @@ pub record IsEntryOf (n : ℕ) (e : Entry) : Type 0 where
   pub op : e.op < ENTRIES
   pub pos : e.pos < ENTRIES
 
--- what has a spelling
+-- what has a spelling: the version is that of the entries, so nothing that is left wants a higher one
 pub record IsSpellable (caps : List ℕ) (es : List Entry) (left : List (List Message)) : Type 0 where
   pub some_buffer : 1 ≤ length caps
   pub few_buffers : length caps ≤ BUFFERS
@@ -102,7 +112,7 @@ pub record IsSpellable (caps : List ℕ) (es : List Entry) (left : List (List Me
   pub few_entries : length es ≤ ENTRIES
   pub entries : AllByRecursion (IsEntryOf (length caps)) es
   pub each_left : length left ≡ length caps
-  pub values : AllByRecursion AreSmall left
+  pub values : AllByRecursion (AreItemsOf (version_of es)) left
 
 -- the text is the trace text of these capacities, entries and contents
 pub record IsTraceText (text : List ℕ) (caps : List ℕ) (es : List Entry) (left : List (List Message)) : Type 0 where

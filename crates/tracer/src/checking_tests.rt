@@ -85,9 +85,11 @@ fn changes_of_one_text(rt: HostRuntime) -> Result<(), Fail> {
 
 /// Each change of one line of the text of one send: what stands there instead, and the line and the
 /// first reason of the answer.
-const LINES: [(usize, &str, usize, Reason); 56] = [
+const LINES: [(usize, &str, usize, Reason); 60] = [
     (1, "mctower-trace 2\n", 6, Reason::OfVersion),
-    (1, "mctower-trace 3\n", 1, Reason::Spelling),
+    (1, "mctower-trace 3\n", 6, Reason::OfVersion),
+    (1, "mctower-trace 4\n", 1, Reason::Spelling),
+    (1, "mctower-trace 03\n", 1, Reason::Spelling),
     (4, "e 0 0 close 0 - 0 0\n", 4, Reason::Spelling),
     (1, " mctower-trace 1\n", 1, Reason::Spelling),
     (1, "", 1, Reason::Spelling),
@@ -130,6 +132,8 @@ const LINES: [(usize, &str, usize, Reason); 56] = [
         Reason::Pos,
     ),
     (4, "", 4, Reason::Left),
+    (4, "e 0 0 send 0 7,8 0 0\n", 4, Reason::Spelling),
+    (5, "left 0 7,8\n", 5, Reason::Spelling),
     (5, "left 1 7\n", 5, Reason::Spelling),
     (5, "left 0 07\n", 5, Reason::Spelling),
     (5, "left 0 7 \n", 5, Reason::Spelling),
@@ -160,8 +164,12 @@ fn the_first_reason_against_the_first_bad_line_counts(rt: HostRuntime) -> Result
 
 /// Each change of one line of the text with closes: what stands there instead, and the line and the
 /// first reason of the answer.
-const CLOSED_LINES: [(usize, &str, usize, Reason); 20] = [
+const CLOSED_LINES: [(usize, &str, usize, Reason); 24] = [
     (1, "mctower-trace 1\n", 5, Reason::Spelling),
+    (1, "mctower-trace 3\n", 11, Reason::OfVersion),
+    (4, "e 0 0 send 0 7,8 0 0\n", 4, Reason::Spelling),
+    (6, "e 0 0 sendc 0 7,8 2 1\n", 6, Reason::Spelling),
+    (10, "left 0 7,8\n", 10, Reason::Spelling),
     (4, "e 0 0 send 0 - 0 0\n", 4, Reason::Spelling),
     (
         4,
@@ -200,6 +208,83 @@ fn closes_are_read_in_the_second_version(rt: HostRuntime) -> Result<(), Fail> {
         let text = with_line(rt.alloc(), CLOSED, at, lines.as_bytes())?;
         assert_eq!(rt; check(&text), Verdict::No(line, reason), "{lines}");
     }
+    Ok(())
+}
+
+/// A run with a message of two words: it is sent and received, and then one word is sent.
+const WORDS: &[u8; 108] =
+    b"mctower-trace 3\nbuffers 1\ncap 0 4\ne 0 0 send 0 1,2 0 0\ne 0 0 recv 0 1,2 1 0\ne 0 0 send 0 0 2 1\nleft 0 0\nend\n";
+
+/// Each change of one line of the text with a message of two words: what stands there instead, and
+/// the line and the first reason of the answer.
+const WORDS_LINES: [(usize, &str, usize, Reason); 31] = [
+    (1, "mctower-trace 1\n", 4, Reason::Spelling),
+    (1, "mctower-trace 2\n", 4, Reason::Spelling),
+    (4, "e 0 0 send 0 1 0 0\n", 5, Reason::WrongValue),
+    (4, "e 0 0 send 0 1,3 0 0\n", 5, Reason::WrongValue),
+    (4, "e 0 0 send 0 2,1 0 0\n", 5, Reason::WrongValue),
+    (4, "e 0 0 send 0 1,2,0 0 0\n", 5, Reason::WrongValue),
+    (4, "e 0 0 send 0 1, 0 0\n", 4, Reason::Spelling),
+    (4, "e 0 0 send 0 ,2 0 0\n", 4, Reason::Spelling),
+    (4, "e 0 0 send 0 1,,2 0 0\n", 4, Reason::Spelling),
+    (4, "e 0 0 send 0 , 0 0\n", 4, Reason::Spelling),
+    (4, "e 0 0 send 0 1,02 0 0\n", 4, Reason::Spelling),
+    (4, "e 0 0 send 0 01,2 0 0\n", 4, Reason::Spelling),
+    (4, "e 0 0 send 0 1,x 0 0\n", 4, Reason::Spelling),
+    (4, "e 0 0 send 0 1,2,3,4,5,6,7,8,9 0 0\n", 4, Reason::Range),
+    (
+        4,
+        "e 0 0 send 0 1,2,3,4,5,6,7,8,09 0 0\n",
+        4,
+        Reason::Spelling,
+    ),
+    (
+        4,
+        "e 0 0 send 0 1,18446744073709551616 0 0\n",
+        4,
+        Reason::Range,
+    ),
+    (4, "e 0 0 close 0 1,2 0 0\n", 4, Reason::Spelling),
+    (4, "e 0,0 0 send 0 1,2 0 0\n", 4, Reason::Spelling),
+    (4, "e 0 0 send 0 1,2 0,0 0\n", 4, Reason::Spelling),
+    (5, "e 0 0 recv 0 1 1 0\n", 5, Reason::WrongValue),
+    (5, "e 0 0 recv 0 1,2,3 1 0\n", 5, Reason::WrongValue),
+    (5, "e 0 0 recv 0 1,2 1,2 0\n", 5, Reason::Spelling),
+    (
+        6,
+        "e 0 0 send 0 0 2 1\ne 0 0 sendc 0 1,2 3 2\n",
+        7,
+        Reason::CloseState,
+    ),
+    (7, "left 0 0,0\n", 7, Reason::Left),
+    (7, "left 0 1,2 0\n", 7, Reason::Left),
+    (7, "left 0 0,\n", 7, Reason::Spelling),
+    (7, "left 0,0 0\n", 7, Reason::Spelling),
+    (7, "left 0 0,00\n", 7, Reason::Spelling),
+    (7, "left 0 0,0,0,0,0,0,0,0,0\n", 7, Reason::Range),
+    (7, "left 0 0 0,18446744073709551616\n", 7, Reason::Range),
+    (8, "end\n\n", 9, Reason::Spelling),
+];
+
+#[test]
+fn several_words_are_read_in_the_third_version(rt: HostRuntime) -> Result<(), Fail> {
+    assert_eq!(rt; check(WORDS), Verdict::Yes);
+    for (at, lines, line, reason) in WORDS_LINES {
+        let text = with_line(rt.alloc(), WORDS, at, lines.as_bytes())?;
+        assert_eq!(rt; check(&text), Verdict::No(line, reason), "{lines}");
+    }
+    let most = with_line(rt.alloc(), WORDS, 6, b"e 0 0 send 0 1,2,3,4,5,6,7,8 2 1\n")?;
+    assert_eq!(rt; check(&most), Verdict::No(7, Reason::Left));
+    let whole = with_line(rt.alloc(), &most, 7, b"left 0 1,2,3,4,5,6,7,8\n")?;
+    assert_eq!(rt; check(&whole), Verdict::Yes);
+    let closed = with_line(
+        rt.alloc(),
+        WORDS,
+        6,
+        b"e 0 0 close 0 - 2 0\ne 0 0 sendc 0 3,4 3 1\n",
+    )?;
+    let after = with_line(rt.alloc(), &closed, 8, b"left 0\n")?;
+    assert_eq!(rt; check(&after), Verdict::Yes);
     Ok(())
 }
 

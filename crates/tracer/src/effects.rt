@@ -12,14 +12,14 @@ use event_log::{CAPACITY, Kind, Msg};
 /// Puts `value` behind the items.
 ///
 /// Errors: `Full` where there are as many items as the capacity; then nothing changed.
-fn put(items: &mut ArrayVec<Msg, CAPACITY>, capacity: usize, value: Msg) -> Result<(), Reason>
+fn put(items: &mut ArrayVec<Msg, CAPACITY>, capacity: usize, value: &Msg) -> Result<(), Reason>
     requires { capacity ≤ CAPACITY }
-    ensures { StepsTo (put_in value capacity items.old.items) result items.new.items }
+    ensures { StepsTo (put_in value.now capacity items.old.items) result items.new.items }
 {
     if items.len() >= capacity {
         return Err(Reason::Full);
     }
-    items.push(value);
+    items.push(*value);
     Ok(())
 }
 
@@ -27,13 +27,13 @@ fn put(items: &mut ArrayVec<Msg, CAPACITY>, capacity: usize, value: Msg) -> Resu
 ///
 /// Errors: `EmptyTake` where there is none, `WrongValue` where it is another; then nothing
 /// changed.
-fn take(items: &mut ArrayVec<Msg, CAPACITY>, value: Msg) -> Result<(), Reason>
-    ensures { StepsTo (take_first value items.old.items) result items.new.items }
+fn take(items: &mut ArrayVec<Msg, CAPACITY>, value: &Msg) -> Result<(), Reason>
+    ensures { StepsTo (take_first value.now items.old.items) result items.new.items }
 {
     if items.is_empty() {
         return Err(Reason::EmptyTake);
     }
-    if items[0] != value {
+    if items[0] != *value {
         return Err(Reason::WrongValue);
     }
     items.remove(0);
@@ -48,10 +48,10 @@ pub fn act(
     capacity: usize,
     closed: bool,
     kind: Kind,
-    value: Msg,
+    value: &Msg,
 ) -> Result<(), Reason>
     requires { capacity ≤ CAPACITY }
-    ensures { StepsTo (effect_of kind value closed capacity items.old.items) result items.new.items }
+    ensures { StepsTo (effect_of kind value.now closed capacity items.old.items) result items.new.items }
 {
     match kind {
         Kind::Send if closed => Err(Reason::CloseState),

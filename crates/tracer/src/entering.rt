@@ -13,9 +13,9 @@ use event_log::Entry;
 ///
 /// Errors: `Range` where there is no such buffer, else the first reason against the entry; then
 /// nothing changed.
-pub fn enter_among(buffers: &mut [Tally], entry: Entry) -> Result<(), Reason>
-    requires { (entry.op < ENTRIES) × (entry.pos < ENTRIES) }
-    ensures { StepsTo (entry_among entry (map seen_in buffers.old)) result (map seen_in buffers.new) }
+pub fn enter_among(buffers: &mut [Tally], entry: &Entry) -> Result<(), Reason>
+    requires { (entry.now.op < ENTRIES) × (entry.now.pos < ENTRIES) }
+    ensures { StepsTo (entry_among entry.now (map seen_in buffers.old)) result (map seen_in buffers.new) }
 {
     let b = usize::from(entry.buffer.0);
     if b >= buffers.len() {

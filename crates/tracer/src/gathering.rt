@@ -7,7 +7,7 @@ ghost use Rattle.event_log.specs.Runs.{count_of};
 ghost use Rattle.tracer.specs.declared.gathering.GatherError.TheVariants.{NoMemory};
 ghost use Rattle.tracer.specs.Gather.{IsOrder, TakesFirstReady, HasNoOrder, RunsHaveOrder, OrdersRunAlike, traces_in, next_entry, IsDue, NoneDueBelow};
 
-use event_log::Entry;
+use event_log::{BufId, Entry};
 use std::alloc::{AllocError, AllocFailed, Global};
 use thiserror::Error;
 
@@ -60,7 +60,7 @@ pub fn gather(alloc: Global, traces: &[Vec<Entry>]) -> Result<Vec<Entry>, Gather
     let mut counts = [0u64; NAMES];
     while let Some((trace, entry)) = first_ready(traces, &taken, &counts) {
         taken[trace] += 1;
-        counts[place_of(entry)] += 1;
+        counts[place_of(entry.buffer)] += 1;
         order.push(entry).unwrap();
     }
     if order.len() == total {
@@ -82,20 +82,20 @@ fn entry_count(traces: &[Vec<Entry>]) -> Option<usize>
     Some(total)
 }
 
-/// Where the count of an entry's buffer stands.
-fn place_of(entry: Entry) -> usize
-    ensures is { result ≡ entry.buffer.0 }
+/// Where the count of a buffer stands.
+fn place_of(buffer: BufId) -> usize
+    ensures is { result ≡ buffer.0 }
     ensures within { result < 256 }
 {
-    usize::from(entry.buffer.0)
+    usize::from(buffer.0)
 }
 
 /// Whether an entry has the op number that its buffer waits for, where `counts` says how many
 /// entries of each buffer stand in the order.
-fn is_due(counts: &[u64; NAMES], entry: Entry) -> bool
-    ensures { IsTrue result ↔ IsDue counts.now entry }
+fn is_due(counts: &[u64; NAMES], entry: &Entry) -> bool
+    ensures { IsTrue result ↔ IsDue counts.now entry.now }
 {
-    entry.op == counts[place_of(entry)]
+    entry.op == counts[place_of(entry.buffer)]
 }
 
 /// The first trace whose next entry has the op number that its buffer waits for, and that entry.
@@ -113,7 +113,7 @@ fn first_ready(
 {
     for (i, trace) in traces.iter().enumerate() {
         if let Some(entry) = trace.get(taken[i]) {
-            if is_due(counts, *entry) {
+            if is_due(counts, entry) {
                 return Some((i, *entry));
             }
         }
@@ -132,7 +132,7 @@ pub fn gathered_is_a_run()
 #[cfg(test)]
 mod tests {
     use super::*;
-    use event_log::{BufId, CpuId, Kind, Tid};
+    use event_log::{CpuId, Kind, Msg, Tid};
 
     fn sent(cpu: u8, buffer: u8, op: u64) -> Entry {
         Entry {
@@ -140,7 +140,7 @@ mod tests {
             thread: Tid(cpu),
             kind: Kind::Send,
             buffer: BufId(buffer),
-            value: 0,
+            value: Msg::none(),
             op,
             pos: op,
         }

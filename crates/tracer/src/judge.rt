@@ -12,10 +12,11 @@ use crate::lines::{
     capacity_digits, count_digits, entry_digits, entry_in, is_of_version, left_digits,
 };
 use crate::next_lines::NextLine;
-use crate::pieces::{Pieces, are_within, in_range, piece};
+use crate::pieces::{Pieces, in_range, piece};
 use crate::tally::Tally;
 use crate::verdicts::Reason;
 use crate::versions::Version;
+use crate::words::are_within;
 use arrayvec::ArrayVec;
 use event_log::{BUFFERS, CAPACITY, ENTRIES};
 
@@ -30,6 +31,9 @@ fn version_in(line: &[u8]) -> Result<Version, Reason>
     }
     if line == b"mctower-trace 2".as_slice() {
         return Ok(Version::Two);
+    }
+    if line == b"mctower-trace 3".as_slice() {
+        return Ok(Version::Three);
     }
     Err(Reason::Spelling)
 }
@@ -159,8 +163,8 @@ impl Judge {
         if self.entries >= ENTRIES as u64 {
             return Err(Reason::Range);
         }
-        enter_among(self.buffers.as_mut_slice(), entry)?;
-        self.lowest = self.lowest.both(Version::of_kind(entry.kind));
+        enter_among(self.buffers.as_mut_slice(), &entry)?;
+        self.lowest = self.lowest.both(Version::of_entry(&entry));
         self.entries += 1;
         Ok(())
     }
@@ -170,7 +174,7 @@ impl Judge {
     fn left(&mut self, b: usize, pieces: Pieces<'_>) -> Result<(), Reason>
         ensures { StepsTo (left_line b (left_of pieces.entry) (progress_of self.old)) result (progress_of self.new) }
     {
-        let values = left_digits(b as u64, pieces)?;
+        let values = left_digits(self.version, b as u64, pieces)?;
         if !are_within(values) {
             return Err(Reason::Range);
         }

@@ -2,6 +2,7 @@
 
 ghost use Rattle.std.specs.Prelude.{◌≡◌, ℕ, List};
 ghost use Rattle.event_log.specs.declared.entries.Entry.{Entry as AnEntry};
+ghost use Rattle.event_log.specs.Messages.{Message};
 ghost use Rattle.event_log.specs.Runs.{IsRun};
 ghost use Rattle.tracer.specs.declared.verdicts.Verdict.TheVariants.{Yes as SaysYes};
 ghost use Rattle.tracer.specs.Judging.{verdict_of};
@@ -12,6 +13,6 @@ ghost use Rattle.tracer.specs.Verdicts.{IsTraceOfRun};
 /// that `write_trace` writes of a run, and of what it leaves, gets yes.
 pub fn yes_is_right()
     ensures sound { (text : List ℕ) → verdict_of text ≡ SaysYes → IsTraceOfRun text }
-    ensures complete { (text caps : List ℕ) (es : List AnEntry) (left : List (List ℕ))
+    ensures complete { (text caps : List ℕ) (es : List AnEntry) (left : List (List Message))
         → IsTraceText text caps es left → IsRun caps es left → verdict_of text ≡ SaysYes }
 {}

@@ -14,6 +14,7 @@ mod sinks;
 mod tally;
 mod verdicts;
 mod versions;
+mod words;
 mod writing;
 
 pub use checking::check;

@@ -6,10 +6,11 @@ ghost use Rattle.tracer.specs.Judging.{Gives, kind_in, has_message, value_in, is
 ghost use Rattle.tracer.specs.Judging.{capacity_digits, left_digits, count_digits};
 ghost use Rattle.tracer.specs.Lines.{left_of, digits_of};
 
-use crate::pieces::{Pieces, are_numbers, digits, ended, in_range, is_value, piece, word};
+use crate::pieces::{Pieces, digits, ended, in_range, is_value, piece, word};
 use crate::verdicts::Reason;
 use crate::versions::Version;
-use event_log::{BUFFERS, BufId, CPUS, CpuId, ENTRIES, Entry, Kind, Msg, THREADS, Tid, is_number};
+use crate::words::{are_messages, message_in, spells_message};
+use event_log::{BUFFERS, BufId, CPUS, CpuId, ENTRIES, Entry, Kind, Msg, THREADS, Tid};
 
 /// The digits of an entry, of any size, and the piece of its message.
 #[derive(Clone, Copy)]
@@ -64,20 +65,20 @@ pub fn is_of_version(version: Version, digits: EntryDigits<'_>) -> bool
         return false;
     }
     if has_message(digits.kind) {
-        is_number(digits.value)
+        spells_message(version, digits.value)
     } else {
         digits.value == b"-".as_slice()
     }
 }
 
-/// The message that the piece spells, 0 where effects of this kind have none.
+/// The message that the piece spells, none where effects of this kind have none.
 fn value_in(kind: Kind, piece: &[u8]) -> Result<Msg, Reason>
     ensures { result ≡ value_in kind piece.now }
 {
     if has_message(kind) {
-        in_range(u64::MAX, piece)
+        message_in(piece)
     } else {
-        Ok(0)
+        Ok(Msg::none())
     }
 }
 
@@ -158,17 +159,17 @@ pub fn capacity_digits(b: u64, pieces: Pieces<'_>) -> Result<&[u8], Reason>
     Ok(capacity)
 }
 
-/// The pieces of the items of buffer `b`.
+/// The pieces of the items of buffer `b`, in a text of this version.
 #[tactic(auto, unfolding(crate::specs::Judging::left_digits))]
-pub fn left_digits(b: u64, pieces: Pieces<'_>) -> Result<Pieces<'_>, Reason>
-    ensures { Gives left_of result (left_digits b (left_of pieces.entry)) }
+pub fn left_digits(version: Version, b: u64, pieces: Pieces<'_>) -> Result<Pieces<'_>, Reason>
+    ensures { Gives left_of result (left_digits version b (left_of pieces.entry)) }
 {
     let rest = word(b"left", pieces)?;
     let (number, rest) = piece(rest)?;
     if !is_value(number, b) {
         return Err(Reason::Spelling);
     }
-    if !are_numbers(rest) {
+    if !are_messages(version, rest) {
         return Err(Reason::Spelling);
     }
     Ok(rest)

@@ -1,13 +1,12 @@
 //! A text cut at a byte, and the pieces of a line.
 
-ghost use Rattle.std.specs.Prelude.{◌≡◌, ◌+◌, ◌≤◌, ◌==◌, ◌∷◌, [], List, ℕ, length, codes, IfNone, IfSome, IfOk};
-ghost use Rattle.std.specs.List.{slice_split, list_all};
-ghost use Rattle.event_log.specs.Digits.{is_number};
-ghost use Rattle.tracer.specs.Judging.{Gives, piece_at, word_at, digits_at, ended, in_range, is_value, is_within, are_values};
+ghost use Rattle.std.specs.Prelude.{◌≡◌, ◌+◌, ◌≤◌, ◌==◌, ◌∷◌, [], ℕ, length, IfNone, IfSome, IfOk};
+ghost use Rattle.std.specs.List.{slice_split};
+ghost use Rattle.tracer.specs.Judging.{Gives, piece_at, word_at, digits_at, ended, in_range, is_value};
 ghost use Rattle.tracer.specs.Lines.{left_of};
 
 use crate::verdicts::Reason;
-use event_log::{Msg, is_number, number_to};
+use event_log::{is_number, number_to};
 
 /// What stands before the first byte `at` of the text, and what stands behind it.
 #[inline(always)]
@@ -97,46 +96,4 @@ pub fn is_value(digits: &[u8], number: u64) -> bool
         Some(read) => read == number,
         None => false,
     }
-}
-
-/// Whether each piece spells a number.
-pub fn are_numbers(mut pieces: Pieces<'_>) -> bool
-    ensures { result ≡ list_all is_number (left_of pieces.entry) }
-{
-    while let Ok((front, rest)) = piece(pieces) {
-        if !is_number(front) {
-            return false;
-        }
-        pieces = rest;
-    }
-    true
-}
-
-/// Whether each piece spells a number of 64 bits.
-pub fn are_within(mut pieces: Pieces<'_>) -> bool
-    ensures { result ≡ list_all is_within (left_of pieces.entry) }
-{
-    while let Ok((front, rest)) = piece(pieces) {
-        if number_to(front, u64::MAX).is_none() {
-            return false;
-        }
-        pieces = rest;
-    }
-    true
-}
-
-/// Whether the pieces spell these messages.
-pub fn are_values(mut pieces: Pieces<'_>, messages: &[Msg]) -> bool
-    ensures { result ≡ are_values (left_of pieces.entry) messages.now }
-{
-    for message in messages {
-        let Ok((front, rest)) = piece(pieces) else {
-            return false;
-        };
-        if !is_value(front, *message) {
-            return false;
-        }
-        pieces = rest;
-    }
-    pieces.rest.is_none()
 }

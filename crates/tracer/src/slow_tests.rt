@@ -3,7 +3,7 @@
 ghost use Rattle.std.specs.Prelude.{◌<◌};
 
 use crate::{Entry, Kind, Reason, Verdict, check};
-use event_log::{BUFFERS, BufId, CpuId, Tid};
+use event_log::{BUFFERS, BufId, CpuId, Msg, Tid};
 use std::alloc::Global;
 use std::fmt::Write;
 use std::test::*;
@@ -48,7 +48,7 @@ fn counts(entries: &[Entry], b: u8, kind: Kind) -> (u64, u64) {
 }
 
 /// What buffer `b` holds after a run: all that was sent, without as many as were received.
-fn held(alloc: Global, entries: &[Entry], b: u8) -> Result<Vec<u64>, Fail> {
+fn held(alloc: Global, entries: &[Entry], b: u8) -> Result<Vec<Msg>, Fail> {
     let taken = of_kind(entries, b, Kind::Recv);
     let mut items = Vec::new(alloc);
     for (i, e) in entries
@@ -68,7 +68,7 @@ fn against(
     alloc: Global,
     caps: &[u64],
     earlier: &[Entry],
-    e: Entry,
+    e: &Entry,
 ) -> Result<Option<Reason>, Fail> {
     let (ops, pos) = counts(earlier, e.buffer.0, e.kind);
     let items = held(alloc, earlier, e.buffer.0)?;
@@ -95,9 +95,36 @@ fn against(
     })
 }
 
-/// Whether only the second version of the text has this kind.
-fn is_new(kind: Kind) -> bool {
-    !matches!(kind, Kind::Send | Kind::Recv)
+/// The lowest version of the text that has this entry.
+fn version_of(e: &Entry) -> u64 {
+    if e.value.len() > 1 {
+        3
+    } else if matches!(e.kind, Kind::Send | Kind::Recv) {
+        1
+    } else {
+        2
+    }
+}
+
+/// The lowest version of the text that has each of these entries.
+fn version_of_all(entries: &[Entry]) -> u64 {
+    let mut version = 1;
+    for e in entries {
+        version = version.max(version_of(e));
+    }
+    version
+}
+
+/// The first reason against a line that says that these messages are left where `held` is, in a text of
+/// this version.
+fn against_left(version: u64, held: &[Msg], items: &[Msg]) -> Option<Reason> {
+    if version < 3 && items.iter().any(|item| item.len() > 1) {
+        return Some(Reason::Spelling);
+    }
+    if held != items {
+        return Some(Reason::Left);
+    }
+    None
 }
 
 /// The verdict by the rules on a text of this version, one line after the other.
@@ -106,28 +133,42 @@ fn slow_judge(
     version: u64,
     caps: &[u64],
     entries: &[Entry],
-    left: &[Vec<u64>],
+    left: &[Vec<Msg>],
 ) -> Result<Verdict, Fail> {
     let first = caps.len().wrapping_add(3);
     for (k, e) in entries.iter().enumerate() {
-        if version == 1 && is_new(e.kind) {
+        if version < version_of(e) {
             return Ok(Verdict::No(first.wrapping_add(k), Reason::Spelling));
         }
-        if let Some(reason) = against(alloc, caps, &entries[..k], *e)? {
+        if let Some(reason) = against(alloc, caps, &entries[..k], e)? {
             return Ok(Verdict::No(first.wrapping_add(k), reason));
         }
     }
     for (b, items) in left.iter().enumerate() {
-        if b < BUFFERS && held(alloc, entries, b as u8)?.as_slice() != items.as_slice() {
-            let line = first.wrapping_add(entries.len()).wrapping_add(b);
-            return Ok(Verdict::No(line, Reason::Left));
+        if b < BUFFERS {
+            let here = held(alloc, entries, b as u8)?;
+            if let Some(reason) = against_left(version, &here, items) {
+                let line = first.wrapping_add(entries.len()).wrapping_add(b);
+                return Ok(Verdict::No(line, reason));
+            }
         }
     }
-    if version == 2 && !entries.iter().any(|e| is_new(e.kind)) {
+    if version > version_of_all(entries) {
         let line = first.wrapping_add(entries.len()).wrapping_add(left.len());
         return Ok(Verdict::No(line, Reason::OfVersion));
     }
     Ok(Verdict::Yes)
+}
+
+/// Puts a message behind a text.
+fn push_message(text: &mut String, message: &Msg) -> Result<(), Fail> {
+    for (i, word) in message.words().iter().enumerate() {
+        if i > 0 {
+            text.push_str(",")?;
+        }
+        write!(text, "{word}")?;
+    }
+    Ok(())
 }
 
 /// The text of this version of these capacities, entries and contents.
@@ -136,7 +177,7 @@ fn spelled(
     version: u64,
     caps: &[u64],
     entries: &[Entry],
-    left: &[Vec<u64>],
+    left: &[Vec<Msg>],
 ) -> Result<String, Fail> {
     let mut text = String::from_str(alloc, "mctower-trace ")?;
     write!(text, "{version}\n")?;
@@ -155,19 +196,30 @@ fn spelled(
         write!(text, "e {} {} {kind} {} ", e.cpu.0, e.thread.0, e.buffer.0)?;
         match e.kind {
             Kind::Close | Kind::RecvClosed => text.push_str("-")?,
-            _ => write!(text, "{}", e.value)?,
+            _ => push_message(&mut text, &e.value)?,
         }
         write!(text, " {} {}\n", e.op, e.pos)?;
     }
     for (b, items) in left.iter().enumerate() {
         write!(text, "left {b}")?;
         for item in items {
-            write!(text, " {item}")?;
+            text.push_str(" ")?;
+            push_message(&mut text, item)?;
         }
         text.push_str("\n")?;
     }
     text.push_str("end\n")?;
     Ok(text)
+}
+
+/// A message, mostly of one word, of few words that it may have.
+fn some_message(seed: &mut u64) -> Msg {
+    let first = pick(seed, 3);
+    match pick(seed, 6) {
+        0 => Msg::new(&[first, pick(seed, 2)]),
+        1 => Msg::new(&[first, 0, 0]),
+        _ => Msg::one(first),
+    }
 }
 
 /// An entry that mostly may come behind earlier ones.
@@ -186,8 +238,9 @@ fn some_entry(alloc: Global, seed: &mut u64, earlier: &[Entry]) -> Result<Entry,
     let (ops, pos) = counts(earlier, b, kind);
     let items = held(alloc, earlier, b)?;
     let value = match items.first() {
+        _ if matches!(kind, Kind::Close | Kind::RecvClosed) => Msg::none(),
         Some(first) if kind == Kind::Recv && pick(seed, 8) != 0 => *first,
-        _ => pick(seed, 3),
+        _ => some_message(seed),
     };
     Ok(Entry {
         cpu: CpuId(pick(seed, 8) as u8),
@@ -205,6 +258,7 @@ fn check_agrees_with_a_slow_judge(rt: HostRuntime) -> Result<(), Fail> {
     let mut seed = 1;
     let mut yes = 0u32;
     let mut yes_of_two = 0u32;
+    let mut yes_of_three = 0u32;
     for _ in 0..1_500 {
         let caps = [1 + pick(&mut seed, 3), 1 + pick(&mut seed, 3)];
         let mut entries = Vec::new(rt.alloc());
@@ -216,15 +270,13 @@ fn check_agrees_with_a_slow_judge(rt: HostRuntime) -> Result<(), Fail> {
         for b in 0..2 {
             let mut items = held(rt.alloc(), &entries, b)?;
             if pick(&mut seed, 8) == 0 {
-                items.push(7)?;
+                items.push(some_message(&mut seed))?;
             }
             left.push(items)?;
         }
-        let new = entries.iter().any(|e| is_new(e.kind));
         let version = match pick(&mut seed, 8) {
-            0 => 1 + pick(&mut seed, 2),
-            _ if new => 2,
-            _ => 1,
+            0 => 1 + pick(&mut seed, 3),
+            _ => version_of_all(&entries),
         };
         let text = spelled(rt.alloc(), version, &caps, &entries, &left)?;
         let verdict = slow_judge(rt.alloc(), version, &caps, &entries, &left)?;
@@ -234,9 +286,13 @@ fn check_agrees_with_a_slow_judge(rt: HostRuntime) -> Result<(), Fail> {
             if version == 2 {
                 yes_of_two = yes_of_two.wrapping_add(1);
             }
+            if version == 3 {
+                yes_of_three = yes_of_three.wrapping_add(1);
+            }
         }
     }
     assert!(rt; yes > 50);
     assert!(rt; yes_of_two > 20);
+    assert!(rt; yes_of_three > 20);
     Ok(())
 }

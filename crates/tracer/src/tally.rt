@@ -7,8 +7,9 @@ ghost use Rattle.tracer.specs.Judging.{fresh, was_closed, next_pos, counted, ent
 ghost use Rattle.tracer.specs.Lines.{left_of};
 
 use crate::effects::act;
-use crate::pieces::{Pieces, are_values};
+use crate::pieces::Pieces;
 use crate::verdicts::Reason;
+use crate::words::are_values;
 use arrayvec::ArrayVec;
 use event_log::{CAPACITY, Entry, Kind, Msg};
 
@@ -77,9 +78,9 @@ impl Tally {
     ///
     /// Errors: the first reason against the entry here; then nothing changed.
     #[tactic(auto, unfolding(crate::specs::Judging::entry_on))]
-    pub fn enter(&mut self, entry: Entry) -> Result<(), Reason>
-        requires { (entry.op < ENTRIES) × (entry.pos < ENTRIES) }
-        ensures { StepsTo (entry_on entry (seen_in self.old)) result (seen_in self.new) }
+    pub fn enter(&mut self, entry: &Entry) -> Result<(), Reason>
+        requires { (entry.now.op < ENTRIES) × (entry.now.pos < ENTRIES) }
+        ensures { StepsTo (entry_on entry.now (seen_in self.old)) result (seen_in self.new) }
     {
         if entry.op != self.ops {
             return Err(Reason::Op);
@@ -93,7 +94,7 @@ impl Tally {
             self.capacity,
             closed,
             entry.kind,
-            entry.value,
+            &entry.value,
         )?;
         self.count(entry.kind);
         Ok(())

@@ -2,7 +2,7 @@
 
 ghost use Rattle.std.specs.Prelude.{◌≡◌};
 ghost use Rattle.tracer.specs.TraceText.{version_word};
-ghost use Rattle.tracer.specs.Versions.{covers, both, version_of_kind, version_of};
+ghost use Rattle.tracer.specs.Versions.{covers, both, version_of_kind, version_of_count, version_of_entry, version_of};
 
 use event_log::{Entry, Kind};
 
@@ -13,6 +13,8 @@ pub enum Version {
     One,
     /// It has closes too, and calls that found their buffer closed.
     Two,
+    /// It has messages of several words too.
+    Three,
 }
 
 impl Version {
@@ -21,8 +23,10 @@ impl Version {
         ensures { result ≡ covers self other }
     {
         match (self, other) {
-            (Version::One, Version::Two) => false,
-            (Version::One, Version::One) | (Version::Two, _) => true,
+            (Version::One, Version::Two | Version::Three) | (Version::Two, Version::Three) => false,
+            (Version::One, Version::One)
+            | (Version::Two, Version::One | Version::Two)
+            | (Version::Three, _) => true,
         }
     }
 
@@ -30,9 +34,10 @@ impl Version {
     pub fn both(self, other: Version) -> Version
         ensures { result ≡ both self other }
     {
-        match self {
-            Version::One => other,
-            Version::Two => Version::Two,
+        match (self, other) {
+            (Version::One, _) => other,
+            (Version::Two, Version::One | Version::Two) => Version::Two,
+            (Version::Two, Version::Three) | (Version::Three, _) => Version::Three,
         }
     }
 
@@ -46,6 +51,24 @@ impl Version {
         }
     }
 
+    /// The first version that can spell so many words as one message.
+    pub fn of_count(count: usize) -> Version
+        ensures { result ≡ version_of_count count }
+    {
+        if count > 1 {
+            Version::Three
+        } else {
+            Version::One
+        }
+    }
+
+    /// The first version that can spell this entry.
+    pub fn of_entry(entry: &Entry) -> Version
+        ensures { result ≡ version_of_entry entry.now }
+    {
+        Version::of_kind(entry.kind).both(Version::of_count(entry.value.len()))
+    }
+
     /// How the head of a text names it.
     pub fn word(self) -> &'static [u8]
         ensures { result.now ≡ version_word self }
@@ -53,6 +76,7 @@ impl Version {
         match self {
             Version::One => b"1",
             Version::Two => b"2",
+            Version::Three => b"3",
         }
     }
 }
@@ -63,7 +87,7 @@ pub fn version_of(entries: &[Entry]) -> Version
 {
     let mut version = Version::One;
     for entry in entries {
-        version = version.both(Version::of_kind(entry.kind));
+        version = version.both(Version::of_entry(entry));
     }
     version
 }

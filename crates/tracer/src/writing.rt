@@ -2,8 +2,9 @@
 
 ghost use Rattle.std.specs.Prelude.{◌≡◌, ◌++◌, ◌∷◌, [], length, map, is_err, false, decimal, flat_map, codes};
 ghost use Rattle.tracer.specs.Sinks.{WentOut, has_failed};
-ghost use Rattle.tracer.specs.TraceText.{IsSpellable, spelling, line_of, head_pieces, entry_pieces, cap_pieces, left_pieces, numbered, kind_word, value_piece};
-ghost use Rattle.tracer.specs.Pieces.{text_of, spaced};
+ghost use Rattle.tracer.specs.TraceText.{IsSpellable, spelling, line_of, head_pieces, entry_pieces, cap_pieces, left_pieces};
+ghost use Rattle.tracer.specs.TraceText.{numbered, kind_word, value_piece, message_text};
+ghost use Rattle.tracer.specs.Pieces.{text_of, spaced, behind_comma};
 
 use crate::sinks::{Sink, WriteFault};
 use crate::versions::{Version, version_of};
@@ -14,29 +15,54 @@ use std::io::Write;
 
 /// A piece of a line behind its first word.
 #[derive(Clone, Copy)]
-enum Piece {
+enum Piece<'a> {
     Word(&'static [u8]),
     Number(u64),
+    Message(&'a Msg),
 }
 
-/// A space and a number.
-fn put_number<W: Write>(sink: &mut Sink<W>, number: u64) -> Result<(), WriteFault>
+/// A number, with what stands before it.
+fn put_number<W: Write>(sink: &mut Sink<W>, before: &[u8], number: u64) -> Result<(), WriteFault>
     requires { has_failed sink.old ≡ false }
     ensures failed { is_err result ≡ has_failed sink.new }
-    ensures out { WentOut W.contents sink.old sink.new (spaced (decimal number)) }
+    ensures out { WentOut W.contents sink.old sink.new (before.now ++ decimal number) }
 {
-    sink.put(b" ")?;
+    sink.put(before)?;
     sink.put(Buffer::new().format(number).as_bytes())
 }
 
-/// A space and a piece.
-fn put_piece<W: Write>(sink: &mut Sink<W>, piece: Piece) -> Result<(), WriteFault>
+/// A comma and a word, for each word.
+fn put_words<W: Write>(sink: &mut Sink<W>, words: &[u64]) -> Result<(), WriteFault>
     requires { has_failed sink.old ≡ false }
     ensures failed { is_err result ≡ has_failed sink.new }
-    ensures out { WentOut W.contents sink.old sink.new (spaced (text_of piece)) }
+    ensures out { WentOut W.contents sink.old sink.new (flat_map behind_comma words.now) }
+{
+    for word in words {
+        put_number(sink, b",", *word)?;
+    }
+    Ok(())
+}
+
+/// A space and a message.
+fn put_message<W: Write>(sink: &mut Sink<W>, message: &Msg) -> Result<(), WriteFault>
+    requires { has_failed sink.old ≡ false }
+    ensures failed { is_err result ≡ has_failed sink.new }
+    ensures out { WentOut W.contents sink.old sink.new (spaced (message_text message.now)) }
+{
+    let count = message.len();
+    put_number(sink, b" ", message.first())?;
+    put_words(sink, &message.words()[1..count])
+}
+
+/// A space and a piece.
+fn put_piece<W: Write>(sink: &mut Sink<W>, piece: Piece<'_>) -> Result<(), WriteFault>
+    requires { has_failed sink.old ≡ false }
+    ensures failed { is_err result ≡ has_failed sink.new }
+    ensures out { WentOut W.contents sink.old sink.new (spaced (text_of piece.entry)) }
 {
     match piece {
-        Piece::Number(number) => put_number(sink, number),
+        Piece::Number(number) => put_number(sink, b" ", number),
+        Piece::Message(message) => put_message(sink, message),
         Piece::Word(word) => {
             sink.put(b" ")?;
             sink.put(word)
@@ -45,7 +71,7 @@ fn put_piece<W: Write>(sink: &mut Sink<W>, piece: Piece) -> Result<(), WriteFaul
 }
 
 /// A space and a piece, for each piece.
-fn put_pieces<W: Write>(sink: &mut Sink<W>, pieces: &[Piece]) -> Result<(), WriteFault>
+fn put_pieces<W: Write>(sink: &mut Sink<W>, pieces: &[Piece<'_>]) -> Result<(), WriteFault>
     requires { has_failed sink.old ≡ false }
     ensures failed { is_err result ≡ has_failed sink.new }
     ensures out { WentOut W.contents sink.old sink.new (flat_map (λ p. spaced (text_of p)) pieces.now) }
@@ -56,32 +82,32 @@ fn put_pieces<W: Write>(sink: &mut Sink<W>, pieces: &[Piece]) -> Result<(), Writ
     Ok(())
 }
 
-/// A space and a number, for each number.
-fn put_numbers<W: Write>(sink: &mut Sink<W>, numbers: &[u64]) -> Result<(), WriteFault>
+/// A space and a message, for each message.
+fn put_messages<W: Write>(sink: &mut Sink<W>, messages: &[Msg]) -> Result<(), WriteFault>
     requires { has_failed sink.old ≡ false }
     ensures failed { is_err result ≡ has_failed sink.new }
-    ensures out { WentOut W.contents sink.old sink.new (flat_map (λ n. spaced (decimal n)) numbers.now) }
+    ensures out { WentOut W.contents sink.old sink.new (flat_map (λ m. spaced (message_text m)) messages.now) }
 {
-    for number in numbers {
-        put_number(sink, *number)?;
+    for message in messages {
+        put_message(sink, message)?;
     }
     Ok(())
 }
 
-/// A line: its first word, the pieces and the numbers behind it, and a line feed.
+/// A line: its first word, the pieces and the messages behind it, and a line feed.
 fn put_line<W: Write>(
     sink: &mut Sink<W>,
     word: &[u8],
-    pieces: &[Piece],
-    numbers: &[u64],
+    pieces: &[Piece<'_>],
+    messages: &[Msg],
 ) -> Result<(), WriteFault>
     requires { has_failed sink.old ≡ false }
     ensures failed { is_err result ≡ has_failed sink.new }
-    ensures out { WentOut W.contents sink.old sink.new (line_of (word.now ∷ (map text_of pieces.now ++ map decimal numbers.now))) }
+    ensures out { WentOut W.contents sink.old sink.new (line_of (word.now ∷ (map text_of pieces.now ++ map message_text messages.now))) }
 {
     sink.put(word)?;
     put_pieces(sink, pieces)?;
-    put_numbers(sink, numbers)?;
+    put_messages(sink, messages)?;
     sink.put(b"\n")
 }
 
@@ -101,8 +127,8 @@ fn put_caps<W: Write>(sink: &mut Sink<W>, caps: &[u8]) -> Result<(), WriteFault>
     ensures out { WentOut W.contents sink.old sink.new (flat_map line_of (numbered cap_pieces 0 caps.now)) }
 {
     for (b, capacity) in caps.iter().enumerate() {
-        let numbers = [b as u64, u64::from(*capacity)];
-        put_line(sink, b"cap", &[], &numbers)?;
+        let pieces = [Piece::Number(b as u64), Piece::Number(u64::from(*capacity))];
+        put_line(sink, b"cap", &pieces, &[])?;
     }
     Ok(())
 }
@@ -121,29 +147,31 @@ fn word_of(kind: Kind) -> &'static [u8]
 }
 
 /// The message of an effect of this kind: a dash where it has none.
-fn value_of(kind: Kind, value: Msg) -> Piece
-    ensures { text_of result ≡ value_piece kind value }
+fn value_of(kind: Kind, value: &Msg) -> Piece<'_>
+    ensures { text_of result ≡ value_piece kind value.now }
 {
     match kind {
-        Kind::Send | Kind::Recv | Kind::SendClosed => Piece::Number(value),
+        Kind::Send | Kind::Recv | Kind::SendClosed => Piece::Message(value),
         Kind::Close | Kind::RecvClosed => Piece::Word(b"-"),
     }
 }
 
 /// The line of an entry.
-fn put_entry<W: Write>(sink: &mut Sink<W>, entry: Entry) -> Result<(), WriteFault>
+fn put_entry<W: Write>(sink: &mut Sink<W>, entry: &Entry) -> Result<(), WriteFault>
     requires { has_failed sink.old ≡ false }
     ensures failed { is_err result ≡ has_failed sink.new }
-    ensures out { WentOut W.contents sink.old sink.new (line_of (entry_pieces entry)) }
+    ensures out { WentOut W.contents sink.old sink.new (line_of (entry_pieces entry.now)) }
 {
     let pieces = [
         Piece::Number(u64::from(entry.cpu.0)),
         Piece::Number(u64::from(entry.thread.0)),
         Piece::Word(word_of(entry.kind)),
         Piece::Number(u64::from(entry.buffer.0)),
-        value_of(entry.kind, entry.value),
+        value_of(entry.kind, &entry.value),
+        Piece::Number(entry.op),
+        Piece::Number(entry.pos),
     ];
-    put_line(sink, b"e", &pieces, &[entry.op, entry.pos])
+    put_line(sink, b"e", &pieces, &[])
 }
 
 /// The lines of the entries.
@@ -153,7 +181,7 @@ fn put_entries<W: Write>(sink: &mut Sink<W>, entries: &[Entry]) -> Result<(), Wr
     ensures out { WentOut W.contents sink.old sink.new (flat_map (λ e. line_of (entry_pieces e)) entries.now) }
 {
     for entry in entries {
-        put_entry(sink, *entry)?;
+        put_entry(sink, entry)?;
     }
     Ok(())
 }
@@ -179,7 +207,8 @@ fn put_left<W: Write>(
 ///
 /// The sink must not have failed, and there must be such a text: 1 to `BUFFERS` buffers of capacity
 /// 1 to `CAPACITY`, at most `ENTRIES` entries whose numbers are in range, with the message 0 where
-/// an effect has none, and what is left of each buffer.
+/// an effect has none, and what is left of each buffer, where no message has several words unless
+/// one of an entry has.
 ///
 /// Errors: `WriteFault` exactly where the sink failed in this call; then a beginning of the text is
 /// out.
@@ -195,7 +224,7 @@ pub fn write_trace<W: Write>(
     ensures out { WentOut W.contents sink.old sink.new (spelling caps.now entries.now (map (λ v. v.items) left.now)) }
 {
     put_head(sink, version_of(entries))?;
-    put_line(sink, b"buffers", &[], &[caps.len() as u64])?;
+    put_line(sink, b"buffers", &[Piece::Number(caps.len() as u64)], &[])?;
     put_caps(sink, caps)?;
     put_entries(sink, entries)?;
     put_left(sink, left)?;

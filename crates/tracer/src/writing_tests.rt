@@ -1,11 +1,12 @@
 //! What reaches a writer: all of the text, or a beginning of it where the writer fails.
 
-ghost use Rattle.std.specs.Prelude.{◌≡◌, false};
+ghost use Rattle.std.specs.Prelude.{◌≡◌, ◌<◌, ◌≤◌, length, false};
+ghost use Rattle.event_log.specs.declared.messages.TheConstants.{WORDS};
 ghost use Rattle.tracer.specs.Sinks.{has_failed};
 
-use crate::{Entry, Kind, Sink, WriteFault, write_trace};
+use crate::{Entry, Kind, Sink, Verdict, WriteFault, check, write_trace};
 use arrayvec::ArrayVec;
-use event_log::{BufId, CpuId, Tid};
+use event_log::{BufId, CpuId, Msg, Tid};
 use std::alloc::Global;
 use std::io::{self, Write};
 use std::test::*;
@@ -45,12 +46,12 @@ fn one_send(sink: &mut Sink<&mut Narrow>) -> bool
         thread: Tid(0),
         kind: Kind::Send,
         buffer: BufId(0),
-        value: 7,
+        value: Msg::one(7),
         op: 0,
         pos: 0,
     };
     let mut items = ArrayVec::new();
-    items.push(7);
+    items.push(Msg::one(7));
     write_trace(sink, &[1], &[entry], &[items]).is_ok()
 }
 
@@ -85,7 +86,7 @@ fn one_close(sink: &mut Sink<&mut Narrow>) -> bool
         thread: Tid(1),
         kind: Kind::Close,
         buffer: BufId(0),
-        value: 0,
+        value: Msg::none(),
         op: 0,
         pos: 0,
     };
@@ -99,6 +100,59 @@ fn a_close_is_written_in_the_second_version(rt: HostRuntime) {
     assert!(rt; answer);
     let text = b"mctower-trace 2\nbuffers 1\ncap 0 1\ne 1 1 close 0 - 0 0\nleft 0\nend\n";
     assert_eq!(rt; writer.out.as_slice(), text.as_slice());
+}
+
+/// The trace of one send of these words to the one buffer, whose message is left.
+fn one_message(sink: &mut Sink<&mut Narrow>, words: &[u64]) -> bool
+    requires live { has_failed sink.old ≡ false }
+    requires some { 0 < length words.now }
+    requires most { length words.now ≤ WORDS }
+{
+    let value = Msg::new(words);
+    let entry = Entry {
+        cpu: CpuId(0),
+        thread: Tid(0),
+        kind: Kind::Send,
+        buffer: BufId(0),
+        value,
+        op: 0,
+        pos: 0,
+    };
+    value.fits();
+    let mut items = ArrayVec::new();
+    items.push(value);
+    write_trace(sink, &[1], &[entry], &[items]).is_ok()
+}
+
+#[test]
+fn a_message_of_several_words_is_written_in_the_third_version(rt: HostRuntime) {
+    let text = b"mctower-trace 3\nbuffers 1\ncap 0 1\ne 0 0 send 0 1,2 0 0\nleft 0 1,2\nend\n";
+    for piece in 1..9 {
+        let mut writer = writer_with(rt.alloc(), 200, piece);
+        let answer = one_message(&mut Sink::new(&mut writer), &[1, 2]);
+        assert!(rt; answer);
+        assert_eq!(rt; writer.out.as_slice(), text.as_slice());
+        assert_eq!(rt; check(&writer.out), Verdict::Yes);
+    }
+    for room in 0..71 {
+        let mut writer = writer_with(rt.alloc(), room, 3);
+        let answer = one_message(&mut Sink::new(&mut writer), &[1, 2]);
+        assert_eq!(rt; answer, room == 70);
+        assert_eq!(rt; writer.out.as_slice(), &text[..room]);
+    }
+}
+
+#[test]
+fn the_most_words_are_written(rt: HostRuntime) {
+    let mut writer = writer_with(rt.alloc(), 500, 500);
+    let words = [0, 1, 10, 7, 18446744073709551615, 0, 0, 9];
+    let answer = one_message(&mut Sink::new(&mut writer), &words);
+    assert!(rt; answer);
+    let text =
+        b"mctower-trace 3\nbuffers 1\ncap 0 1\ne 0 0 send 0 0,1,10,7,18446744073709551615,0,0,9 0 0\n\
+          left 0 0,1,10,7,18446744073709551615,0,0,9\nend\n";
+    assert_eq!(rt; writer.out.as_slice(), text.as_slice());
+    assert_eq!(rt; check(&writer.out), Verdict::Yes);
 }
 
 #[test]

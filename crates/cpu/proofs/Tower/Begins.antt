@@ -9,7 +9,7 @@ use Rattle.event_log.specs.Actions.{phase}
 use Rattle.event_log.specs.Messages.{no_message}
 use Rattle.guest.specs.declared.instructions.Instruction.{Instruction}
 use Rattle.guest.specs.declared.instructions.Instruction.TheVariants as instruction
-use Rattle.guest.specs.State.{State, at_start, next_of, sent_from}
+use Rattle.guest.specs.State.{State, at_start, next_of, message_from}
 use Rattle.thread_blocks.specs.Queues.{is_in}
 use Rattle.layer_traits.specs.declared.calls.Call.{Call}
 use Rattle.layer_traits.specs.declared.calls.Effect.{Effect}
@@ -23,7 +23,7 @@ use Rattle.layer_traits.specs.LockLaw.{slept_for}
 use Rattle.layer_traits.specs.Places.{is_thread}
 use Rattle.layer_traits.specs.Plans.{Left, Follows, is_in_section}
 use Rattle.layer_traits.specs.BufferLaw.{Buffering, begun_at, fifo_plan, going, going_at, plan_at, talk_of}
-use Rattle.cpu.specs.Table.Blocks.{Sends, Receives}
+use Rattle.event_log.specs.Runs.{Sends, Receives, Closes}
 use Rattle.cpu.specs.Table.Setups.{Setup, Acquires, Call as TableCall, Private, new_thread, program_of, thread_at}
 use Rattle.cpu.specs.Table.Choice.{Goes, at_instruction, choice, new_call}
 use Rattle.cpu.specs.Table.Steps.{cpu_step, halted_at, halted_by}
@@ -117,19 +117,29 @@ module _ (site : Site) (had : HasHad site None) (first_position : site.position 
   -- the table's call that begins is the layers'
   pub begins_at : (i : Instruction) → AsksFor i g site.call → halted_by (at_instruction site.setup site.c p site.t i) ≡ None
       → at_instruction site.setup site.c p site.t i ≡ Goes (from site None had Acquires)
-  begins_at (instruction.Send b r) is halted =
+  begins_at (instruction.Send b r line) is halted =
       begins_so _ _ halted
       ∙ (ap (λ x. Goes (parts (Some site.t) site.ready None
-      (slice_set (threads_at (own site None had) site.guests) site.t.0 (record x { call = Some (new_call Sends b (sent_from x.guest r)) })) site.trace)) there
+      (slice_set (threads_at (own site None had) site.guests) site.t.0
+      (record x { call = Some (new_call Sends b (message_from x.guest r)) })) site.trace)) there
       ∙ (λ i. Goes (parts (Some site.t) site.ready None (slice_set (threads_at (own site None had) site.guests) site.t.0 (record {
         guest = g;
         call = Some (call_from (sym is i) (sym first_position i) None Acquires);
         ended = is_in site.t site.ended;
       })) site.trace)))
-  begins_at (instruction.Recv b r) is halted =
+  begins_at (instruction.Recv b r line) is halted =
       begins_so _ _ halted
       ∙ (ap (λ x. Goes (parts (Some site.t) site.ready None
       (slice_set (threads_at (own site None had) site.guests) site.t.0 (record x { call = Some (new_call Receives b no_message) })) site.trace)) there
+      ∙ (λ i. Goes (parts (Some site.t) site.ready None (slice_set (threads_at (own site None had) site.guests) site.t.0 (record {
+        guest = g;
+        call = Some (call_from (sym is i) (sym first_position i) None Acquires);
+        ended = is_in site.t site.ended;
+      })) site.trace)))
+  begins_at (instruction.Close b) is halted =
+      begins_so _ _ halted
+      ∙ (ap (λ x. Goes (parts (Some site.t) site.ready None
+      (slice_set (threads_at (own site None had) site.guests) site.t.0 (record x { call = Some (new_call Closes b no_message) })) site.trace)) there
       ∙ (λ i. Goes (parts (Some site.t) site.ready None (slice_set (threads_at (own site None had) site.guests) site.t.0 (record {
         guest = g;
         call = Some (call_from (sym is i) (sym first_position i) None Acquires);

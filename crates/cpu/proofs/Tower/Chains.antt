@@ -31,7 +31,7 @@ use Rattle.layer_traits.specs.Plans.{Plan, raised}
 use Rattle.cpu.specs.Table.Setups.{Setup, Acquires, Enters, Tries, Waits, AcquiresAgain, Signals, SignalsOwn, Releases, Stage}
 use Rattle.cpu.specs.Tower.Views.{TowerAnswer, TowerName, TowerOut}
 use Rattle.cpu.specs.Tower.Privates.{guest_at, guests_after, private_after, private_of, thread_from, tid, trace_after}
-use Rattle.cpu.specs.Tower.Composed.{IsLine}
+use Rattle.cpu.specs.Tower.Composed.{IsLine, IsLined}
 use Rattle.cpu.proofs.Tower.Callers.{Caller, Runner, Site, at_next, awake, talk_at}
 use Rattle.cpu.proofs.Tower.Numbered.{changed, goes, own_at, part_at, parts, threads_at}
 use Rattle.cpu.proofs.Tower.Lines.{HasHad, after, e, from, g, own, talk, threads, with_call, k}
@@ -95,8 +95,8 @@ module _ (site : Site) where
   pub site_enters : talk_of talks t ≡ talk_at caller at.Enters None → SiteLine
   site_enters is = let had = had_none at.Enters refl is in going_line site None had at.Enters is Enters refl _ refl (enters_line site had)
 
-  pub site_tries : talk_of talks t ≡ talk_at caller at.Tries None → SiteLine
-  site_tries is = let had = had_none at.Tries refl is in going_line site None had at.Tries is Tries refl _ refl (tries_line site had)
+  pub site_tries : IsLined call → talk_of talks t ≡ talk_at caller at.Tries None → SiteLine
+  site_tries lined is = let had = had_none at.Tries refl is in going_line site None had at.Tries is Tries refl _ refl (tries_line site had lined)
 
   pub site_waits : talk_of talks t ≡ talk_at caller at.Waits None → SiteLine
   site_waits is = let had = had_none at.Waits refl is in going_line site None had at.Waits is Waits refl _ refl (waits_line site had)
@@ -217,15 +217,15 @@ module _ (caller : Caller) where
       ∙ (ap (λ x. plan_of setup.homes c t call at.Tries x own2) (now_talk at.Tries)
       ∙ sym (fifo_at setup c t call own2 (so at.Tries) (now_talk at.Tries))))
 
-  pub handed_again_line : (b : BufId) → talk_of talks t ≡ so at.AcquiresAgain → slept_for slept t ≡ Some b → slept_for waits t ≡ None
+  pub handed_again_line : (b : BufId) → IsLined call → talk_of talks t ≡ so at.AcquiresAgain → slept_for slept t ≡ Some b → slept_for waits t ≡ None
       → LineOf setup c t call was guests trace
-  handed_again_line b is s w =
+  handed_again_line b lined is s w =
       let own2 = then_own (slice_set slept t.0 None) waits at.Tries in
       chained_line at.AcquiresAgain at.Tries own2 is (now_talk at.Tries) refl refl
       (same_private at.AcquiresAgain at.Tries (slice_set slept t.0 None) waits (Some b) None is s w
       (λ j other. get_or-set_other slept t.0 j None None other) (λ j other. refl) slept_set w refl)
       (handed_again_plan b is s w)
-      (site_tries (awake (at_next caller (slice_set slept t.0 None) waits at.Tries slept_long in_waits) slept_set w) (now_talk at.Tries))
+      (site_tries (awake (at_next caller (slice_set slept t.0 None) waits at.Tries slept_long in_waits) slept_set w) lined (now_talk at.Tries))
 
   -- the plan of a thread that was woken is to ask for the lock again
   pub woken_plan : (b : BufId) → talk_of talks t ≡ so at.Waits → slept_for slept t ≡ None → slept_for waits t ≡ Some b

@@ -16,7 +16,7 @@ use Rattle.layer_traits.specs.declared.conditions.CvLeave.TheVariants.{Leave, Wa
 use Rattle.layer_traits.specs.declared.conditions.CvOut.{CvOut}
 use Rattle.layer_traits.specs.declared.conditions.CvOut.TheVariants as cv
 use Rattle.layer_traits.specs.declared.buffer_edits.BufferOut.{BufferOut}
-use Rattle.layer_traits.specs.declared.buffer_edits.BufferOut.TheVariants.{Entered, NotYet, Done}
+use Rattle.layer_traits.specs.declared.buffer_edits.BufferOut.TheVariants.{Entered, NotYet, Done, WasShut}
 use Rattle.layer_traits.specs.declared.queues.QueueAnswer.TheVariants as told
 use Rattle.layer_traits.specs.declared.talks.Stage.{Stage as TowerStage}
 use Rattle.layer_traits.specs.declared.talks.Stage.TheVariants as at
@@ -33,12 +33,13 @@ use Rattle.cpu.specs.Table.Blocks.{Position, effect_of}
 use Rattle.cpu.specs.Table.Setups.{Acquires, Enters, Tries, Waits, AcquiresAgain, Signals, SignalsOwn, Releases, Returns, Private, program_of}
 use Rattle.cpu.specs.Table.Choice.{after_section, settled, slept_if}
 use Rattle.cpu.specs.Tower.Views.{TowerAnswer, TowerName, TowerOut, answer_view}
-use Rattle.cpu.specs.Tower.Privates.{asks_in, call_from}
-use Rattle.cpu.specs.Tower.Composed.{HandIsKnown, IsLine}
+use Rattle.cpu.specs.Tower.Privates.{asks_in, call_from, message_of}
+use Rattle.cpu.specs.Tower.Composed.{HandIsKnown, IsLine, IsLined}
 use Rattle.cpu.proofs.Tower.Numbered.{own_at, parts}
 use Rattle.cpu.proofs.Tower.Callers.{Site}
-use Rattle.cpu.proofs.Tower.Lines.{HasHad, Tried, first_editor, first_name, first_answer, try_editor, try_name, try_answer, wait_name, signal_name}
-use Rattle.cpu.proofs.Tower.Lines.{own_signal_name, reply_guest, entry_heard, own, g, e, threads, talk, k, from, after, runs_on, sleeps_now, waits_now}
+use Rattle.cpu.proofs.Tower.Lines.{HasHad, IsShutting, Draws, Shuts, Tried, first_editor, first_name, first_answer, try_editor, try_name, try_answer}
+use Rattle.cpu.proofs.Tower.Lines.{wait_name, signal_name, own_signal_name, reply_guest, entry_heard, shut_heard, try_heard, effect_by, shut_effect}
+use Rattle.cpu.proofs.Tower.Lines.{own, g, e, threads, talk, k, from, after, runs_on, sleeps_now, waits_now}
 use Rattle.cpu.proofs.Tower.Lines.{beneath_is, fresh, react, line, lift, waking, by_home, stands, by_table, stays_so, has_returned}
 
 -- what is answered to an Acquire, to an edit inside, to a signal, a leave and a wait
@@ -109,15 +110,50 @@ module _ (site : Site) (had : HasHad site None) where
       asks_again_plan
       refl (runs_on site None had None site.ready None (talk site None had at.AcquiresAgain) None) (λ x known. ask_again x.owner)
 
-  -- it enters its line
-  enter : (pos : ℕ) → after site None had (react site None had at.Enters (Inside (Edit (first_of site.t site.call)))
-      (Some (told.Answer (did_out (Entered pos)))))
-      ≡ after_section site.setup site.c (from site None had Enters) (answer_view (told.Answer (did_out (Entered pos))))
-  enter pos =
+  -- it enters its line, or closes the buffer
+  abbrev first_fits : BufferOut → Type 0
+  first_fits o = after site None had (react site None had at.Enters (Inside (Edit (first_of site.t site.call))) (Some (told.Answer (did_out o))))
+      ≡ after_section site.setup site.c (from site None had Enters) (answer_view (told.Answer (did_out o)))
+
+  enter : (pos : ℕ) → IsLined site.call → first_fits (Entered pos)
+  enter pos lined =
       runs_on site None had None site.ready None (record { stage = at.Tries; call = Some site.call; position = pos; effect = None }) None
       ∙ sym (by_table site None had Enters (answer_view (told.Answer (did_out (Entered pos)))) (call_from site.call pos None Tries) site.trace
-      (entry_heard site.c (from site None had Enters) site.t (k site None had Enters) (asks_in site.call) (Position pos))
+      (entry_heard site.c (from site None had Enters) site.t (k site None had Enters) site.call (Position pos) lined)
       ∙ stays_so site None had (call_from site.call pos None Tries) site.ready site.trace (λ p. refl))
+
+  -- what is left of a call whose effect came in this poll
+  abbrev effects_so : Effect → Type 0
+  effects_so f = after site None had (record {
+    own = own_at (Some site.t) None site.ready site.ended None site.slept site.waits
+        (slice_set site.talks site.t.0 (record { stage = at.Signals; call = Some site.call; position = site.position; effect = Some f }));
+    answer = None;
+  })
+      ≡ stands site None had site.ready None (call_from site.call site.position (Some f) Signals)
+      (site.trace ++ entry_of site.c site.t (buffer_of site.call) f ∷ [])
+
+  effects : (f : Effect) → effects_so f
+  effects f = runs_on site None had None site.ready None (record { stage = at.Signals; call = Some site.call; position = site.position; effect = Some f }) None
+
+  signals_next : (f : Effect) → settled site.setup (stands site None had site.ready None (call_from site.call site.position (Some f) Signals)
+      (site.trace ++ entry_of site.c site.t (buffer_of site.call) f ∷ []))
+      ≡ stands site None had site.ready None (call_from site.call site.position (Some f) Signals)
+      (site.trace ++ entry_of site.c site.t (buffer_of site.call) f ∷ [])
+  signals_next f = stays_so site None had (call_from site.call site.position (Some f) Signals) site.ready
+      (site.trace ++ entry_of site.c site.t (buffer_of site.call) f ∷ []) (λ p. refl)
+
+  shut : (op pos : ℕ) → IsShutting site.call → first_fits (WasShut op pos)
+  shut op pos shuts =
+      let f : Effect = shut_effect op pos in
+      effects f
+      ∙ sym (by_table site None had Enters (answer_view (told.Answer (did_out (WasShut op pos)))) (call_from site.call site.position (Some f) Signals)
+      (site.trace ++ entry_of site.c site.t (buffer_of site.call) f ∷ [])
+      (shut_heard site.c (from site None had Enters) site.t site.call site.position op pos shuts)
+      ∙ signals_next f)
+
+  first_by : (x : BufferState) → Draws site.t site.call x ⊎ Shuts site.t site.call x → first_fits (buffer_answer (first_of site.t site.call) x)
+  first_by x (inl draws) = subst first_fits (sym draws.is) (enter draws.pos draws.lined)
+  first_by x (inr shuts) = subst first_fits (sym shuts.is) (shut shuts.op shuts.pos shuts.shuts)
 
   pub enters_plan : plan at.Enters ≡ fresh site None had at.Enters (Inside (Edit (first_of site.t site.call)))
   enters_plan =
@@ -130,26 +166,25 @@ module _ (site : Site) (had : HasHad site None) where
       line site None had at.Enters (Inside (Edit (first_of site.t site.call))) Enters (plan at.Enters)
       enters_plan
       (first_name site.t site.call) (runs_on site None had None site.ready None (talk site None had at.Enters) None)
-      (λ x known. let drawn = first_answer site.t site.call x.above in
-      subst (λ o. after site None had (react site None had at.Enters (Inside (Edit (first_of site.t site.call))) (Some (told.Answer (did_out o))))
-      ≡ after_section site.setup site.c (from site None had Enters) (answer_view (told.Answer (did_out o)))) (sym drawn.1) (enter drawn.0))
+      (λ x known. first_by x.above (first_answer site.t site.call x.above))
 
   -- it tries
   abbrev try_fits : BufferOut → Type 0
   try_fits o = after site None had (react site None had at.Tries (Inside (Edit (try_of site.t site.call))) (Some (told.Answer (did_out o))))
       ≡ after_section site.setup site.c (from site None had Tries) (answer_view (told.Answer (did_out o)))
 
-  abbrev pub effect_is : ℕ → Message → Effect
-  effect_is op m = record { kind = effect_of (asks_in site.call); value = m; op = op; pos = site.position }
+  abbrev pub effect_is : Bool → ℕ → Message → Effect
+  effect_is closed op m = effect_by site.call closed op m site.position
 
-  tries_done : (op : ℕ) (m : Message) → try_fits (Done (effect_of (asks_in site.call)) op m)
-  tries_done op m =
-      let f : Effect = effect_is op m in
-      runs_on site None had None site.ready None (record { stage = at.Signals; call = Some site.call; position = site.position; effect = Some f }) None
-      ∙ sym (by_table site None had Tries (answer_view (told.Answer (did_out (Done (effect_of (asks_in site.call)) op m))))
-      (call_from site.call site.position (Some f) Signals) (site.trace ++ entry_of site.c site.t (buffer_of site.call) f ∷ []) refl
-      ∙ stays_so site None had (call_from site.call site.position (Some f) Signals) site.ready
-      (site.trace ++ entry_of site.c site.t (buffer_of site.call) f ∷ []) (λ p. refl))
+  tries_done : (closed : Bool) (op : ℕ) (m : Message) → IsLined site.call → (closed ≡ true → m ≡ message_of site.call None)
+      → try_fits (Done (effect_of (asks_in site.call) closed) op m)
+  tries_done closed op m lined same =
+      let f : Effect = effect_is closed op m in
+      effects f
+      ∙ sym (by_table site None had Tries (answer_view (told.Answer (did_out (Done (effect_of (asks_in site.call) closed) op m))))
+      (call_from site.call site.position (Some f) Signals) (site.trace ++ entry_of site.c site.t (buffer_of site.call) f ∷ [])
+      (try_heard site.c (from site None had Tries) site.t site.call site.position op closed m lined same)
+      ∙ signals_next f)
 
   tries_vain : try_fits NotYet
   tries_vain =
@@ -157,10 +192,10 @@ module _ (site : Site) (had : HasHad site None) where
       ∙ sym (by_table site None had Tries (answer_view (told.Answer (did_out NotYet))) (k site None had Waits) site.trace refl
       ∙ stays_so site None had (k site None had Waits) site.ready site.trace (λ p. refl))
 
-  tries_by : (x : BufferState) → (buffer_answer (try_of site.t site.call) x ≡ NotYet) ⊎ Tried site.t site.call x
+  tries_by : (x : BufferState) → IsLined site.call → (buffer_answer (try_of site.t site.call) x ≡ NotYet) ⊎ Tried site.t site.call x
       → try_fits (buffer_answer (try_of site.t site.call) x)
-  tries_by x (inl vain) = subst try_fits (sym vain) tries_vain
-  tries_by x (inr tried) = subst try_fits (sym tried.is) (tries_done tried.op tried.message)
+  tries_by x lined (inl vain) = subst try_fits (sym vain) tries_vain
+  tries_by x lined (inr tried) = subst try_fits (sym tried.is) (tries_done tried.closed tried.op tried.message lined tried.same)
 
   pub tries_plan : plan at.Tries ≡ fresh site None had at.Tries (Inside (Edit (try_of site.t site.call)))
   tries_plan =
@@ -168,12 +203,12 @@ module _ (site : Site) (had : HasHad site None) where
       (beneath_is site None had (Inside (Edit (try_of site.t site.call)))
       (ap (slept_for site.waits) (try_editor site.t site.call) ∙ site.is_waits) (ap (slept_for site.slept) (try_editor site.t site.call) ∙ site.is_slept))
 
-  pub tries_line : IsLine site.setup site.c (from site None had Tries) (plan at.Tries) (after site None had)
-  tries_line =
+  pub tries_line : IsLined site.call → IsLine site.setup site.c (from site None had Tries) (plan at.Tries) (after site None had)
+  tries_line lined =
       line site None had at.Tries (Inside (Edit (try_of site.t site.call))) Tries (plan at.Tries)
       tries_plan
-      (try_name site.t site.call site.position) (runs_on site None had None site.ready None (talk site None had at.Tries) None)
-      (λ x known. tries_by x.above (try_answer site.t site.call x.above))
+      (try_name site.t site.call site.position lined) (runs_on site None had None site.ready None (talk site None had at.Tries) None)
+      (λ x known. tries_by x.above lined (try_answer site.t site.call x.above lined))
 
   -- it waits
   abbrev pub wait_react : Side → Option Tid → Left Buffering Reply

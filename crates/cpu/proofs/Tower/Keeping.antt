@@ -35,11 +35,12 @@ use Rattle.layer_traits.specs.Plans.{Left, Plan, Act}
 use Rattle.cpu.specs.Table.Setups.{Setup}
 use Rattle.cpu.specs.Tower.Views.{TowerAnswer, TowerBlock, TowerName, TowerOut, tower}
 use Rattle.cpu.specs.Tower.Privates.{tid}
-use Rattle.cpu.specs.Tower.Composed.{IsKind, IsUsed, Stands, asks, was_handed, enters, tries, waits as stands_waits, was_woken, asks_again, was_handed_again}
+use Rattle.cpu.specs.Tower.Composed.{FitsStage, IsKind, IsLined, IsUsed, Stands, asks, was_handed, enters, tries, waits as stands_waits, was_woken}
+use Rattle.cpu.specs.Tower.Composed.{asks_again, was_handed_again}
 use Rattle.cpu.specs.Tower.Composed.{signals, signals_own, releases, has_signalled, has_signalled_own, has_released}
 use Rattle.cpu.proofs.Tower.Numbered.{own_at}
 use Rattle.cpu.proofs.Tower.Callers.{Site}
-use Rattle.cpu.proofs.Tower.Lines.{HasHad, Tried, first_answer, try_answer, talk, fresh, react, lift, waking}
+use Rattle.cpu.proofs.Tower.Lines.{HasHad, Draws, Shuts, Tried, first_answer, try_answer, shut_effect, talk, fresh, react, lift, waking}
 use Rattle.std.proofs.lemmas.Bool.{cases_eq, eqb-false}
 use Rattle.event_log.specs.declared.ids.LockId.{LockId}
 use Rattle.event_log.specs.declared.ids.TheConstants.{THREADS}
@@ -50,6 +51,7 @@ use Rattle.cpu.proofs.Tower.Composition.{enters_plan, tries_plan, waits_plan, si
 -- the threads but this one stand as they may, and the tables have a place for each thread
 pub record Rest (t : Tid) (slept waits : List (Option BufId)) (talks : List Talk) : Type 0 where
   pub others : (u : Tid) → u.0 ≢ t.0 → MayStand (talk_of talks u).stage None None (slept_for slept u) (slept_for waits u) (talk_of talks u).effect
+  pub fits : (u : Tid) → u.0 ≢ t.0 → FitsStage (talk_of talks u).stage (talk_of talks u).call
   pub long_talks : length talks ≡ THREADS
   pub long_slept : length slept ≡ THREADS
   pub long_waits : length waits ≡ THREADS
@@ -60,7 +62,20 @@ pub stand_is : (hand : Option Tid) (kept : Option TowerOut) (a b : Talk) (s s2 w
 stand_is hand kept a b s s2 w w2 is is_s is_w may =
     subst (λ x. x) (λ i. MayStand (sym is i).stage hand kept (sym is_s i) (sym is_w i) (sym is i).effect) may
 
-module _ (t : Tid) (ready ended : List Tid) (slept waits : List (Option BufId)) (talks : List Talk) (others : Rest t slept waits talks) where
+-- a call that fits its stage, by what the talk is
+pub fit_is : (a b : Talk) → a ≡ b → FitsStage b.stage b.call → FitsStage a.stage a.call
+fit_is a b is fit = subst (λ (x : Talk). FitsStage x.stage x.call) (sym is) fit
+
+module _ (t : Tid) (ready ended : List Tid) (slept waits : List (Option BufId)) (talks : List Talk) (others : Rest t slept waits talks)
+    (fit : FitsStage (talk_of talks t).stage (talk_of talks t).call) where
+  fits_all : (u : Tid) → FitsStage (talk_of talks u).stage (talk_of talks u).call
+  fits_all u = go (cases_eq u.0 t.0)
+    where
+      go : (u.0 ≡ t.0) ⊎ (u.0 ≡ t.0 → ⊥) → FitsStage (talk_of talks u).stage (talk_of talks u).call
+      go (inl same) =
+          let is : t ≡ u = ap tid (sym same) in subst (λ (x : Tid). FitsStage (talk_of talks x).stage (talk_of talks x).call) is fit
+      go (inr other) = others.fits u other
+
   -- thread t runs
   pub runs_part : (hand : Option Tid) (kept : Option TowerOut)
       → MayStand (talk_of talks t).stage hand kept (slept_for slept t) (slept_for waits t) (talk_of talks t).effect
@@ -70,6 +85,7 @@ module _ (t : Tid) (ready ended : List Tid) (slept waits : List (Option BufId)) 
         subst (λ (x : Tid). MayStand (talk_of talks x).stage hand kept (slept_for slept x) (slept_for waits x) (talk_of talks x).effect) same may;
     other = λ u off. others.others u (λ same. eqb-false t.0 u.0 off (sym same));
     idle = λ nobody. absurd (cc nobody);
+    fits = fits_all;
     talks = others.long_talks;
     slept = others.long_slept;
     waits = others.long_waits;
@@ -82,6 +98,7 @@ module _ (t : Tid) (ready ended : List Tid) (slept waits : List (Option BufId)) 
     mine = λ u runs. absurd (cc runs);
     other = λ u off. by_same u (cases_eq u.0 t.0);
     idle = λ nobody. refl;
+    fits = fits_all;
     talks = others.long_talks;
     slept = others.long_slept;
     waits = others.long_waits;
@@ -101,6 +118,7 @@ pub rest_set : (t : Tid) (slept waits slept2 waits2 : List (Option BufId)) (talk
 rest_set t slept waits slept2 waits2 talks talk2 others same_s same_w long_s long_w = record {
   others = λ u other. stand_is None None _ _ _ _ _ _ (get_or-set_other talks t.0 u.0 talk2 quiet other) (same_s u.0 other) (same_w u.0 other)
       (others.others u other);
+  fits = λ u other. fit_is _ _ (get_or-set_other talks t.0 u.0 talk2 quiet other) (others.fits u other);
   long_talks = length-set talks t.0 talk2 ∙ others.long_talks;
   long_slept = long_s ∙ others.long_slept;
   long_waits = long_w ∙ others.long_waits;
@@ -119,52 +137,57 @@ pub record IsKept {A : Type 0} (setup : Setup) (c : CpuId) (p : Plan TowerName T
 module _ (site : Site) (effect : Option Effect) (had : HasHad site effect) (others : Rest site.t site.slept site.waits site.talks) where
   -- thread t runs on
   pub on : (hand2 : Option Tid) (ready2 : List Tid) (kept2 : Option TowerOut) (talk2 : Talk) → MayStand talk2.stage hand2 kept2 None None talk2.effect
+      → FitsStage talk2.stage talk2.call
       → IsPart (own_at (Some site.t) hand2 ready2 site.ended kept2 site.slept site.waits (slice_set site.talks site.t.0 talk2))
-  on hand2 ready2 kept2 talk2 may =
+  on hand2 ready2 kept2 talk2 may fit =
       runs_part site.t ready2 site.ended site.slept site.waits (slice_set site.talks site.t.0 talk2)
-      (rest_set site.t site.slept site.waits site.slept site.waits site.talks talk2 others (λ j other. refl) (λ j other. refl) refl refl) hand2 kept2
+      (rest_set site.t site.slept site.waits site.slept site.waits site.talks talk2 others (λ j other. refl) (λ j other. refl) refl refl)
+      (fit_is _ talk2 (get_or-set_same site.talks site.t.0 talk2 quiet site.in_talks) fit) hand2 kept2
       (stand_is hand2 kept2 _ talk2 _ None _ None (get_or-set_same site.talks site.t.0 talk2 quiet site.in_talks) site.is_slept site.is_waits may)
 
   -- it sleeps for the lock
-  pub asleep : (stage : TowerStage) → MayStand stage None None (Some (buffer_of site.call)) None effect
+  pub asleep : (stage : TowerStage) → MayStand stage None None (Some (buffer_of site.call)) None effect → FitsStage stage (Some site.call)
       → IsPart (own_at None None site.ready site.ended None (slice_set site.slept site.t.0 (Some (buffer_of site.call))) site.waits
       (slice_set site.talks site.t.0 (talk site effect had stage)))
-  asleep stage may =
+  asleep stage may fit =
       let slept2 : List (Option BufId) = slice_set site.slept site.t.0 (Some (buffer_of site.call)) in
       gone_part site.t site.ready site.ended slept2 site.waits (slice_set site.talks site.t.0 (talk site effect had stage))
       (rest_set site.t site.slept site.waits slept2 site.waits site.talks (talk site effect had stage) others
       (λ j other. get_or-set_other site.slept site.t.0 j (Some (buffer_of site.call)) None other) (λ j other. refl)
-      (length-set site.slept site.t.0 (Some (buffer_of site.call))) refl) None
+      (length-set site.slept site.t.0 (Some (buffer_of site.call))) refl)
+      (fit_is _ (talk site effect had stage) (get_or-set_same site.talks site.t.0 (talk site effect had stage) quiet site.in_talks) fit) None
       (stand_is None None _ (talk site effect had stage) _ (Some (buffer_of site.call)) _ None
       (get_or-set_same site.talks site.t.0 (talk site effect had stage) quiet site.in_talks)
       (get_or-set_same site.slept site.t.0 (Some (buffer_of site.call)) None site.in_slept) site.is_waits may)
 
   -- it waits
   pub waiting : (hand2 : Option Tid) (ready2 : List Tid) (stage : TowerStage) → MayStand stage None None None (Some (buffer_of site.call)) effect
+      → FitsStage stage (Some site.call)
       → IsPart (own_at None hand2 ready2 site.ended None site.slept (slice_set site.waits site.t.0 (Some (buffer_of site.call)))
       (slice_set site.talks site.t.0 (talk site effect had stage)))
-  waiting hand2 ready2 stage may =
+  waiting hand2 ready2 stage may fit =
       let waits2 : List (Option BufId) = slice_set site.waits site.t.0 (Some (buffer_of site.call)) in
       gone_part site.t ready2 site.ended site.slept waits2 (slice_set site.talks site.t.0 (talk site effect had stage))
       (rest_set site.t site.slept site.waits site.slept waits2 site.talks (talk site effect had stage) others (λ j other. refl)
       (λ j other. get_or-set_other site.waits site.t.0 j (Some (buffer_of site.call)) None other) refl
-      (length-set site.waits site.t.0 (Some (buffer_of site.call)))) hand2
+      (length-set site.waits site.t.0 (Some (buffer_of site.call))))
+      (fit_is _ (talk site effect had stage) (get_or-set_same site.talks site.t.0 (talk site effect had stage) quiet site.in_talks) fit) hand2
       (stand_is None None _ (talk site effect had stage) _ None _ (Some (buffer_of site.call))
       (get_or-set_same site.talks site.t.0 (talk site effect had stage) quiet site.in_talks) site.is_slept
       (get_or-set_same site.waits site.t.0 (Some (buffer_of site.call)) None site.in_waits) may)
 
   -- a section of the call
   pub keeps : (stage : TowerStage) (s : CvCall BufferEdit) (p : BufferPlan Reply) → p ≡ fresh site effect had stage s
-      → Stands stage None None None None effect
+      → Stands stage None None None None effect → FitsStage stage (Some site.call)
       → ((x : LockState BufferState) → IsPart (react site effect had stage s (Some (told.Answer (lock_answer buffer_rules s x)))).own)
       → IsKept site.setup site.c p
-  keeps stage s p is may gives = record {
+  keeps stage s p is may fit gives = record {
     lock = Buffer (buffer_of site.call);
     name = queue.Above s;
     react = react site effect had stage s;
     used = tt;
     is = is;
-    stays = on None site.ready None (talk site effect had stage) (inside stage None None None None effect may);
+    stays = on None site.ready None (talk site effect had stage) (inside stage None None None None effect may) fit;
     gives = by_block;
   }
     where
@@ -177,61 +200,76 @@ module _ (site : Site) (effect : Option Effect) (had : HasHad site effect) (othe
 
 module _ (site : Site) (had : HasHad site None) (others : Rest site.t site.slept site.waits site.talks) where
   asks_by : (o : Option Tid) → IsPart (react site None had at.Acquires (Acquire site.t) (Some (told.Answer (asked_out o)))).own
-  asks_by None = on site None had others None site.ready None (talk site None had at.Enters) (inside at.Enters None None None None None enters)
-  asks_by (Some owner) = asleep site None had others at.Acquires (inside at.Acquires None None _ None None (was_handed _))
+  asks_by None = on site None had others None site.ready None (talk site None had at.Enters) (inside at.Enters None None None None None enters) tt
+  asks_by (Some owner) = asleep site None had others at.Acquires (inside at.Acquires None None _ None None (was_handed _)) tt
 
   pub asks_keeps : IsKept site.setup site.c (plan site had at.Acquires)
-  asks_keeps = keeps site None had others at.Acquires (Acquire site.t) (plan site had at.Acquires) (asks_plan site had) asks (λ x. asks_by x.owner)
+  asks_keeps = keeps site None had others at.Acquires (Acquire site.t) (plan site had at.Acquires) (asks_plan site had) asks tt
+      (λ x. asks_by x.owner)
 
-  asks_again_by : (o : Option Tid) → IsPart (react site None had at.AcquiresAgain (Acquire site.t) (Some (told.Answer (asked_out o)))).own
-  asks_again_by None = on site None had others None site.ready None (talk site None had at.Tries) (inside at.Tries None None None None None tries)
-  asks_again_by (Some owner) = asleep site None had others at.AcquiresAgain (inside at.AcquiresAgain None None _ None None (was_handed_again _))
+  asks_again_by : IsLined site.call → (o : Option Tid) → IsPart (react site None had at.AcquiresAgain (Acquire site.t) (Some (told.Answer (asked_out o)))).own
+  asks_again_by lined None =
+      on site None had others None site.ready None (talk site None had at.Tries) (inside at.Tries None None None None None tries) lined
+  asks_again_by lined (Some owner) =
+      asleep site None had others at.AcquiresAgain (inside at.AcquiresAgain None None _ None None (was_handed_again _)) lined
 
-  pub asks_again_keeps : IsKept site.setup site.c (plan site had at.AcquiresAgain)
-  asks_again_keeps =
+  pub asks_again_keeps : IsLined site.call → IsKept site.setup site.c (plan site had at.AcquiresAgain)
+  asks_again_keeps lined =
       keeps site None had others at.AcquiresAgain (Acquire site.t) (plan site had at.AcquiresAgain) (asks_again_plan site had) asks_again
-      (λ x. asks_again_by x.owner)
+      lined (λ x. asks_again_by lined x.owner)
+
+  abbrev FirstKeeps : BufferOut → Type 0
+  FirstKeeps o = IsPart (react site None had at.Enters (Inside (Edit (first_of site.t site.call))) (Some (told.Answer (did_out o)))).own
+
+  first_by : (x : BufferState) → Draws site.t site.call x ⊎ Shuts site.t site.call x → FirstKeeps (buffer_answer (first_of site.t site.call) x)
+  first_by x (inl draws) =
+      subst FirstKeeps (sym draws.is)
+      (on site None had others None site.ready None (record { stage = at.Tries; call = Some site.call; position = draws.pos; effect = None })
+      (inside at.Tries None None None None None tries) draws.lined)
+  first_by x (inr shuts) =
+      let f : Effect = shut_effect shuts.op shuts.pos in
+      subst FirstKeeps (sym shuts.is)
+      (on site None had others None site.ready None (record { stage = at.Signals; call = Some site.call; position = site.position; effect = Some f })
+      (inside at.Signals None None None None (Some f) (signals f)) tt)
 
   pub enters_keeps : IsKept site.setup site.c (plan site had at.Enters)
   enters_keeps =
-      keeps site None had others at.Enters (Inside (Edit (first_of site.t site.call))) (plan site had at.Enters) (enters_plan site had) enters
-      (λ x. let drawn = first_answer site.t site.call x.above in
-      subst (λ o. IsPart (react site None had at.Enters (Inside (Edit (first_of site.t site.call))) (Some (told.Answer (did_out o)))).own) (sym drawn.1)
-      (on site None had others None site.ready None (record { stage = at.Tries; call = Some site.call; position = drawn.0; effect = None })
-      (inside at.Tries None None None None None tries)))
+      keeps site None had others at.Enters (Inside (Edit (first_of site.t site.call))) (plan site had at.Enters) (enters_plan site had) enters tt
+      (λ x. first_by x.above (first_answer site.t site.call x.above))
 
-  tries_by : (x : BufferState) → (buffer_answer (try_of site.t site.call) x ≡ NotYet) ⊎ Tried site.t site.call x
+  tries_by : (x : BufferState) → IsLined site.call → (buffer_answer (try_of site.t site.call) x ≡ NotYet) ⊎ Tried site.t site.call x
       → IsPart (react site None had at.Tries (Inside (Edit (try_of site.t site.call)))
       (Some (told.Answer (did_out (buffer_answer (try_of site.t site.call) x))))).own
-  tries_by x (inl vain) =
+  tries_by x lined (inl vain) =
       subst (λ o. IsPart (react site None had at.Tries (Inside (Edit (try_of site.t site.call))) (Some (told.Answer (did_out o)))).own) (sym vain)
-      (on site None had others None site.ready None (talk site None had at.Waits) (inside at.Waits None None None None None stands_waits))
-  tries_by x (inr tried) =
-      let f : Effect = effect_is site had tried.op tried.message in
+      (on site None had others None site.ready None (talk site None had at.Waits) (inside at.Waits None None None None None stands_waits) lined)
+  tries_by x lined (inr tried) =
+      let f : Effect = effect_is site had tried.closed tried.op tried.message in
       subst (λ o. IsPart (react site None had at.Tries (Inside (Edit (try_of site.t site.call))) (Some (told.Answer (did_out o)))).own) (sym tried.is)
       (on site None had others None site.ready None (record { stage = at.Signals; call = Some site.call; position = site.position; effect = Some f })
-      (inside at.Signals None None None None (Some f) (signals f)))
+      (inside at.Signals None None None None (Some f) (signals f)) tt)
 
-  pub tries_keeps : IsKept site.setup site.c (plan site had at.Tries)
-  tries_keeps =
-      keeps site None had others at.Tries (Inside (Edit (try_of site.t site.call))) (plan site had at.Tries) (tries_plan site had) tries
-      (λ x. tries_by x.above (try_answer site.t site.call x.above))
+  pub tries_keeps : IsLined site.call → IsKept site.setup site.c (plan site had at.Tries)
+  tries_keeps lined =
+      keeps site None had others at.Tries (Inside (Edit (try_of site.t site.call))) (plan site had at.Tries) (tries_plan site had) tries lined
+      (λ x. tries_by x.above lined (try_answer site.t site.call x.above lined))
 
-  waits_by : (side : Side) (o : Option Tid) → IsPart (react site None had at.Waits (Release (Wait site.t side)) (Some (told.Answer (wait_out side o)))).own
-  waits_by Receivers None = waiting site None had others None site.ready at.Waits (inside at.Waits None None None _ None (was_woken _))
-  waits_by Senders None = waiting site None had others None site.ready at.Waits (inside at.Waits None None None _ None (was_woken _))
-  waits_by Receivers (Some u) = waiting site None had others _ _ at.Waits (inside at.Waits None None None _ None (was_woken _))
-  waits_by Senders (Some u) = waiting site None had others _ _ at.Waits (inside at.Waits None None None _ None (was_woken _))
+  waits_by : IsLined site.call → (side : Side) (o : Option Tid)
+      → IsPart (react site None had at.Waits (Release (Wait site.t side)) (Some (told.Answer (wait_out side o)))).own
+  waits_by lined Receivers None = waiting site None had others None site.ready at.Waits (inside at.Waits None None None _ None (was_woken _)) lined
+  waits_by lined Senders None = waiting site None had others None site.ready at.Waits (inside at.Waits None None None _ None (was_woken _)) lined
+  waits_by lined Receivers (Some u) = waiting site None had others _ _ at.Waits (inside at.Waits None None None _ None (was_woken _)) lined
+  waits_by lined Senders (Some u) = waiting site None had others _ _ at.Waits (inside at.Waits None None None _ None (was_woken _)) lined
 
-  waits_at : (side : Side) (x : LockState BufferState)
+  waits_at : IsLined site.call → (side : Side) (x : LockState BufferState)
       → IsPart (react site None had at.Waits (Release (Wait site.t side)) (Some (told.Answer (lock_answer buffer_rules (Release (Wait site.t side)) x)))).own
-  waits_at Receivers x = waits_by Receivers (first x.sleepers)
-  waits_at Senders x = waits_by Senders (first x.sleepers)
+  waits_at lined Receivers x = waits_by lined Receivers (first x.sleepers)
+  waits_at lined Senders x = waits_by lined Senders (first x.sleepers)
 
-  pub waits_keeps : IsKept site.setup site.c (plan site had at.Waits)
-  waits_keeps =
+  pub waits_keeps : IsLined site.call → IsKept site.setup site.c (plan site had at.Waits)
+  waits_keeps lined =
       keeps site None had others at.Waits (Release (Wait site.t (tower_side site.call))) (plan site had at.Waits) (waits_plan site had) stands_waits
-      (waits_at (tower_side site.call))
+      lined (waits_at lined (tower_side site.call))
 
 -- After the effect.
 
@@ -240,54 +278,54 @@ module _ (site : Site) (f : Effect) (had : HasHad site (Some f)) (others : Rest 
       → IsPart (lift site (Some f) had at.Signals (signal_out v (Some u)) (waking site (Some f) had (Some site.t) u b)).own
   signals_woke v u true =
       on site (Some f) had others None (site.ready ++ u ∷ []) None (talk site (Some f) had at.SignalsOwn)
-      (inside at.SignalsOwn None None None None (Some f) (signals_own f))
+      (inside at.SignalsOwn None None None None (Some f) (signals_own f)) tt
   signals_woke v u false =
       on site (Some f) had others (Some u) site.ready (Some (signal_out v (Some u))) (talk site (Some f) had at.Signals)
-      (inside at.Signals (Some u) (Some (signal_out v (Some u))) None None (Some f) (has_signalled u v f))
+      (inside at.Signals (Some u) (Some (signal_out v (Some u))) None None (Some f) (has_signalled u v f)) tt
 
   signals_by : (side : Side) (v : CvOut BufferOut) (o : Option Tid)
       → IsPart (react site (Some f) had at.Signals (Inside (SignalFront site.t side)) (Some (told.Answer (signal_out v o)))).own
   signals_by side v None =
       on site (Some f) had others None site.ready None (talk site (Some f) had at.SignalsOwn)
-      (inside at.SignalsOwn None None None None (Some f) (signals_own f))
+      (inside at.SignalsOwn None None None None (Some f) (signals_own f)) tt
   signals_by side v (Some u) = signals_woke v u (is_cpu site.c (slice_get site.setup.homes u.0))
 
   pub signals_keeps : IsKept site.setup site.c (plan_to site f had at.Signals)
   signals_keeps =
       keeps site (Some f) had others at.Signals (Inside (SignalFront site.t (other_side site.call))) (plan_to site f had at.Signals)
-      (signals_plan site f had) (signals f)
+      (signals_plan site f had) (signals f) tt
       (λ x. signals_by (other_side site.call) _ _)
 
   own_signals_woke : (v : CvOut BufferOut) (u : Tid) (b : Bool)
       → IsPart (lift site (Some f) had at.SignalsOwn (signal_out v (Some u)) (waking site (Some f) had (Some site.t) u b)).own
   own_signals_woke v u true =
       on site (Some f) had others None (site.ready ++ u ∷ []) None (talk site (Some f) had at.Releases)
-      (inside at.Releases None None None None (Some f) (releases f))
+      (inside at.Releases None None None None (Some f) (releases f)) tt
   own_signals_woke v u false =
       on site (Some f) had others (Some u) site.ready (Some (signal_out v (Some u))) (talk site (Some f) had at.SignalsOwn)
-      (inside at.SignalsOwn (Some u) (Some (signal_out v (Some u))) None None (Some f) (has_signalled_own u v f))
+      (inside at.SignalsOwn (Some u) (Some (signal_out v (Some u))) None None (Some f) (has_signalled_own u v f)) tt
 
   own_signals_by : (side : Side) (v : CvOut BufferOut) (o : Option Tid)
       → IsPart (react site (Some f) had at.SignalsOwn (Inside (SignalFront site.t side)) (Some (told.Answer (signal_out v o)))).own
   own_signals_by side v None =
-      on site (Some f) had others None site.ready None (talk site (Some f) had at.Releases) (inside at.Releases None None None None (Some f) (releases f))
+      on site (Some f) had others None site.ready None (talk site (Some f) had at.Releases) (inside at.Releases None None None None (Some f) (releases f)) tt
   own_signals_by side v (Some u) = own_signals_woke v u (is_cpu site.c (slice_get site.setup.homes u.0))
 
   pub own_signals_keeps : IsKept site.setup site.c (plan_to site f had at.SignalsOwn)
   own_signals_keeps =
       keeps site (Some f) had others at.SignalsOwn (Inside (SignalFront site.t (tower_side site.call))) (plan_to site f had at.SignalsOwn)
-      (own_signals_plan site f had) (signals_own f)
+      (own_signals_plan site f had) (signals_own f) tt
       (λ x. own_signals_by (tower_side site.call) _ _)
 
   returned_now : (ready2 : List Tid) → IsPart (own_at (Some site.t) None ready2 site.ended None site.slept site.waits
       (slice_set site.talks site.t.0 (over site f had)))
-  returned_now ready2 = on site (Some f) had others None ready2 None (over site f had) (outside (Some f))
+  returned_now ready2 = on site (Some f) had others None ready2 None (over site f had) (outside (Some f)) tt
 
   releases_woke : (u : Tid) (b : Bool) → IsPart (lift site (Some f) had at.Releases (left_out (Some u)) (waking site (Some f) had (Some site.t) u b)).own
   releases_woke u true = returned_now (site.ready ++ u ∷ [])
   releases_woke u false =
       on site (Some f) had others (Some u) site.ready (Some (left_out (Some u))) (talk site (Some f) had at.Releases)
-      (inside at.Releases (Some u) (Some (left_out (Some u))) None None (Some f) (has_released u f))
+      (inside at.Releases (Some u) (Some (left_out (Some u))) None None (Some f) (has_released u f)) tt
 
   releases_by : (o : Option Tid) → IsPart (react site (Some f) had at.Releases (Release (Leave site.t)) (Some (told.Answer (left_out o)))).own
   releases_by None = returned_now site.ready
@@ -295,5 +333,5 @@ module _ (site : Site) (f : Effect) (had : HasHad site (Some f)) (others : Rest 
 
   pub releases_keeps : IsKept site.setup site.c (plan_to site f had at.Releases)
   releases_keeps =
-      keeps site (Some f) had others at.Releases (Release (Leave site.t)) (plan_to site f had at.Releases) (releases_plan site f had) (releases f)
+      keeps site (Some f) had others at.Releases (Release (Leave site.t)) (plan_to site f had at.Releases) (releases_plan site f had) (releases f) tt
       (λ x. releases_by (first x.sleepers))

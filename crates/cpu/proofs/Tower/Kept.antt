@@ -29,7 +29,8 @@ use Rattle.layer_traits.specs.LockLaw.{slept_for}
 use Rattle.layer_traits.specs.Plans.{Left, Plan, raised, Acting, Follows, at_give}
 use Rattle.cpu.specs.Table.Setups.{Setup}
 use Rattle.cpu.specs.Tower.Views.{TowerAnswer, TowerBlock, TowerName, TowerOut, tower}
-use Rattle.cpu.specs.Tower.Composed.{HandIsKnown, Stands, asks, was_handed, enters, tries, waits as stands_waits, was_woken, asks_again, was_handed_again}
+use Rattle.cpu.specs.Tower.Composed.{FitsStage, IsLined, HandIsKnown, Stands, asks, was_handed, enters, tries, waits as stands_waits, was_woken}
+use Rattle.cpu.specs.Tower.Composed.{asks_again, was_handed_again}
 use Rattle.cpu.specs.Tower.Composed.{signals, signals_own, releases, has_signalled, has_signalled_own, has_released, IsGoing, OpensAs, outcome_of}
 use Rattle.cpu.proofs.Tower.Callers.{Caller, HasRoom, Site, at_next, awake, caller_in, talk_at}
 use Rattle.cpu.proofs.Tower.Numbered.{own_at}
@@ -102,27 +103,28 @@ module _ (caller : Caller) (others : Rest caller.t caller.slept caller.waits cal
       subst (λ x. IsKept setup c x) (sym (handed_plan caller b is s w
       ∙ fifo_at setup c t call own2 (here at.Enters None) (then_talk at.Enters))) (enters_keeps site2 had2 (slept_rest at.Enters))
 
-  handed_again_keeps : (b : BufId) → talk_of talks t ≡ here at.AcquiresAgain None → slept_for slept t ≡ Some b → slept_for waiting t ≡ None
+  handed_again_keeps : (b : BufId) → IsLined call → talk_of talks t ≡ here at.AcquiresAgain None → slept_for slept t ≡ Some b → slept_for waiting t ≡ None
       → Keeps (pieces None None slept waiting talks)
-  handed_again_keeps b is s w =
+  handed_again_keeps b lined is s w =
       let slept2 : List (Option BufId) = slice_set slept t.0 None in
       let own2 : Buffering = pieces None None slept2 waiting (slice_set talks t.0 (here at.Tries None)) in
       let site2 : Site = awake (at_next caller slept2 waiting at.Tries (subst (λ n. t.0 < n) (sym (length-set slept t.0 None)) in_slept) in_waits)
       (get_or-set_same slept t.0 None None in_slept) w in
       let had2 : HasHad site2 None = ap (λ x. (going x call).effect) (then_talk at.Tries) in
       subst (λ x. IsKept setup c x) (sym (handed_again_plan caller b is s w
-      ∙ fifo_at setup c t call own2 (here at.Tries None) (then_talk at.Tries))) (tries_keeps site2 had2 (slept_rest at.Tries))
+      ∙ fifo_at setup c t call own2 (here at.Tries None) (then_talk at.Tries))) (tries_keeps site2 had2 (slept_rest at.Tries) lined)
 
-  woken_keeps : (b : BufId) → talk_of talks t ≡ here at.Waits None → slept_for slept t ≡ None → slept_for waiting t ≡ Some b
+  woken_keeps : (b : BufId) → IsLined call → talk_of talks t ≡ here at.Waits None → slept_for slept t ≡ None → slept_for waiting t ≡ Some b
       → Keeps (pieces None None slept waiting talks)
-  woken_keeps b is s w =
+  woken_keeps b lined is s w =
       let waits2 : List (Option BufId) = slice_set waiting t.0 None in
       let own2 : Buffering = pieces None None slept waits2 (slice_set talks t.0 (here at.AcquiresAgain None)) in
       let site2 : Site = awake (at_next caller slept waits2 at.AcquiresAgain in_slept (subst (λ n. t.0 < n) (sym (length-set waiting t.0 None)) in_waits))
       s (get_or-set_same waiting t.0 None None in_waits) in
       let had2 : HasHad site2 None = ap (λ x. (going x call).effect) (then_talk at.AcquiresAgain) in
       subst (λ x. IsKept setup c x) (sym (woken_plan caller b is s w
-      ∙ fifo_at setup c t call own2 (here at.AcquiresAgain None) (then_talk at.AcquiresAgain))) (asks_again_keeps site2 had2 (waits_rest at.AcquiresAgain))
+      ∙ fifo_at setup c t call own2 (here at.AcquiresAgain None) (then_talk at.AcquiresAgain)))
+      (asks_again_keeps site2 had2 (waits_rest at.AcquiresAgain) lined)
 
   -- a thread in the hand is sent
   module _ (u : Tid) (f : Effect) (s : slept_for slept t ≡ None) (w : slept_for waiting t ≡ None) (known : IsSome (slice_get setup.homes u.0)) where
@@ -137,16 +139,17 @@ module _ (caller : Caller) (others : Rest caller.t caller.slept caller.waits cal
         → (react_in (sending out stage e) None).own ≡ pieces (Some u) (Some out) slept waiting (slice_set talks t.0 (here stage (Some f)))
         → (react_in (sending out stage e) (Some told.Done)).own ≡ pieces None None slept waiting (slice_set talks t.0 next)
         → MayStand stage (Some u) (Some out) None None (Some f) → MayStand next.stage None None None None next.effect
+        → FitsStage stage (Some call) → FitsStage next.stage next.call
         → Keeps (pieces (Some u) (Some out) slept waiting talks)
-    send_keeps out stage e had next is so still done may may_next =
+    send_keeps out stage e had next is so still done may may_next fit fit_next =
         here_keeps (Some u) (Some out) stage (Some f) (sending out stage e) is so (record {
           lock = Pending (queue_for setup.homes c u);
           name = queue.Push u;
           react = react_in (sending out stage e);
           used = inr (u, home_there c (slice_get setup.homes u.0) known);
           is = refl;
-          stays = subst IsPart (sym still) (on (awake caller s w) (Some f) had others (Some u) ready (Some out) (here stage (Some f)) may);
-          gives = λ x kind. subst IsPart (sym done) (on (awake caller s w) (Some f) had others None ready None next may_next);
+          stays = subst IsPart (sym still) (on (awake caller s w) (Some f) had others (Some u) ready (Some out) (here stage (Some f)) may fit);
+          gives = λ x kind. subst IsPart (sym done) (on (awake caller s w) (Some f) had others None ready None next may_next fit_next);
         })
 
     signalled_keeps : (v : CvOut BufferOut) → talk_of talks t ≡ here at.Signals (Some f)
@@ -158,7 +161,7 @@ module _ (caller : Caller) (others : Rest caller.t caller.slept caller.waits cal
         (beneath_sends (awake caller s w) u f known (outcome_of (lock.Did v) u)
         (Inside (SignalFront t (other_side call))) w s))
         refl refl (inside at.Signals (Some u) (Some (outcome_of (lock.Did v) u)) None None (Some f) (has_signalled u v f))
-        (inside at.SignalsOwn None None None None (Some f) (signals_own f))
+        (inside at.SignalsOwn None None None None (Some f) (signals_own f)) tt tt
 
     own_signalled_keeps : (v : CvOut BufferOut) → talk_of talks t ≡ here at.SignalsOwn (Some f)
         → Keeps (pieces (Some u) (Some (outcome_of (lock.Did v) u)) slept waiting talks)
@@ -169,7 +172,7 @@ module _ (caller : Caller) (others : Rest caller.t caller.slept caller.waits cal
         (beneath_sends (awake caller s w) u f known (outcome_of (lock.Did v) u)
         (Inside (SignalFront t (tower_side call))) w s))
         refl refl (inside at.SignalsOwn (Some u) (Some (outcome_of (lock.Did v) u)) None None (Some f) (has_signalled_own u v f))
-        (inside at.Releases None None None None (Some f) (releases f))
+        (inside at.Releases None None None None (Some f) (releases f)) tt tt
 
     released_keeps : talk_of talks t ≡ here at.Releases (Some f) → Keeps (pieces (Some u) (Some (outcome_of (lock.Released cv.Left) u)) slept waiting talks)
     released_keeps is =
@@ -178,46 +181,47 @@ module _ (caller : Caller) (others : Rest caller.t caller.slept caller.waits cal
         (ap (raised (left_heard t call (here at.Releases (Some f)) talks at.Releases))
         (beneath_sends (awake caller s w) u f known (outcome_of (lock.Released cv.Left) u)
         (Release (Leave t)) w s))
-        refl refl (inside at.Releases (Some u) (Some (outcome_of (lock.Released cv.Left) u)) None None (Some f) (has_released u f)) (outside (Some f))
+        refl refl (inside at.Releases (Some u) (Some (outcome_of (lock.Released cv.Left) u)) None None (Some f) (has_released u f)) (outside (Some f)) tt tt
 
   pub by_stands : (stage : TowerStage) (hand : Option Tid) (kept : Option TowerOut) (s w : Option BufId) (effect : Option Effect)
-      → Stands stage hand kept s w effect
+      → Stands stage hand kept s w effect → FitsStage stage (Some call)
       → talk_of talks t ≡ here stage effect → slept_for slept t ≡ s → slept_for waiting t ≡ w
       → ((u : Tid) → hand ≡ Some u → IsSome (slice_get setup.homes u.0))
       → Keeps (pieces hand kept slept waiting talks)
-  by_stands stage hand kept s w effect asks is is_s is_w known =
+  by_stands stage hand kept s w effect asks fits is is_s is_w known =
       here_keeps None None at.Acquires None _ is refl (asks_keeps (awake caller is_s is_w) (had_none at.Acquires refl is) others)
-  by_stands stage hand kept s w effect enters is is_s is_w known =
+  by_stands stage hand kept s w effect enters fits is is_s is_w known =
       here_keeps None None at.Enters None _ is refl (enters_keeps (awake caller is_s is_w) (had_none at.Enters refl is) others)
-  by_stands stage hand kept s w effect tries is is_s is_w known =
-      here_keeps None None at.Tries None _ is refl (tries_keeps (awake caller is_s is_w) (had_none at.Tries refl is) others)
-  by_stands stage hand kept s w effect stands_waits is is_s is_w known =
-      here_keeps None None at.Waits None _ is refl (waits_keeps (awake caller is_s is_w) (had_none at.Waits refl is) others)
-  by_stands stage hand kept s w effect asks_again is is_s is_w known =
-      here_keeps None None at.AcquiresAgain None _ is refl (asks_again_keeps (awake caller is_s is_w) (had_none at.AcquiresAgain refl is) others)
-  by_stands stage hand kept s w effect (signals f) is is_s is_w known =
+  by_stands stage hand kept s w effect tries fits is is_s is_w known =
+      here_keeps None None at.Tries None _ is refl (tries_keeps (awake caller is_s is_w) (had_none at.Tries refl is) others fits)
+  by_stands stage hand kept s w effect stands_waits fits is is_s is_w known =
+      here_keeps None None at.Waits None _ is refl (waits_keeps (awake caller is_s is_w) (had_none at.Waits refl is) others fits)
+  by_stands stage hand kept s w effect asks_again fits is is_s is_w known =
+      here_keeps None None at.AcquiresAgain None _ is refl (asks_again_keeps (awake caller is_s is_w) (had_none at.AcquiresAgain refl is) others fits)
+  by_stands stage hand kept s w effect (signals f) fits is is_s is_w known =
       here_keeps None None at.Signals (Some f) _ is refl (signals_keeps (awake caller is_s is_w) f (had_some at.Signals f refl is) others)
-  by_stands stage hand kept s w effect (signals_own f) is is_s is_w known =
+  by_stands stage hand kept s w effect (signals_own f) fits is is_s is_w known =
       here_keeps None None at.SignalsOwn (Some f) _ is refl (own_signals_keeps (awake caller is_s is_w) f (had_some at.SignalsOwn f refl is) others)
-  by_stands stage hand kept s w effect (releases f) is is_s is_w known =
+  by_stands stage hand kept s w effect (releases f) fits is is_s is_w known =
       here_keeps None None at.Releases (Some f) _ is refl (releases_keeps (awake caller is_s is_w) f (had_some at.Releases f refl is) others)
-  by_stands stage hand kept s w effect (was_handed b) is is_s is_w known =
+  by_stands stage hand kept s w effect (was_handed b) fits is is_s is_w known =
       handed_keeps b is is_s is_w
-  by_stands stage hand kept s w effect (was_handed_again b) is is_s is_w known =
-      handed_again_keeps b is is_s is_w
-  by_stands stage hand kept s w effect (was_woken b) is is_s is_w known =
-      woken_keeps b is is_s is_w
-  by_stands stage hand kept s w effect (has_signalled u v f) is is_s is_w known =
+  by_stands stage hand kept s w effect (was_handed_again b) fits is is_s is_w known =
+      handed_again_keeps b fits is is_s is_w
+  by_stands stage hand kept s w effect (was_woken b) fits is is_s is_w known =
+      woken_keeps b fits is is_s is_w
+  by_stands stage hand kept s w effect (has_signalled u v f) fits is is_s is_w known =
       signalled_keeps u f is_s is_w (known u refl) v is
-  by_stands stage hand kept s w effect (has_signalled_own u v f) is is_s is_w known =
+  by_stands stage hand kept s w effect (has_signalled_own u v f) fits is is_s is_w known =
       own_signalled_keeps u f is_s is_w (known u refl) v is
-  by_stands stage hand kept s w effect (has_released u f) is is_s is_w known =
+  by_stands stage hand kept s w effect (has_released u f) fits is is_s is_w known =
       released_keeps u f is_s is_w (known u refl) is
 
 -- the rest of a part whose thread t runs
 pub rest_of : (o : Buffering) (t : Tid) → (threads_in o).current ≡ Some t → IsPart o → Rest t o.cv.lock.slept o.cv.waits o.talks
 rest_of o t runs part = record {
   others = λ u other. part.other u (ap (is_thread u) runs ∙ ne_eqb t.0 u.0 (λ e. other (sym e)));
+  fits = λ u other. part.fits u;
   long_talks = part.talks;
   long_slept = part.slept;
   long_waits = part.waits;
@@ -235,6 +239,7 @@ plans_keep setup c own guests t call going_on known part =
     } in
     let keep = by_stands (caller_in setup c own guests t room [] call talk_now.position) (rest_of own t going_on.current part) talk_now.stage
     (threads_in own).hand own.cv.lock.sleep.kept (slept_for own.cv.lock.slept t) (slept_for own.cv.waits t) talk_now.effect going_on.stands
+    (subst (FitsStage talk_now.stage) going_on.begun going_on.fits)
     (λ i. record { stage = talk_now.stage; call = going_on.begun i; position = talk_now.position; effect = talk_now.effect }) refl refl known in
     subst (λ o. IsKept setup c (fifo_plan setup.homes c t call
     (own_at o (threads_in own).hand (threads_in own).ready (threads_in own).ended own.cv.lock.sleep.kept

@@ -1,6 +1,6 @@
 -- The plan of a section of a call is a line of the table, where nobody is in the hand.
 use Rattle.std.proofs.Common.{◌≡◌, ◌⊎◌, inl, inr, ℕ, ◌<◌, Bool, true, false, List, [], ◌∷◌, ◌++◌, length, slice_get, slice_set, Option, Some, None, IsSome}
-use Rattle.std.proofs.Common.{is_some, if◌then◌else◌, refl, ap, sym, ◌∙◌, subst}
+use Rattle.std.proofs.Common.{is_some, if◌then◌else◌, refl, ap, sym, ◌∙◌, subst, arith, lt-ltb}
 use Rattle.std.proofs.lemmas.List.{get_or-set_same, get_or-set_other, set-get_or}
 use Rattle.event_log.specs.declared.entries.Entry.{Entry}
 use Rattle.event_log.specs.declared.ids.BufId.{BufId}
@@ -8,13 +8,15 @@ use Rattle.event_log.specs.declared.ids.CpuId.{CpuId}
 use Rattle.event_log.specs.declared.ids.LockId.TheVariants.{Buffer}
 use Rattle.event_log.specs.declared.ids.Tid.{Tid}
 use Rattle.event_log.specs.History.{same_cpu}
-use Rattle.event_log.specs.Messages.{Message}
+use Rattle.event_log.specs.declared.entries.Kind.{Kind}
+use Rattle.event_log.specs.declared.entries.Kind.TheVariants as kind
+use Rattle.event_log.specs.Messages.{Message, no_message}
 use Rattle.guest.specs.declared.instructions.Instruction.{Instruction}
 use Rattle.guest.specs.State.{State, at_start, next_of}
 use Rattle.thread_blocks.specs.Queues.{is_in}
 use Rattle.layer_traits.proofs.CountLemmas.{same_cpu_sym}
 use Rattle.layer_traits.specs.declared.calls.Call.{Call as TowerCall}
-use Rattle.layer_traits.specs.declared.calls.Call.TheVariants.{Send, Recv}
+use Rattle.layer_traits.specs.declared.calls.Call.TheVariants.{Send, Recv, Close}
 use Rattle.layer_traits.specs.declared.calls.Effect.{Effect}
 use Rattle.layer_traits.specs.declared.calls.Reply.{Reply}
 use Rattle.layer_traits.specs.declared.locked.QEdit.TheVariants.{Inside, Release}
@@ -25,15 +27,16 @@ use Rattle.layer_traits.specs.declared.conditions.CvLeave.TheVariants.{Wait}
 use Rattle.layer_traits.specs.declared.conditions.CvOut.{CvOut}
 use Rattle.layer_traits.specs.declared.buffer_edits.BufferEdit.{BufferEdit}
 use Rattle.layer_traits.specs.declared.buffer_edits.BufferOut.{BufferOut}
-use Rattle.layer_traits.specs.declared.buffer_edits.BufferOut.TheVariants.{Entered, NotYet, Done}
+use Rattle.layer_traits.specs.declared.buffer_edits.BufferOut.TheVariants.{Entered, NotYet, Done, WasShut}
 use Rattle.layer_traits.specs.declared.queue_edits.QueueBlock.TheVariants as block
 use Rattle.layer_traits.specs.declared.queue_edits.QueueEdit.TheVariants as queue
 use Rattle.layer_traits.specs.declared.queues.QueueAnswer.TheVariants as told
 use Rattle.layer_traits.specs.declared.talks.Stage.{Stage as TowerStage}
 use Rattle.layer_traits.specs.declared.talks.Talk.{Talk}
-use Rattle.layer_traits.specs.BufferBlocks.{BufferState, buffer_answer, editor, first_item, is_turn}
+use Rattle.layer_traits.specs.BufferBlocks.{BufferState, buffer_answer, editor, is_turn}
 use Rattle.layer_traits.specs.BufferProtocol.{buffer_rules}
-use Rattle.layer_traits.specs.BufferLaw.{BufferPlan, Buffering, buffer_of, first_of, going, left_heard, other_side, quiet, reply_of, side_of as tower_side}
+use Rattle.layer_traits.specs.BufferLaw.{BufferPlan, Buffering, buffer_of, entry_of, first_of, going, left_heard, other_side, quiet, reply_by, reply_of}
+use Rattle.layer_traits.specs.BufferLaw.{side_of as tower_side}
 use Rattle.layer_traits.specs.BufferLaw.{talk_of, try_of}
 use Rattle.layer_traits.specs.Conditions.{CvCall}
 use Rattle.layer_traits.specs.CvLaw.{Waiting, cv_plan, cv_plan_for, left_waiting}
@@ -43,13 +46,15 @@ use Rattle.layer_traits.specs.Places.{Threads, is_cpu}
 use Rattle.layer_traits.specs.Plans.{Left, Plan, Now, Act, raised}
 use Rattle.layer_traits.specs.SleepLaw.{Sleeping, left_done, sleep_plan}
 use Rattle.cpu.specs.Guests.{after_answer}
-use Rattle.cpu.specs.Table.Blocks.{Answer, Asks, Sends, Receives, Told, effect_of}
-use Rattle.cpu.specs.Table.Setups.{Tries, Waits, Signals, SignalsOwn, Returns, Stage, Call, Thread, Private, cpu_or, home_of, program_of, thread_at}
-use Rattle.cpu.specs.Table.Choice.{after_section, at_buffer, first_section, guest_after, heard, heard_entry, heard_position, returned_at, section_at, settled}
-use Rattle.cpu.specs.Table.Choice.{slept_if, woken}
-use Rattle.cpu.specs.Tower.Views.{TowerAnswer, TowerBlock, TowerName, TowerOut, answer_view, name_of, tower}
-use Rattle.cpu.specs.Tower.Privates.{asks_in, call_from, guest_at, guests_after, private_after, private_of, thread_from, trace_after}
-use Rattle.cpu.specs.Tower.Composed.{HandIsKnown, IsKind, IsLine}
+use Rattle.cpu.specs.Table.Blocks.{Answer, DidShut, Told, effect_of}
+use Rattle.cpu.specs.Table.Setups.{Enters, Tries, Waits, Signals, SignalsOwn, Returns, Stage, Call, Thread, Private, cpu_or, home_of, program_of, thread_at}
+use Rattle.cpu.specs.Table.Choice.{after_section, at_buffer, first_section, guest_after, heard, heard_entry, heard_position, heard_try, returned_at}
+use Rattle.cpu.specs.Table.Choice.{section_at}
+use Rattle.cpu.specs.Table.Choice.{settled, slept_if, with_call as call_put, woken}
+use Rattle.cpu.specs.Tower.Views.{TowerAnswer, TowerBlock, TowerName, TowerOut, answer_view, name_of, told_of, tower}
+use Rattle.cpu.specs.Tower.Privates.{asks_in, call_from, closed_by, guest_at, guests_after, message_of, private_after, private_of}
+use Rattle.cpu.specs.Tower.Privates.{thread_from, trace_after}
+use Rattle.cpu.specs.Tower.Composed.{HandIsKnown, IsKind, IsLine, IsLined}
 use Rattle.cpu.proofs.Tower.Callers.{Site}
 use Rattle.cpu.proofs.Tower.Numbered.{goes, gone, numbered_long, own_at, part_at, parts, threads_at}
 use Rattle.cpu.proofs.Tower.Settled.{asks_for, calling, done_with, from_t, goes_on, heard_is, put, returns}
@@ -59,64 +64,156 @@ use Rattle.cpu.proofs.Tower.Settled.{asks_for, calling, done_with, from_t, goes_
 pub first_editor : (t : Tid) (call : TowerCall) → editor (first_of t call) ≡ t
 first_editor t (Send b m) = refl
 first_editor t (Recv b) = refl
+first_editor t (Close b) = refl
 
 pub first_name : (t : Tid) (call : TowerCall) → first_section t (asks_in call) ≡ name_of (queue.Above (Inside (Edit (first_of t call))))
 first_name t (Send b m) = refl
 first_name t (Recv b) = refl
+first_name t (Close b) = refl
 
-pub first_answer : (t : Tid) (call : TowerCall) (x : BufferState) → (pos : ℕ) × (buffer_answer (first_of t call) x ≡ Entered pos)
-first_answer t (Send b m) x = (x.sends, refl)
-first_answer t (Recv b) x = (x.receives, refl)
+-- a call that closes
+abbrev pub IsShutting : TowerCall → Type 0
+IsShutting (Send b m) = ⊥
+IsShutting (Recv b) = ⊥
+IsShutting (Close b) = Unit {0}
+
+-- its first section draws the position of a call in a line, and closes the buffer for a close
+pub record Draws (t : Tid) (call : TowerCall) (x : BufferState) : Type 0 where
+  pub lined : IsLined call
+  pub pos : ℕ
+  pub is : buffer_answer (first_of t call) x ≡ Entered pos
+
+pub record Shuts (t : Tid) (call : TowerCall) (x : BufferState) : Type 0 where
+  pub shuts : IsShutting call
+  pub op : ℕ
+  pub pos : ℕ
+  pub is : buffer_answer (first_of t call) x ≡ WasShut op pos
+
+pub first_answer : (t : Tid) (call : TowerCall) (x : BufferState) → Draws t call x ⊎ Shuts t call x
+first_answer t (Send b m) x = inl (record { lined = tt; pos = x.sends; is = refl })
+first_answer t (Recv b) x = inl (record { lined = tt; pos = x.receives; is = refl })
+first_answer t (Close b) x = inr (record { shuts = tt; op = x.effects; pos = x.closes; is = refl })
 
 pub try_editor : (t : Tid) (call : TowerCall) → editor (try_of t call) ≡ t
 try_editor t (Send b m) = refl
 try_editor t (Recv b) = refl
+try_editor t (Close b) = refl
 
-pub try_name : (t : Tid) (call : TowerCall) (position : ℕ)
+pub try_name : (t : Tid) (call : TowerCall) (position : ℕ) → IsLined call
     → section_at t (call_from call position None Tries) Tries ≡ name_of (queue.Above (Inside (Edit (try_of t call))))
-try_name t (Send b m) position = refl
-try_name t (Recv b) position = refl
+try_name t (Send b m) position lined = refl
+try_name t (Recv b) position lined = refl
+try_name t (Close b) position lined = absurd lined
 
+-- a try that has its effect: it found the buffer closed or not, and then the call's own message stays
 pub record Tried (t : Tid) (call : TowerCall) (x : BufferState) : Type 0 where
+  pub closed : Bool
   pub op : ℕ
   pub message : Message
-  pub is : buffer_answer (try_of t call) x ≡ Done (effect_of (asks_in call)) op message
+  pub is : buffer_answer (try_of t call) x ≡ Done (effect_of (asks_in call) closed) op message
+  pub same : closed ≡ true → message ≡ message_of call None
 
-pub try_answer : (t : Tid) (call : TowerCall) (x : BufferState) → (buffer_answer (try_of t call) x ≡ NotYet) ⊎ Tried t call x
-try_answer t (Send b m) x = go (is_turn Senders t x) refl
+pub try_answer : (t : Tid) (call : TowerCall) (x : BufferState) → IsLined call → (buffer_answer (try_of t call) x ≡ NotYet) ⊎ Tried t call x
+try_answer t (Send b m) x lined = go (is_turn Senders t x) refl
   where
     go : (k : Bool) → is_turn Senders t x ≡ k → (buffer_answer (try_of t (Send b m)) x ≡ NotYet) ⊎ Tried t (Send b m) x
-    go true may = inr (record { op = x.effects; message = m; is = rw may refl })
+    go true may = inr (record { closed = x.closed; op = x.effects; message = m; is = rw may refl; same = λ closed. refl })
     go false not_yet = inl (rw not_yet refl)
-try_answer t (Recv b) x = go (is_turn Receivers t x) refl
+try_answer t (Recv b) x lined = go (is_turn Receivers t x) refl
   where
+    by_items : (items : List Message) → x.items ≡ items → is_turn Receivers t x ≡ true → Tried t (Recv b) x
+    by_items [] is may = record { closed = true; op = x.effects; message = no_message; is = rw (may, is) refl; same = λ closed. refl }
+    by_items (m ∷ items) is may = record {
+      closed = false;
+      op = x.effects;
+      message = m;
+      is = rw (may, is, lt-ltb 0 (length (m ∷ items)) (omega arith)) refl;
+      same = λ closed. absurd (cc closed);
+    }
+
     go : (k : Bool) → is_turn Receivers t x ≡ k → (buffer_answer (try_of t (Recv b)) x ≡ NotYet) ⊎ Tried t (Recv b) x
-    go true may = inr (record { op = x.effects; message = first_item x.items; is = rw may refl })
+    go true may = inr (by_items x.items refl may)
     go false not_yet = inl (rw not_yet refl)
+try_answer t (Close b) x lined = absurd lined
 
 pub wait_name : (t : Tid) (call : TowerCall) (position : ℕ)
     → section_at t (call_from call position None Waits) Waits ≡ name_of (queue.Above (Release (Wait t (tower_side call))))
 wait_name t (Send b m) position = refl
 wait_name t (Recv b) position = refl
+wait_name t (Close b) position = refl
 
 pub signal_name : (t : Tid) (call : TowerCall) (position : ℕ) (f : Effect)
     → section_at t (call_from call position (Some f) Signals) Signals ≡ name_of (queue.Above (Inside (SignalFront t (other_side call))))
 signal_name t (Send b m) position f = refl
 signal_name t (Recv b) position f = refl
+signal_name t (Close b) position f = refl
 
 pub own_signal_name : (t : Tid) (call : TowerCall) (position : ℕ) (f : Effect)
     → section_at t (call_from call position (Some f) SignalsOwn) SignalsOwn ≡ name_of (queue.Above (Inside (SignalFront t (tower_side call))))
 own_signal_name t (Send b m) position f = refl
 own_signal_name t (Recv b) position f = refl
+own_signal_name t (Close b) position f = refl
 
+-- what the reply makes of the guest is what the table makes of it
 pub reply_guest : (call : TowerCall) (f : Effect) (line : Instruction) (g : State)
-    → after_answer (Some (reply_of call f)) line g ≡ guest_after (asks_in call) line f.value g
-reply_guest (Send b m) f line g = refl
-reply_guest (Recv b) f line g = refl
+    → after_answer (Some (reply_of call f)) line g ≡ guest_after (asks_in call) (closed_by call f.kind) line f.value g
+reply_guest call f line g = go call f.kind
+  where
+    go : (asked : TowerCall) (of : Kind) → after_answer (Some (reply_by asked of f.value)) line g
+        ≡ guest_after (asks_in asked) (closed_by asked of) line f.value g
+    go (Send b m) kind.Send = refl
+    go (Send b m) kind.Recv = refl
+    go (Send b m) kind.Close = refl
+    go (Send b m) kind.SendClosed = refl
+    go (Send b m) kind.RecvClosed = refl
+    go (Recv b) kind.Send = refl
+    go (Recv b) kind.Recv = refl
+    go (Recv b) kind.Close = refl
+    go (Recv b) kind.SendClosed = refl
+    go (Recv b) kind.RecvClosed = refl
+    go (Close b) of = refl
 
-pub entry_heard : (c : CpuId) (p : Private) (t : Tid) (k : Call) (asks : Asks) (told : Told) → heard_entry c p t k asks told ≡ heard_position p t k told
-entry_heard c p t k Sends told = refl
-entry_heard c p t k Receives told = refl
+-- What the table hears.
+
+-- the call has its effect, and its entry is written
+abbrev pub effected_so : Private → Tid → Call → Entry → Private
+effected_so p t next entry = record (call_put p t (Some next)) { trace = p.trace ++ entry ∷ [] }
+
+-- the effect of a try that found the buffer closed or not
+abbrev pub effect_by : TowerCall → (closed : Bool) → (op : ℕ) → Message → (pos : ℕ) → Effect
+effect_by call closed op m pos = record { kind = effect_of (asks_in call) closed; value = m; op = op; pos = pos }
+
+-- that of a close
+abbrev pub shut_effect : (op pos : ℕ) → Effect
+shut_effect op pos = record { kind = kind.Close; value = no_message; op = op; pos = pos }
+
+pub entry_heard : (c : CpuId) (p : Private) (t : Tid) (k : Call) (call : TowerCall) (told : Told) → IsLined call
+    → heard_entry c p t k (asks_in call) told ≡ heard_position p t k told
+entry_heard c p t k (Send b m) told lined = refl
+entry_heard c p t k (Recv b) told lined = refl
+entry_heard c p t k (Close b) told lined = absurd lined
+
+pub shut_heard : (c : CpuId) (p : Private) (t : Tid) (call : TowerCall) (position op pos : ℕ) → IsShutting call
+    → heard_entry c p t (call_from call position None Enters) (asks_in call) (DidShut op pos)
+    ≡ effected_so p t (call_from call position (Some (shut_effect op pos)) Signals) (entry_of c t (buffer_of call) (shut_effect op pos))
+shut_heard c p t (Send b m) position op pos shuts = absurd shuts
+shut_heard c p t (Recv b) position op pos shuts = absurd shuts
+shut_heard c p t (Close b) position op pos shuts = refl
+
+pub try_heard : (c : CpuId) (p : Private) (t : Tid) (call : TowerCall) (position op : ℕ) (closed : Bool) (m : Message) → IsLined call
+    → (closed ≡ true → m ≡ message_of call None)
+    → heard_try c p t (call_from call position None Tries) (told_of (effect_of (asks_in call) closed) op m)
+    ≡ effected_so p t (call_from call position (Some (effect_by call closed op m position)) Signals)
+    (entry_of c t (buffer_of call) (effect_by call closed op m position))
+try_heard c p t (Send b n) position op false m lined same = refl
+try_heard c p t (Send b n) position op true m lined same =
+    ap (λ x. effected_so p t (call_from (Send b n) position (Some (effect_by (Send b n) true op x position)) Signals)
+    (entry_of c t b (effect_by (Send b n) true op x position))) (sym (same refl))
+try_heard c p t (Recv b) position op false m lined same = refl
+try_heard c p t (Recv b) position op true m lined same =
+    ap (λ x. effected_so p t (call_from (Recv b) position (Some (effect_by (Recv b) true op x position)) Signals)
+    (entry_of c t b (effect_by (Recv b) true op x position))) (sym (same refl))
+try_heard c p t (Close b) position op closed m lined same = absurd lined
 
 -- whether a woken thread is at home here: the table and the layers test the same, where it has a home
 same_home : (c : CpuId) (o : Option CpuId) → (is_cpu c o ≡ false → IsSome o) → is_cpu c o ≡ same_cpu (cpu_or (record { 0 = 0 }) o) c

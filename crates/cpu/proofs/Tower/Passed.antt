@@ -1,5 +1,5 @@
 -- How all threads stand to a part is kept by the passes from thread to thread, and holds at boot.
-use Rattle.std.proofs.Common.{◌≡◌, ◌≢◌, ◌⊎◌, inl, inr, ℕ, zero, suc, ◌<◌, Bool, true, false, List, [], ◌∷◌}
+use Rattle.std.proofs.Common.{◌≡◌, ◌⊎◌, inl, inr, ℕ, zero, suc, List}
 use Rattle.std.proofs.Common.{length, get_or, replicate, Option, Some, None, refl, ap, sym, ◌∙◌, subst, arith}
 use Rattle.std.proofs.lemmas.Bool.{cases_eq, ne_eqb}
 use Rattle.event_log.specs.declared.ids.BufId.{BufId}
@@ -13,6 +13,7 @@ use Rattle.layer_traits.specs.declared.passes.Pass.{Pass}
 use Rattle.layer_traits.specs.declared.passes.Pass.TheVariants as pass
 use Rattle.layer_traits.specs.declared.talks.Stage.{Stage}
 use Rattle.layer_traits.specs.declared.talks.Stage.TheVariants as at
+use Rattle.layer_traits.specs.declared.talks.Talk.{Talk}
 use Rattle.layer_traits.specs.LockLaw.{slept_for}
 use Rattle.layer_traits.specs.Passes.{pass_after}
 use Rattle.layer_traits.specs.Places.{Threads, is_thread}
@@ -20,7 +21,7 @@ use Rattle.layer_traits.specs.Plans.{Left, Follows}
 use Rattle.layer_traits.specs.BufferLaw.{Buffering, buffering_at_start, fifo_pass_plan, quiet, talk_of}
 use Rattle.cpu.specs.Tower.Views.{TowerBlock, TowerName, TowerOut, tower}
 use Rattle.cpu.specs.Tower.Privates.{threads_in, tid}
-use Rattle.cpu.specs.Tower.Composed.{Stands, asks, was_handed, enters, tries, waits, was_woken, asks_again, was_handed_again}
+use Rattle.cpu.specs.Tower.Composed.{FitsStage, Stands, asks, was_handed, enters, tries, waits, was_woken, asks_again, was_handed_again}
 use Rattle.cpu.specs.Tower.Composed.{signals, signals_own, releases, has_signalled, has_signalled_own, has_released}
 use Rattle.cpu.specs.Tower.Standing.{IsPart, MayStand, inside, outside}
 
@@ -126,6 +127,7 @@ module _ (own : Buffering) (part : IsPart own) where
     mine = λ u runs. let no : Some u ≡ None = sym runs ∙ none in absurd (cc no);
     other = λ u off. part.other u (ap (is_thread u) nobody);
     idle = λ idle. part.idle nobody;
+    fits = part.fits;
     talks = part.talks;
     slept = part.slept;
     waits = part.waits;
@@ -138,6 +140,7 @@ module _ (own : Buffering) (part : IsPart own) where
     mine = λ u now. let no : Some u ≡ None = sym now ∙ none in absurd (cc no);
     other = λ u off. by_same u (cases_eq u.0 t.0);
     idle = λ idle. kept;
+    fits = part.fits;
     talks = part.talks;
     slept = part.slept;
     waits = part.waits;
@@ -166,6 +169,7 @@ module _ (own : Buffering) (part : IsPart own) where
         (slept_for own.cv.waits u) (talk_of own.talks u).effect) (part.other u (ap (is_thread u) nobody));
     other = λ u off. part.other u (ap (is_thread u) nobody);
     idle = λ idle. part.idle nobody;
+    fits = part.fits;
     talks = part.talks;
     slept = part.slept;
     waits = part.waits;
@@ -199,6 +203,7 @@ boots_part homes c = record {
   other = λ t off. subst (λ x. x) (λ i. MayStand (sym (alike_at THREADS t.0 quiet) i).stage None None (sym (alike_at THREADS t.0 no_buffer) i)
       (sym (alike_at THREADS t.0 no_buffer) i) (sym (alike_at THREADS t.0 quiet) i).effect) (outside None);
   idle = λ nobody. refl;
+  fits = λ t. subst (λ (x : Talk). FitsStage x.stage x.call) (sym (alike_at THREADS t.0 quiet)) tt;
   talks = alike_long THREADS quiet;
   slept = alike_long THREADS no_buffer;
   waits = alike_long THREADS no_buffer;

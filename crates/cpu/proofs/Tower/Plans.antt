@@ -9,7 +9,8 @@ use Rattle.layer_traits.specs.LockLaw.{slept_for}
 use Rattle.layer_traits.specs.BufferLaw.{talk_of}
 use Rattle.cpu.specs.Tower.Views.{TowerOut}
 use Rattle.cpu.specs.Tower.Privates.{threads_in}
-use Rattle.cpu.specs.Tower.Composed.{PlansAreLines, Stands, asks, was_handed, enters, tries, waits, was_woken, asks_again, was_handed_again, signals}
+use Rattle.cpu.specs.Tower.Composed.{FitsStage, PlansAreLines, Stands, asks, was_handed, enters, tries, waits, was_woken, asks_again}
+use Rattle.cpu.specs.Tower.Composed.{was_handed_again, signals}
 use Rattle.cpu.specs.Tower.Composed.{signals_own, releases, has_signalled, has_signalled_own, has_released}
 use Rattle.cpu.proofs.Tower.Callers.{Caller, HasRoom, awake, caller_in, talk_at}
 use Rattle.cpu.proofs.Tower.Numbered.{own_at}
@@ -21,36 +22,36 @@ module _ (caller : Caller) where
   open caller use {setup, c, t, ready, ended, slept, waits as waiting, talks, guests, trace, call}
 
   by_stands : (stage : Stage) (hand : Option Tid) (kept : Option TowerOut) (s w : Option BufId) (effect : Option Effect) → Stands stage hand kept s w effect
-      → talk_of talks t ≡ talk_at caller stage effect → slept_for slept t ≡ s → slept_for waiting t ≡ w
+      → FitsStage stage (Some call) → talk_of talks t ≡ talk_at caller stage effect → slept_for slept t ≡ s → slept_for waiting t ≡ w
       → ((u : Tid) → hand ≡ Some u → IsSome (slice_get setup.homes u.0))
       → LineOf setup c t call (own_at (Some t) hand ready ended kept slept waiting talks) guests trace
-  by_stands stage hand kept s w effect asks is is_s is_w known =
+  by_stands stage hand kept s w effect asks fits is is_s is_w known =
       site_asks (awake caller is_s is_w) is
-  by_stands stage hand kept s w effect enters is is_s is_w known =
+  by_stands stage hand kept s w effect enters fits is is_s is_w known =
       site_enters (awake caller is_s is_w) is
-  by_stands stage hand kept s w effect tries is is_s is_w known =
-      site_tries (awake caller is_s is_w) is
-  by_stands stage hand kept s w effect waits is is_s is_w known =
+  by_stands stage hand kept s w effect tries fits is is_s is_w known =
+      site_tries (awake caller is_s is_w) fits is
+  by_stands stage hand kept s w effect waits fits is is_s is_w known =
       site_waits (awake caller is_s is_w) is
-  by_stands stage hand kept s w effect asks_again is is_s is_w known =
+  by_stands stage hand kept s w effect asks_again fits is is_s is_w known =
       site_asks_again (awake caller is_s is_w) is
-  by_stands stage hand kept s w effect (signals f) is is_s is_w known =
+  by_stands stage hand kept s w effect (signals f) fits is is_s is_w known =
       site_signals (awake caller is_s is_w) f is
-  by_stands stage hand kept s w effect (signals_own f) is is_s is_w known =
+  by_stands stage hand kept s w effect (signals_own f) fits is is_s is_w known =
       site_own_signals (awake caller is_s is_w) f is
-  by_stands stage hand kept s w effect (releases f) is is_s is_w known =
+  by_stands stage hand kept s w effect (releases f) fits is is_s is_w known =
       site_releases (awake caller is_s is_w) f is
-  by_stands stage hand kept s w effect (was_handed b) is is_s is_w known =
+  by_stands stage hand kept s w effect (was_handed b) fits is is_s is_w known =
       handed_line caller b is is_s is_w
-  by_stands stage hand kept s w effect (was_handed_again b) is is_s is_w known =
-      handed_again_line caller b is is_s is_w
-  by_stands stage hand kept s w effect (was_woken b) is is_s is_w known =
+  by_stands stage hand kept s w effect (was_handed_again b) fits is is_s is_w known =
+      handed_again_line caller b fits is is_s is_w
+  by_stands stage hand kept s w effect (was_woken b) fits is is_s is_w known =
       woken_line caller b is is_s is_w
-  by_stands stage hand kept s w effect (has_signalled u v f) is is_s is_w known =
+  by_stands stage hand kept s w effect (has_signalled u v f) fits is is_s is_w known =
       has_signalled_line (awake caller is_s is_w) u f (known u refl) v is
-  by_stands stage hand kept s w effect (has_signalled_own u v f) is is_s is_w known =
+  by_stands stage hand kept s w effect (has_signalled_own u v f) fits is is_s is_w known =
       has_signalled_own_line (awake caller is_s is_w) u f (known u refl) v is
-  by_stands stage hand kept s w effect (has_released u f) is is_s is_w known =
+  by_stands stage hand kept s w effect (has_released u f) fits is is_s is_w known =
       has_released_line (awake caller is_s is_w) u f (known u refl) is
 
 pub plans_are_lines : PlansAreLines
@@ -64,6 +65,7 @@ plans_are_lines setup c own guests trace t call going known =
     } in
     let line = by_stands (caller_in setup c own guests t room trace call talk_now.position) talk_now.stage (threads_in own).hand
     own.cv.lock.sleep.kept (slept_for own.cv.lock.slept t) (slept_for own.cv.waits t) talk_now.effect going.stands
+    (subst (FitsStage talk_now.stage) going.begun going.fits)
     (λ i. record { stage = talk_now.stage; call = going.begun i; position = talk_now.position; effect = talk_now.effect }) refl refl known in
     subst (λ o. LineOf setup c t call (own_at o (threads_in own).hand (threads_in own).ready (threads_in own).ended own.cv.lock.sleep.kept own.cv.lock.slept
     own.cv.waits own.talks) guests trace) (sym going.current) line

@@ -1,13 +1,13 @@
 -- What the table makes of the answer of a section of the current thread's call.
-use Rattle.std.proofs.Common.{◌≡◌, ◌<◌, Bool, List, ◌++◌, length, slice_set, Option, Some, None, refl, ap, ◌∙◌}
+use Rattle.std.proofs.Common.{◌≡◌, ◌<◌, Bool, List, length, slice_set, Option, Some, None, ap, ◌∙◌}
 use Rattle.std.proofs.lemmas.List.{get_or-set_same, set-set}
 use Rattle.event_log.specs.declared.entries.Entry.{Entry}
 use Rattle.event_log.specs.declared.ids.CpuId.{CpuId}
 use Rattle.event_log.specs.declared.ids.Tid.{Tid}
 use Rattle.guest.specs.State.{State, next_of}
-use Rattle.cpu.specs.Table.Blocks.{Answer, Told}
+use Rattle.cpu.specs.Table.Blocks.{Answer}
 use Rattle.cpu.specs.Table.Setups.{Setup, Returns, Call, Thread, Private, new_thread, program_of, thread_at}
-use Rattle.cpu.specs.Table.Choice.{Ask, after_by, after_section, asked, asked_by, at_buffer, guest_after}
+use Rattle.cpu.specs.Table.Choice.{after_by, after_section, asked, asked_by, at_buffer, guest_after}
 use Rattle.cpu.specs.Table.Choice.{heard, returned_at, returned_by, section_at, settled, slept_if, woken}
 use Rattle.cpu.proofs.Tower.Numbered.{parts}
 
@@ -18,7 +18,7 @@ module _ (setup : Setup) (c : CpuId) (ready : List Tid) (threads : List Thread) 
   calling call = record { guest = g; call = Some call; ended = e }
 
   abbrev pub done_with : Call → Thread
-  done_with call = record { guest = guest_after call.asks (next_of (program_of setup t) g) call.message g; call = None; ended = e }
+  done_with call = record { guest = guest_after call.asks call.closed (next_of (program_of setup t) g) call.message g; call = None; ended = e }
 
   -- thread t runs and stands so
   abbrev pub with_t : List Tid → Option Tid → Thread → List Entry → Private
@@ -61,6 +61,6 @@ module _ (setup : Setup) (c : CpuId) (ready : List Tid) (threads : List Thread) 
       let p : Private = with_t ready2 None (calling next) trace2 in
       ap (λ x. returned_by setup p t x.call) (there (calling next) ready2 None trace2)
       ∙ (ap (λ x. parts (Some t) ready2 None (slice_set (slice_set threads t.0 (calling next)) t.0
-      (record x { guest = guest_after call.asks (next_of (program_of setup t) x.guest) call.message x.guest; call = None })) trace2)
+      (record x { guest = guest_after call.asks call.closed (next_of (program_of setup t) x.guest) call.message x.guest; call = None })) trace2)
       (there (calling next) ready2 None trace2)
       ∙ ap (λ l. parts (Some t) ready2 None l trace2) (set-set threads t.0 (calling next) (done_with call)))

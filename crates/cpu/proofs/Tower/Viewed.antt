@@ -1,7 +1,8 @@
 -- The layers' sections are the table's: of every section on every block.
-use Rattle.std.proofs.Common.{◌≡◌, Bool, true, false, ◌&&◌, ◌||◌, List, [], ◌∷◌, Option, Some, None, is_some, if◌then◌else◌, refl, ap, sym}
+use Rattle.std.proofs.Common.{◌≡◌, Bool, true, false, ◌&&◌, ◌||◌, List, [], ◌∷◌, length, nat_lt, Option, Some, None, is_some, if◌then◌else◌, refl}
+use Rattle.std.proofs.Common.{ap, sym, arith, lt-ltb}
 use Rattle.event_log.specs.declared.ids.Tid.{Tid}
-use Rattle.event_log.specs.declared.entries.Kind.TheVariants.{Send, Recv}
+use Rattle.event_log.specs.declared.entries.Kind.TheVariants.{Send, Recv, SendClosed, RecvClosed}
 use Rattle.event_log.specs.Messages.{Message}
 use Rattle.thread_blocks.specs.Queues.{same_tid, is_in, first, without}
 use Rattle.layer_traits.specs.declared.locked.QEdit.TheVariants.{Acquire, Inside, Release}
@@ -9,7 +10,6 @@ use Rattle.layer_traits.specs.declared.locked.Side.TheVariants.{Receivers, Sende
 use Rattle.layer_traits.specs.declared.conditions.CvEdit.TheVariants.{Edit, SignalFront}
 use Rattle.layer_traits.specs.declared.conditions.CvLeave.TheVariants.{Leave, Wait}
 use Rattle.layer_traits.specs.declared.conditions.CvOut.{CvOut}
-use Rattle.layer_traits.specs.declared.conditions.CvOut.TheVariants as cv
 use Rattle.layer_traits.specs.declared.buffer_edits.BufferEdit.{BufferEdit}
 use Rattle.layer_traits.specs.declared.buffer_edits.BufferEdit.TheVariants as edit
 use Rattle.layer_traits.specs.declared.buffer_edits.BufferOut.{BufferOut}
@@ -19,16 +19,17 @@ use Rattle.layer_traits.specs.declared.queue_edits.QueueEdit.TheVariants as queu
 use Rattle.layer_traits.specs.BufferBlocks.{BufferState, entered as tower_entered, first_item, is_turn, may_go, may_join, put_in, taken_out}
 use Rattle.layer_traits.specs.Conditions.{CvCall, signal_to}
 use Rattle.layer_traits.specs.Locking.{LockState, asked, line_asked, signalled, told_asker, waiting_without}
-use Rattle.cpu.specs.Table.Blocks.{Buffer, Block, OfBuffer, OfPending, Name, AcqQ, Enter, TryPut, TryTake, WaitOn}
-use Rattle.cpu.specs.Table.Blocks.{SigRecv, SigSend, RelQ, Pend, TakeAll, Nothing, Done, NotYet, front_stands_in}
-use Rattle.cpu.specs.Table.Edits.{acquired, answer, answer_of_acquire, edited, entered, put, taken, tells, wakes, without_any}
-use Rattle.cpu.specs.Tower.Views.{TablesAgree, TowerBlock, TowerName, answer_view, buffer_view, code, name_of, told_above, told_in, tower, view}
+use Rattle.cpu.specs.Table.Blocks.{Buffer, OfBuffer, OfPending, Name, AcqQ, Enter, TryPut, TryTake, Shut, WaitOn}
+use Rattle.cpu.specs.Table.Blocks.{SigRecv, SigSend, RelQ, Pend, TakeAll, Nothing, NotYet, front_stands_in}
+use Rattle.cpu.specs.Table.Edits.{acquired, answer, answer_of_acquire, edited, entered, put, taken, tells, told_put, told_take, wakes, without_any}
+use Rattle.cpu.specs.Tower.Views.{TablesAgree, TowerBlock, TowerName, answer_view, buffer_view, code, name_of, told_above, told_of, told_in, tower, view}
 
 names : (n : Name) → name_of (code n) ≡ n
 names (AcqQ t) = refl
 names (Enter t side) = refl
 names (TryPut t m) = refl
 names (TryTake t) = refl
+names (Shut t) = refl
 names (WaitOn t side) = refl
 names (SigRecv t) = refl
 names (SigSend t) = refl
@@ -43,6 +44,7 @@ codes (queue.Above (Acquire t)) = refl
 codes (queue.Above (Inside (Edit (edit.Enter t side)))) = refl
 codes (queue.Above (Inside (Edit (edit.TryPut t m)))) = refl
 codes (queue.Above (Inside (Edit (edit.TryTake t)))) = refl
+codes (queue.Above (Inside (Edit (edit.Shut t)))) = refl
 codes (queue.Above (Inside (SignalFront t Receivers))) = refl
 codes (queue.Above (Inside (SignalFront t Senders))) = refl
 codes (queue.Above (Release (Leave t))) = refl
@@ -159,6 +161,7 @@ module _ (state : LockState BufferState) where
   edits_above (Inside (Edit (edit.Enter t Receivers))) = ap OfBuffer (entered_receivers (may_join t state.above.receive_line) t)
   edits_above (Inside (Edit (edit.TryPut t m))) = ap OfBuffer (put_view (is_turn Senders t state.above) m)
   edits_above (Inside (Edit (edit.TryTake t))) = ap OfBuffer (taken_view (is_turn Receivers t state.above))
+  edits_above (Inside (Edit (edit.Shut t))) = refl
   edits_above (Inside (SignalFront t Receivers)) = λ i. OfBuffer (record (buffer_view state) {
     waiting_receivers = left_in_list state.above.receive_line state.receivers (may_go Receivers state.above) i;
     waiting_senders = other_senders (if may_go Receivers state.above then first state.above.receive_line else None) state.senders i;
@@ -178,23 +181,32 @@ module _ (state : LockState BufferState) where
   asked_view None = refl
   asked_view (Some owner) = refl
 
-  put_told : (b : Bool) (m : Message) → tells (told_above (if b then out.Done Send state.above.effects m else out.NotYet))
-      ≡ tells (if b then Done state.above.effects m else NotYet)
-  put_told true m = refl
-  put_told false m = refl
+  put_told : (b closed : Bool) (m : Message)
+      → tells (told_above (if b then out.Done (if closed then SendClosed else Send) state.above.effects m else out.NotYet))
+      ≡ tells (if b then told_put closed state.above.effects m else NotYet)
+  put_told true true m = refl
+  put_told true false m = refl
+  put_told false closed m = refl
 
-  taken_told : (b : Bool) (m : Message) → tells (told_above (if b then out.Done Recv state.above.effects m else out.NotYet))
-      ≡ tells (if b then Done state.above.effects m else NotYet)
-  taken_told true m = refl
-  taken_told false m = refl
+  some_left : (m : Message) (items : List Message) → nat_lt 0 (length (m ∷ items)) ≡ true
+  some_left m items = lt-ltb 0 (length (m ∷ items)) (omega arith)
+
+  taken_told : (b : Bool) (items : List Message)
+      → tells (told_above (if b then out.Done (if nat_lt 0 (length items) then Recv else RecvClosed) state.above.effects (first_item items)
+      else out.NotYet))
+      ≡ tells (if b then told_take items state.above.effects else NotYet)
+  taken_told true [] = refl
+  taken_told true (m ∷ items) = ap (λ b. tells (told_of (if b then Recv else RecvClosed) state.above.effects m)) (some_left m items)
+  taken_told false items = refl
 
   answers_above : (e : CvCall BufferEdit)
       → answer_view (tower.answer (queue.Above e) (block.Above state)) ≡ answer (name_of (queue.Above e)) (view (block.Above state))
   answers_above (Acquire t) = asked_view state.owner
   answers_above (Inside (Edit (edit.Enter t Senders))) = refl
   answers_above (Inside (Edit (edit.Enter t Receivers))) = refl
-  answers_above (Inside (Edit (edit.TryPut t m))) = put_told (is_turn Senders t state.above) m
-  answers_above (Inside (Edit (edit.TryTake t))) = taken_told (is_turn Receivers t state.above) (first_item state.above.items)
+  answers_above (Inside (Edit (edit.TryPut t m))) = put_told (is_turn Senders t state.above) state.above.closed m
+  answers_above (Inside (Edit (edit.TryTake t))) = taken_told (is_turn Receivers t state.above) state.above.items
+  answers_above (Inside (Edit (edit.Shut t))) = refl
   answers_above (Inside (SignalFront t Receivers)) =
       ap wakes (woke_receiver state.above.receive_line state.receivers state.senders (may_go Receivers state.above))
   answers_above (Inside (SignalFront t Senders)) =
@@ -216,6 +228,7 @@ edits (queue.Above e) (block.Queue threads homes) = go e
     go (Inside (Edit (edit.Enter t side))) = refl
     go (Inside (Edit (edit.TryPut t m))) = refl
     go (Inside (Edit (edit.TryTake t))) = refl
+    go (Inside (Edit (edit.Shut t))) = refl
     go (Inside (SignalFront t Receivers)) = refl
     go (Inside (SignalFront t Senders)) = refl
     go (Release (Leave t)) = refl
@@ -234,6 +247,7 @@ answers (queue.Above e) (block.Queue threads homes) = go e
     go (Inside (Edit (edit.Enter t side))) = refl
     go (Inside (Edit (edit.TryPut t m))) = refl
     go (Inside (Edit (edit.TryTake t))) = refl
+    go (Inside (Edit (edit.Shut t))) = refl
     go (Inside (SignalFront t Receivers)) = refl
     go (Inside (SignalFront t Senders)) = refl
     go (Release (Leave t)) = refl

@@ -9,9 +9,9 @@ use Rattle.layer_traits.specs.declared.locked.Side.{Side}
 use Rattle.layer_traits.specs.declared.locked.Side.TheVariants.{Receivers, Senders}
 use Rattle.layer_traits.specs.Sleeping.{joined}
 use Rattle.layer_traits.specs.BufferBlocks.{may_join, is_first}
-use Rattle.cpu.specs.Table.Blocks.{Buffer, Name, AcqQ, Enter, TryPut, TryTake, WaitOn, SigRecv, SigSend, RelQ, Pend, TakeAll, front_stands_in}
+use Rattle.cpu.specs.Table.Blocks.{Buffer, Name, AcqQ, Enter, TryPut, TryTake, Shut, WaitOn, SigRecv, SigSend, RelQ, Pend, TakeAll, front_stands_in}
 use Rattle.cpu.specs.Table.Edits.{can_put, can_take, may_put, may_take, sender_is_due, receiver_is_due, without_any}
-use Rattle.cpu.specs.Table.Edits.{acquired, line_of, entered, put, taken, waiting, released, edited_buffer}
+use Rattle.cpu.specs.Table.Edits.{acquired, line_of, entered, put, taken, shut, waiting, released, edited_buffer}
 use Rattle.cpu.specs.Wakeups.Order.{Progress, Begins, HasEntered, WasRefused, Owes, progress_after}
 use Rattle.cpu.specs.Wakeups.Order.{receivers_signalled, senders_signalled, MayTry, IsOwing, MayEdit}
 use Rattle.cpu.proofs.Wakeups.Lists.{refuted, some_is, none_is_not, not_in_without, in_joined}
@@ -115,6 +115,10 @@ after_take t k g false is owner may fits = record {
   idle = λ e. owned k.busy owner e;
 }
 
+-- whoever closes the buffer owes both signals
+after_shut : (t : Tid) (k : Buffer) → k.busy ≡ Some t → IsAwake (shut k) (Owes true true)
+after_shut t k owner = record { fits = (λ e. absurd (cc e), λ e. absurd (cc e)); idle = λ e. owned k.busy owner e }
+
 -- a lock that nobody owns after it was given back had no sleepers
 nobody_left : (sleepers : List Tid) → first sleepers ≡ None → rest sleepers ≡ []
 nobody_left [] none = refl
@@ -177,6 +181,7 @@ stays_awake (AcqQ t) k g may awake = after_acquire t k g k.busy refl awake
 stays_awake (Enter t side) k g may awake = after_enter t side k (may_join t (line_of side k)) may.0 (subst (Fits k) may.1 awake.fits)
 stays_awake (TryPut t m) k g may awake = after_put t m k g (may_put t k) refl may.0 may.1 awake.fits
 stays_awake (TryTake t) k g may awake = after_take t k g (may_take t k) refl may.0 may.1 awake.fits
+stays_awake (Shut t) k g may awake = after_shut t k may.0
 stays_awake (WaitOn t side) k g may awake = after_wait t side k may.0 (subst (Fits k) may.1 awake.fits)
 stays_awake (SigRecv t) k g may awake = after_sig_recv t k g may.0 may.1 awake.fits
 stays_awake (SigSend t) k g may awake = after_sig_send t k g may.0 may.1 awake.fits

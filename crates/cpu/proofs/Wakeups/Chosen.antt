@@ -6,7 +6,7 @@ use Rattle.std.proofs.lemmas.List.{length-set}
 use Rattle.event_log.specs.declared.ids.CpuId.{CpuId}
 use Rattle.event_log.specs.declared.ids.Tid.{Tid}
 use Rattle.guest.specs.declared.instructions.Instruction.{Instruction}
-use Rattle.guest.specs.declared.instructions.Instruction.TheVariants.{Set, Add, Sub, Jnz, Send, Recv, Yield as YieldLine, Exit}
+use Rattle.guest.specs.declared.instructions.Instruction.TheVariants.{Set, Add, Sub, Jnz, Send, Recv, Close, Yield as YieldLine, Exit}
 use Rattle.guest.specs.State.{State}
 use Rattle.thread_blocks.specs.Queues.{same_tid}
 use Rattle.thread_blocks.proofs.Members.{same_tid_true}
@@ -139,8 +139,9 @@ module _ (setup : Setup) (c : CpuId) (p : Private) (T : Tid → Turn) (P : Tid �
             agrees.ends u local (ap (λ y. y.ended) (sym (at_other p t u (record (thread_at p t) { ended = true }) other)) ∙ ended)
 
     instructed : (line : Instruction) → ChoiceOk setup c T P (at_instruction setup c p t line)
-    instructed (Send b r) = begun (new_call _ b _) refl
-    instructed (Recv b r) = begun (new_call _ b _) refl
+    instructed (Send b r k) = begun (new_call _ b _) refl
+    instructed (Recv b r k) = begun (new_call _ b _) refl
+    instructed (Close b) = begun (new_call _ b _) refl
     instructed YieldLine = (agrees, settled_before)
     instructed Exit = ended_now
     instructed (Set r n) = computes _

@@ -8,6 +8,7 @@ use Rattle.event_log.specs.declared.ids.BufId.{BufId}
 use Rattle.event_log.specs.declared.ids.LockId.{LockId}
 use Rattle.event_log.specs.declared.ids.LockId.TheVariants.{Pending, Buffer as AtBuffer}
 use Rattle.event_log.specs.History.{same_cpu, same_lock}
+use Rattle.event_log.specs.Runs.{Group, Sends, Receives, Closes}
 use Rattle.event_log.specs.Sections.{Section}
 use Rattle.event_log.proofs.Same.{same_cpu_true}
 use Rattle.guest.specs.State.{after_yield}
@@ -16,7 +17,7 @@ use Rattle.thread_blocks.proofs.Members.{same_tid_self, same_tid_true}
 use Rattle.layer_traits.specs.declared.locked.Side.{Side}
 use Rattle.layer_traits.specs.declared.locked.Side.TheVariants.{Receivers, Senders}
 use Rattle.layer_traits.specs.Places.{is_thread, count_in}
-use Rattle.cpu.specs.Table.Blocks.{Block, OfBuffer, OfPending, Name, Pend, TakeAll, Asks, Sends, Receives, side_of}
+use Rattle.cpu.specs.Table.Blocks.{Block, OfBuffer, OfPending, Name, Pend, TakeAll, side_of}
 use Rattle.cpu.specs.Table.Edits.{edited, answer, answer_of_buffer}
 use Rattle.cpu.specs.Table.Setups.{Setup, Stage, Acquires, Enters, Tries, Waits, AcquiresAgain, Signals, SignalsOwn}
 use Rattle.cpu.specs.Table.Setups.{Releases, Returns, Call, Private, thread_at, home_of, stands_at, opening_buffer}
@@ -170,9 +171,10 @@ pub due_at : (t : Tid) (call : Call) (stage : Stage) → is_last stage ≡ false
     → IsTurn call.buffer (section_at t call stage) (turn_of_stage call.buffer (side_of call.asks) stage)
 due_at t call stage going = by_stage stage going
   where
-    by_first : (asks : Asks) → IsTurn call.buffer (first_section t asks) (In call.buffer GotIt)
+    by_first : (asks : Group) → IsTurn call.buffer (first_section t asks) (In call.buffer GotIt)
     by_first Sends = refl
     by_first Receives = refl
+    by_first Closes = refl
 
     by_try : (side : Side) → IsTurn call.buffer (try_of t call side) (In call.buffer (Trying side))
     by_try Senders = refl

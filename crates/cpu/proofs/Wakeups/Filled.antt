@@ -6,17 +6,18 @@ use Rattle.event_log.specs.declared.ids.CpuId.{CpuId}
 use Rattle.event_log.specs.declared.ids.Tid.{Tid}
 use Rattle.event_log.specs.History.{same_cpu}
 use Rattle.event_log.specs.Actions.{Action, phase}
+use Rattle.event_log.specs.Runs.{Group, Sends, Receives, Closes}
 use Rattle.event_log.specs.Sections.{sections_in}
 use Rattle.guest.specs.declared.instructions.Instruction.{Instruction}
-use Rattle.guest.specs.declared.instructions.Instruction.TheVariants.{Set, Add, Sub, Jnz, Send, Recv, Yield as YieldLine, Exit}
+use Rattle.guest.specs.declared.instructions.Instruction.TheVariants.{Set, Add, Sub, Jnz, Send, Recv, Close, Yield as YieldLine, Exit}
 use Rattle.layer_traits.specs.declared.steps.Reason.TheVariants.{AllEnded, TraceFull}
 use Rattle.layer_traits.specs.Plans.{is_in_section, reply}
-use Rattle.cpu.specs.Table.Blocks.{Name, Asks, Sends, Receives, Told, Nothing, Position, Done, NotYet, Drained, Answer}
+use Rattle.cpu.specs.Table.Blocks.{Name, Told, Nothing, Position, Done, WasClosed, DidShut, NotYet, Drained, Answer}
 use Rattle.cpu.specs.Table.Edits.{kernel}
 use Rattle.cpu.specs.Table.Setups.{Setup, Stage, Acquires, Enters, Tries, Waits, AcquiresAgain, Signals, SignalsOwn, Releases, Returns}
 use Rattle.cpu.specs.Table.Setups.{Call, Private, thread_at, home_of, at_boot, opening, stands_at, home_threads, open_calls, have_ended}
 use Rattle.cpu.specs.Table.Choice.{asked, Choice, Halts, Alone, Goes, with_call, at_instruction, at_call, at_ready, at_current, at_hand, choice}
-use Rattle.cpu.specs.Table.Choice.{heard, heard_entry, heard_position, slept_if, woken, returned_at, returned_by}
+use Rattle.cpu.specs.Table.Choice.{heard, heard_entry, heard_position, heard_shut, slept_if, woken, returned_at, returned_by}
 use Rattle.cpu.specs.Table.Choice.{returned_in, settled, after_by, after_at, after_in, after_section}
 use Rattle.cpu.specs.Table.Steps.{after_reply, acting, chosen, step_in, cpu_step, Whole, cpu_numbered, system_step, IsReached, boots, steps}
 use Rattle.cpu.proofs.Wakeups.Lists.{refuted}
@@ -72,18 +73,36 @@ module _ (setup : Setup) (c : CpuId) where
       by_told (Position pos) = called p t _ known
       by_told Nothing = stays
       by_told (Done op m) = stays
+      by_told (WasClosed op) = stays
+      by_told (DidShut op pos) = stays
       by_told NotYet = stays
       by_told (Drained threads) = stays
 
-      by_asks : (asks : Asks) (told : Told) → HeardSome p (heard_entry c p t call asks told) t
+      by_shut : (told : Told) → HeardSome p (heard_shut c p t call told) t
+      by_shut (DidShut op pos) =
+          let now = called p t (record call { position = pos; effect = Some op; stage = Signals }) known in
+          record { hand = now.hand; current = now.current; some = now.some }
+      by_shut (Position pos) = stays
+      by_shut Nothing = stays
+      by_shut (Done op m) = stays
+      by_shut (WasClosed op) = stays
+      by_shut NotYet = stays
+      by_shut (Drained threads) = stays
+
+      by_asks : (asks : Group) (told : Told) → HeardSome p (heard_entry c p t call asks told) t
       by_asks Sends told = by_told told
       by_asks Receives told = by_told told
+      by_asks Closes told = by_shut told
   heard_some p t call known is Tries (Done op m) =
       let now = called p t (record call { message = m; effect = Some op; stage = Signals }) known in
+      record { hand = now.hand; current = now.current; some = now.some }
+  heard_some p t call known is Tries (WasClosed op) =
+      let now = called p t (record call { closed = true; effect = Some op; stage = Signals }) known in
       record { hand = now.hand; current = now.current; some = now.some }
   heard_some p t call known is Tries NotYet = called p t _ known
   heard_some p t call known is Tries Nothing = record { hand = refl; current = refl; some = ap is_some is }
   heard_some p t call known is Tries (Position pos) = record { hand = refl; current = refl; some = ap is_some is }
+  heard_some p t call known is Tries (DidShut op pos) = record { hand = refl; current = refl; some = ap is_some is }
   heard_some p t call known is Tries (Drained threads) = record { hand = refl; current = refl; some = ap is_some is }
   heard_some p t call known is Waits told = called p t _ known
   heard_some p t call known is AcquiresAgain told = called p t _ known
@@ -160,8 +179,9 @@ module _ (setup : Setup) (c : CpuId) where
       by_room t call false empty = empty_filled (with_call p t (Some call)) empty
 
       by_line : p.hand ≡ None → (t : Tid) (line : Instruction) → FilledChoice (at_instruction setup c p t line)
-      by_line empty t (Send b r) = by_room t _ ((length p.trace + open_calls p (home_threads setup c)) == setup.trace_room) empty
-      by_line empty t (Recv b r) = by_room t _ ((length p.trace + open_calls p (home_threads setup c)) == setup.trace_room) empty
+      by_line empty t (Send b r k) = by_room t _ ((length p.trace + open_calls p (home_threads setup c)) == setup.trace_room) empty
+      by_line empty t (Recv b r k) = by_room t _ ((length p.trace + open_calls p (home_threads setup c)) == setup.trace_room) empty
+      by_line empty t (Close b) = by_room t _ ((length p.trace + open_calls p (home_threads setup c)) == setup.trace_room) empty
       by_line empty t YieldLine = filled
       by_line empty t Exit = λ u full runs_now. refuted (ap is_some empty) full
       by_line empty t (Set r n) = λ u full runs_now. refuted (ap is_some empty) full

@@ -1,5 +1,5 @@
 -- A buffer never holds more than it may.
-use Rattle.std.proofs.Common.{◌≡◌, ℕ, ◌<◌, ◌≤◌, Bool, true, false, List, [], ◌∷◌, length, slice_get, Option, Some, None}
+use Rattle.std.proofs.Common.{◌≡◌, ℕ, ◌<◌, ◌≤◌, Bool, true, false, ◌||◌, nat_lt, List, [], ◌∷◌, length, slice_get, Option, Some, None}
 use Rattle.std.proofs.Common.{option_map, if◌then◌else◌, refl, subst, arith, length-append}
 use Rattle.std.proofs.lemmas.Bool.{and_parts, ltb-true}
 use Rattle.event_log.specs.declared.ids.Tid.{Tid}
@@ -10,9 +10,9 @@ use Rattle.event_log.specs.Messages.{Message}
 use Rattle.event_log.specs.Sections.{Section}
 use Rattle.layer_traits.specs.declared.locked.Side.{Side}
 use Rattle.layer_traits.specs.declared.locked.Side.TheVariants.{Receivers, Senders}
-use Rattle.layer_traits.specs.BufferBlocks.{is_first, other_items}
-use Rattle.cpu.specs.Table.Blocks.{Buffer, Block, OfBuffer, OfPending, Name, AcqQ, Enter, TryPut, TryTake, WaitOn, SigRecv, SigSend, RelQ, Pend, TakeAll}
-use Rattle.cpu.specs.Table.Edits.{acquired, edited, edited_buffer, entered, has_room, may_put, may_take, put, taken}
+use Rattle.layer_traits.specs.BufferBlocks.{is_first, items_put, other_items}
+use Rattle.cpu.specs.Table.Blocks.{Buffer, Block, OfBuffer, OfPending, Name, AcqQ, Enter, TryPut, TryTake, Shut, WaitOn, SigRecv, SigSend, RelQ, Pend, TakeAll}
+use Rattle.cpu.specs.Table.Edits.{acquired, edited, edited_buffer, entered, can_put, may_put, may_take, put, taken}
 use Rattle.cpu.specs.Table.Setups.{Setup, empty_buffer, opening_buffer}
 use Rattle.cpu.specs.Wakeups.Order.{block_of}
 use Rattle.cpu.proofs.Wakeups.Ordered.{same_buffer}
@@ -24,6 +24,14 @@ Fits k = length k.items ≤ k.capacity
 fewer : (items : List Message) → length (other_items items) ≤ length items
 fewer [] = omega arith
 fewer (m ∷ items) = omega arith
+
+-- nor after a put, which a closed buffer does not take
+fits_put : (closed : Bool) (m : Message) (items : List Message) (capacity : ℕ) → length items ≤ capacity
+    → (closed || nat_lt (length items) capacity) ≡ true → length (items_put closed m items) ≤ capacity
+fits_put true m items capacity fits can = fits
+fits_put false m items capacity fits can =
+    let room : length items < capacity = ltb-true (length items) capacity can in
+    let more = length-append items (m ∷ []) in omega (arith, room, more)
 
 -- so after each section
 edit_fits : (name : Name) (k : Buffer) → Fits k → Fits (edited_buffer name k)
@@ -42,14 +50,13 @@ edit_fits (TryPut t m) k fits = go (may_put t k) refl
   where
     go : (may : Bool) → may_put t k ≡ may → Fits (if may then put m k else k)
     go false is = fits
-    go true is =
-        let room : length k.items < k.capacity = ltb-true (length k.items) k.capacity (and_parts (is_first t k.send_line) (has_room k) is).1 in
-        let more = length-append k.items (m ∷ []) in omega (arith, room, more)
+    go true is = fits_put k.closed m k.items k.capacity fits (and_parts (is_first t k.send_line) (can_put k) is).1
 edit_fits (TryTake t) k fits = go (may_take t k)
   where
     go : (may : Bool) → Fits (if may then taken k else k)
     go false = fits
     go true = let less = fewer k.items in omega (arith, fits, less)
+edit_fits (Shut t) k fits = fits
 edit_fits (WaitOn t Senders) k fits = fits
 edit_fits (WaitOn t Receivers) k fits = fits
 edit_fits (SigRecv t) k fits = fits

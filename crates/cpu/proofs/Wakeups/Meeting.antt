@@ -5,9 +5,10 @@ use Rattle.event_log.specs.declared.ids.Tid.{Tid}
 use Rattle.event_log.specs.declared.ids.LockId.TheVariants.{Pending}
 use Rattle.event_log.specs.declared.ids.TheConstants.{THREADS}
 use Rattle.event_log.specs.declared.entries.Kind.TheVariants.{Send as SendKind}
+use Rattle.event_log.specs.Runs.{Sends}
 use Rattle.event_log.specs.Actions.{phase}
 use Rattle.layer_traits.specs.Plans.{is_in_section}
-use Rattle.cpu.specs.Table.Blocks.{OfPending, Sends}
+use Rattle.cpu.specs.Table.Blocks.{OfPending}
 use Rattle.cpu.specs.Table.Setups.{Setup, Private, home_of}
 use Rattle.cpu.specs.Table.Steps.{Whole, IsReached, boots, steps, steps_by, system_step, cpu_numbered, whole_at_boot, block_at, halted_at}
 use Rattle.cpu.specs.Table.Worked.{thread, buffer_numbered, one_sender, two_sends}
@@ -81,7 +82,7 @@ premises_are_met = record {
         unowned = refl;
         effect = SendKind;
         of_call = refl;
-        message = 7;
+        message = 7 ∷ [];
         allowed = (refl, omega arith);
         empty_line = refl;
       },
@@ -90,4 +91,7 @@ premises_are_met = record {
   );
   after_18 = (refl, refl);
   after_21 = (refl, refl);
+  after_15 = (refl, refl);
+  close_after_18 = (refl, refl);
+  closed_after_18 = (refl, refl);
 }

@@ -1,5 +1,5 @@
 -- Sections in the order of their calls lose no wake-up.
-use Rattle.std.proofs.Common.{◌≡◌, ℕ, Bool, true, false, List, [], ◌∷◌, length, slice_get, Option, Some}
+use Rattle.std.proofs.Common.{◌≡◌, ℕ, Bool, true, false, ◌||◌, List, [], ◌∷◌, length, slice_get, Option, Some}
 use Rattle.std.proofs.Common.{None, option_map, nat_lt, if◌then◌else◌, refl, sym, ap, subst, arith}
 use Rattle.std.proofs.lemmas.Bool.{and_from, lt-ltb}
 use Rattle.event_log.specs.declared.ids.Tid.{Tid}
@@ -8,15 +8,16 @@ use Rattle.event_log.specs.declared.ids.LockId.TheVariants.{Buffer as AtBuffer}
 use Rattle.event_log.specs.declared.entries.Kind.{Kind}
 use Rattle.event_log.specs.declared.entries.Kind.TheVariants.{Send as SendKind, Recv as RecvKind, Close as CloseKind, SendClosed, RecvClosed}
 use Rattle.event_log.specs.Messages.{Message}
+use Rattle.event_log.specs.Runs.{Sends, Receives, group_of}
 use Rattle.event_log.specs.History.{same_lock}
 use Rattle.event_log.specs.Sections.{Section}
 use Rattle.event_log.proofs.Same.{same_lock_true}
 use Rattle.thread_blocks.specs.Queues.{is_in, first}
-use Rattle.cpu.specs.Table.Blocks.{Buffer, Block, OfBuffer, OfPending, Name, Sends, Receives, front_stands_in}
-use Rattle.cpu.specs.Table.Edits.{edited, can_put, can_take, edited_buffer}
+use Rattle.cpu.specs.Table.Blocks.{Buffer, Block, OfBuffer, OfPending, Name, front_stands_in}
+use Rattle.cpu.specs.Table.Edits.{edited, has_room, has_items, can_put, can_take, edited_buffer}
 use Rattle.cpu.specs.Table.Setups.{Setup, empty_buffer, opening_buffer}
 use Rattle.cpu.specs.Wakeups.Order.{Progress, Begins, progress, progress_by, progress_after, block_of, MayEditBlock, KeepsOrderAt, IsInOrder}
-use Rattle.cpu.specs.Wakeups.Lost.{asks_of, Allows, NoWakeUpIsLost, OrderLosesNoWakeUp}
+use Rattle.cpu.specs.Wakeups.Lost.{Allows, NoWakeUpIsLost, OrderLosesNoWakeUp}
 use Rattle.cpu.proofs.Wakeups.Lists.{refuted}
 use Rattle.cpu.proofs.Wakeups.Awake.{IsCalm, Fits, IsAwake, stays_awake}
 
@@ -60,10 +61,14 @@ buffer_awake setup (s ∷ past) order b k is = by_test (same_lock (AtBuffer b) s
         edits_awake s.edit (block_of setup (AtBuffer b) past) (progress setup (AtBuffer b) past) k may before now
     by_test false here now before = before k now
 
+pub either : (a b : Bool) → b ≡ true → (a || b) ≡ true
+either true b on = refl
+either false b on = on
+
 -- all that an allowed effect says of the buffer
-pub putting : (k : Buffer) (e : Kind) (m : Message) → asks_of e ≡ Some Sends → Allows k e m → can_put k ≡ true
-putting k SendKind m asks allowed = lt-ltb (length k.items) k.capacity allowed.1
-putting k SendClosed m asks allowed = absurd (cc allowed)
+pub putting : (k : Buffer) (e : Kind) (m : Message) → group_of e ≡ Sends → Allows k e m → can_put k ≡ true
+putting k SendKind m asks allowed = either k.closed (has_room k) (lt-ltb (length k.items) k.capacity allowed.1)
+putting k SendClosed m asks allowed = ap (λ c. c || has_room k) allowed
 putting k RecvKind m asks allowed = absurd (cc asks)
 putting k RecvClosed m asks allowed = absurd (cc asks)
 putting k CloseKind m asks allowed = absurd (cc asks)
@@ -72,9 +77,9 @@ some_items : (items : List Message) (m : Message) → slice_get items 0 ≡ Some
 some_items [] m is = absurd (cc is)
 some_items (x ∷ items) m is = lt-ltb 0 (length (x ∷ items)) (omega arith)
 
-pub taking : (k : Buffer) (e : Kind) (m : Message) → asks_of e ≡ Some Receives → Allows k e m → can_take k ≡ true
-taking k RecvKind m asks allowed = some_items k.items m allowed
-taking k RecvClosed m asks allowed = absurd (cc allowed.0)
+pub taking : (k : Buffer) (e : Kind) (m : Message) → group_of e ≡ Receives → Allows k e m → can_take k ≡ true
+taking k RecvKind m asks allowed = either k.closed (has_items k) (some_items k.items m allowed)
+taking k RecvClosed m asks allowed = ap (λ c. c || has_items k) allowed.0
 taking k SendKind m asks allowed = absurd (cc asks)
 taking k SendClosed m asks allowed = absurd (cc asks)
 taking k CloseKind m asks allowed = absurd (cc asks)

@@ -15,9 +15,9 @@ use Rattle.layer_traits.specs.Places.{is_thread, one_if, count_in}
 use Rattle.layer_traits.specs.Sleeping.{joined}
 use Rattle.layer_traits.specs.BufferBlocks.{may_join, is_first}
 use Rattle.layer_traits.proofs.CountLemmas.{count_append, not_counted}
-use Rattle.cpu.specs.Table.Blocks.{Buffer, Name, AcqQ, Enter, TryPut, TryTake, WaitOn, SigRecv, SigSend, RelQ}
+use Rattle.cpu.specs.Table.Blocks.{Buffer, Name, AcqQ, Enter, TryPut, TryTake, Shut, WaitOn, SigRecv, SigSend, RelQ}
 use Rattle.cpu.specs.Table.Edits.{can_put, can_take, may_put, may_take, due_sender, due_receiver, without_any}
-use Rattle.cpu.specs.Table.Edits.{acquired, line_of, entered, put, taken, waiting, released, edited_buffer, answer_of_acquire, answer_of_buffer}
+use Rattle.cpu.specs.Table.Edits.{acquired, line_of, entered, put, taken, shut, waiting, released, edited_buffer, answer_of_acquire, answer_of_buffer}
 use Rattle.cpu.specs.Table.Setups.{Setup}
 use Rattle.cpu.specs.Wakeups.Order.{Progress, Begins, HasEntered, WasRefused, Owes, progress_after}
 use Rattle.cpu.specs.Wakeups.Order.{receivers_signalled, senders_signalled, MayTry, IsOwing, MayEdit}
@@ -52,6 +52,7 @@ pub may_edit : (b : BufId) (name : Name) (k : Buffer) (g : Progress) (turn : Tur
 may_edit b (AcqQ t) k g Outside pair due = not_outside b t k g Outside refl pair
 may_edit b (AcqQ t) k g (In d (Waiting side)) pair due = not_outside b t k g (In d (Waiting side)) refl pair
 may_edit b (Enter t side) k g (In d GotIt) pair due = inside_owns b t k g d GotIt refl due pair
+may_edit b (Shut t) k g (In d GotIt) pair due = inside_owns b t k g d GotIt refl due pair
 may_edit b (TryPut t m) k g (In d (Trying Senders)) pair due = inside_owns b t k g d (Trying Senders) refl due pair
 may_edit b (TryTake t) k g (In d (Trying Receivers)) pair due = inside_owns b t k g d (Trying Receivers) refl due pair
 may_edit b (WaitOn t side) k g (In d (Failed other)) pair due =
@@ -215,7 +216,7 @@ module _ (b : BufId) (u : Tid) where
       let front = (and_parts (is_first u k.send_line) (can_put k) is).0 in
       let sends = left_line k.send_line _ pair.send_line front ∙ sym (unlined (Owing true true) Senders refl) in
       let receives = pair.receive_line ∙ unlined (Trying Senders) Receivers refl ∙ sym (unlined (Owing true true) Receivers refl) in
-      own_items _ (Owes true true) (In b (Owing true true)) Home (k.items ++ m ∷ []) (put m k).effects k.send_positions k.receive_positions
+      own_items _ (Owes true true) (In b (Owing true true)) Home (put m k).items (put m k).effects k.send_positions k.receive_positions
       (at_work k g (Owes true true) (Trying Senders) (Owing true true) (rest k.send_line) k.receive_line owner refl refl pair sends receives)
   own_put k g m false is owner pair =
       at_work k g (WasRefused Senders) (Trying Senders) (Failed Senders) k.send_line k.receive_line owner refl refl pair pair.send_line pair.receive_line
@@ -231,6 +232,23 @@ module _ (b : BufId) (u : Tid) where
       (at_work k g (Owes true true) (Trying Receivers) (Owing true true) k.send_line (rest k.receive_line) owner refl refl pair sends receives)
   own_take k g false is owner pair =
       at_work k g (WasRefused Receivers) (Trying Receivers) (Failed Receivers) k.send_line k.receive_line owner refl refl pair pair.send_line pair.receive_line
+
+  own_shut : (k : Buffer) (g : Progress) → k.busy ≡ Some u → Pair b u k g (In b GotIt) Home
+      → Pair b u (shut k) (Owes true true) (In b (Owing true true)) Home
+  own_shut k g owner pair =
+      let now = at_work k g (Owes true true) GotIt (Owing true true) k.send_line k.receive_line owner refl refl pair
+      (pair.send_line ∙ unlined GotIt Senders refl ∙ sym (unlined (Owing true true) Senders refl))
+      (pair.receive_line ∙ unlined GotIt Receivers refl ∙ sym (unlined (Owing true true) Receivers refl)) in
+      record {
+        owner = now.owner;
+        inside = now.inside;
+        starts = now.starts;
+        sleepers = now.sleepers;
+        senders = now.senders;
+        receivers = now.receivers;
+        send_line = now.send_line;
+        receive_line = now.receive_line;
+      }
 
   -- the thread gives the lock back, and is inside no longer
   own_release : (k : Buffer) (g : Progress) (turn next : Turn) (x : Spot) → Pair b u k g turn Home → is_inside b next ≡ false → is_lock b x ≡ false
@@ -308,6 +326,9 @@ module _ (b : BufId) (u : Tid) where
       let same : u ≡ t = some_is u t (sym is) in
       subst (λ v. Pair b u (if may_join v (line_of side k) then entered v side k else k) (HasEntered side) (In b (Trying side)) Home) same
       (own_enter k g side (may_join u (line_of side k)) refl (subst (λ v. k.busy ≡ Some v) (sym same) may.0) at_b)
+  own_at (Shut t) k g (In d GotIt) is idle may due pair =
+      let at_b : Pair b u k g (In b GotIt) Home = subst (λ x. Pair b u k g (In x GotIt) Home) due pair in
+      own_shut k g (may.0 ∙ is) at_b
   own_at (TryPut t m) k g (In d (Trying Senders)) is idle may due pair =
       let at_b : Pair b u k g (In b (Trying Senders)) Home = subst (λ x. Pair b u k g (In x (Trying Senders)) Home) due pair in
       let same : u ≡ t = some_is u t (sym is) in
@@ -384,6 +405,7 @@ pub away : (b d : BufId) (name : Name) (k : Buffer) (turn : Turn) → is_buffer 
 away b d (AcqQ t) k Outside off due = record { before = refl; after = off }
 away b d (AcqQ t) k (In e (Waiting side)) off due = record { before = subst (λ x. is_buffer b x ≡ false) (sym due) off; after = off }
 away b d (Enter t side) k (In e GotIt) off due = record { before = subst (λ x. is_buffer b x ≡ false) (sym due) off; after = off }
+away b d (Shut t) k (In e GotIt) off due = record { before = subst (λ x. is_buffer b x ≡ false) (sym due) off; after = off }
 away b d (TryPut t m) k (In e (Trying Senders)) off due = record { before = subst (λ x. is_buffer b x ≡ false) (sym due) off; after = by_test (may_put t k) }
   where
     by_test : (may : Bool) → names b (if may then In d (Owing true true) else In d (Failed Senders)) ≡ false

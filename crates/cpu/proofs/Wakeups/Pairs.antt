@@ -18,9 +18,9 @@ use Rattle.layer_traits.specs.Sleeping.{joined}
 use Rattle.layer_traits.specs.BufferBlocks.{may_join, is_first}
 use Rattle.layer_traits.proofs.CountLemmas.{same_tid_sym, count_append, count_front, in_counted, not_counted}
 use Rattle.layer_traits.proofs.ListsLemmas.{count_without}
-use Rattle.cpu.specs.Table.Blocks.{Buffer, Name, AcqQ, Enter, TryPut, TryTake, WaitOn, SigRecv, SigSend, RelQ, Pend, TakeAll, front_stands_in}
+use Rattle.cpu.specs.Table.Blocks.{Buffer, Name, AcqQ, Enter, TryPut, TryTake, Shut, WaitOn, SigRecv, SigSend, RelQ, Pend, TakeAll, front_stands_in}
 use Rattle.cpu.specs.Table.Edits.{can_put, can_take, may_put, may_take, due_sender, due_receiver, without_any}
-use Rattle.cpu.specs.Table.Edits.{acquired, line_of, entered, put, taken, waiting, released, edited_buffer, answer_of_acquire, answer_of_buffer}
+use Rattle.cpu.specs.Table.Edits.{acquired, line_of, entered, put, taken, shut, waiting, released, edited_buffer, answer_of_acquire, answer_of_buffer}
 use Rattle.cpu.specs.Table.Setups.{Setup, home_of}
 use Rattle.cpu.specs.Wakeups.Order.{Progress, Begins, HasEntered, WasRefused, Owes, progress_after, receivers_signalled, senders_signalled, MayEdit}
 use Rattle.cpu.proofs.Wakeups.Lists.{refuted, some_is, none_is_not, first_is}
@@ -258,6 +258,7 @@ module _ (b : BufId) (u : Tid) (k : Buffer) (g : Progress) (turn : Turn) (spot :
   woken_sleeps (Enter t side) is = absurd (cc is)
   woken_sleeps (TryPut t m) is = absurd (cc is)
   woken_sleeps (TryTake t) is = absurd (cc is)
+  woken_sleeps (Shut t) is = absurd (cc is)
   woken_sleeps (WaitOn t side) is = let at = first_sleeps is in (at.0, lock_sleeps b spot at.1)
   woken_sleeps (SigRecv t) is = let at = due_receives is in (at.0, wait_sleeps b Receivers spot at.1)
   woken_sleeps (SigSend t) is = let at = due_sends is in (at.0, wait_sleeps b Senders spot at.1)
@@ -346,7 +347,7 @@ module _ (setup : Setup) (c : CpuId) (b : BufId) (u t : Tid) (other : same_tid t
   other_put k g m true is owner pair =
       let front = (and_parts (is_first t k.send_line) (can_put k) is).0 in
       let left = with_lines k g (Owes true true) owner pair (rest k.send_line) k.receive_line (other_left u t k.send_line front other) refl in
-      with_items _ (Owes true true) (k.items ++ m ∷ []) (put m k).effects k.send_positions k.receive_positions left
+      with_items _ (Owes true true) (put m k).items (put m k).effects k.send_positions k.receive_positions left
   other_put k g m false is owner pair = with_lines k g (WasRefused Senders) owner pair k.send_line k.receive_line refl refl
 
   other_take : (k : Buffer) (g : Progress) (may : Bool) → may_take t k ≡ may → k.busy ≡ Some t → Pair b u k g turn spot
@@ -356,6 +357,18 @@ module _ (setup : Setup) (c : CpuId) (b : BufId) (u t : Tid) (other : same_tid t
       let left = with_lines k g (Owes true true) owner pair k.send_line (rest k.receive_line) refl (other_left u t k.receive_line front other) in
       with_items _ (Owes true true) (taken k).items (taken k).effects k.send_positions k.receive_positions left
   other_take k g false is owner pair = with_lines k g (WasRefused Receivers) owner pair k.send_line k.receive_line refl refl
+
+  other_shut : (k : Buffer) (g : Progress) → k.busy ≡ Some t → Pair b u k g turn spot → Pair b u (shut k) (Owes true true) turn spot
+  other_shut k g owner pair = record {
+    owner = λ e. not_mine u t k.busy owner other e;
+    inside = pair.inside;
+    starts = pair.starts;
+    sleepers = pair.sleepers;
+    senders = pair.senders;
+    receivers = pair.receivers;
+    send_line = pair.send_line;
+    receive_line = pair.receive_line;
+  }
 
   other_release : (k : Buffer) (g : Progress) → k.busy ≡ Some t → Pair b u k g turn spot
       → Pair b u (released k) Begins turn (if is_thread u (first k.sleepers) then spot_woken setup c u else spot)
@@ -496,6 +509,7 @@ other_section setup c b u (Enter t side) k g turn spot other may pair =
     other_enter setup c b u t other turn spot k g side (may_join t (line_of side k)) may.0 pair
 other_section setup c b u (TryPut t m) k g turn spot other may pair = other_put setup c b u t other turn spot k g m (may_put t k) refl may.0 pair
 other_section setup c b u (TryTake t) k g turn spot other may pair = other_take setup c b u t other turn spot k g (may_take t k) refl may.0 pair
+other_section setup c b u (Shut t) k g turn spot other may pair = other_shut setup c b u t other turn spot k g may.0 pair
 other_section setup c b u (WaitOn t side) k g turn spot other may pair = other_wait setup c b u t other turn spot k g side may.0 pair
 other_section setup c b u (SigRecv t) k g turn spot other may pair = other_sig_recv setup c b u t other turn spot k g (receivers_signalled g) may.0 pair
 other_section setup c b u (SigSend t) k g turn spot other may pair = other_sig_send setup c b u t other turn spot k g (senders_signalled g) may.0 pair

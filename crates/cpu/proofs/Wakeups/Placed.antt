@@ -13,7 +13,7 @@ use Rattle.event_log.specs.History.{same_cpu, same_lock}
 use Rattle.event_log.specs.Sections.{Section}
 use Rattle.thread_blocks.specs.Queues.{same_tid}
 use Rattle.layer_traits.specs.Places.{is_thread}
-use Rattle.cpu.specs.Table.Blocks.{Buffer, Block, OfBuffer, OfPending, Name, AcqQ, Enter, TryPut, TryTake, WaitOn, SigRecv, SigSend, RelQ, Pend, TakeAll}
+use Rattle.cpu.specs.Table.Blocks.{Buffer, Block, OfBuffer, OfPending, Name, AcqQ, Enter, TryPut, TryTake, Shut, WaitOn, SigRecv, SigSend, RelQ, Pend, TakeAll}
 use Rattle.cpu.specs.Table.Edits.{edited, answer_of_buffer}
 use Rattle.cpu.specs.Table.Setups.{Setup, home_of, opening_buffer}
 use Rattle.cpu.specs.Wakeups.Order.{block_of}
@@ -83,6 +83,7 @@ placed_bed setup d (AcqQ t) k turn within = within
 placed_bed setup d (Enter t side) k turn within = within
 placed_bed setup d (TryPut t m) k turn within = within
 placed_bed setup d (TryTake t) k turn within = within
+placed_bed setup d (Shut t) k turn within = within
 placed_bed setup d (WaitOn t side) k turn within = (within, refl)
 placed_bed setup d (SigRecv t) k turn within = within
 placed_bed setup d (SigSend t) k turn within = within

@@ -1,7 +1,7 @@
--- A call that is ready, on a CPU alone, returns after just 18 steps, or 21.
-use Rattle.std.proofs.Common.{◌≡◌, ℕ, ◌+◌, ◌<◌, ◌≤◌, ◌==◌, Bool, true, false, ◌&&◌, List, [], ◌∷◌, ◌++◌}
-use Rattle.std.proofs.Common.{length, Option, Some, None, is_some, nat_lt, if◌then◌else◌, refl, sym, ap, ◌∙◌, subst, arith, length-append}
-use Rattle.std.proofs.lemmas.Bool.{and_from, lt-ltb}
+-- A call that is ready, on a CPU alone, returns after just so many steps.
+use Rattle.std.proofs.Common.{◌≡◌, ℕ, ◌+◌, ◌<◌, ◌≤◌, ◌==◌, Bool, true, false, ◌&&◌, ◌||◌, ◌⊎◌, inl, inr, List, [], ◌∷◌, ◌++◌}
+use Rattle.std.proofs.Common.{length, slice_get, Option, Some, None, is_some, nat_lt, if◌then◌else◌, refl, sym, ap, ◌∙◌, subst, arith, length-append}
+use Rattle.std.proofs.lemmas.Bool.{and_from, cases_lt, lt-ltb}
 use Rattle.event_log.specs.declared.ids.CpuId.{CpuId}
 use Rattle.event_log.specs.declared.ids.Tid.{Tid}
 use Rattle.event_log.specs.declared.ids.BufId.{BufId}
@@ -11,33 +11,39 @@ use Rattle.event_log.specs.declared.entries.Kind.{Kind}
 use Rattle.event_log.specs.declared.entries.Kind.TheVariants.{Send as SendKind, Recv as RecvKind, Close as CloseKind, SendClosed, RecvClosed}
 use Rattle.event_log.specs.declared.entries.Entry.{Entry}
 use Rattle.event_log.specs.Messages.{Message, no_message}
+use Rattle.event_log.specs.Runs.{Group, Sends, Receives, Closes, group_of}
 use Rattle.event_log.specs.Sections.{sections_in}
 use Rattle.guest.specs.declared.instructions.Instruction.{Instruction}
-use Rattle.guest.specs.declared.instructions.Instruction.TheVariants.{Send, Recv}
-use Rattle.guest.specs.State.{sent_from}
-use Rattle.thread_blocks.specs.Queues.{rest}
+use Rattle.guest.specs.declared.instructions.Instruction.TheVariants.{Send, Recv, Close}
+use Rattle.guest.specs.State.{message_from}
+use Rattle.thread_blocks.specs.Queues.{first, rest}
 use Rattle.thread_blocks.proofs.Members.{same_tid_self}
 use Rattle.layer_traits.specs.declared.steps.Reason.{Reason}
 use Rattle.layer_traits.specs.declared.steps.Reason.TheVariants.{AllEnded, TraceFull}
 use Rattle.layer_traits.specs.declared.locked.Side.TheVariants.{Receivers, Senders}
-use Rattle.layer_traits.specs.BufferBlocks.{is_first, first_item, other_items}
-use Rattle.cpu.specs.Table.Blocks.{Buffer, OfBuffer, Asks, Sends, Receives, front, front_stands_in, side_of}
-use Rattle.cpu.specs.Table.Edits.{line_of, can_put, can_take, due_receiver, due_sender, entered, put, taken}
-use Rattle.cpu.specs.Table.Setups.{Setup, Call, Private, thread_at, stands_at, home_threads, open_calls, have_ended}
+use Rattle.layer_traits.specs.BufferBlocks.{is_first, first_item, items_put, other_items}
+use Rattle.cpu.specs.Table.Blocks.{Buffer, OfBuffer, Told, Done, WasClosed, DidShut, NotYet, front, front_stands_in, side_of}
+use Rattle.cpu.specs.Table.Edits.{can_put, can_take, due_receiver, due_sender, entered, put, taken, shut, told_put, told_take}
+use Rattle.cpu.specs.Table.Edits.{tells, wakes, edited_buffer, answer_of_buffer}
+use Rattle.cpu.specs.Table.Setups.{Setup, Enters, Tries, Signals, Call, Private, thread_at, stands_at, home_threads, open_calls, have_ended}
 use Rattle.cpu.specs.Table.Choice.{Halts, Goes, new_call, with_call, begins, at_instruction, at_call, at_current, at_hand, choice}
+use Rattle.cpu.specs.Table.Choice.{first_signal, second_signal, effected, entry_of, heard_try}
 use Rattle.cpu.specs.Table.Steps.{Whole, IsReached, block_at, halted_by, steps_by}
-use Rattle.cpu.specs.Wakeups.Lost.{asks_of, Allows}
+use Rattle.cpu.specs.Wakeups.Lost.{Allows}
+use Rattle.cpu.specs.Wakeups.Order.{progress}
 use Rattle.cpu.specs.Wakeups.Quiet.{AreFew}
-use Rattle.cpu.specs.Wakeups.Alone.{IsCallOn, IsInCall, IsReady, HasReturned, CallsReturnAlone, is_away, other_waiter, steps_to_return}
+use Rattle.cpu.specs.Wakeups.Alone.{IsCallOn, HasEmptyLine, IsInCall, IsReady, HasReturned, CallsReturnAlone, is_away, first_waiter}
+use Rattle.cpu.specs.Wakeups.Alone.{steps_to_move, steps_to_return}
 use Rattle.cpu.proofs.Wakeups.Lists.{refuted}
-use Rattle.cpu.proofs.Wakeups.Ordered.{putting, taking}
+use Rattle.cpu.proofs.Wakeups.Ordered.{buffer_awake, either, putting, taking}
+use Rattle.cpu.proofs.Wakeups.Awake.{IsCalm, Fits, IsAwake}
 use Rattle.cpu.proofs.Wakeups.Spots.{is_local, spot, turn}
 use Rattle.cpu.proofs.Wakeups.Agreement.{Agrees, runs, known_of, within}
-use Rattle.cpu.proofs.Wakeups.Reaching.{reached_sound, free_locks_have_no_sleepers}
+use Rattle.cpu.proofs.Wakeups.Reaching.{reached_sound, systems_keep_order, free_locks_have_no_sleepers}
 use Rattle.cpu.proofs.Wakeups.Filled.{reached_filled}
 use Rattle.cpu.proofs.Wakeups.Holding.{holds_no_more}
 use Rattle.cpu.proofs.Wakeups.Alone.{with_new}
-use Rattle.cpu.proofs.Wakeups.Returning.{Gets, Returned, acquires, enters_send, enters_receive, puts, takes_one, ending_sends, ending_receives}
+use Rattle.cpu.proofs.Wakeups.Returning.{Gets, Returned, acquires, enters_send, enters_receive, tries, ending}
 
 module _ (setup : Setup) (room : ℕ) (s : Whole) (c : CpuId) (p : Private) (t : Tid) (few : AreFew setup)
     (reached : IsReached setup room s) (ready : IsReady setup c s p t) where
@@ -85,22 +91,28 @@ module _ (setup : Setup) (room : ℕ) (s : Whole) (c : CpuId) (p : Private) (t :
       by_room true at = not_halted TraceFull (is ∙ ap (λ b. if b then Halts TraceFull else Goes (with_call p t (Some call))) at)
 
   -- the call begins
-  begins_as : (asks : Asks) (b : BufId) (line : Instruction) → stands_at setup p t ≡ line → IsCallOn asks b line
+  begins_as : (asks : Group) (b : BufId) (line : Instruction) → stands_at setup p t ≡ line → IsCallOn asks b line
       → (m : Message) × (choice setup c p ≡ Goes (with_call p t (Some (new_call asks b m))))
-  begins_as Sends b (Send d r) at same =
-      let m = sent_from (thread_at p t).guest r in (
+  begins_as Sends b (Send d from i) at same =
+      let m = message_from (thread_at p t).guest from in (
         m,
         subst (λ x. choice setup c p ≡ Goes (with_call p t (Some (new_call Sends x m)))) same
             (begun (new_call Sends d m) (chooses ∙ ap (at_instruction setup c p t) at)),
       )
-  begins_as Receives b (Recv d r) at same = (
+  begins_as Receives b (Recv d into i) at same = (
     no_message,
     subst (λ x. choice setup c p ≡ Goes (with_call p t (Some (new_call Receives x no_message)))) same
         (begun (new_call Receives d no_message) (chooses ∙ ap (at_instruction setup c p t) at)),
   )
+  begins_as Closes b (Close d) at same = (
+    no_message,
+    subst (λ x. choice setup c p ≡ Goes (with_call p t (Some (new_call Closes x no_message)))) same
+        (begun (new_call Closes d no_message) (chooses ∙ ap (at_instruction setup c p t) at)),
+  )
   begins_as asks b line at same = absurd same
 
-  first_gets : (asks : Asks) (b : BufId) (k : Buffer) (m : Message) → choice setup c p ≡ Goes (with_call p t (Some (new_call asks b m))) → s.taken + 21 ≤ s.room
+  first_gets : (asks : Group) (b : BufId) (k : Buffer) (m : Message) → choice setup c p ≡ Goes (with_call p t (Some (new_call asks b m)))
+      → s.taken + 21 ≤ s.room
       → block_at setup (AtBuffer b) s.log ≡ Some (OfBuffer k) → Gets setup c t s 0 k (new_call asks b m) p.trace 21
   first_gets asks b k m goes space block = record {
     now = s;
@@ -114,20 +126,6 @@ module _ (setup : Setup) (room : ℕ) (s : Whole) (c : CpuId) (p : Private) (t :
     block = block;
   }
 
-  is_send : (k : Buffer) (e : Kind) (m : Message) → asks_of e ≡ Some Sends → Allows k e m → SendKind ≡ e
-  is_send k SendKind m is allowed = refl
-  is_send k SendClosed m is allowed = absurd (cc allowed)
-  is_send k RecvKind m is allowed = absurd (cc is)
-  is_send k RecvClosed m is allowed = absurd (cc is)
-  is_send k CloseKind m is allowed = absurd (cc is)
-
-  is_receive : (k : Buffer) (e : Kind) (m : Message) → asks_of e ≡ Some Receives → Allows k e m → RecvKind ≡ e
-  is_receive k RecvKind m is allowed = refl
-  is_receive k RecvClosed m is allowed = absurd (cc allowed.0)
-  is_receive k SendKind m is allowed = absurd (cc is)
-  is_receive k SendClosed m is allowed = absurd (cc is)
-  is_receive k CloseKind m is allowed = absurd (cc is)
-
   -- after so many steps the call has returned, with an entry of this kind; one step before it was under way
   abbrev IsBack : ℕ → Kind → BufId → Type 0
   IsBack n e b = HasReturned (steps_by setup c n s) c p t e b × ((m : ℕ) → m + 1 ≡ n → IsInCall (steps_by setup c m s) c t)
@@ -139,62 +137,227 @@ module _ (setup : Setup) (room : ℕ) (s : Whole) (c : CpuId) (p : Private) (t :
     back.before,
   )
 
-  -- the effect allows one of the other side, so the signal behind it wakes the first of the other line where that waits
+  -- nobody is due beside a free lock
+  calm : (b : BufId) (k : Buffer) → block_at setup (AtBuffer b) s.log ≡ Some (OfBuffer k) → k.busy ≡ None → IsCalm k
+  calm b k block free =
+      let awake : IsAwake k (progress setup (AtBuffer b) (sections_in s.log)) =
+      buffer_awake setup (sections_in s.log) (systems_keep_order setup room s reached) b k block in
+      subst (Fits k) (awake.idle free).0 awake.fits
+
+  -- where the first of a line may go on, a signal wakes it if it waits
   woken_is : (waits can : Bool) (o : Option Tid) → can ≡ true → (if waits && can then o else None) ≡ (if waits then o else None)
   woken_is true can o on = ap (λ (b : Bool). if b then o else None) on
   woken_is false can o on = refl
 
-  some_now : (items : List Message) (m : Message) → nat_lt 0 (length (items ++ m ∷ [])) ≡ true
-  some_now items m = lt-ltb 0 (length (items ++ m ∷ [])) (let more = length-append items (m ∷ []) in omega (arith, more))
+  -- beside a closed buffer it does not wait
+  woken_none : (waits closed can now : Bool) (o : Option Tid) → (waits && (closed || can)) ≡ false → closed ≡ true
+      → (if waits && now then o else None) ≡ None
+  woken_none false closed can now o is on = refl
+  woken_none true true can now o is on = absurd (cc is)
+  woken_none true false can now o is on = absurd (cc on)
 
-  room_now : (items : List Message) (capacity : ℕ) → length items ≤ capacity → nat_lt 0 (length items) ≡ true
+  -- nor does anybody in an empty line
+  due_none : (line waiting : List Tid) (can : Bool) → line ≡ [] → (if front_stands_in line waiting && can then first line else None) ≡ None
+  due_none line waiting can empty_now = ap (λ l. if front_stands_in l waiting && can then first l else None) empty_now
+
+  some_now : (closed : Bool) (items : List Message) (m : Message) → (closed || nat_lt 0 (length (items_put closed m items))) ≡ true
+  some_now true items m = refl
+  some_now false items m = lt-ltb 0 (length (items ++ m ∷ [])) (let more = length-append items (m ∷ []) in omega (arith, more))
+
+  room_now : (items : List Message) (m : Message) (capacity : ℕ) → length items ≤ capacity → slice_get items 0 ≡ Some m
       → nat_lt (length (other_items items)) capacity ≡ true
-  room_now [] capacity fits some = absurd (cc some)
-  room_now (x ∷ items) capacity fits some = lt-ltb (length items) capacity (omega (arith, fits))
+  room_now [] m capacity fits some = absurd (cc some)
+  room_now (x ∷ items) m capacity fits some = lt-ltb (length items) capacity (omega (arith, fits))
 
-  -- so many steps as the woken thread's home makes them
-  by_woken : (e : Kind) (b : BufId) (woke other : Option Tid) → woke ≡ other
-      → ((away : Bool) → is_away setup c woke ≡ away → IsBack (if away then 21 else 18) e b) → IsBack (if is_away setup c other then 21 else 18) e b
-  by_woken e b woke other same back = back (is_away setup c other) (ap (is_away setup c) same)
+  taken_now : (items : List Message) (m : Message) (op : ℕ) → slice_get items 0 ≡ Some m → told_take items op ≡ Done op (first_item items)
+  taken_now [] m op some = absurd (cc some)
+  taken_now (x ∷ items) m op some = refl
 
   first_after : (line : List Tid) (can : Bool) → line ≡ [] → can ≡ true → (is_first t (line ++ t ∷ []) && can) ≡ true
   first_after line can empty_now on = ap (λ l. is_first t (l ++ t ∷ []) && can) empty_now ∙ and_from _ can (same_tid_self t) on
 
-  pub returns : (asks : Asks) (b : BufId) (k : Buffer) (e : Kind) (m : Message) → IsCallOn asks b (stands_at setup p t) → s.taken + 21 ≤ s.room
-      → block_at setup (AtBuffer b) s.log ≡ Some (OfBuffer k) → k.busy ≡ None → asks_of e ≡ Some asks → Allows k e m → line_of (side_of asks) k ≡ []
-      → IsBack (steps_to_return setup c asks k) e b
-  returns Sends b k e m at_call space block free kind allowed line =
-      let begin = begins_as Sends b (stands_at setup p t) refl at_call in
-      let call = new_call Sends b begin.0 in
-      let none = free_locks_have_no_sleepers setup room s reached b k block free in
-      let got = acquires setup c t s 0 18 k call p.trace free (first_gets Sends b k begin.0 begin.1 space block) in
-      let entered_now = enters_send setup c t small s 3 15 (record k { busy = Some t }) call p.trace line got in
-      let may = first_after k.send_line (can_put k) line (putting k e m kind allowed) in
-      let done = puts setup c t s 6 12 _ (record call { position = k.send_positions }) p.trace may entered_now in
-      let left = ap (λ l. rest (l ++ t ∷ [])) line in
-      by_woken e b (due_receiver (put begin.0 (entered t Senders (record k { busy = Some t })))) (other_waiter Sends k)
-      (woken_is (front_stands_in k.receive_line k.waiting_receivers) _ (front k.receive_line) (some_now k.items begin.0))
-      (λ away is. told (if away then 21 else 18) e b _ (refl, is_send k e m kind allowed, refl)
-      (ending_sends setup c t small s 9 _ (record call { position = k.send_positions; effect = Some k.effects }) _ away is left none done))
-  returns Receives b k e m at_call space block free kind allowed line =
-      let begin = begins_as Receives b (stands_at setup p t) refl at_call in
-      let call = new_call Receives b begin.0 in
-      let none = free_locks_have_no_sleepers setup room s reached b k block free in
-      let got = acquires setup c t s 0 18 k call p.trace free (first_gets Receives b k begin.0 begin.1 space block) in
-      let entered_now = enters_receive setup c t small s 3 15 (record k { busy = Some t }) call p.trace line got in
-      let some = taking k e m kind allowed in
-      let may = first_after k.receive_line (can_take k) line some in
-      let done = takes_one setup c t s 6 12 _ (record call { position = k.receive_positions }) p.trace may entered_now in
-      let left = ap (λ l. rest (l ++ t ∷ [])) line in
-      by_woken e b (due_sender (taken (entered t Receivers (record k { busy = Some t })))) (other_waiter Receives k)
-      (woken_is (front_stands_in k.send_line k.waiting_senders) _ (front k.send_line)
-      (room_now k.items k.capacity (holds_no_more setup (sections_in s.log) b k block) some))
-      (λ away is. told (if away then 21 else 18) e b _ (refl, is_receive k e m kind allowed, refl)
-      (ending_receives setup c t small s 9 _
-      (record call { position = k.receive_positions; message = first_item k.items; effect = Some k.effects }) _ away is left none done))
+  most_moved : (woke : Option Tid) → steps_to_move setup c woke ≤ 3
+  most_moved woke = by_away (is_away setup c woke)
+    where
+      by_away : (away : Bool) → (if away then 3 else 0) ≤ 3
+      by_away true = omega arith
+      by_away false = omega arith
+
+  -- so many steps as the homes of the woken threads make them
+  ends_at : (n m : ℕ) (e : Kind) (b : BufId) → n ≡ m → IsBack n e b → IsBack m e b
+  ends_at n m e b same back = subst (λ i. IsBack i e b) same back
+
+  -- A call that stands in its line, which was empty.
+
+  abbrev queued : Group → BufId → Message → ℕ → Call
+  queued asks b m position = record (new_call asks b m) { position = position; stage = Tries }
+
+  module _ (b : BufId) (k : Buffer) (space : s.taken + 21 ≤ s.room) (block : block_at setup (AtBuffer b) s.log ≡ Some (OfBuffer k)) (free : k.busy ≡ None) where
+    none : k.sleepers ≡ []
+    none = free_locks_have_no_sleepers setup room s reached b k block free
+
+    -- a send has its effect, and its signals are due
+    sent : (m : Message) (told : Told) (now : Call) → choice setup c p ≡ Goes (with_call p t (Some (new_call Sends b m)))
+        → k.send_line ≡ [] → can_put k ≡ true → told_put k.closed k.effects m ≡ told → b ≡ now.buffer
+        → ((q : Private) → heard_try c q t (queued Sends b m k.send_positions) told ≡ effected c q t now k.effects)
+        → Gets setup c t s 9 (put m (entered t Senders (record k { busy = Some t }))) (record now { effect = Some k.effects; stage = Signals })
+        (p.trace ++ entry_of c t now k.effects now.message ∷ []) 12
+    sent m told now goes line can tells_so same_buffer heard_so =
+        let call = new_call Sends b m in
+        let got = acquires setup c t s 0 18 k call p.trace free (first_gets Sends b k m goes space block) in
+        let entered_now = enters_send setup c t small s 3 15 (record k { busy = Some t }) call p.trace line got in
+        let may = first_after k.send_line (can_put k) line can in
+        let at = entered t Senders (record k { busy = Some t }) in
+        tries setup c t s 6 12 at (put m at) (queued Sends b m k.send_positions) now p.trace told same_buffer
+        (ap (λ d. tells (if d then told_put k.closed k.effects m else NotYet)) may ∙ ap tells tells_so)
+        (ap (λ d. if d then put m at else at) may) heard_so entered_now
+
+    received : (m : Message) (told : Told) (now : Call) → choice setup c p ≡ Goes (with_call p t (Some (new_call Receives b m)))
+        → k.receive_line ≡ [] → can_take k ≡ true → told_take k.items k.effects ≡ told → b ≡ now.buffer
+        → ((q : Private) → heard_try c q t (queued Receives b m k.receive_positions) told ≡ effected c q t now k.effects)
+        → Gets setup c t s 9 (taken (entered t Receivers (record k { busy = Some t }))) (record now { effect = Some k.effects; stage = Signals })
+        (p.trace ++ entry_of c t now k.effects now.message ∷ []) 12
+    received m told now goes line can tells_so same_buffer heard_so =
+        let call = new_call Receives b m in
+        let got = acquires setup c t s 0 18 k call p.trace free (first_gets Receives b k m goes space block) in
+        let entered_now = enters_receive setup c t small s 3 15 (record k { busy = Some t }) call p.trace line got in
+        let may = first_after k.receive_line (can_take k) line can in
+        let at = entered t Receivers (record k { busy = Some t }) in
+        tries setup c t s 6 12 at (taken at) (queued Receives b m k.receive_positions) now p.trace told same_buffer
+        (ap (λ d. tells (if d then told_take k.items k.effects else NotYet)) may ∙ ap tells tells_so)
+        (ap (λ d. if d then taken at else at) may) heard_so entered_now
+
+    -- the signals of a send, whose own line is empty, and of a receive
+    sent_back : (m : Message) (now : Call) (traced : List Entry) (woke : Option Tid) → now.asks ≡ Sends
+        → k.send_line ≡ [] → due_receiver (put m (entered t Senders (record k { busy = Some t }))) ≡ woke
+        → Gets setup c t s 9 (put m (entered t Senders (record k { busy = Some t }))) (record now { stage = Signals }) traced 12
+        → Returned setup c t s (9 + (9 + (steps_to_move setup c woke + 0))) traced
+    sent_back m now traced woke is line wakes_so gets =
+        let most = most_moved woke in
+        let at = put m (entered t Senders (record k { busy = Some t })) in
+        ending setup c t s 9 12 at now traced woke None
+        (ap (λ a. answer_of_buffer (first_signal t (side_of a)) at) is ∙ ap wakes wakes_so)
+        (ap (λ a. answer_of_buffer (second_signal t (side_of a)) (edited_buffer (first_signal t (side_of a)) at)) is
+        ∙ ap wakes (due_none at.send_line k.waiting_senders _ (ap (λ l. rest (l ++ t ∷ [])) line)))
+        (ap (λ a. (edited_buffer (second_signal t (side_of a)) (edited_buffer (first_signal t (side_of a)) at)).sleepers) is ∙ none)
+        (omega (arith, most)) gets
+
+    received_back : (now : Call) (traced : List Entry) (woke : Option Tid) → now.asks ≡ Receives
+        → k.receive_line ≡ [] → due_sender (taken (entered t Receivers (record k { busy = Some t }))) ≡ woke
+        → Gets setup c t s 9 (taken (entered t Receivers (record k { busy = Some t }))) (record now { stage = Signals }) traced 12
+        → Returned setup c t s (9 + (9 + (steps_to_move setup c woke + 0))) traced
+    received_back now traced woke is line wakes_so gets =
+        let most = most_moved woke in
+        let at = taken (entered t Receivers (record k { busy = Some t })) in
+        ending setup c t s 9 12 at now traced woke None
+        (ap (λ a. answer_of_buffer (first_signal t (side_of a)) at) is ∙ ap wakes wakes_so)
+        (ap (λ a. answer_of_buffer (second_signal t (side_of a)) (edited_buffer (first_signal t (side_of a)) at)) is
+        ∙ ap wakes (due_none at.receive_line k.waiting_receivers _ (ap (λ l. rest (l ++ t ∷ [])) line)))
+        (ap (λ a. (edited_buffer (second_signal t (side_of a)) (edited_buffer (first_signal t (side_of a)) at)).sleepers) is ∙ none)
+        (omega (arith, most)) gets
+
+    closed_back : (m : Message) → choice setup c p ≡ Goes (with_call p t (Some (new_call Closes b m)))
+        → IsBack (steps_to_return setup c CloseKind k) CloseKind b
+    closed_back m goes =
+        let now = record (new_call Closes b m) { position = k.closes } in
+        let theirs = first_waiter Receivers k in
+        let mine = first_waiter Senders k in
+        let most = most_moved theirs in
+        let more = most_moved mine in
+        let traced = p.trace ++ entry_of c t now k.effects m ∷ [] in
+        let got = acquires setup c t s 0 18 k (new_call Closes b m) p.trace free (first_gets Closes b k m goes space block) in
+        let done = tries setup c t s 3 15 (record k { busy = Some t }) (shut (record k { busy = Some t }))
+        (record (new_call Closes b m) { stage = Enters }) now p.trace (DidShut k.effects k.closes) refl refl refl (λ q. refl) got in
+        let back = ending setup c t s 6 15 (shut (record k { busy = Some t })) (record now { effect = Some k.effects }) traced theirs mine
+        (ap wakes (woken_is (front_stands_in k.receive_line k.waiting_receivers) true (front k.receive_line) refl))
+        (ap wakes (woken_is (front_stands_in k.send_line k.waiting_senders) true (front k.send_line) refl)) none (omega (arith, most, more)) done in
+        ends_at (6 + (9 + (steps_to_move setup c theirs + steps_to_move setup c mine))) (steps_to_return setup c CloseKind k) CloseKind b (omega arith)
+        (told _ CloseKind b (entry_of c t now k.effects m) (refl, refl, refl) back)
+
+    pub returns : (e : Kind) (m : Message) → IsCallOn (group_of e) b (stands_at setup p t) → Allows k e m → HasEmptyLine (group_of e) k
+        → IsBack (steps_to_return setup c e k) e b
+    returns SendKind m at_call allowed line =
+        let begin = begins_as Sends b (stands_at setup p t) refl at_call in
+        let now = record (queued Sends b begin.0 k.send_positions) { message = begin.0 } in
+        let woke = first_waiter Receivers k in
+        let done = sent begin.0 (Done k.effects begin.0) now begin.1 line (putting k SendKind m refl allowed)
+        (ap (λ d. told_put d k.effects begin.0) allowed.0) refl (λ q. refl) in
+        ends_at (9 + (9 + (steps_to_move setup c woke + 0))) (steps_to_return setup c SendKind k) SendKind b (omega arith)
+        (told _ SendKind b (entry_of c t now k.effects begin.0) (refl, refl, refl)
+        (sent_back begin.0 (record now { effect = Some k.effects }) _ woke refl line
+        (woken_is (front_stands_in k.receive_line k.waiting_receivers) _ (front k.receive_line) (some_now k.closed k.items begin.0)) done))
+    returns SendClosed m at_call allowed line =
+        let begin = begins_as Sends b (stands_at setup p t) refl at_call in
+        let now = record (queued Sends b begin.0 k.send_positions) { closed = true } in
+        let done = sent begin.0 (WasClosed k.effects) now begin.1 line (putting k SendClosed m refl allowed)
+        (ap (λ d. told_put d k.effects begin.0) allowed) refl (λ q. refl) in
+        told 18 SendClosed b (entry_of c t now k.effects begin.0) (refl, refl, refl)
+        (sent_back begin.0 (record now { effect = Some k.effects }) _ None refl line
+        (woken_none (front_stands_in k.receive_line k.waiting_receivers) k.closed _ _ (front k.receive_line) (calm b k block free).1 allowed) done)
+    returns RecvKind m at_call allowed line =
+        let begin = begins_as Receives b (stands_at setup p t) refl at_call in
+        let now = record (queued Receives b begin.0 k.receive_positions) { message = first_item k.items } in
+        let woke = first_waiter Senders k in
+        let done = received begin.0 (Done k.effects (first_item k.items)) now begin.1 line (taking k RecvKind m refl allowed)
+        (taken_now k.items m k.effects allowed) refl (λ q. refl) in
+        ends_at (9 + (9 + (steps_to_move setup c woke + 0))) (steps_to_return setup c RecvKind k) RecvKind b (omega arith)
+        (told _ RecvKind b (entry_of c t now k.effects (first_item k.items)) (refl, refl, refl)
+        (received_back (record now { effect = Some k.effects }) _ woke refl line
+        (woken_is (front_stands_in k.send_line k.waiting_senders) _ (front k.send_line)
+        (either k.closed _ (room_now k.items m k.capacity (holds_no_more setup (sections_in s.log) b k block) allowed))) done))
+    returns RecvClosed m at_call allowed line =
+        let begin = begins_as Receives b (stands_at setup p t) refl at_call in
+        let now = record (queued Receives b begin.0 k.receive_positions) { closed = true } in
+        let done = received begin.0 (WasClosed k.effects) now begin.1 line (taking k RecvClosed m refl allowed)
+        (ap (λ l. told_take l k.effects) allowed.1) refl (λ q. refl) in
+        told 18 RecvClosed b (entry_of c t now k.effects begin.0) (refl, refl, refl)
+        (received_back (record now { effect = Some k.effects }) _ None refl line
+        (woken_none (front_stands_in k.send_line k.waiting_senders) k.closed _ _ (front k.send_line) (calm b k block free).0 allowed.0) done)
+    returns CloseKind m at_call allowed line =
+        let begin = begins_as Closes b (stands_at setup p t) refl at_call in
+        closed_back begin.0 begin.1
+
+  -- where both lines wait beside a buffer that is not due to either, nothing fits in
+  pub no_room : (k : Buffer) → IsCalm k → 18 < steps_to_return setup c CloseKind k → k.capacity ≡ 0
+  no_room k nobody more = by_fronts (front_stands_in k.receive_line k.waiting_receivers) (front_stands_in k.send_line k.waiting_senders) refl refl more
+    where
+      none_fits : (capacity : ℕ) → nat_lt 0 capacity ≡ false → capacity ≡ 0
+      none_fits capacity off = by_size (cases_lt 0 capacity)
+        where
+          by_size : (0 < capacity) ⊎ (capacity ≤ 0) → capacity ≡ 0
+          by_size (inl some) = refuted off (lt-ltb 0 capacity some)
+          by_size (inr small_one) = omega (arith, small_one)
+
+      full : (closed : Bool) (items : List Message) (capacity : ℕ) → (closed || nat_lt 0 (length items)) ≡ false
+          → (closed || nat_lt (length items) capacity) ≡ false → capacity ≡ 0
+      full true items capacity no_take no_put = absurd (cc no_take)
+      full false [] capacity no_take no_put = none_fits capacity no_put
+      full false (x ∷ items) capacity no_take no_put = refuted no_take (lt-ltb 0 (length (x ∷ items)) (omega arith))
+
+      by_fronts : (receiver sender : Bool) → front_stands_in k.receive_line k.waiting_receivers ≡ receiver
+          → front_stands_in k.send_line k.waiting_senders ≡ sender
+          → 18 < 15 + (steps_to_move setup c (if receiver then front k.receive_line else None)
+          + steps_to_move setup c (if sender then front k.send_line else None))
+          → k.capacity ≡ 0
+      by_fronts true true first_receives first_sends more =
+          full k.closed k.items k.capacity (sym (ap (λ d. d && can_take k) first_receives) ∙ nobody.1) (sym (ap (λ d. d && can_put k) first_sends) ∙ nobody.0)
+      by_fronts true false first_receives first_sends more =
+          let most = most_moved (front k.receive_line) in
+          let zero_more : steps_to_move setup c None ≡ 0 = refl in absurd (omega (arith, most, more, zero_more))
+      by_fronts false true first_receives first_sends more =
+          let most = most_moved (front k.send_line) in
+          let zero_more : steps_to_move setup c None ≡ 0 = refl in absurd (omega (arith, most, more, zero_more))
+      by_fronts false false first_receives first_sends more =
+          let zero_more : steps_to_move setup c None ≡ 0 = refl in absurd (omega (arith, more, zero_more))
 
 pub calls_return_alone : CallsReturnAlone
 calls_return_alone setup room s c p t few reached ready space =
-    returns setup room s c p t few reached ready ready.asks ready.buffer ready.block ready.effect
-    ready.message ready.at_call space ready.is ready.unowned ready.of_call
-    ready.allowed ready.empty_line
+    let back = returns setup room s c p t few reached ready ready.buffer ready.block space ready.is ready.unowned ready.effect ready.message
+    (subst (λ a. IsCallOn a ready.buffer (stands_at setup p t)) (sym ready.of_call) ready.at_call) ready.allowed
+    (subst (λ a. HasEmptyLine a ready.block) (sym ready.of_call) ready.empty_line) in (
+      back.0,
+      back.1,
+      λ is more. no_room setup room s c p t few reached ready ready.block
+          (calm setup room s c p t few reached ready ready.buffer ready.block ready.is ready.unowned)
+          (subst (λ e. 18 < steps_to_return setup c e ready.block) is more),
+    )

@@ -1,5 +1,5 @@
--- A call alone goes through its six sections, with one more where its first signal wakes a thread of another CPU.
-use Rattle.std.proofs.Common.{◌≡◌, ℕ, ◌+◌, ◌<◌, Bool, true, false, not, ◌&&◌, List, [], ◌∷◌, ◌++◌, slice_get}
+-- A call alone goes through its sections, with one more where a signal wakes a thread of another CPU.
+use Rattle.std.proofs.Common.{◌≡◌, ℕ, ◌+◌, ◌<◌, ◌≤◌, Bool, true, false, not, ◌&&◌, List, [], ◌∷◌, ◌++◌, slice_get}
 use Rattle.std.proofs.Common.{Option, Some, None, option_map, if◌then◌else◌, refl, sym, ap, ◌∙◌, subst, arith}
 use Rattle.std.proofs.lemmas.Bool.{lt-ltb}
 use Rattle.event_log.specs.declared.ids.CpuId.{CpuId}
@@ -8,21 +8,20 @@ use Rattle.event_log.specs.declared.ids.LockId.TheVariants.{Pending, Buffer as A
 use Rattle.event_log.specs.declared.ids.TheConstants.{THREADS}
 use Rattle.event_log.specs.declared.entries.Entry.{Entry}
 use Rattle.event_log.specs.History.{same_cpu}
-use Rattle.event_log.specs.Messages.{Message}
+use Rattle.event_log.specs.Runs.{Sends, Receives}
 use Rattle.event_log.specs.Sections.{Section}
 use Rattle.thread_blocks.specs.Queues.{first}
 use Rattle.layer_traits.specs.declared.locked.Side.TheVariants.{Receivers, Senders}
-use Rattle.layer_traits.specs.BufferBlocks.{may_join, first_item}
-use Rattle.cpu.specs.Table.Blocks.{Buffer, OfBuffer, Name, SigRecv, SigSend, RelQ, Pend, Sends, Receives}
-use Rattle.cpu.specs.Table.Blocks.{Told, Nothing, Position, Done, NotYet, Answer, front_stands_in}
-use Rattle.cpu.specs.Table.Edits.{edited_buffer, acquired, entered, put, taken, may_put, may_take, can_put, can_take}
-use Rattle.cpu.specs.Table.Edits.{due_sender, due_receiver, tells, wakes, answer, answer_of_acquire, answer_of_buffer}
+use Rattle.layer_traits.specs.BufferBlocks.{may_join}
+use Rattle.cpu.specs.Table.Blocks.{Buffer, OfBuffer, Name, RelQ, Pend, side_of}
+use Rattle.cpu.specs.Table.Blocks.{Told, Nothing, Position, Answer}
+use Rattle.cpu.specs.Table.Edits.{edited_buffer, acquired, entered, tells, wakes, answer, answer_of_acquire, answer_of_buffer}
 use Rattle.cpu.specs.Table.Setups.{Setup, Acquires, Enters, Tries, Signals, SignalsOwn, Releases, Returns}
 use Rattle.cpu.specs.Table.Setups.{Call, Private, thread_at, home_of, home_threads, have_ended, stands_at}
-use Rattle.cpu.specs.Table.Choice.{section_at, asked, Goes, choice, with_call, entry_of, effected, heard}
+use Rattle.cpu.specs.Table.Choice.{section_at, first_signal, second_signal, asked, Goes, choice, with_call, entry_of, effected, heard}
 use Rattle.cpu.specs.Table.Choice.{woken, guest_after, returned, returned_at, settled, after_section}
 use Rattle.cpu.specs.Table.Steps.{Whole, steps_by}
-use Rattle.cpu.specs.Wakeups.Alone.{IsInCall, is_away}
+use Rattle.cpu.specs.Wakeups.Alone.{IsInCall, steps_to_move}
 use Rattle.cpu.specs.Wakeups.Order.{block_of}
 use Rattle.cpu.proofs.Wakeups.Agreement.{at_same}
 use Rattle.cpu.proofs.Wakeups.CpuStep.{pending_there}
@@ -122,66 +121,57 @@ module _ (setup : Setup) (c : CpuId) (t : Tid) where
         (new_in p (record call { asks = Receives; stage = Enters }) more traced inside) refl)
 
   -- the state after an effect: the entry is written
-  effect_in : (p : Private) (call : Call) (op : ℕ) (m : Message) (traced : List Entry) → InCall setup c p t call traced
-      → InCall setup c (effected c p t (record call { message = m }) op) t (record call { message = m; effect = Some op; stage = Signals })
-      (traced ++ entry_of c t (record call { message = m }) op m ∷ [])
-  effect_in p call op m traced inside =
-      let now = new_in p call (record call { message = m; effect = Some op; stage = Signals }) traced inside in
+  effect_in : (p : Private) (call now : Call) (op : ℕ) (traced : List Entry) → InCall setup c p t call traced
+      → InCall setup c (effected c p t now op) t (record now { effect = Some op; stage = Signals }) (traced ++ entry_of c t now op now.message ∷ [])
+  effect_in p call now op traced inside =
+      let after = new_in p call (record now { effect = Some op; stage = Signals }) traced inside in
       record {
-        hand = now.hand;
-        current = now.current;
-        calls = now.calls;
-        known = now.known;
-        live = have_traced p (home_threads setup c) now.live;
-        trace = ap (λ x. x ++ entry_of c t (record call { message = m }) op m ∷ []) inside.trace;
+        hand = after.hand;
+        current = after.current;
+        calls = after.calls;
+        known = after.known;
+        live = have_same (home_threads setup c) ∙ after.live;
+        trace = ap (λ x. x ++ entry_of c t now op now.message ∷ []) inside.trace;
       }
     where
-      have_traced : (p : Private) (ts : List Tid) → have_ended (with_call p t (Some (record call { message = m; effect = Some op; stage = Signals }))) ts
-          ≡ false
-          → have_ended (effected c p t (record call { message = m }) op) ts ≡ false
-      have_traced p ts live = have_same ts ∙ live
-        where
-          have_same : (ts : List Tid)
-              → have_ended (effected c p t (record call { message = m }) op) ts
-              ≡ have_ended (with_call p t (Some (record call { message = m; effect = Some op; stage = Signals }))) ts
-          have_same [] = refl
-          have_same (u ∷ ts) =
-              ap (λ b. (thread_at (with_call p t (Some (record call { message = m; effect = Some op; stage = Signals }))) u).ended && b) (have_same ts)
+      have_same : (ts : List Tid)
+          → have_ended (effected c p t now op) ts ≡ have_ended (with_call p t (Some (record now { effect = Some op; stage = Signals }))) ts
+      have_same [] = refl
+      have_same (u ∷ ts) = ap (λ b. (thread_at (with_call p t (Some (record now { effect = Some op; stage = Signals }))) u).ended && b) (have_same ts)
 
-  pub puts : (s : Whole) (n left : ℕ) (k : Buffer) (call : Call) (traced : List Entry) → may_put t k ≡ true
-      → Gets s n k (record call { asks = Sends; stage = Tries }) traced (left + 3)
-      → Gets s (n + 3) (put call.message k) (record call { asks = Sends; effect = Some k.effects; stage = Signals })
-      (traced ++ entry_of c t (record call { asks = Sends }) k.effects call.message ∷ []) left
-  puts s n left k call traced may gets =
-      let first_call : Call = record call { asks = Sends; stage = Tries } in
-      advance s n k (put call.message k) first_call (record call { asks = Sends; effect = Some k.effects; stage = Signals }) traced
-      (traced ++ entry_of c t (record call { asks = Sends }) k.effects call.message ∷ []) left (tells (Done k.effects call.message)) gets
-      (ap (λ b. tells (if b then Done k.effects call.message else NotYet)) may) (ap (λ b. if b then put call.message k else k) may) refl
+  -- a section that has the call's effect: the call as it then is
+  pub tries : (s : Whole) (n left : ℕ) (k next : Buffer) (call now : Call) (traced : List Entry) (told : Told) → call.buffer ≡ now.buffer
+      → answer_of_buffer (section_at t call call.stage) k ≡ tells told → edited_buffer (section_at t call call.stage) k ≡ next
+      → ((p : Private) → heard c p t call call.stage told ≡ effected c p t now k.effects)
+      → Gets s n k call traced (left + 3)
+      → Gets s (n + 3) next (record now { effect = Some k.effects; stage = Signals }) (traced ++ entry_of c t now k.effects now.message ∷ []) left
+  tries s n left k next call now traced told same_buffer tells_so edits heard_so gets =
+      advance s n k next call (record now { effect = Some k.effects; stage = Signals }) traced (traced ++ entry_of c t now k.effects now.message ∷ []) left
+      (tells told) gets tells_so edits same_buffer
       (λ p inside.
-      hears p (effected c p t (record first_call { message = call.message }) k.effects) first_call
-      (record call { asks = Sends; effect = Some k.effects; stage = Signals }) traced
-      (traced ++ entry_of c t (record call { asks = Sends }) k.effects call.message ∷ []) (Done k.effects call.message) inside refl
-      (effect_in p first_call k.effects call.message traced inside) refl)
+      hears p (effected c p t now k.effects) call (record now { effect = Some k.effects; stage = Signals }) traced
+      (traced ++ entry_of c t now k.effects now.message ∷ []) told inside (heard_so p) (effect_in p call now k.effects traced inside) refl)
 
-  pub takes_one : (s : Whole) (n left : ℕ) (k : Buffer) (call : Call) (traced : List Entry) → may_take t k ≡ true
-      → Gets s n k (record call { asks = Receives; stage = Tries }) traced (left + 3)
-      → Gets s (n + 3) (taken k) (record call { asks = Receives; message = first_item k.items; effect = Some k.effects; stage = Signals })
-      (traced ++ entry_of c t (record call { asks = Receives }) k.effects (first_item k.items) ∷ []) left
-  takes_one s n left k call traced may gets =
-      let first_call : Call = record call { asks = Receives; stage = Tries } in
-      let more : Call = record call { asks = Receives; message = first_item k.items; effect = Some k.effects; stage = Signals } in
-      advance s n k (taken k) first_call more traced
-      (traced ++ entry_of c t (record call { asks = Receives }) k.effects (first_item k.items) ∷ []) left (tells (Done k.effects (first_item k.items))) gets
-      (ap (λ b. tells (if b then Done k.effects (first_item k.items) else NotYet)) may) (ap (λ b. if b then taken k else k) may) refl
-      (λ p inside.
-      hears p (effected c p t (record first_call { message = first_item k.items }) k.effects) first_call more traced
-      (traced ++ entry_of c t (record call { asks = Receives }) k.effects (first_item k.items) ∷ []) (Done k.effects (first_item k.items)) inside refl
-      (effect_in p first_call k.effects (first_item k.items) traced inside) refl)
-
-  -- more room than is asked
-  with_left : (s : Whole) (n : ℕ) (k : Buffer) (call : Call) (traced : List Entry) (left less : ℕ)
-      → left ≡ less → Gets s n k call traced left → Gets s n k call traced less
-  with_left s n k call traced left less same gets = subst (Gets s n k call traced) same gets
+  -- less room than there is
+  with_less : (s : Whole) (n : ℕ) (k : Buffer) (call : Call) (traced : List Entry) (left less : ℕ) → less ≤ left
+      → Gets s n k call traced left → Gets s n k call traced less
+  with_less s n k call traced left less fewer gets = record {
+    now = gets.now;
+    by = gets.by;
+    before = gets.before;
+    state = gets.state;
+    past = gets.past;
+    stands = record {
+      here = gets.stands.here;
+      did = gets.stands.did;
+      free = gets.stands.free;
+      rests = gets.stands.rests;
+      room = let room = gets.stands.room in omega (arith, room, fewer);
+    };
+    goes = gets.goes;
+    inside = gets.inside;
+    block = gets.block;
+  }
 
   -- a signal that wakes nobody
   signals_none : (s : Whole) (n left : ℕ) (k next : Buffer) (call more : Call) (traced : List Entry) → call.buffer ≡ more.buffer
@@ -299,28 +289,24 @@ module _ (setup : Setup) (c : CpuId) (t : Tid) where
           have_same [] = refl
           have_same (v ∷ ts) = ap (λ b. (thread_at (with_call p t (Some more)) v).ended && b) (have_same ts)
 
-  -- a signal, whomever it wakes: 6 steps where that is a thread of another CPU, else 3
-  signals : (s : Whole) (n left : ℕ) (k next : Buffer) (call more : Call) (traced : List Entry) (woke : Option Tid) (away : Bool) → is_away setup c woke ≡ away
-      → call.buffer ≡ more.buffer
+  -- a signal, whomever it wakes
+  signals : (s : Whole) (n left : ℕ) (k next : Buffer) (call more : Call) (traced : List Entry) (woke : Option Tid) → call.buffer ≡ more.buffer
       → answer_of_buffer (section_at t call call.stage) k ≡ wakes woke → edited_buffer (section_at t call call.stage) k ≡ next
       → ((p : Private) (told : Told) → heard c p t call call.stage told ≡ with_call p t (Some more))
       → ((p : Private) → returned_at setup p t more more.stage ≡ p)
-      → Gets s n k call traced ((left + 3) + 3) → Gets s (if away then (n + 3) + 3 else n + 3) next more traced (if away then left else left + 3)
-  signals s n left k next call more traced None true is same_buffer told edits heard_so stays gets = absurd (cc is)
-  signals s n left k next call more traced None false is same_buffer told edits heard_so stays gets =
-      signals_none s n (left + 3) k next call more traced same_buffer told edits heard_so stays gets
-  signals s n left k next call more traced (Some u) true is same_buffer told edits heard_so stays gets =
-      signals_away s n left k next call more traced u (not_true (same_cpu (home_of setup u) c) is) same_buffer told edits heard_so stays gets
+      → Gets s n k call traced (left + (3 + steps_to_move setup c woke)) → Gets s (n + (3 + steps_to_move setup c woke)) next more traced left
+  signals s n left k next call more traced None same_buffer told edits heard_so stays gets =
+      signals_none s n left k next call more traced same_buffer told edits heard_so stays gets
+  signals s n left k next call more traced (Some u) same_buffer told edits heard_so stays gets = by_home (same_cpu (home_of setup u) c) refl gets
     where
-      not_true : (b : Bool) → not b ≡ true → b ≡ false
-      not_true false is = refl
-      not_true true is = absurd (cc is)
-  signals s n left k next call more traced (Some u) false is same_buffer told edits heard_so stays gets =
-      signals_home s n (left + 3) k next call more traced u (not_false (same_cpu (home_of setup u) c) is) same_buffer told edits heard_so stays gets
-    where
-      not_false : (b : Bool) → not b ≡ false → b ≡ true
-      not_false true is = refl
-      not_false false is = absurd (cc is)
+      by_home : (here : Bool) → same_cpu (home_of setup u) c ≡ here → Gets s n k call traced (left + (3 + (if not here then 3 else 0)))
+          → Gets s (n + (3 + (if not here then 3 else 0))) next more traced left
+      by_home true here got = signals_home s n left k next call more traced u here same_buffer told edits heard_so stays got
+      by_home false away got =
+          let same : (n + 3) + 3 ≡ n + 6 = omega arith in
+          subst (λ m. Gets s m next more traced left) same
+          (signals_away s n left k next call more traced u away same_buffer told edits heard_so stays
+          (with_less s n k call traced (left + 6) ((left + 3) + 3) (omega arith) got))
 
   -- the call has returned, with this trace; one step before it was under way
   pub record Returned (s : Whole) (n : ℕ) (traced : List Entry) : Type 0 where
@@ -355,7 +341,7 @@ module _ (setup : Setup) (c : CpuId) (t : Tid) where
         here = ap (λ x. slice_get x.cpus c.0) by ∙ stands.here ∙ ap Some same;
         outside = ap (λ y. y.call)
             (at_same h t (record (thread_at h t) {
-              guest = guest_after gone.asks (stands_at setup h t) gone.message (thread_at h t).guest;
+              guest = guest_after gone.asks gone.closed (stands_at setup h t) gone.message (thread_at h t).guest;
               call = None;
             }) now.known);
         trace = now.trace;
@@ -372,62 +358,23 @@ module _ (setup : Setup) (c : CpuId) (t : Tid) where
             });
       }
 
-  -- From the effect to the return.
-
-  module _ (small : t.0 < THREADS) where
-    -- the two signals and the release, of a caller whose own line is empty now
-    pub ending_sends : (s : Whole) (n : ℕ) (k : Buffer) (call : Call) (traced : List Entry) (away : Bool) → is_away setup c (due_receiver k) ≡ away
-        → k.send_line ≡ [] → k.sleepers ≡ []
-        → Gets s n k (record call { asks = Sends; stage = Signals }) traced 12 → Returned s (if away then n + 12 else n + 9) traced
-    ending_sends s n k call traced away is line none gets =
-        by_late away (signals s n 6 k next (record call { asks = Sends; stage = Signals }) (record call { asks = Sends; stage = SignalsOwn })
-        traced (due_receiver k) away is refl refl refl (λ p told. refl) (λ p. refl) gets)
-      where
-        next : Buffer
-        next = edited_buffer (SigRecv t) k
-
-        due_none : (line waiting : List Tid) (can : Bool) → line ≡ [] → (if front_stands_in line waiting && can then first line else None) ≡ None
-        due_none line waiting can empty = ap (λ l. if front_stands_in l waiting && can then first l else None) empty
-
-        rest_of : (m left : ℕ) → Gets s m (edited_buffer (SigRecv t) k) (record call { asks = Sends; stage = SignalsOwn }) traced ((left + 3) + 3)
-            → Returned s ((m + 3) + 3) traced
-        rest_of m left got =
-            releases s (m + 3) left (edited_buffer (SigSend t) (edited_buffer (SigRecv t) k)) (record call { asks = Sends }) traced none
-            (signals_none s m (left + 3) (edited_buffer (SigRecv t) k) (edited_buffer (SigSend t) (edited_buffer (SigRecv t) k))
-            (record call { asks = Sends; stage = SignalsOwn }) (record call { asks = Sends; stage = Releases }) traced refl
-            (ap wakes (due_none k.send_line k.waiting_senders (can_put k) line)) refl (λ p told. refl) (λ p. refl) got)
-
-        by_late : (away : Bool) → Gets s (if away then (n + 3) + 3 else n + 3) (edited_buffer (SigRecv t) k)
-            (record call { asks = Sends; stage = SignalsOwn }) traced (if away then 6 else 9)
-            → Returned s (if away then n + 12 else n + 9) traced
-        by_late false early = let same : ((n + 3) + 3) + 3 ≡ n + 9 = omega arith in subst (λ m. Returned s m traced) same (rest_of (n + 3) 3 early)
-        by_late true late =
-            let same : (((n + 3) + 3) + 3) + 3 ≡ n + 12 = omega arith in subst (λ m. Returned s m traced) same (rest_of ((n + 3) + 3) 0 late)
-
-    pub ending_receives : (s : Whole) (n : ℕ) (k : Buffer) (call : Call) (traced : List Entry) (away : Bool) → is_away setup c (due_sender k) ≡ away
-        → k.receive_line ≡ [] → k.sleepers ≡ []
-        → Gets s n k (record call { asks = Receives; stage = Signals }) traced 12 → Returned s (if away then n + 12 else n + 9) traced
-    ending_receives s n k call traced away is line none gets =
-        by_late away (signals s n 6 k next (record call { asks = Receives; stage = Signals }) (record call { asks = Receives; stage = SignalsOwn })
-        traced (due_sender k) away is refl refl refl (λ p told. refl) (λ p. refl) gets)
-      where
-        next : Buffer
-        next = edited_buffer (SigSend t) k
-
-        due_none : (line waiting : List Tid) (can : Bool) → line ≡ [] → (if front_stands_in line waiting && can then first line else None) ≡ None
-        due_none line waiting can empty = ap (λ l. if front_stands_in l waiting && can then first l else None) empty
-
-        rest_of : (m left : ℕ) → Gets s m (edited_buffer (SigSend t) k) (record call { asks = Receives; stage = SignalsOwn }) traced ((left + 3) + 3)
-            → Returned s ((m + 3) + 3) traced
-        rest_of m left got =
-            releases s (m + 3) left (edited_buffer (SigRecv t) (edited_buffer (SigSend t) k)) (record call { asks = Receives }) traced none
-            (signals_none s m (left + 3) (edited_buffer (SigSend t) k) (edited_buffer (SigRecv t) (edited_buffer (SigSend t) k))
-            (record call { asks = Receives; stage = SignalsOwn }) (record call { asks = Receives; stage = Releases }) traced refl
-            (ap wakes (due_none k.receive_line k.waiting_receivers (can_take k) line)) refl (λ p told. refl) (λ p. refl) got)
-
-        by_late : (away : Bool) → Gets s (if away then (n + 3) + 3 else n + 3) (edited_buffer (SigSend t) k)
-            (record call { asks = Receives; stage = SignalsOwn }) traced (if away then 6 else 9)
-            → Returned s (if away then n + 12 else n + 9) traced
-        by_late false early = let same : ((n + 3) + 3) + 3 ≡ n + 9 = omega arith in subst (λ m. Returned s m traced) same (rest_of (n + 3) 3 early)
-        by_late true late =
-            let same : (((n + 3) + 3) + 3) + 3 ≡ n + 12 = omega arith in subst (λ m. Returned s m traced) same (rest_of ((n + 3) + 3) 0 late)
+  -- From the effect to the return: the two signals and the release.
+  pub ending : (s : Whole) (n left : ℕ) (k : Buffer) (call : Call) (traced : List Entry) (woke own : Option Tid)
+      → answer_of_buffer (first_signal t (side_of call.asks)) k ≡ wakes woke
+      → answer_of_buffer (second_signal t (side_of call.asks)) (edited_buffer (first_signal t (side_of call.asks)) k) ≡ wakes own
+      → (edited_buffer (second_signal t (side_of call.asks)) (edited_buffer (first_signal t (side_of call.asks)) k)).sleepers ≡ []
+      → 9 + (steps_to_move setup c woke + steps_to_move setup c own) ≤ left
+      → Gets s n k (record call { stage = Signals }) traced left
+      → Returned s (n + (9 + (steps_to_move setup c woke + steps_to_move setup c own))) traced
+  ending s n left k call traced woke own first_tells own_tells none space gets =
+      let mine = steps_to_move setup c own in
+      let theirs = steps_to_move setup c woke in
+      let other = edited_buffer (first_signal t (side_of call.asks)) k in
+      let both = edited_buffer (second_signal t (side_of call.asks)) other in
+      let one = signals s n (3 + (3 + mine)) k other (record call { stage = Signals }) (record call { stage = SignalsOwn }) traced woke refl first_tells refl
+      (λ p told. refl) (λ p. refl)
+      (with_less s n k (record call { stage = Signals }) traced left ((3 + (3 + mine)) + (3 + theirs)) (omega (arith, space)) gets) in
+      let two = signals s (n + (3 + theirs)) 3 other both (record call { stage = SignalsOwn }) (record call { stage = Releases }) traced own refl own_tells refl
+      (λ p told. refl) (λ p. refl) one in
+      let same : ((n + (3 + theirs)) + (3 + mine)) + 3 ≡ n + (9 + (theirs + mine)) = omega arith in
+      subst (λ m. Returned s m traced) same (releases s ((n + (3 + theirs)) + (3 + mine)) 0 both call traced none two)

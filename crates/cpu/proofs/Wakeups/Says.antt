@@ -8,21 +8,22 @@ use Rattle.event_log.specs.declared.ids.Tid.{Tid}
 use Rattle.event_log.specs.Actions.{Action}
 use Rattle.event_log.specs.History.{same_cpu}
 use Rattle.event_log.specs.Messages.{no_message}
+use Rattle.event_log.specs.Runs.{Group, Sends, Receives, Closes}
 use Rattle.guest.specs.declared.instructions.Instruction.{Instruction}
-use Rattle.guest.specs.declared.instructions.Instruction.TheVariants.{Set, Add, Sub, Jnz, Send, Recv, Yield as YieldLine, Exit}
-use Rattle.guest.specs.State.{State, next_of, sent_from, after_yield}
+use Rattle.guest.specs.declared.instructions.Instruction.TheVariants.{Set, Add, Sub, Jnz, Send, Recv, Close, Yield as YieldLine, Exit}
+use Rattle.guest.specs.State.{State, next_of, message_from, after_yield}
 use Rattle.thread_blocks.specs.Queues.{same_tid}
 use Rattle.thread_blocks.proofs.Members.{same_tid_true}
 use Rattle.layer_traits.specs.declared.steps.Reason.TheVariants.{AllEnded, TraceFull}
 use Rattle.layer_traits.specs.Plans.{reply}
-use Rattle.cpu.specs.Table.Blocks.{Name, Asks, Sends, Receives, Told, Nothing, Position, Done, NotYet, Drained, Answer}
+use Rattle.cpu.specs.Table.Blocks.{Name, Told, Nothing, Position, Done, WasClosed, DidShut, NotYet, Drained, Answer}
 use Rattle.cpu.specs.Table.Edits.{kernel}
 use Rattle.cpu.specs.Table.Setups.{Setup, Stage, Acquires, Enters, Tries, Waits, AcquiresAgain, Signals, SignalsOwn}
 use Rattle.cpu.specs.Table.Setups.{Releases, Returns, Call, Thread, Private, new_thread, thread_at, with_thread, program_of}
 use Rattle.cpu.specs.Table.Setups.{stands_at, at_boot, home_of, home_threads, open_calls, have_ended, opening}
 use Rattle.cpu.specs.Table.Choice.{asked, Choice, Halts, Alone, Goes, new_call, with_call, with_guest}
 use Rattle.cpu.specs.Table.Choice.{begins, at_instruction, at_call, at_ready, at_current, at_hand, choice}
-use Rattle.cpu.specs.Table.Choice.{heard, heard_entry, heard_position, slept_if, woken, guest_after, returned_at, returned_by, returned_in, settled}
+use Rattle.cpu.specs.Table.Choice.{heard, heard_entry, heard_position, heard_shut, slept_if, woken, guest_after, returned_at, returned_by, returned_in, settled}
 use Rattle.cpu.specs.Table.Choice.{after_by, after_at, after_in, after_section}
 use Rattle.cpu.specs.Table.Steps.{after_reply, acting}
 use Rattle.cpu.specs.Wakeups.Quiet.{IsNextEffect}
@@ -40,9 +41,28 @@ is_before SignalsOwn = false
 is_before Releases = false
 is_before Returns = false
 
+-- what a call asks that has a line
+abbrev pub HasLine : Group → Type 0
+HasLine Sends = Unit {0}
+HasLine Receives = Unit {0}
+HasLine Closes = ⊥
+
+-- only a call that has a line tries and waits
+abbrev pub FitsStage : Group → Stage → Type 0
+FitsStage asks Tries = HasLine asks
+FitsStage asks Waits = HasLine asks
+FitsStage asks AcquiresAgain = HasLine asks
+FitsStage asks Acquires = Unit {0}
+FitsStage asks Enters = Unit {0}
+FitsStage asks Signals = Unit {0}
+FitsStage asks SignalsOwn = Unit {0}
+FitsStage asks Releases = Unit {0}
+FitsStage asks Returns = Unit {0}
+
 -- what a call says before its effect
 abbrev pub SaysCall : List Instruction → State → Call → Type 0
-SaysCall program guest call = is_before call.stage ≡ true → (call.effect ≡ None) × IsNextEffect (next_of program guest) guest call.asks call.buffer call.message
+SaysCall program guest call = is_before call.stage ≡ true
+    → (call.effect ≡ None) × IsNextEffect (next_of program guest) guest call.asks call.buffer call.message × FitsStage call.asks call.stage
 
 abbrev pub Says : List Instruction → State → Option Call → Type 0
 Says program guest None = Unit {0}
@@ -85,27 +105,49 @@ module _ (setup : Setup) (c : CpuId) where
   fine_heard : (p : Private) (t : Tid) (call : Call) → t.0 < length p.threads → AllFine setup p
       → (thread_at p t).call ≡ Some call → (stage : Stage) → call.stage ≡ stage → (told : Told)
       → AllFine setup (heard c p t call stage told)
-  fine_heard p t call known fine is Acquires at told = fine_call p t call (record call { stage = Enters }) known fine is (λ says e. says (ap is_before at))
-  fine_heard p t call known fine is Enters at told = by_asks call.asks told
+  fine_heard p t call known fine is Acquires at told =
+      fine_call p t call (record call { stage = Enters }) known fine is (λ says e. let said = says (ap is_before at) in (said.0, said.1, tt))
+  fine_heard p t call known fine is Enters at told = by_asks call.asks refl told
     where
-      by_told : (told : Told) → AllFine setup (heard_position p t call told)
-      by_told (Position pos) = fine_call p t call (record call { position = pos; stage = Tries }) known fine is (λ says e. says (ap is_before at))
-      by_told Nothing = fine
-      by_told (Done op m) = fine
-      by_told NotYet = fine
-      by_told (Drained threads) = fine
+      by_told : HasLine call.asks → (told : Told) → AllFine setup (heard_position p t call told)
+      by_told line (Position pos) =
+          fine_call p t call (record call { position = pos; stage = Tries }) known fine is
+          (λ says e. let said = says (ap is_before at) in (said.0, said.1, line))
+      by_told line Nothing = fine
+      by_told line (Done op m) = fine
+      by_told line (WasClosed op) = fine
+      by_told line (DidShut op pos) = fine
+      by_told line NotYet = fine
+      by_told line (Drained threads) = fine
 
-      by_asks : (asks : Asks) (told : Told) → AllFine setup (heard_entry c p t call asks told)
-      by_asks Sends told = by_told told
-      by_asks Receives told = by_told told
+      by_shut : (told : Told) → AllFine setup (heard_shut c p t call told)
+      by_shut (DidShut op pos) =
+          fine_call p t call (record call { position = pos; effect = Some op; stage = Signals }) known fine is (λ says e. absurd (cc e))
+      by_shut (Position pos) = fine
+      by_shut Nothing = fine
+      by_shut (Done op m) = fine
+      by_shut (WasClosed op) = fine
+      by_shut NotYet = fine
+      by_shut (Drained threads) = fine
+
+      by_asks : (asks : Group) → call.asks ≡ asks → (told : Told) → AllFine setup (heard_entry c p t call asks told)
+      by_asks Sends asked told = by_told (subst HasLine (sym asked) tt) told
+      by_asks Receives asked told = by_told (subst HasLine (sym asked) tt) told
+      by_asks Closes asked told = by_shut told
   fine_heard p t call known fine is Tries at (Done op m) =
       fine_call p t call (record call { message = m; effect = Some op; stage = Signals }) known fine is (λ says e. absurd (cc e))
-  fine_heard p t call known fine is Tries at NotYet = fine_call p t call (record call { stage = Waits }) known fine is (λ says e. says (ap is_before at))
+  fine_heard p t call known fine is Tries at (WasClosed op) =
+      fine_call p t call (record call { closed = true; effect = Some op; stage = Signals }) known fine is (λ says e. absurd (cc e))
+  fine_heard p t call known fine is Tries at NotYet = fine_call p t call (record call { stage = Waits }) known fine is
+      (λ says e. let said = says (ap is_before at) in (said.0, said.1, subst (FitsStage call.asks) at said.2))
   fine_heard p t call known fine is Tries at Nothing = fine
   fine_heard p t call known fine is Tries at (Position pos) = fine
+  fine_heard p t call known fine is Tries at (DidShut op pos) = fine
   fine_heard p t call known fine is Tries at (Drained threads) = fine
-  fine_heard p t call known fine is Waits at told = fine_call p t call (record call { stage = AcquiresAgain }) known fine is (λ says e. says (ap is_before at))
-  fine_heard p t call known fine is AcquiresAgain at told = fine_call p t call (record call { stage = Tries }) known fine is (λ says e. says (ap is_before at))
+  fine_heard p t call known fine is Waits at told = fine_call p t call (record call { stage = AcquiresAgain }) known fine is
+      (λ says e. let said = says (ap is_before at) in (said.0, said.1, subst (FitsStage call.asks) at said.2))
+  fine_heard p t call known fine is AcquiresAgain at told = fine_call p t call (record call { stage = Tries }) known fine is
+      (λ says e. let said = says (ap is_before at) in (said.0, said.1, subst (FitsStage call.asks) at said.2))
   fine_heard p t call known fine is Signals at told = fine_call p t call (record call { stage = SignalsOwn }) known fine is (λ says e. absurd (cc e))
   fine_heard p t call known fine is SignalsOwn at told = fine_call p t call (record call { stage = Releases }) known fine is (λ says e. absurd (cc e))
   fine_heard p t call known fine is Releases at told = fine_call p t call (record call { stage = Returns }) known fine is (λ says e. absurd (cc e))
@@ -136,7 +178,8 @@ module _ (setup : Setup) (c : CpuId) where
     where
       by_stage : (t : Tid) (call : Call) (stage : Stage) → AllFine setup (returned_at setup p t call stage)
       by_stage t call Returns =
-          fine_set p t (record (thread_at p t) { guest = guest_after call.asks (stands_at setup p t) call.message (thread_at p t).guest; call = None }) fine
+          fine_set p t
+          (record (thread_at p t) { guest = guest_after call.asks call.closed (stands_at setup p t) call.message (thread_at p t).guest; call = None }) fine
           (record { quits = λ e. refl; says = tt })
       by_stage t call stage = fine
 
@@ -180,13 +223,15 @@ module _ (setup : Setup) (c : CpuId) where
 
   module _ (p : Private) (fine : AllFine setup p) (alive : (t : Tid) → p.current ≡ Some t → (thread_at p t).ended ≡ false) where
     fine_begins : (t : Tid) → p.current ≡ Some t → (call : Call) → call.effect ≡ None
-        → IsNextEffect (stands_at setup p t) (thread_at p t).guest call.asks call.buffer call.message → FineChoice (begins setup c p t call)
-    fine_begins t runs_now call new next = by_test ((length p.trace + open_calls p (home_threads setup c)) == setup.trace_room)
+        → IsNextEffect (stands_at setup p t) (thread_at p t).guest call.asks call.buffer call.message → FitsStage call.asks call.stage
+        → FineChoice (begins setup c p t call)
+    fine_begins t runs_now call new next fits = by_test ((length p.trace + open_calls p (home_threads setup c)) == setup.trace_room)
       where
         by_test : (full : Bool) → FineChoice (if full then Halts TraceFull else Goes (with_call p t (Some call)))
         by_test true = tt
         by_test false =
-            fine_set p t (record (thread_at p t) { call = Some call }) fine (record { quits = λ e. refuted (alive t runs_now) e; says = λ before. (new, next) })
+            fine_set p t (record (thread_at p t) { call = Some call }) fine
+            (record { quits = λ e. refuted (alive t runs_now) e; says = λ before. (new, next, fits) })
 
     fine_guest : (t : Tid) → (thread_at p t).call ≡ None → (guest : State) → AllFine setup (with_guest p t guest)
     fine_guest t outside guest =
@@ -197,12 +242,15 @@ module _ (setup : Setup) (c : CpuId) where
 
     fine_instruction : (t : Tid) → p.current ≡ Some t → (thread_at p t).call ≡ None → (line : Instruction)
         → stands_at setup p t ≡ line → FineChoice (at_instruction setup c p t line)
-    fine_instruction t runs_now outside (Send b r) at =
-        fine_begins t runs_now (new_call Sends b (sent_from (thread_at p t).guest r)) refl
-        (subst (λ line. IsNextEffect line (thread_at p t).guest Sends b (sent_from (thread_at p t).guest r)) (sym at) (refl, refl, refl))
-    fine_instruction t runs_now outside (Recv b r) at =
+    fine_instruction t runs_now outside (Send b from k) at =
+        fine_begins t runs_now (new_call Sends b (message_from (thread_at p t).guest from)) refl
+        (subst (λ line. IsNextEffect line (thread_at p t).guest Sends b (message_from (thread_at p t).guest from)) (sym at) (refl, refl, refl)) tt
+    fine_instruction t runs_now outside (Recv b into k) at =
         fine_begins t runs_now (new_call Receives b no_message) refl
-        (subst (λ line. IsNextEffect line (thread_at p t).guest Receives b no_message) (sym at) (refl, refl))
+        (subst (λ line. IsNextEffect line (thread_at p t).guest Receives b no_message) (sym at) (refl, refl)) tt
+    fine_instruction t runs_now outside (Close b) at =
+        fine_begins t runs_now (new_call Closes b no_message) refl
+        (subst (λ line. IsNextEffect line (thread_at p t).guest Closes b no_message) (sym at) (refl, refl)) tt
     fine_instruction t runs_now outside YieldLine at = fine
     fine_instruction t runs_now outside Exit at =
         fine_set p t (record (thread_at p t) { ended = true }) fine (record {

@@ -8,6 +8,7 @@ use Rattle.event_log.specs.declared.ids.BufId.{BufId}
 use Rattle.event_log.specs.declared.entries.Entry.{Entry}
 use Rattle.event_log.specs.History.{same_cpu}
 use Rattle.event_log.specs.Messages.{Message}
+use Rattle.event_log.specs.Runs.{Group, Sends, Receives, Closes}
 use Rattle.guest.specs.State.{State}
 use Rattle.thread_blocks.specs.Queues.{same_tid}
 use Rattle.thread_blocks.proofs.Members.{same_tid_self, same_tid_true}
@@ -15,8 +16,8 @@ use Rattle.layer_traits.specs.declared.locked.Side.{Side}
 use Rattle.layer_traits.specs.declared.locked.Side.TheVariants.{Receivers, Senders}
 use Rattle.layer_traits.specs.Places.{is_thread, one_if, count_in}
 use Rattle.layer_traits.proofs.CountLemmas.{same_tid_sym, count_append}
-use Rattle.cpu.specs.Table.Blocks.{Buffer, Name, TryTake, WaitOn, Pend, TakeAll, Asks, Sends, Receives, side_of, Done, NotYet, Answer}
-use Rattle.cpu.specs.Table.Edits.{may_put, may_take, answer_of_buffer, drawn_position}
+use Rattle.cpu.specs.Table.Blocks.{Buffer, Name, TryPut, TryTake, WaitOn, Pend, TakeAll, side_of, Told, Done, WasClosed, NotYet, Answer}
+use Rattle.cpu.specs.Table.Edits.{may_put, may_take, told_put, told_take, answer_of_buffer, drawn_position}
 use Rattle.cpu.specs.Table.Setups.{Setup, Stage, Acquires, Enters, Tries, Waits, AcquiresAgain, Signals, SignalsOwn}
 use Rattle.cpu.specs.Table.Setups.{Releases, Returns, Call, Thread, Private, thread_at, with_thread, home_of, stands_at}
 use Rattle.cpu.specs.Table.Choice.{section_at, first_section, try_of, first_signal, second_signal, with_call}
@@ -54,7 +55,8 @@ module _ (setup : Setup) (c : CpuId) where
       by_stage call is Returns at =
           let local = (runs setup c p T P agrees t runs_now).0 in
           let known = within setup c p T P agrees t local in
-          let x : Thread = record (thread_at p t) { guest = guest_after call.asks (stands_at setup p t) call.message (thread_at p t).guest; call = None } in
+          let x : Thread =
+          record (thread_at p t) { guest = guest_after call.asks call.closed (stands_at setup p t) call.message (thread_at p t).guest; call = None } in
           let same : Same p (with_thread p t x) t = same_with p t x known refl in
           let none : (thread_at (with_thread p t x) t).call ≡ None = ap (λ y. y.call) (at_same p t x known) in
           let turn_now : T t ≡ Outside = agrees.calls t local ∙ ap turn_of_call is ∙ ap (turn_of_stage call.buffer (side_of call.asks)) at in (
@@ -64,20 +66,20 @@ module _ (setup : Setup) (c : CpuId) where
         where
           returned_done : (u : Tid) → is_local setup c u ≡ true
               → is_done (thread_at (with_thread p t (record (thread_at p t)
-              { guest = guest_after call.asks (stands_at setup p t) call.message (thread_at p t).guest; call = None })) u).call ≡ true
+              { guest = guest_after call.asks call.closed (stands_at setup p t) call.message (thread_at p t).guest; call = None })) u).call ≡ true
               → (mine : Bool) → same_tid t u ≡ mine → (x : Thread) → Same p (with_thread p t x) t
               → (thread_at (with_thread p t (record (thread_at p t)
-              { guest = guest_after call.asks (stands_at setup p t) call.message (thread_at p t).guest; call = None })) t).call ≡ None
+              { guest = guest_after call.asks call.closed (stands_at setup p t) call.message (thread_at p t).guest; call = None })) t).call ≡ None
               → (is_some p.hand ≡ true) × (is_thread u p.current ≡ true)
           returned_done u mine on true is x same none =
               refuted (ap is_done none)
               (subst (λ v. is_done (thread_at (with_thread p t (record (thread_at p t)
-              { guest = guest_after call.asks (stands_at setup p t) call.message (thread_at p t).guest; call = None })) v).call ≡ true)
+              { guest = guest_after call.asks call.closed (stands_at setup p t) call.message (thread_at p t).guest; call = None })) v).call ≡ true)
               (sym (same_tid_true t u is)) on)
           returned_done u mine on false other x same none =
               refuted other (others_done u mine (subst (λ y. is_done y.call ≡ true)
               (at_other p t u (record (thread_at p t) {
-                guest = guest_after call.asks (stands_at setup p t) call.message (thread_at p t).guest;
+                guest = guest_after call.asks call.closed (stands_at setup p t) call.message (thread_at p t).guest;
                 call = None;
               }) other) on))
       by_stage call is stage at = (agrees, not_yet (ap is_done is ∙ ap is_last at))
@@ -101,11 +103,12 @@ section_caller t call stage = by_asks call.asks stage
     by_side Senders = (refl, refl, refl)
     by_side Receivers = (refl, refl, refl)
 
-    by_first : (asks : Asks) → caller_in (first_section t asks) ≡ Some t
+    by_first : (asks : Group) → caller_in (first_section t asks) ≡ Some t
     by_first Sends = refl
     by_first Receives = refl
+    by_first Closes = refl
 
-    by_asks : (asks : Asks) (stage : Stage) → caller_in (section_at t call stage) ≡ Some t
+    by_asks : (asks : Group) (stage : Stage) → caller_in (section_at t call stage) ≡ Some t
     by_asks asks Acquires = refl
     by_asks asks Enters = by_first call.asks
     by_asks asks Tries = (by_side (side_of call.asks)).0
@@ -157,32 +160,59 @@ module _ (p : Private) (t : Tid) (known : t.0 < length p.threads) where
   }
 
   module _ (c : CpuId) (call : Call) (k : Buffer) where
-    at_entry : (asks : Asks) → call.asks ≡ asks
-        → Heard p (heard_entry c p t call asks (answer_of_buffer (first_section t asks) k).told) t (In call.buffer (Trying (side_of asks))) false
+    at_entry : (asks : Group) → call.asks ≡ asks
+        → Heard p (heard_entry c p t call asks (answer_of_buffer (first_section t asks) k).told) t
+        (next_turn call.buffer (first_section t asks) k (In call.buffer GotIt)) false
     at_entry Sends is =
         let now : Call = record call { position = drawn_position Senders k; stage = Tries } in
         subst (λ a. Heard p (with_call p t (Some now)) t (In call.buffer (Trying (side_of a))) false) is (heard_call now)
     at_entry Receives is =
         let now : Call = record call { position = drawn_position Receivers k; stage = Tries } in
         subst (λ a. Heard p (with_call p t (Some now)) t (In call.buffer (Trying (side_of a))) false) is (heard_call now)
+    at_entry Closes is =
+        let now : Call = record call { position = k.closes } in
+        heard_traced _ (In call.buffer (Owing true true)) false (p.trace ++ entry_of c t now k.effects call.message ∷ [])
+        (heard_call (record now { effect = Some k.effects; stage = Signals }))
 
-    at_try : (may : Bool) (op : ℕ) (m : Message)
-        → Heard p (heard_try c p t call (if may then Done op m else NotYet)) t
-        (if may then In call.buffer (Owing true true) else In call.buffer (Failed (side_of call.asks))) false
-    at_try true op m =
+    at_done : (op : ℕ) (m : Message) → Heard p (heard_try c p t call (Done op m)) t (In call.buffer (Owing true true)) false
+    at_done op m =
         heard_traced _ (In call.buffer (Owing true true)) false (p.trace ++ entry_of c t (record call { message = m }) op m ∷ [])
         (heard_call (record call { message = m; effect = Some op; stage = Signals }))
-    at_try false op m = heard_call (record call { stage = Waits })
 
-    at_tries : (asks : Asks) → call.asks ≡ asks
+    at_closed : (op : ℕ) → Heard p (heard_try c p t call (WasClosed op)) t (In call.buffer (Owing true true)) false
+    at_closed op =
+        heard_traced _ (In call.buffer (Owing true true)) false (p.trace ++ entry_of c t (record call { closed = true }) op call.message ∷ [])
+        (heard_call (record call { closed = true; effect = Some op; stage = Signals }))
+
+    at_put : (closed : Bool) (op : ℕ) (m : Message) → Heard p (heard_try c p t call (told_put closed op m)) t (In call.buffer (Owing true true)) false
+    at_put true op m = at_closed op
+    at_put false op m = at_done op m
+
+    at_take : (items : List Message) (op : ℕ) → Heard p (heard_try c p t call (told_take items op)) t (In call.buffer (Owing true true)) false
+    at_take [] op = at_closed op
+    at_take (m ∷ items) op = at_done op m
+
+    at_try : (may : Bool) (told : Told) → Heard p (heard_try c p t call told) t (In call.buffer (Owing true true)) false
+        → Heard p (heard_try c p t call (if may then told else NotYet)) t
+        (if may then In call.buffer (Owing true true) else In call.buffer (Failed (side_of call.asks))) false
+    at_try true told does = does
+    at_try false told does = heard_call (record call { stage = Waits })
+
+    at_tries : (asks : Group) → call.asks ≡ asks
         → Heard p (heard_try c p t call (answer_of_buffer (try_of t call (side_of asks)) k).told) t
         (next_turn call.buffer (try_of t call (side_of asks)) k (In call.buffer (Trying (side_of asks)))) false
     at_tries Sends is =
-        subst (λ a. Heard p (heard_try c p t call (if may_put t k then Done k.effects call.message else NotYet)) t
-        (if may_put t k then In call.buffer (Owing true true) else In call.buffer (Failed (side_of a))) false) is (at_try (may_put t k) k.effects call.message)
+        subst (λ a. Heard p (heard_try c p t call (answer_of_buffer (TryPut t call.message) k).told) t
+        (if may_put t k then In call.buffer (Owing true true) else In call.buffer (Failed (side_of a))) false) is
+        (at_try (may_put t k) (told_put k.closed k.effects call.message) (at_put k.closed k.effects call.message))
     at_tries Receives is =
         subst (λ a. Heard p (heard_try c p t call (answer_of_buffer (TryTake t) k).told) t
-        (if may_take t k then In call.buffer (Owing true true) else In call.buffer (Failed (side_of a))) false) is (at_try (may_take t k) k.effects _)
+        (if may_take t k then In call.buffer (Owing true true) else In call.buffer (Failed (side_of a))) false) is
+        (at_try (may_take t k) (told_take k.items k.effects) (at_take k.items k.effects))
+    at_tries Closes is =
+        subst (λ a. Heard p (heard_try c p t call (answer_of_buffer (TryPut t call.message) k).told) t
+        (if may_put t k then In call.buffer (Owing true true) else In call.buffer (Failed (side_of a))) false) is
+        (at_try (may_put t k) (told_put k.closed k.effects call.message) (at_put k.closed k.effects call.message))
 
     signal_turn : (side : Side) → next_turn call.buffer (first_signal t side) k (In call.buffer (Owing true true)) ≡ In call.buffer (owing_own side)
     signal_turn Senders = refl
@@ -192,18 +222,12 @@ module _ (p : Private) (t : Tid) (known : t.0 < length p.threads) where
     own_turn Senders = refl
     own_turn Receivers = refl
 
-    entry_turn : (asks : Asks) → In call.buffer (Trying (side_of asks)) ≡ next_turn call.buffer (first_section t asks) k (In call.buffer GotIt)
-    entry_turn Sends = refl
-    entry_turn Receives = refl
-
     -- what a call hears at each stage
     pub heard_at : (stage : Stage) → is_last stage ≡ false
         → Heard p (heard c p t call stage (answer_of_buffer (section_at t call stage) k).told) t
         (next_turn call.buffer (section_at t call stage) k (turn_of_stage call.buffer (side_of call.asks) stage)) (is_release stage)
     heard_at Acquires going = heard_call (record call { stage = Enters })
-    heard_at Enters going =
-        subst (λ z. Heard p (heard_entry c p t call call.asks (answer_of_buffer (first_section t call.asks) k).told) t z false)
-        (entry_turn call.asks) (at_entry call.asks refl)
+    heard_at Enters going = at_entry call.asks refl
     heard_at Tries going = at_tries call.asks refl
     heard_at Waits going = heard_call (record call { stage = AcquiresAgain })
     heard_at AcquiresAgain going = heard_call (record call { stage = Tries })

@@ -13,7 +13,7 @@ use Rattle.thread_blocks.specs.Queues.{same_tid}
 use Rattle.layer_traits.specs.declared.locked.Side.{Side}
 use Rattle.layer_traits.specs.declared.locked.Side.TheVariants.{Receivers, Senders}
 use Rattle.layer_traits.specs.Places.{is_thread, one_if}
-use Rattle.cpu.specs.Table.Blocks.{Buffer, Block, OfBuffer, OfPending, Name, AcqQ, Enter, TryPut, TryTake, WaitOn, SigRecv, SigSend, RelQ, Pend, TakeAll}
+use Rattle.cpu.specs.Table.Blocks.{Buffer, Block, OfBuffer, OfPending, Name, AcqQ, Enter, TryPut, TryTake, Shut, WaitOn, SigRecv, SigSend, RelQ, Pend, TakeAll}
 use Rattle.cpu.specs.Table.Edits.{may_put, may_take, answer_of_buffer}
 use Rattle.cpu.specs.Table.Setups.{Setup, home_of}
 use Rattle.cpu.specs.Wakeups.Order.{Progress, Begins, WasRefused, Owes, MayTry, block_of}
@@ -26,7 +26,7 @@ pub data Spot : Type 0 where
   AtLock : (buffer : BufId) → Spot
   AtWait : (buffer : BufId) (side : Side) → Spot
 
--- what a thread does inside a call: it has the lock and enters next, tries next, tried in vain, waits, or owes these signals
+-- what a thread does inside a call: it has the lock and enters or closes next, tries next, tried in vain, waits, or owes these signals
 pub data Doing : Type 0 where
   GotIt : Doing
   Trying : (side : Side) → Doing
@@ -159,6 +159,7 @@ caller_in (AcqQ t) = Some t
 caller_in (Enter t side) = Some t
 caller_in (TryPut t m) = Some t
 caller_in (TryTake t) = Some t
+caller_in (Shut t) = Some t
 caller_in (WaitOn t side) = Some t
 caller_in (SigRecv t) = Some t
 caller_in (SigSend t) = Some t
@@ -228,6 +229,7 @@ next_turn b (AcqQ t) k turn = acquired_turn b turn
 next_turn b (Enter t side) k turn = In b (Trying side)
 next_turn b (TryPut t m) k turn = if may_put t k then In b (Owing true true) else In b (Failed Senders)
 next_turn b (TryTake t) k turn = if may_take t k then In b (Owing true true) else In b (Failed Receivers)
+next_turn b (Shut t) k turn = In b (Owing true true)
 next_turn b (WaitOn t side) k turn = In b (Waiting side)
 next_turn b (SigRecv t) k turn = signalled Receivers turn
 next_turn b (SigSend t) k turn = signalled Senders turn
@@ -258,6 +260,7 @@ abbrev pub IsTurn : BufId → Name → Turn → Type 0
 IsTurn b (AcqQ t) Outside = Unit {0}
 IsTurn b (AcqQ t) (In d (Waiting side)) = d ≡ b
 IsTurn b (Enter t side) (In d GotIt) = d ≡ b
+IsTurn b (Shut t) (In d GotIt) = d ≡ b
 IsTurn b (TryPut t m) (In d (Trying Senders)) = d ≡ b
 IsTurn b (TryTake t) (In d (Trying Receivers)) = d ≡ b
 IsTurn b (WaitOn t side) (In d (Failed other)) = (d ≡ b) × (other ≡ side)

@@ -8,12 +8,14 @@ use Rattle.event_log.specs.declared.ids.BufId.{BufId}
 use Rattle.event_log.specs.declared.ids.LockId.TheVariants.{Buffer as AtBuffer}
 use Rattle.event_log.specs.declared.ids.TheConstants.{THREADS}
 use Rattle.event_log.specs.declared.entries.Kind.{Kind}
-use Rattle.event_log.specs.Messages.{Message}
+use Rattle.event_log.specs.declared.entries.Kind.TheVariants.{Recv as RecvKind, SendClosed, RecvClosed}
+use Rattle.event_log.specs.Messages.{Message, no_message}
+use Rattle.event_log.specs.Runs.{Group, Sends, Receives, Closes, group_of}
 use Rattle.event_log.specs.History.{same_cpu}
 use Rattle.event_log.specs.Sections.{sections_in}
 use Rattle.event_log.proofs.Same.{same_cpu_self}
 use Rattle.guest.specs.declared.instructions.Instruction.{Instruction}
-use Rattle.guest.specs.declared.instructions.Instruction.TheVariants.{Set, Add, Sub, Jnz, Send, Recv, Yield as YieldLine, Exit}
+use Rattle.guest.specs.declared.instructions.Instruction.TheVariants.{Set, Add, Sub, Jnz, Send, Recv, Close, Yield as YieldLine, Exit}
 use Rattle.guest.specs.State.{State}
 use Rattle.thread_blocks.specs.Queues.{is_in, first}
 use Rattle.thread_blocks.proofs.Members.{same_tid_self}
@@ -22,14 +24,14 @@ use Rattle.layer_traits.specs.declared.locked.Side.{Side}
 use Rattle.layer_traits.specs.declared.locked.Side.TheVariants.{Receivers, Senders}
 use Rattle.layer_traits.specs.Places.{is_thread, one_if, count_in}
 use Rattle.layer_traits.proofs.ListsLemmas.{counted_in}
-use Rattle.cpu.specs.Table.Blocks.{Buffer, OfBuffer, Asks, Sends, Receives, side_of}
+use Rattle.cpu.specs.Table.Blocks.{Buffer, OfBuffer, side_of}
 use Rattle.cpu.specs.Table.Edits.{line_of}
 use Rattle.cpu.specs.Table.Setups.{Setup, Stage, Acquires, Enters, Tries, Waits, AcquiresAgain, Signals}
 use Rattle.cpu.specs.Table.Setups.{SignalsOwn, Releases, Returns, Call, Private, thread_at, home_of, stands_at}
 use Rattle.cpu.specs.Table.Choice.{at_hand}
 use Rattle.cpu.specs.Table.Steps.{Whole, block_at, halted_by, halted_at}
 use Rattle.cpu.specs.Wakeups.Order.{Progress, progress}
-use Rattle.cpu.specs.Wakeups.Lost.{asks_of, Allows, NoWakeUpIsLost}
+use Rattle.cpu.specs.Wakeups.Lost.{Allows, NoWakeUpIsLost}
 use Rattle.cpu.specs.Wakeups.Quiet.{HomesExist, IsQuietBy, IsQuiet, IsNextEffect, IsStuckCall, IsLive, IsStuck, QuietIsStuck}
 use Rattle.cpu.proofs.Wakeups.Lists.{refuted}
 use Rattle.cpu.proofs.Wakeups.Ordered.{buffer_awake, calm_loses_nothing}
@@ -40,7 +42,7 @@ use Rattle.cpu.proofs.Wakeups.Pairs.{Pair, buffer_self, buffer_true, marked_some
 use Rattle.cpu.proofs.Wakeups.Called.{Good}
 use Rattle.cpu.proofs.Wakeups.Placed.{IsPlaced, HasHome, buffer_there}
 use Rattle.cpu.proofs.Wakeups.Agreement.{owing_own, turn_of_stage, turn_of_call, seat, Agrees}
-use Rattle.cpu.proofs.Wakeups.Says.{is_before, Says}
+use Rattle.cpu.proofs.Wakeups.Says.{is_before, HasLine, FitsStage, Says}
 use Rattle.cpu.proofs.Wakeups.Reaching.{fair_good}
 use Rattle.cpu.proofs.Wakeups.Kept.{Kept, reached_kept, cpu_there}
 
@@ -65,10 +67,22 @@ wait_count : (b : BufId) (u : Tid) (k : Buffer) (g : Progress) (turn : Turn) (x 
 wait_count b u k g turn x pair Senders = pair.senders
 wait_count b u k g turn x pair Receivers = pair.receivers
 
-lost_on : (k : Buffer) → NoWakeUpIsLost k → k.busy ≡ None → (asks : Asks) (t : Tid) (m : Message) → first (line_of (side_of asks) k) ≡ Some t
-    → is_in t (waiting_of (side_of asks) k) ≡ true → (e : Kind) → asks_of e ≡ Some asks → Allows k e m → ⊥
-lost_on k kept free Sends t m front there e is allowed = kept.senders free t m front there e is allowed
-lost_on k kept free Receives t m front there e is allowed = kept.receivers free t m front there e is allowed
+lost_on : (k : Buffer) → NoWakeUpIsLost k → k.busy ≡ None → (asks : Group) → HasLine asks → (t : Tid) (m : Message)
+    → first (line_of (side_of asks) k) ≡ Some t
+    → is_in t (waiting_of (side_of asks) k) ≡ true → (e : Kind) → group_of e ≡ asks → Allows k e m → ⊥
+lost_on k kept free Sends line t m front there e is allowed = kept.senders free t m front there e is allowed
+lost_on k kept free Receives line t m front there e is allowed = kept.receivers free t m front there e is allowed
+lost_on k kept free Closes line t m front there e is allowed = absurd line
+
+-- a buffer that allows no effect of a call which has a line is open
+refused_open : (asks : Group) → HasLine asks → (k : Buffer) → ((m : Message) (e : Kind) → group_of e ≡ asks → Allows k e m → ⊥) → k.closed ≡ false
+refused_open Sends line k refused = false_from_ne_true k.closed (λ closed. refused no_message SendClosed refl closed)
+refused_open Receives line k refused = false_from_ne_true k.closed (λ closed. by_items k.items refl closed)
+  where
+    by_items : (items : List Message) → k.items ≡ items → k.closed ≡ true → ⊥
+    by_items [] is closed = refused no_message RecvClosed refl (closed, is, refl)
+    by_items (m ∷ items) is closed = refused m RecvKind refl (ap (λ x. slice_get x 0) is)
+refused_open Closes line k refused = absurd line
 
 front_of : (u : Tid) (line : List Tid) → 0 < count_in u line → (t : Tid) × (first line ≡ Some t)
 front_of u [] some = absurd (omega (arith, some))
@@ -103,12 +117,12 @@ owing_waits_not b Receivers = refl
 
 -- the call whose turn is a wait has to ask for the lock again
 waits_again : (call : Call) (b : BufId) (side : Side) → turn_of_call (Some call) ≡ In b (Waiting side)
-    → (is_before call.stage ≡ true) × (call.buffer ≡ b) × (side_of call.asks ≡ side)
+    → (is_before call.stage ≡ true) × (call.buffer ≡ b) × (side_of call.asks ≡ side) × (call.stage ≡ AcquiresAgain)
 waits_again call b side is = by_stage call.stage refl is
   where
     by_stage : (stage : Stage) → call.stage ≡ stage → turn_of_stage call.buffer (side_of call.asks) stage ≡ In b (Waiting side)
-        → (is_before call.stage ≡ true) × (call.buffer ≡ b) × (side_of call.asks ≡ side)
-    by_stage AcquiresAgain at now = (ap is_before at, ap (buffer_or b) now, ap (side_or side) now)
+        → (is_before call.stage ≡ true) × (call.buffer ≡ b) × (side_of call.asks ≡ side) × (call.stage ≡ AcquiresAgain)
+    by_stage AcquiresAgain at now = (ap is_before at, ap (buffer_or b) now, ap (side_or side) now, at)
     by_stage Acquires at now = absurd (cc now)
     by_stage Enters at now = absurd (cc now)
     by_stage Tries at now = absurd (cc now)
@@ -119,10 +133,11 @@ waits_again call b side is = by_stage call.stage refl is
     by_stage Returns at now = absurd (cc now)
 
 -- an instruction asks for one effect
-same_effect : (line : Instruction) (s : State) (a x : Asks) (b d : BufId) (m n : Message)
+same_effect : (line : Instruction) (s : State) (a x : Group) (b d : BufId) (m n : Message)
     → IsNextEffect line s a b m → IsNextEffect line s x d n → (a ≡ x) × (b ≡ d)
-same_effect (Send e r) s a x b d m n one other = (one.0 ∙ sym other.0, one.1 ∙ sym other.1)
-same_effect (Recv e r) s a x b d m n one other = (one.0 ∙ sym other.0, one.1 ∙ sym other.1)
+same_effect (Send e r i) s a x b d m n one other = (one.0 ∙ sym other.0, one.1 ∙ sym other.1)
+same_effect (Recv e r i) s a x b d m n one other = (one.0 ∙ sym other.0, one.1 ∙ sym other.1)
+same_effect (Close e) s a x b d m n one other = (one.0 ∙ sym other.0, one.1 ∙ sym other.1)
 same_effect (Set r i) s a x b d m n one other = absurd one
 same_effect (Add r q) s a x b d m n one other = absurd one
 same_effect (Sub r q) s a x b d m n one other = absurd one
@@ -283,11 +298,22 @@ module _ (setup : Setup) (s : Whole) (homes : HomesExist setup) (kept : Kept set
       by_call (Some call) is =
           let again = waits_again call wait.0 wait.1 (sym (ap turn_of_call is) ∙ sym turned ∙ wait.3) in
           let says = subst (Says _ (thread_at p u).guest) is (kept.fine (home_of setup u) p live.here u).says again.0 in
-          (call, is, record { unfinished = says.0; next = says.1; refused = refused call again.1 again.2 })
+          let line : HasLine call.asks = subst (FitsStage call.asks) again.3 says.2 in (
+            call,
+            is,
+            record {
+              unfinished = says.0;
+              next = says.1;
+              refused = refused call line again.1 again.2;
+              no_close = λ closes. subst HasLine closes line;
+              stays_open = λ k block. refused_open call.asks line k (λ m e asks. refused call line again.1 again.2 k m e asks block);
+            },
+          )
         where
-          refused : (call : Call) → call.buffer ≡ wait.0 → side_of call.asks ≡ wait.1 → (k : Buffer) (m : Message) (e : Kind) → asks_of e ≡ Some call.asks
+          refused : (call : Call) → HasLine call.asks → call.buffer ≡ wait.0 → side_of call.asks ≡ wait.1
+              → (k : Buffer) (m : Message) (e : Kind) → group_of e ≡ call.asks
               → block_at setup (AtBuffer call.buffer) s.log ≡ Some (OfBuffer k) → Allows k e m → ⊥
-          refused call same_buffer same_side k m e asks block allowed =
+          refused call line same_buffer same_side k m e asks block allowed =
               let mine : turn setup u (sections_in s.log) ≡ In call.buffer (Waiting (side_of call.asks)) =
               wait.3 ∙ (λ i. In (sym same_buffer i) (Waiting (sym same_side i))) in
               let one : marked u (is_lined call.buffer (side_of call.asks) (turn setup u (sections_in s.log))) ≡ 1 =
@@ -295,12 +321,12 @@ module _ (setup : Setup) (s : Whole) (homes : HomesExist setup) (kept : Kept set
               ∙ (λ i. one_if (buffer_self call.buffer i && side_self (side_of call.asks) i)) in
               let counts = line_count call.buffer u k _ _ _ (good.pairs call.buffer u k block) (side_of call.asks) in
               let front = front_of u (line_of (side_of call.asks) k) (omega (arith, one, counts)) in
-              first_waits call k m e asks block allowed front.0 front.1
+              first_waits call line k m e asks block allowed front.0 front.1
             where
-              first_waits : (call : Call) (k : Buffer) (m : Message) (e : Kind) → asks_of e ≡ Some call.asks
+              first_waits : (call : Call) → HasLine call.asks → (k : Buffer) (m : Message) (e : Kind) → group_of e ≡ call.asks
                   → block_at setup (AtBuffer call.buffer) s.log ≡ Some (OfBuffer k)
                   → Allows k e m → (t : Tid) → first (line_of (side_of call.asks) k) ≡ Some t → ⊥
-              first_waits call k m e asks block allowed t front =
+              first_waits call line k m e asks block allowed t front =
                   let pair = good.pairs call.buffer t k block in
                   let some = front_counted t (line_of (side_of call.asks) k) (ap (is_thread t) front ∙ same_tid_self t) in
                   let lined = (marked_some t (is_lined call.buffer (side_of call.asks) (turn setup t (sections_in s.log)))
@@ -318,7 +344,7 @@ module _ (setup : Setup) (s : Whole) (homes : HomesExist setup) (kept : Kept set
                   let counts = wait_count call.buffer t k _ _ _ pair (side_of call.asks) in
                   let stands_there = counted_in t (waiting_of (side_of call.asks) k) (omega (arith, one, counts)) in
                   lost_on k (calm_loses_nothing k _ (buffer_awake setup (sections_in s.log) good.ordered call.buffer k block))
-                  (unowned call.buffer k block) call.asks t m front
+                  (unowned call.buffer k block) call.asks line t m front
                   stands_there e asks allowed
 
   pub stuck : IsStuck setup s
@@ -328,7 +354,7 @@ module _ (setup : Setup) (s : Whole) (homes : HomesExist setup) (kept : Kept set
     effects = λ p u live e asks b m is next k block allowed.
         let call = stuck_call p u live in
         let same = same_effect (stands_at setup p u) (thread_at p u).guest asks call.0.asks b call.0.buffer m call.0.message next call.2.next in
-        call.2.refused k m e (is ∙ ap Some same.0) (subst (λ d. block_at setup (AtBuffer d) s.log ≡ Some (OfBuffer k)) same.1 block) allowed;
+        call.2.refused k m e (is ∙ same.0) (subst (λ d. block_at setup (AtBuffer d) s.log ≡ Some (OfBuffer k)) same.1 block) allowed;
   }
 
 pub quiet_is_stuck : QuietIsStuck

@@ -1,9 +1,10 @@
 -- What the step table speaks of: the blocks of the locks, the names of the sections, and what a section answers.
-use Rattle.std.specs.Prelude.{ℕ, Bool, false, ◌==◌, List, [], ◌∷◌, Option}
+use Rattle.std.specs.Prelude.{ℕ, Bool, false, ◌==◌, List, [], ◌∷◌, Option, if◌then◌else◌}
 use Rattle.event_log.specs.declared.ids.Tid.{Tid}
 use Rattle.event_log.specs.declared.entries.Kind.{Kind}
-use Rattle.event_log.specs.declared.entries.Kind.TheVariants.{Send as SendKind, Recv as RecvKind}
+use Rattle.event_log.specs.declared.entries.Kind.TheVariants.{Send as SendKind, Recv as RecvKind, Close as CloseKind, SendClosed, RecvClosed}
 use Rattle.event_log.specs.Messages.{Message}
+use Rattle.event_log.specs.Runs.{Group, Sends, Receives, Closes}
 use Rattle.thread_blocks.specs.Queues.{is_in, first, rest}
 use Rattle.layer_traits.specs.declared.locked.Side.{Side}
 use Rattle.layer_traits.specs.declared.locked.Side.TheVariants.{Receivers, Senders}
@@ -14,7 +15,8 @@ same_thread a b = a.0 == b.0
 
 -- what the lock of a buffer guards. The busy word names the thread that owns the lock, the sleepers wait for it; the waiting threads
 -- gave it up until they are woken; the two lines hold the threads inside a call that has not taken effect, first in front; then the
--- items, front first, how many there may be, and three counters: effects, and the positions drawn in each line.
+-- items, front first, how many there may be, whether the buffer is closed, and four counters: effects, the positions drawn in each
+-- line, and closes.
 pub record Buffer : Type 0 where
   pub busy : Option Tid
   pub sleepers : List Tid
@@ -24,22 +26,25 @@ pub record Buffer : Type 0 where
   pub send_line : List Tid
   pub items : List Message
   pub capacity : ℕ
+  pub closed : Bool
   pub effects : ℕ
   pub send_positions : ℕ
   pub receive_positions : ℕ
+  pub closes : ℕ
 
 -- what a lock guards: a buffer, or the queue of a CPU's pending threads
 pub data Block : Type 0 where
   OfBuffer : (buffer : Buffer) → Block
   OfPending : (threads : List Tid) → Block
 
--- the sections. A caller t asks for the lock of a buffer, enters a line of it, tries to put or to take, waits, signals the receivers or
--- the senders, or releases the lock. A thread s that was woken is put among the pending; all that are pending are taken.
+-- the sections. A caller t asks for the lock of a buffer, enters a line of it, tries to put or to take, closes it, waits, signals the
+-- receivers or the senders, or releases the lock. A thread s that was woken is put among the pending; all that are pending are taken.
 pub data Name : Type 0 where
   AcqQ : (t : Tid) → Name
   Enter : (t : Tid) (side : Side) → Name
   TryPut : (t : Tid) (message : Message) → Name
   TryTake : (t : Tid) → Name
+  Shut : (t : Tid) → Name
   WaitOn : (t : Tid) (side : Side) → Name
   SigRecv : (t : Tid) → Name
   SigSend : (t : Tid) → Name
@@ -47,26 +52,26 @@ pub data Name : Type 0 where
   Pend : (s : Tid) → Name
   TakeAll : Name
 
--- what a call asks of its buffer: to send or to receive
-pub data Asks : Type 0 where
-  Sends : Asks
-  Receives : Asks
-
--- the side of the buffer on which a call stands
-abbrev pub side_of : Asks → Side
+-- the side of the buffer on which a call stands, by what it asks; a close, which stands in no line, signals as a send does
+abbrev pub side_of : Group → Side
 side_of Sends = Senders
 side_of Receives = Receivers
+side_of Closes = Senders
 
--- the kind of the entry that a call writes
-abbrev pub effect_of : Asks → Kind
-effect_of Sends = SendKind
-effect_of Receives = RecvKind
+-- the kind of the entry that a call writes, where it found its buffer closed or not
+abbrev pub effect_of : Group → Bool → Kind
+effect_of Sends closed = if closed then SendClosed else SendKind
+effect_of Receives closed = if closed then RecvClosed else RecvKind
+effect_of Closes closed = CloseKind
 
--- what a section tells its caller: nothing, its position in a line, its effect's number and message, that it has to wait, or who was pending
+-- what a section tells its caller: nothing, its position in a line, its effect's number and message, its effect's number where it found
+-- the buffer closed, the number and the position of the close that it was, that it has to wait, or who was pending
 pub data Told : Type 0 where
   Nothing : Told
   Position : (pos : ℕ) → Told
   Done : (op : ℕ) (message : Message) → Told
+  WasClosed : (op : ℕ) → Told
+  DidShut : (op pos : ℕ) → Told
   NotYet : Told
   Drained : (threads : List Tid) → Told
 

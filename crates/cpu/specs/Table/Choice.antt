@@ -8,15 +8,16 @@ use Rattle.event_log.specs.declared.ids.LockId.TheVariants.{Pending, Buffer as A
 use Rattle.event_log.specs.declared.entries.Entry.{Entry}
 use Rattle.event_log.specs.History.{same_cpu}
 use Rattle.event_log.specs.Messages.{Message, no_message}
+use Rattle.event_log.specs.Runs.{Group, Sends, Receives, Closes}
 use Rattle.layer_traits.specs.declared.locked.Side.{Side}
 use Rattle.layer_traits.specs.declared.locked.Side.TheVariants.{Receivers, Senders}
 use Rattle.layer_traits.specs.declared.steps.Reason.{Reason}
 use Rattle.layer_traits.specs.declared.steps.Reason.TheVariants.{AllEnded, TraceFull}
 use Rattle.guest.specs.declared.instructions.Instruction.{Instruction}
-use Rattle.guest.specs.declared.instructions.Instruction.TheVariants.{Set, Add, Sub, Jnz, Send, Recv, Yield as YieldLine, Exit}
-use Rattle.guest.specs.State.{State, sent_from, after_local, after_send, after_recv, after_yield}
-use Rattle.cpu.specs.Table.Blocks.{Name, AcqQ, Enter, TryPut, TryTake, WaitOn, SigRecv, SigSend, RelQ, Pend, TakeAll, Asks, Sends, Receives, side_of, effect_of}
-use Rattle.cpu.specs.Table.Blocks.{Told, Position, Done, NotYet, Drained, Answer}
+use Rattle.guest.specs.declared.instructions.Instruction.TheVariants.{Set, Add, Sub, Jnz, Send, Recv, Close, Yield as YieldLine, Exit}
+use Rattle.guest.specs.State.{State, message_from, after_local, after_send, after_recv, after_close, after_closed, after_yield}
+use Rattle.cpu.specs.Table.Blocks.{Name, AcqQ, Enter, TryPut, TryTake, Shut, WaitOn, SigRecv, SigSend, RelQ, Pend, TakeAll, side_of, effect_of}
+use Rattle.cpu.specs.Table.Blocks.{Told, Position, Done, WasClosed, DidShut, NotYet, Drained, Answer}
 use Rattle.cpu.specs.Table.Setups.{Setup, Stage, Acquires, Enters, Tries, Waits, AcquiresAgain, Signals, SignalsOwn, Releases, Returns, Call, Private}
 use Rattle.cpu.specs.Table.Setups.{thread_at, with_thread, home_of, stands_at, home_threads, open_calls, have_ended}
 
@@ -47,10 +48,11 @@ abbrev pub second_signal : Tid → Side → Name
 second_signal t Senders = SigSend t
 second_signal t Receivers = SigRecv t
 
--- the section by which a call that has got the lock enters
-abbrev pub first_section : Tid → Asks → Name
+-- the section of a call that has got the lock: a send or a receive enters its line, a close takes effect at once
+abbrev pub first_section : Tid → Group → Name
 first_section t Sends = Enter t Senders
 first_section t Receives = Enter t Receivers
+first_section t Closes = Shut t
 
 -- the section of a call at each stage; at Returns none is due
 abbrev pub section_at : Tid → Call → Stage → Name
@@ -91,8 +93,8 @@ pub data Choice : Type 0 where
   Goes : (next : Private) → Choice
 
 -- a call that begins
-abbrev pub new_call : Asks → BufId → Message → Call
-new_call asks b m = record { asks = asks; buffer = b; message = m; position = 0; effect = None; stage = Acquires }
+abbrev pub new_call : Group → BufId → Message → Call
+new_call asks b m = record { asks = asks; buffer = b; message = m; position = 0; effect = None; closed = false; stage = Acquires }
 
 abbrev pub with_call : Private → Tid → Option Call → Private
 with_call p t call = with_thread p t (record (thread_at p t) { call = call })
@@ -113,8 +115,9 @@ ends p t = record (with_thread p t (record (thread_at p t) { ended = true })) { 
 
 -- the current thread stands at an instruction
 abbrev pub at_instruction : Setup → CpuId → Private → Tid → Instruction → Choice
-at_instruction setup c p t (Send b r) = begins setup c p t (new_call Sends b (sent_from (thread_at p t).guest r))
-at_instruction setup c p t (Recv b r) = begins setup c p t (new_call Receives b no_message)
+at_instruction setup c p t (Send b from k) = begins setup c p t (new_call Sends b (message_from (thread_at p t).guest from))
+at_instruction setup c p t (Recv b into k) = begins setup c p t (new_call Receives b no_message)
+at_instruction setup c p t (Close b) = begins setup c p t (new_call Closes b no_message)
 at_instruction setup c p t YieldLine = Goes p
 at_instruction setup c p t Exit = Alone (ends p t)
 at_instruction setup c p t (Set r n) = Alone (with_guest p t (after_local (Set r n) (thread_at p t).guest))
@@ -149,7 +152,7 @@ choice setup c p = at_hand setup c p p.hand
 
 -- the entry of an effect
 abbrev pub entry_of : CpuId → Tid → Call → ℕ → Message → Entry
-entry_of c t call op m = record { cpu = c; thread = t; kind = effect_of call.asks; buffer = call.buffer; value = m; op = op; pos = call.position }
+entry_of c t call op m = record { cpu = c; thread = t; kind = effect_of call.asks call.closed; buffer = call.buffer; value = m; op = op; pos = call.position }
 
 -- the call goes on to this stage
 abbrev pub goes_to : Private → Tid → Call → Stage → Private
@@ -165,14 +168,21 @@ abbrev pub heard_position : Private → Tid → Call → Told → Private
 heard_position p t call (Position pos) = with_call p t (Some (record call { position = pos; stage = Tries }))
 heard_position p t call _ = p
 
--- what entering told, by what the call asks
-abbrev pub heard_entry : CpuId → Private → Tid → Call → Asks → Told → Private
+-- that the buffer is closed, which is the effect of a close
+abbrev pub heard_shut : CpuId → Private → Tid → Call → Told → Private
+heard_shut c p t call (DidShut op pos) = effected c p t (record call { position = pos }) op
+heard_shut c p t call _ = p
+
+-- what its first section told, by what the call asks
+abbrev pub heard_entry : CpuId → Private → Tid → Call → Group → Told → Private
 heard_entry c p t call Sends told = heard_position p t call told
 heard_entry c p t call Receives told = heard_position p t call told
+heard_entry c p t call Closes told = heard_shut c p t call told
 
--- what the try told: its effect, or that the call has to wait
+-- what the try told: its effect, that it found the buffer closed, which is its effect too, or that the call has to wait
 abbrev pub heard_try : CpuId → Private → Tid → Call → Told → Private
 heard_try c p t call (Done op m) = effected c p t (record call { message = m }) op
+heard_try c p t call (WasClosed op) = effected c p t (record call { closed = true }) op
 heard_try c p t call NotYet = goes_to p t call Waits
 heard_try c p t call _ = p
 
@@ -198,15 +208,20 @@ abbrev pub woken : Setup → CpuId → Option Tid → Private → Private
 woken setup c None p = p
 woken setup c (Some s) p = if same_cpu (home_of setup s) c then record p { ready = p.ready ++ s ∷ [] } else record p { hand = Some s }
 
--- the thread's state once its call has returned
-abbrev pub guest_after : Asks → Instruction → Message → State → State
-guest_after Sends line m guest = after_send line guest
-guest_after Receives line m guest = after_recv line m guest
+-- the thread's state once its call has returned, by what it asked
+abbrev pub guest_served : Group → Instruction → Message → State → State
+guest_served Sends line m guest = after_send line guest
+guest_served Receives line m guest = after_recv line m guest
+guest_served Closes line m guest = after_close line guest
+
+-- one that found its buffer closed goes on at its target
+abbrev pub guest_after : Group → Bool → Instruction → Message → State → State
+guest_after asks closed line m guest = if closed then after_closed line guest else guest_served asks line m guest
 
 -- the call has returned
 abbrev pub returned : Setup → Private → Tid → Call → Private
 returned setup p t call =
-    with_thread p t (record (thread_at p t) { guest = guest_after call.asks (stands_at setup p t) call.message (thread_at p t).guest; call = None })
+    with_thread p t (record (thread_at p t) { guest = guest_after call.asks call.closed (stands_at setup p t) call.message (thread_at p t).guest; call = None })
 
 abbrev pub returned_at : Setup → Private → Tid → Call → Stage → Private
 returned_at setup p t call Returns = returned setup p t call

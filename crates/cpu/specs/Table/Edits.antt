@@ -1,5 +1,5 @@
 -- What each section makes of the block that it finds, and what it answers.
-use Rattle.std.specs.Prelude.{ℕ, Bool, true, false, ◌&&◌, nat_lt, List, [], ◌∷◌, ◌++◌, length, Option, Some, None, if◌then◌else◌}
+use Rattle.std.specs.Prelude.{ℕ, Bool, true, false, ◌&&◌, ◌||◌, nat_lt, List, [], ◌∷◌, ◌++◌, length, Option, Some, None, if◌then◌else◌}
 use Rattle.event_log.specs.declared.ids.Tid.{Tid}
 use Rattle.event_log.specs.Messages.{Message}
 use Rattle.thread_blocks.specs.Queues.{without}
@@ -7,9 +7,9 @@ use Rattle.layer_traits.specs.declared.locked.Side.{Side}
 use Rattle.layer_traits.specs.declared.locked.Side.TheVariants.{Receivers, Senders}
 use Rattle.layer_traits.specs.Plans.{Table}
 use Rattle.layer_traits.specs.Sleeping.{joined}
-use Rattle.layer_traits.specs.BufferBlocks.{may_join, is_first, counted, first_item, other_items}
-use Rattle.cpu.specs.Table.Blocks.{Buffer, Block, OfBuffer, OfPending, Name, AcqQ, Enter, TryPut, TryTake, WaitOn, SigRecv, SigSend, RelQ}
-use Rattle.cpu.specs.Table.Blocks.{Pend, TakeAll, Told, Nothing, Position, Done, NotYet, Drained, Answer, front, behind, front_stands_in}
+use Rattle.layer_traits.specs.BufferBlocks.{may_join, is_first, counted, items_put, other_items}
+use Rattle.cpu.specs.Table.Blocks.{Buffer, Block, OfBuffer, OfPending, Name, AcqQ, Enter, TryPut, TryTake, Shut, WaitOn, SigRecv, SigSend, RelQ, Pend, TakeAll}
+use Rattle.cpu.specs.Table.Blocks.{Told, Nothing, Position, Done, WasClosed, DidShut, NotYet, Drained, Answer, front, behind, front_stands_in}
 
 -- there is room for one item more
 abbrev pub has_room : Buffer → Bool
@@ -19,12 +19,12 @@ has_room k = nat_lt (length k.items) k.capacity
 abbrev pub has_items : Buffer → Bool
 has_items k = nat_lt 0 (length k.items)
 
--- the first of the send line has something to do, and so the first of the receive line
+-- the first of the send line has something to do, and so the first of the receive line: where the buffer is closed, to answer that
 abbrev pub can_put : Buffer → Bool
-can_put k = has_room k
+can_put k = k.closed || has_room k
 
 abbrev pub can_take : Buffer → Bool
-can_take k = has_items k
+can_take k = k.closed || has_items k
 
 -- whether a try of this thread has its effect: it is first in its line and has something to do
 abbrev pub may_put : Tid → Buffer → Bool
@@ -72,13 +72,17 @@ abbrev pub drawn_position : Side → Buffer → ℕ
 drawn_position Senders k = k.send_positions
 drawn_position Receivers k = k.receive_positions
 
--- the first of the send line has put its message behind the items and left the line
+-- the first of the send line has put its message behind the items, unless the buffer is closed, and left the line
 abbrev pub put : Message → Buffer → Buffer
-put m k = record k { items = k.items ++ m ∷ []; send_line = behind k.send_line; effects = counted k.effects }
+put m k = record k { items = items_put k.closed m k.items; send_line = behind k.send_line; effects = counted k.effects }
 
--- the first of the receive line has taken the first item and left the line
+-- the first of the receive line has taken the first item, if there is one, and left the line
 abbrev pub taken : Buffer → Buffer
 taken k = record k { items = other_items k.items; receive_line = behind k.receive_line; effects = counted k.effects }
+
+-- the buffer is closed; its items stay
+abbrev pub shut : Buffer → Buffer
+shut k = record k { closed = true; effects = counted k.effects; closes = counted k.closes }
 
 -- t waits among those of its side
 abbrev pub waiting : Tid → Side → Buffer → Buffer
@@ -95,6 +99,7 @@ edited_buffer (AcqQ t) k = acquired t k.busy k
 edited_buffer (Enter t side) k = if may_join t (line_of side k) then entered t side k else k
 edited_buffer (TryPut t m) k = if may_put t k then put m k else k
 edited_buffer (TryTake t) k = if may_take t k then taken k else k
+edited_buffer (Shut t) k = shut k
 edited_buffer (WaitOn t side) k = released (waiting t side k)
 edited_buffer (SigRecv t) k = record k { waiting_receivers = without_any (due_receiver k) k.waiting_receivers }
 edited_buffer (SigSend t) k = record k { waiting_senders = without_any (due_sender k) k.waiting_senders }
@@ -110,6 +115,7 @@ edited_pending (AcqQ t) threads = threads
 edited_pending (Enter t side) threads = threads
 edited_pending (TryPut t m) threads = threads
 edited_pending (TryTake t) threads = threads
+edited_pending (Shut t) threads = threads
 edited_pending (WaitOn t side) threads = threads
 edited_pending (SigRecv t) threads = threads
 edited_pending (SigSend t) threads = threads
@@ -137,12 +143,21 @@ abbrev pub answer_of_acquire : Option Tid → Answer
 answer_of_acquire None = tells Nothing
 answer_of_acquire (Some owner) = sleeps None
 
+-- what a try tells that has its effect: a put finds the buffer closed or not, a take finds no item only where the buffer is closed
+abbrev pub told_put : Bool → ℕ → Message → Told
+told_put closed op m = if closed then WasClosed op else Done op m
+
+abbrev pub told_take : List Message → ℕ → Told
+told_take [] op = WasClosed op
+told_take (m ∷ items) op = Done op m
+
 -- what a section on a buffer answers
 abbrev pub answer_of_buffer : Name → Buffer → Answer
 answer_of_buffer (AcqQ t) k = answer_of_acquire k.busy
 answer_of_buffer (Enter t side) k = tells (Position (drawn_position side k))
-answer_of_buffer (TryPut t m) k = tells (if may_put t k then Done k.effects m else NotYet)
-answer_of_buffer (TryTake t) k = tells (if may_take t k then Done k.effects (first_item k.items) else NotYet)
+answer_of_buffer (TryPut t m) k = tells (if may_put t k then told_put k.closed k.effects m else NotYet)
+answer_of_buffer (TryTake t) k = tells (if may_take t k then told_take k.items k.effects else NotYet)
+answer_of_buffer (Shut t) k = tells (DidShut k.effects k.closes)
 answer_of_buffer (WaitOn t side) k = sleeps (front k.sleepers)
 answer_of_buffer (SigRecv t) k = wakes (due_receiver k)
 answer_of_buffer (SigSend t) k = wakes (due_sender k)
@@ -158,6 +173,7 @@ answer_of_pending (AcqQ t) threads = tells Nothing
 answer_of_pending (Enter t side) threads = tells Nothing
 answer_of_pending (TryPut t m) threads = tells Nothing
 answer_of_pending (TryTake t) threads = tells Nothing
+answer_of_pending (Shut t) threads = tells Nothing
 answer_of_pending (WaitOn t side) threads = tells Nothing
 answer_of_pending (SigRecv t) threads = tells Nothing
 answer_of_pending (SigSend t) threads = tells Nothing

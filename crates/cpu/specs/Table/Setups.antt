@@ -8,9 +8,10 @@ use Rattle.event_log.specs.declared.ids.LockId.TheVariants.{Pending, Buffer as A
 use Rattle.event_log.specs.declared.entries.Entry.{Entry}
 use Rattle.event_log.specs.History.{same_cpu}
 use Rattle.event_log.specs.Messages.{Message}
+use Rattle.event_log.specs.Runs.{Group}
 use Rattle.guest.specs.declared.instructions.Instruction.{Instruction}
 use Rattle.guest.specs.State.{State, at_start, next_of}
-use Rattle.cpu.specs.Table.Blocks.{Buffer, Block, OfBuffer, OfPending, Asks}
+use Rattle.cpu.specs.Table.Blocks.{Buffer, Block, OfBuffer, OfPending}
 
 -- how many CPUs there are, the home of each thread, its program, the capacity of each buffer, and for how many entries a CPU's trace has room
 pub record Setup : Type 0 where
@@ -33,14 +34,15 @@ pub data Stage : Type 0 where
   Releases : Stage
   Returns : Stage
 
--- a call under way: what it asks of which buffer, its message (what it sends, or has received), its position in its line, the number
--- of its effect once it has come, and its stage
+-- a call under way: what it asks of which buffer, its message (what it sends, or has received), its position in its line (of a close:
+-- among the closes), the number of its effect once it has come, whether it then found the buffer closed, and its stage
 pub record Call : Type 0 where
-  pub asks : Asks
+  pub asks : Group
   pub buffer : BufId
   pub message : Message
   pub position : ℕ
   pub effect : Option ℕ
+  pub closed : Bool
   pub stage : Stage
 
 -- a thread: its line and registers, its call under way, and whether it has ended
@@ -115,9 +117,11 @@ empty_buffer capacity = record {
   send_line = [];
   items = [];
   capacity = capacity;
+  closed = false;
   effects = 0;
   send_positions = 0;
   receive_positions = 0;
+  closes = 0;
 }
 
 abbrev pub opening_buffer : Option ℕ → Option Block

@@ -11,7 +11,10 @@ use Rattle.event_log.specs.Actions.{takes, gives, phase, Waits}
 use Rattle.layer_traits.specs.declared.steps.Reason.{Reason}
 use Rattle.layer_traits.specs.declared.steps.Reason.TheVariants.{AllEnded, TraceFull}
 use Rattle.guest.specs.declared.instructions.Instruction.{Instruction}
+use Rattle.guest.specs.declared.instructions.Into.TheVariants.{One as ToOne}
+use Rattle.guest.specs.declared.instructions.Register.{Register}
 use Rattle.guest.specs.declared.instructions.Register.TheVariants.{Reg0, Reg1}
+use Rattle.guest.specs.declared.instructions.Source.TheVariants.{One as OfOne}
 use Rattle.guest.specs.declared.instructions.Instruction.TheVariants.{Set, Add, Send, Recv, Yield as YieldLine, Exit}
 use Rattle.cpu.specs.Table.Blocks.{Block, OfBuffer, OfPending}
 use Rattle.cpu.specs.Table.Setups.{Setup, Call, Private, thread_at}
@@ -126,22 +129,29 @@ abbrev pub setup_of : ℕ → List ℕ → List (List Instruction) → List ℕ 
 setup_of cpus homes programs caps trace_room =
     record { cpus = cpus; homes = map (λ n. cpu_numbered n) homes; programs = programs; caps = caps; trace_room = trace_room }
 
+-- a send of a register to buffer 0, and a receive from it to a register, without a target
+abbrev pub sends : Register → Instruction
+sends r = Send (buffer_numbered 0) (OfOne r) None
+
+abbrev pub receives : Register → Instruction
+receives r = Recv (buffer_numbered 0) (ToOne r) None
+
 -- a program that sends a number, one that sends it twice, one that sends two numbers, and one that receives
 abbrev pub sends_one : ℕ → List Instruction
-sends_one m = Set Reg0 m ∷ Send (buffer_numbered 0) Reg0 ∷ []
+sends_one m = Set Reg0 m ∷ sends Reg0 ∷ []
 
 abbrev pub sends_twice : ℕ → List Instruction
-sends_twice m = Set Reg0 m ∷ Send (buffer_numbered 0) Reg0 ∷ Send (buffer_numbered 0) Reg0 ∷ []
+sends_twice m = Set Reg0 m ∷ sends Reg0 ∷ sends Reg0 ∷ []
 
 abbrev pub sends_two : ℕ → ℕ → List Instruction
-sends_two m n = Set Reg0 m ∷ Send (buffer_numbered 0) Reg0 ∷ Set Reg0 n ∷ Send (buffer_numbered 0) Reg0 ∷ []
+sends_two m n = Set Reg0 m ∷ sends Reg0 ∷ Set Reg0 n ∷ sends Reg0 ∷ []
 
 abbrev pub receives_one : List Instruction
-receives_one = Recv (buffer_numbered 0) Reg0 ∷ []
+receives_one = receives Reg0 ∷ []
 
 -- one thread that sends once and ends
 abbrev pub one_sender : Setup
-one_sender = setup_of 1 (0 ∷ []) ((Set Reg0 7 ∷ Send (buffer_numbered 0) Reg0 ∷ Exit ∷ []) ∷ []) (1 ∷ []) 4
+one_sender = setup_of 1 (0 ∷ []) ((Set Reg0 7 ∷ sends Reg0 ∷ Exit ∷ []) ∷ []) (1 ∷ []) 4
 
 -- one thread that sends twice into a buffer for one
 abbrev pub two_sends : Setup
@@ -165,7 +175,8 @@ short_trace = setup_of 1 (0 ∷ []) (sends_twice 7 ∷ []) (32 ∷ []) 1
 
 -- one thread that sends a sum which comes round to 0
 abbrev pub wrapping_sum : Setup
-wrapping_sum = setup_of 1 (0 ∷ []) ((Set Reg0 18446744073709551615 ∷ Set Reg1 1 ∷ Add Reg0 Reg1 ∷ Send (buffer_numbered 0) Reg0 ∷ Exit ∷ []) ∷ []) (1 ∷ []) 4
+wrapping_sum = setup_of 1 (0 ∷ [])
+    ((Set Reg0 18446744073709551615 ∷ Set Reg1 1 ∷ Add Reg0 Reg1 ∷ sends Reg0 ∷ Exit ∷ []) ∷ []) (1 ∷ []) 4
 
 -- receivers on CPUs 0 and 2, and a sender on CPU 1
 abbrev pub receivers_apart : Setup
@@ -187,23 +198,23 @@ pub record AloneRuns : Type 0 where
   pub at_boot : (readies (run one_sender []) ≡ (thread 0 ∷ []) ∷ []) × (at_buffer_0 one_sender (run one_sender []) ≡ leaves [])
   -- the effect comes in the 9th step of the call, and the call returns in its 18th
   pub before_effect : (traces (run one_sender (of 0 10 ∷ [])) ≡ [] ∷ []) × (currents (run one_sender (of 0 10 ∷ [])) ≡ Some (thread 0) ∷ [])
-  pub effect : (traces (run one_sender (of 0 11 ∷ [])) ≡ (entry 0 0 SendKind 0 7 0 0 ∷ []) ∷ [])
+  pub effect : (traces (run one_sender (of 0 11 ∷ [])) ≡ (entry 0 0 SendKind 0 (7 ∷ []) 0 0 ∷ []) ∷ [])
       × (parts_in (buffer_of one_sender 0 (run one_sender (of 0 11 ∷ [])))
-      ≡ Some (record { busy = Some (thread 0); sleepers = []; waiting_receivers = []; waiting_senders = []; items = 7 ∷ [] }))
-  pub sent : (traces (run one_sender (of 0 21 ∷ [])) ≡ (entry 0 0 SendKind 0 7 0 0 ∷ []) ∷ [])
-      × (at_buffer_0 one_sender (run one_sender (of 0 21 ∷ [])) ≡ leaves (7 ∷ []))
+      ≡ Some (record { busy = Some (thread 0); sleepers = []; waiting_receivers = []; waiting_senders = []; items = (7 ∷ []) ∷ [] }))
+  pub sent : (traces (run one_sender (of 0 21 ∷ [])) ≡ (entry 0 0 SendKind 0 (7 ∷ []) 0 0 ∷ []) ∷ [])
+      × (at_buffer_0 one_sender (run one_sender (of 0 21 ∷ [])) ≡ leaves ((7 ∷ []) ∷ []))
       × (ended (run one_sender (of 0 21 ∷ [])) ≡ (true ∷ []) ∷ []) × (reason one_sender 0 (run one_sender (of 0 21 ∷ [])) ≡ Some AllEnded)
   -- the second send into a full buffer waits
-  pub waits : (traces (run two_sends (of 0 32 ∷ [])) ≡ (entry 0 0 SendKind 0 7 0 0 ∷ []) ∷ [])
-      × (at_buffer_0 two_sends (run two_sends (of 0 32 ∷ [])) ≡ sender_waits 0 (7 ∷ []))
+  pub waits : (traces (run two_sends (of 0 32 ∷ [])) ≡ (entry 0 0 SendKind 0 (7 ∷ []) 0 0 ∷ []) ∷ [])
+      × (at_buffer_0 two_sends (run two_sends (of 0 32 ∷ [])) ≡ sender_waits 0 ((7 ∷ []) ∷ []))
       × (currents (run two_sends (of 0 32 ∷ [])) ≡ None ∷ []) × (reason two_sends 0 (run two_sends (of 0 32 ∷ [])) ≡ None)
   -- a full trace halts the CPU before the second send begins: 20 steps were taken
-  pub full_trace : (traces (run short_trace (of 0 30 ∷ [])) ≡ (entry 0 0 SendKind 0 7 0 0 ∷ []) ∷ [])
-      × (at_buffer_0 short_trace (run short_trace (of 0 30 ∷ [])) ≡ leaves (7 ∷ [])) × ((run short_trace (of 0 30 ∷ [])).taken ≡ 20)
+  pub full_trace : (traces (run short_trace (of 0 30 ∷ [])) ≡ (entry 0 0 SendKind 0 (7 ∷ []) 0 0 ∷ []) ∷ [])
+      × (at_buffer_0 short_trace (run short_trace (of 0 30 ∷ [])) ≡ leaves ((7 ∷ []) ∷ [])) × ((run short_trace (of 0 30 ∷ [])).taken ≡ 20)
       × (currents (run short_trace (of 0 30 ∷ [])) ≡ Some (thread 0) ∷ []) × (reason short_trace 0 (run short_trace (of 0 30 ∷ [])) ≡ Some TraceFull)
   -- a sum of 64 bits comes round
-  pub wraps : (traces (run wrapping_sum (of 0 23 ∷ [])) ≡ (entry 0 0 SendKind 0 0 0 0 ∷ []) ∷ [])
-      × (at_buffer_0 wrapping_sum (run wrapping_sum (of 0 23 ∷ [])) ≡ leaves (0 ∷ [])) × (ended (run wrapping_sum (of 0 23 ∷ [])) ≡ (true ∷ []) ∷ [])
+  pub wraps : (traces (run wrapping_sum (of 0 23 ∷ [])) ≡ (entry 0 0 SendKind 0 (0 ∷ []) 0 0 ∷ []) ∷ [])
+      × (at_buffer_0 wrapping_sum (run wrapping_sum (of 0 23 ∷ [])) ≡ leaves ((0 ∷ []) ∷ [])) × (ended (run wrapping_sum (of 0 23 ∷ [])) ≡ (true ∷ []) ∷ [])
   -- whoever yields stands behind those that are ready
   pub yields : (readies (run a_yield (of 0 4 ∷ [])) ≡ (thread 1 ∷ thread 0 ∷ []) ∷ []) × (ended (run a_yield (of 0 8 ∷ [])) ≡ (true ∷ true ∷ []) ∷ [])
 
@@ -221,20 +232,21 @@ pub record RunsOfTwo : Type 0 where
   pub in_hand : (hands (run two_cpus (of 0 13 ∷ of 1 14 ∷ [])) ≡ None ∷ Some (thread 0) ∷ [])
       × (currents (run two_cpus (of 0 13 ∷ of 1 14 ∷ [])) ≡ None ∷ Some (thread 1) ∷ [])
       × (parts_in (buffer_of two_cpus 0 (run two_cpus (of 0 13 ∷ of 1 14 ∷ [])))
-      ≡ Some (record { busy = Some (thread 1); sleepers = []; waiting_receivers = []; waiting_senders = []; items = 7 ∷ [] }))
-      × (traces (run two_cpus (of 0 13 ∷ of 1 14 ∷ [])) ≡ [] ∷ (entry 1 1 SendKind 0 7 0 0 ∷ []) ∷ [])
+      ≡ Some (record { busy = Some (thread 1); sleepers = []; waiting_receivers = []; waiting_senders = []; items = (7 ∷ []) ∷ [] }))
+      × (traces (run two_cpus (of 0 13 ∷ of 1 14 ∷ [])) ≡ [] ∷ (entry 1 1 SendKind 0 (7 ∷ []) 0 0 ∷ []) ∷ [])
   -- the send that woke it takes 21 steps: one switch, one number set, 18 and the 3 that put the thread among the pending
   pub under_way : (ended (run two_cpus (of 0 13 ∷ of 1 22 ∷ [])) ≡ (false ∷ false ∷ []) ∷ (false ∷ false ∷ []) ∷ [])
       × (currents (run two_cpus (of 0 13 ∷ of 1 22 ∷ [])) ≡ None ∷ Some (thread 1) ∷ []) × (call_of 1 1 (run two_cpus (of 0 13 ∷ of 1 23 ∷ [])) ≡ None)
   pub pending : (pending_of two_cpus 0 (run two_cpus (of 0 13 ∷ of 1 24 ∷ [])) ≡ Some (OfPending (thread 0 ∷ [])))
       × (reason two_cpus 1 (run two_cpus (of 0 13 ∷ of 1 24 ∷ [])) ≡ Some AllEnded)
-      × (at_buffer_0 two_cpus (run two_cpus (of 0 13 ∷ of 1 24 ∷ [])) ≡ leaves (7 ∷ []))
+      × (at_buffer_0 two_cpus (run two_cpus (of 0 13 ∷ of 1 24 ∷ [])) ≡ leaves ((7 ∷ []) ∷ []))
   -- the receiver is drained, runs again, and takes the item
-  pub received : (traces (run two_cpus (of 0 13 ∷ of 1 24 ∷ of 0 20 ∷ [])) ≡ (entry 0 0 RecvKind 0 7 1 0 ∷ []) ∷ (entry 1 1 SendKind 0 7 0 0 ∷ []) ∷ [])
+  pub received : (traces (run two_cpus (of 0 13 ∷ of 1 24 ∷ of 0 20 ∷ []))
+      ≡ (entry 0 0 RecvKind 0 (7 ∷ []) 1 0 ∷ []) ∷ (entry 1 1 SendKind 0 (7 ∷ []) 0 0 ∷ []) ∷ [])
       × (at_buffer_0 two_cpus (run two_cpus (of 0 13 ∷ of 1 24 ∷ of 0 20 ∷ [])) ≡ leaves [])
       × (ended (run two_cpus (of 0 13 ∷ of 1 24 ∷ of 0 20 ∷ [])) ≡ (true ∷ false ∷ []) ∷ (false ∷ true ∷ []) ∷ [])
   -- both on one CPU: the woken thread is ready there at once, and no section puts it among the pending
-  pub on_one_cpu : (traces (run one_cpu (of 0 51 ∷ [])) ≡ (entry 0 1 SendKind 0 7 0 0 ∷ entry 0 0 RecvKind 0 7 1 0 ∷ []) ∷ [])
+  pub on_one_cpu : (traces (run one_cpu (of 0 51 ∷ [])) ≡ (entry 0 1 SendKind 0 (7 ∷ []) 0 0 ∷ entry 0 0 RecvKind 0 (7 ∷ []) 1 0 ∷ []) ∷ [])
       × (at_buffer_0 one_cpu (run one_cpu (of 0 51 ∷ [])) ≡ leaves []) × (ended (run one_cpu (of 0 51 ∷ [])) ≡ (true ∷ true ∷ []) ∷ [])
 
 abbrev pub first_half : List Burst
@@ -253,22 +265,23 @@ handed_over = of 0 5 ∷ of 1 5 ∷ of 0 15 ∷ of 2 5 ∷ of 0 4 ∷ of 1 23 �
 pub record RunsOfThree : Type 0 where
   -- two receivers wait, and two sends come: the first wakes the first receiver; the second wakes nobody, for the first in line does not sleep
   pub one_woken : (pending_of two_receivers 0 (run two_receivers first_half) ≡ Some (OfPending (thread 0 ∷ [])))
-      × (at_buffer_0 two_receivers (run two_receivers first_half) ≡ receiver_waits 1 (7 ∷ 8 ∷ []))
+      × (at_buffer_0 two_receivers (run two_receivers first_half) ≡ receiver_waits 1 ((7 ∷ []) ∷ (8 ∷ []) ∷ []))
       × (reason two_receivers 2 (run two_receivers first_half) ≡ Some AllEnded)
   -- the first receiver signals its own side too: without that signal the second one would sleep on beside its item
   pub both_woken : (traces (run two_receivers both_halves)
-      ≡ (entry 0 0 RecvKind 0 7 2 0 ∷ []) ∷ (entry 1 1 RecvKind 0 8 3 1 ∷ []) ∷ (entry 2 2 SendKind 0 7 0 0 ∷ entry 2 2 SendKind 0 8 1 1 ∷ []) ∷ [])
+      ≡ (entry 0 0 RecvKind 0 (7 ∷ []) 2 0 ∷ []) ∷ (entry 1 1 RecvKind 0 (8 ∷ []) 3 1 ∷ [])
+      ∷ (entry 2 2 SendKind 0 (7 ∷ []) 0 0 ∷ entry 2 2 SendKind 0 (8 ∷ []) 1 1 ∷ []) ∷ [])
       × (at_buffer_0 two_receivers (run two_receivers both_halves) ≡ leaves [])
       × (ended (run two_receivers both_halves) ≡ (true ∷ false ∷ false ∷ []) ∷ (false ∷ true ∷ false ∷ []) ∷ (false ∷ false ∷ true ∷ []) ∷ [])
   -- a lock that is released passes to its first sleeper, which is in the hand of the CPU that released it
   pub lock_passes : (parts_in (buffer_of three_senders 0 (run three_senders handing_over))
-      ≡ Some (record { busy = Some (thread 1); sleepers = thread 2 ∷ []; waiting_receivers = []; waiting_senders = []; items = 1 ∷ [] }))
+      ≡ Some (record { busy = Some (thread 1); sleepers = thread 2 ∷ []; waiting_receivers = []; waiting_senders = []; items = (1 ∷ []) ∷ [] }))
       × (hands (run three_senders handing_over) ≡ Some (thread 1) ∷ None ∷ None ∷ [])
       × (currents (run three_senders handing_over) ≡ Some (thread 0) ∷ None ∷ None ∷ [])
-  pub all_sent : (at_buffer_0 three_senders (run three_senders handed_over) ≡ leaves (1 ∷ 2 ∷ 3 ∷ []))
+  pub all_sent : (at_buffer_0 three_senders (run three_senders handed_over) ≡ leaves ((1 ∷ []) ∷ (2 ∷ []) ∷ (3 ∷ []) ∷ []))
       × (ended (run three_senders handed_over) ≡ (true ∷ false ∷ false ∷ []) ∷ (false ∷ true ∷ false ∷ []) ∷ (false ∷ false ∷ true ∷ []) ∷ [])
   -- whoever finds an item but is not the first in its line waits
   pub first_comes_first : (traces (run receivers_apart (of 0 13 ∷ of 1 24 ∷ of 2 13 ∷ of 0 20 ∷ []))
-      ≡ (entry 0 0 RecvKind 0 7 1 0 ∷ []) ∷ (entry 1 1 SendKind 0 7 0 0 ∷ []) ∷ [] ∷ [])
+      ≡ (entry 0 0 RecvKind 0 (7 ∷ []) 1 0 ∷ []) ∷ (entry 1 1 SendKind 0 (7 ∷ []) 0 0 ∷ []) ∷ [] ∷ [])
       × (at_buffer_0 receivers_apart (run receivers_apart (of 0 13 ∷ of 1 24 ∷ of 2 13 ∷ of 0 20 ∷ [])) ≡ receiver_waits 2 [])
       × (currents (run receivers_apart (of 0 13 ∷ of 1 24 ∷ of 2 13 ∷ of 0 20 ∷ [])) ≡ None ∷ None ∷ None ∷ [])

@@ -1,6 +1,6 @@
 -- The plan of each poll is a line of the step table: it asks for the table's section, and what it makes of the section's answer is what
 -- the table makes of it.
-use Rattle.std.specs.Prelude.{◌≡◌, ◌⊎◌, ◌<◌, ℕ, Bool, true, false, List, Option, Some, None, IsSome, length, map, option_map, slice_get}
+use Rattle.std.specs.Prelude.{◌≡◌, ◌⊎◌, ◌<◌, Bool, true, false, List, Option, Some, None, IsSome, length, map, option_map, slice_get}
 use Rattle.event_log.specs.declared.entries.Entry.{Entry}
 use Rattle.event_log.specs.declared.ids.BufId.{BufId}
 use Rattle.event_log.specs.declared.ids.CpuId.{CpuId}
@@ -10,7 +10,7 @@ use Rattle.event_log.specs.declared.ids.Tid.{Tid}
 use Rattle.event_log.specs.Actions.{Action, phase, renamed}
 use Rattle.guest.specs.declared.instructions.Instruction.{Instruction}
 use Rattle.guest.specs.declared.instructions.Instruction.TheVariants as instruction
-use Rattle.guest.specs.State.{State, next_of, sent_from}
+use Rattle.guest.specs.State.{State, next_of, message_from}
 use Rattle.layer_traits.specs.declared.calls.Call.{Call}
 use Rattle.layer_traits.specs.declared.calls.Call.TheVariants as asks_for
 use Rattle.layer_traits.specs.declared.calls.Effect.{Effect}
@@ -57,12 +57,35 @@ pub data Stands : Stage → (hand : Option Tid) → (kept : Option TowerOut) →
   has_signalled_own : (u : Tid) (v : CvOut BufferOut) (f : Effect) → Stands SignalsOwn (Some u) (Some (outcome_of (lock.Did v) u)) None None (Some f)
   has_released : (u : Tid) (f : Effect) → Stands Releases (Some u) (Some (outcome_of (lock.Released cv.Left) u)) None None (Some f)
 
+-- a call that stands in a line of its buffer until its effect: each but a close
+abbrev pub IsLined : Call → Type 0
+IsLined (asks_for.Send b m) = Unit {0}
+IsLined (asks_for.Recv b) = Unit {0}
+IsLined (asks_for.Close b) = ⊥
+
+abbrev pub IsLinedIn : Option Call → Type 0
+IsLinedIn None = Unit {0}
+IsLinedIn (Some call) = IsLined call
+
+-- a call fits the stage: none but one in a line tries, waits, or asks for the lock again
+abbrev pub FitsStage : Stage → Option Call → Type 0
+FitsStage Between call = Unit {0}
+FitsStage Acquires call = Unit {0}
+FitsStage Enters call = Unit {0}
+FitsStage Tries call = IsLinedIn call
+FitsStage Waits call = IsLinedIn call
+FitsStage AcquiresAgain call = IsLinedIn call
+FitsStage Signals call = Unit {0}
+FitsStage SignalsOwn call = Unit {0}
+FitsStage Releases call = Unit {0}
+
 -- thread t runs and is inside this call
 pub record IsGoing (own : Buffering) (guests : List State) (t : Tid) (call : Call) : Type 0 where
   pub current : (threads_in own).current ≡ Some t
   pub begun : (talk_of own.talks t).call ≡ Some call
   pub stands : Stands (talk_of own.talks t).stage (threads_in own).hand own.cv.lock.sleep.kept (slept_for own.cv.lock.slept t)
       (slept_for own.cv.waits t) (talk_of own.talks t).effect
+  pub fits : FitsStage (talk_of own.talks t).stage (talk_of own.talks t).call
   pub in_guests : t.0 < length guests
   pub in_talks : t.0 < length own.talks
   pub in_slept : t.0 < length own.cv.lock.slept
@@ -114,8 +137,9 @@ OpensAs setup c opening = (l : LockId) → IsUsed setup c l → option_map view 
 
 -- the call that an instruction asks for
 abbrev pub AsksFor : Instruction → State → Call → Type 0
-AsksFor (instruction.Send b r) guest call = call ≡ asks_for.Send b (sent_from guest r)
-AsksFor (instruction.Recv b r) guest call = call ≡ asks_for.Recv b
+AsksFor (instruction.Send b from k) guest call = call ≡ asks_for.Send b (message_from guest from)
+AsksFor (instruction.Recv b into k) guest call = call ≡ asks_for.Recv b
+AsksFor (instruction.Close b) guest call = call ≡ asks_for.Close b
 AsksFor instruction.Yield guest call = ⊥
 AsksFor instruction.Exit guest call = ⊥
 AsksFor (instruction.Set r n) guest call = ⊥

@@ -2,10 +2,13 @@
 -- section, or its caller's next one, only once that runs again, the table has already gone on: both do the same actions.
 use Rattle.std.specs.Prelude.{ℕ, ◌+◌, Bool, true, false, ◌&&◌, List, [], ◌∷◌, ◌++◌, Option, Some, None, is_some, option_map, slice_index_or, slice_set}
 use Rattle.event_log.specs.declared.entries.Entry.{Entry}
+use Rattle.event_log.specs.declared.entries.Kind.{Kind}
+use Rattle.event_log.specs.declared.entries.Kind.TheVariants as kind
 use Rattle.event_log.specs.declared.ids.BufId.{BufId}
 use Rattle.event_log.specs.declared.ids.CpuId.{CpuId}
 use Rattle.event_log.specs.declared.ids.Tid.{Tid}
 use Rattle.event_log.specs.Messages.{Message, no_message}
+use Rattle.event_log.specs.Runs.{Group, Sends, Receives, Closes}
 use Rattle.guest.specs.State.{State, at_start, next_of, after_yield}
 use Rattle.thread_blocks.specs.Queues.{is_in}
 use Rattle.layer_traits.specs.declared.calls.Call.{Call as TowerCall}
@@ -22,7 +25,6 @@ use Rattle.layer_traits.specs.Places.{Threads, is_thread}
 use Rattle.layer_traits.specs.Plans.{Left}
 use Rattle.layer_traits.specs.BufferLaw.{Buffering, begun_at, buffer_of, entry_of, going, talk_of}
 use Rattle.cpu.specs.Guests.{after_answer}
-use Rattle.cpu.specs.Table.Blocks.{Asks, Sends, Receives}
 use Rattle.cpu.specs.Table.Setups.{Setup, Stage, Acquires, Enters, Tries, Waits, AcquiresAgain, Signals}
 use Rattle.cpu.specs.Table.Setups.{SignalsOwn, Releases, Returns, Call, Thread, Private, program_of}
 
@@ -58,22 +60,48 @@ abbrev pub message_of : TowerCall → Option Effect → Message
 message_of call (Some f) = f.value
 message_of (asks.Send b m) None = m
 message_of (asks.Recv b) None = no_message
+message_of (asks.Close b) None = no_message
+
+-- its position: that of its effect, once this has come
+abbrev pub position_of : ℕ → Option Effect → ℕ
+position_of position (Some f) = f.pos
+position_of position None = position
+
+-- whether its effect found the buffer closed
+abbrev pub closed_by : TowerCall → Kind → Bool
+closed_by (asks.Send b m) kind.SendClosed = true
+closed_by (asks.Send b m) kind.Send = false
+closed_by (asks.Send b m) kind.Recv = false
+closed_by (asks.Send b m) kind.Close = false
+closed_by (asks.Send b m) kind.RecvClosed = false
+closed_by (asks.Recv b) kind.RecvClosed = true
+closed_by (asks.Recv b) kind.Send = false
+closed_by (asks.Recv b) kind.Recv = false
+closed_by (asks.Recv b) kind.Close = false
+closed_by (asks.Recv b) kind.SendClosed = false
+closed_by (asks.Close b) kind = false
+
+abbrev pub was_closed : TowerCall → Option Effect → Bool
+was_closed call (Some f) = closed_by call f.kind
+was_closed call None = false
 
 abbrev pub op_of : Effect → ℕ
 op_of f = f.op
 
 -- what a call asks
-abbrev pub asks_in : TowerCall → Asks
+abbrev pub asks_in : TowerCall → Group
 asks_in (asks.Send b m) = Sends
 asks_in (asks.Recv b) = Receives
+asks_in (asks.Close b) = Closes
 
 abbrev pub call_from : TowerCall → ℕ → Option Effect → Stage → Call
 call_from call position effect stage = record {
   asks = asks_in call;
   buffer = buffer_of call;
   message = message_of call effect;
-  position = position;
+  position = position_of position effect;
   effect = option_map op_of effect;
+  closed = was_closed call effect;
   stage = stage;
 }
 

@@ -1,5 +1,5 @@
 -- How all threads stand to a CPU's part between its polls.
-use Rattle.std.specs.Prelude.{◌≡◌, false, List, Option, Some, None, length}
+use Rattle.std.specs.Prelude.{◌≡◌, false, Option, Some, None, length}
 use Rattle.event_log.specs.declared.ids.BufId.{BufId}
 use Rattle.event_log.specs.declared.ids.Tid.{Tid}
 use Rattle.event_log.specs.declared.ids.TheConstants.{THREADS}
@@ -11,7 +11,7 @@ use Rattle.layer_traits.specs.Places.{is_thread}
 use Rattle.layer_traits.specs.BufferLaw.{Buffering, talk_of}
 use Rattle.cpu.specs.Tower.Views.{TowerOut}
 use Rattle.cpu.specs.Tower.Privates.{threads_in}
-use Rattle.cpu.specs.Tower.Composed.{Stands}
+use Rattle.cpu.specs.Tower.Composed.{Stands, FitsStage}
 
 -- a thread is in no call, and then it neither sleeps nor waits, or it stands in one as a begun call may
 pub data MayStand : Stage → (hand : Option Tid) → (kept : Option TowerOut) → (slept waits : Option BufId) → (effect : Option Effect) → Type 0 where
@@ -19,7 +19,8 @@ pub data MayStand : Stage → (hand : Option Tid) → (kept : Option TowerOut) �
   inside : (stage : Stage) (hand : Option Tid) (kept : Option TowerOut) (slept waits : Option BufId) (effect : Option Effect)
       → Stands stage hand kept slept waits effect → MayStand stage hand kept slept waits effect
 
--- the thread that runs stands so with the hand and the kept answer, each other thread without one; while nobody runs none is kept
+-- the thread that runs stands so with the hand and the kept answer, each other thread without one; while nobody runs none is kept; and
+-- each thread's call fits its stage
 pub record IsPart (own : Buffering) : Type 0 where
   pub mine : (t : Tid) → (threads_in own).current ≡ Some t
       → MayStand (talk_of own.talks t).stage (threads_in own).hand own.cv.lock.sleep.kept (slept_for own.cv.lock.slept t)
@@ -27,6 +28,7 @@ pub record IsPart (own : Buffering) : Type 0 where
   pub other : (t : Tid) → is_thread t (threads_in own).current ≡ false
       → MayStand (talk_of own.talks t).stage None None (slept_for own.cv.lock.slept t) (slept_for own.cv.waits t) (talk_of own.talks t).effect
   pub idle : (threads_in own).current ≡ None → own.cv.lock.sleep.kept ≡ None
+  pub fits : (t : Tid) → FitsStage (talk_of own.talks t).stage (talk_of own.talks t).call
   pub talks : length own.talks ≡ THREADS
   pub slept : length own.cv.lock.slept ≡ THREADS
   pub waits : length own.cv.waits ≡ THREADS

@@ -1,6 +1,9 @@
 -- The layers seen as the step table: the table's name of each section, its block and its answer.
-use Rattle.std.specs.Prelude.{◌≡◌, Option, None}
+use Rattle.std.specs.Prelude.{◌≡◌, ℕ}
+use Rattle.event_log.specs.declared.entries.Kind.{Kind}
+use Rattle.event_log.specs.declared.entries.Kind.TheVariants as kind
 use Rattle.event_log.specs.declared.ids.Tid.{Tid}
+use Rattle.event_log.specs.Messages.{Message}
 use Rattle.layer_traits.specs.declared.locked.QEdit.TheVariants.{Acquire, Inside, Release}
 use Rattle.layer_traits.specs.declared.locked.QOut.{QOut}
 use Rattle.layer_traits.specs.declared.locked.QOut.TheVariants as lock
@@ -27,8 +30,8 @@ use Rattle.layer_traits.specs.Conditions.{CvCall}
 use Rattle.layer_traits.specs.Locking.{LockState, lock_moves, lock_rules}
 use Rattle.layer_traits.specs.Plans.{Table, table_of}
 use Rattle.layer_traits.specs.QueueRules.{queue_rules}
-use Rattle.cpu.specs.Table.Blocks.{Buffer, Block, OfBuffer, OfPending, Name, AcqQ, Enter, TryPut, TryTake, WaitOn, SigRecv}
-use Rattle.cpu.specs.Table.Blocks.{SigSend, RelQ, Pend, TakeAll, Told, Nothing, Position, Done, NotYet, Drained, Answer}
+use Rattle.cpu.specs.Table.Blocks.{Buffer, Block, OfBuffer, OfPending, Name, AcqQ, Enter, TryPut, TryTake, Shut, WaitOn, SigRecv}
+use Rattle.cpu.specs.Table.Blocks.{SigSend, RelQ, Pend, TakeAll, Told, Nothing, Position, Done, WasClosed, DidShut, NotYet, Drained, Answer}
 use Rattle.cpu.specs.Table.Edits.{edited, answer, tells}
 
 -- the names, answers and blocks of the layers' sections
@@ -61,6 +64,7 @@ name_of (queue.Above (Acquire t)) = AcqQ t
 name_of (queue.Above (Inside (Edit (edit.Enter t side)))) = Enter t side
 name_of (queue.Above (Inside (Edit (edit.TryPut t m)))) = TryPut t m
 name_of (queue.Above (Inside (Edit (edit.TryTake t)))) = TryTake t
+name_of (queue.Above (Inside (Edit (edit.Shut t)))) = Shut t
 name_of (queue.Above (Inside (SignalFront t side))) = signal_on t side
 name_of (queue.Above (Release (Leave t))) = RelQ t
 name_of (queue.Above (Release (Wait t side))) = WaitOn t side
@@ -73,6 +77,7 @@ code (AcqQ t) = queue.Above (Acquire t)
 code (Enter t side) = queue.Above (Inside (Edit (edit.Enter t side)))
 code (TryPut t m) = queue.Above (Inside (Edit (edit.TryPut t m)))
 code (TryTake t) = queue.Above (Inside (Edit (edit.TryTake t)))
+code (Shut t) = queue.Above (Inside (Edit (edit.Shut t)))
 code (SigRecv t) = queue.Above (Inside (SignalFront t Receivers))
 code (SigSend t) = queue.Above (Inside (SignalFront t Senders))
 code (RelQ t) = queue.Above (Release (Leave t))
@@ -89,9 +94,11 @@ buffer_view state = record {
   send_line = state.above.send_line;
   items = state.above.items;
   capacity = state.above.capacity;
+  closed = state.above.closed;
   effects = state.above.effects;
   send_positions = state.above.sends;
   receive_positions = state.above.receives;
+  closes = state.above.closes;
 }
 
 -- a block of the layers
@@ -99,11 +106,20 @@ abbrev pub view : TowerBlock → Block
 view (block.Queue threads homes) = OfPending threads
 view (block.Above state) = OfBuffer (buffer_view state)
 
+-- what an effect of this kind tells: a try that found the buffer closed tells no message
+abbrev pub told_of : Kind → ℕ → Message → Told
+told_of kind.Send op m = Done op m
+told_of kind.Recv op m = Done op m
+told_of kind.Close op m = Done op m
+told_of kind.SendClosed op m = WasClosed op
+told_of kind.RecvClosed op m = WasClosed op
+
 -- what the answers of the layers tell
 abbrev pub told_above : BufferOut → Told
 told_above (out.Entered pos) = Position pos
 told_above out.NotYet = NotYet
-told_above (out.Done kind op m) = Done op m
+told_above (out.Done kind op m) = told_of kind op m
+told_above (out.WasShut op pos) = DidShut op pos
 
 abbrev pub told_inside : CvOut BufferOut → Told
 told_inside (cv.Did o) = told_above o

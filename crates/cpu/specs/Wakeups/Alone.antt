@@ -1,28 +1,38 @@
 -- A call of a CPU that runs alone: how many steps it takes.
-use Rattle.std.specs.Prelude.{◌≡◌, ℕ, ◌+◌, ◌≤◌, Bool, false, not, [], ◌∷◌, ◌++◌, Option, Some, None, slice_get, if◌then◌else◌}
+use Rattle.std.specs.Prelude.{◌≡◌, ℕ, ◌+◌, ◌≤◌, ◌<◌, Bool, false, not, [], ◌∷◌, ◌++◌, Option, Some, None, slice_get, if◌then◌else◌}
 use Rattle.event_log.specs.declared.ids.CpuId.{CpuId}
 use Rattle.event_log.specs.declared.ids.Tid.{Tid}
 use Rattle.event_log.specs.declared.ids.BufId.{BufId}
 use Rattle.event_log.specs.declared.ids.LockId.TheVariants.{Buffer as AtBuffer}
 use Rattle.event_log.specs.declared.entries.Kind.{Kind}
+use Rattle.event_log.specs.declared.entries.Kind.TheVariants.{Send as SendKind, Recv as RecvKind, Close as CloseKind, SendClosed, RecvClosed}
 use Rattle.event_log.specs.declared.entries.Entry.{Entry}
 use Rattle.event_log.specs.Messages.{Message}
+use Rattle.event_log.specs.Runs.{Group, Sends, Receives, Closes, group_of}
 use Rattle.event_log.specs.Actions.{phase, Rests, AreFree}
 use Rattle.event_log.specs.History.{same_cpu}
 use Rattle.guest.specs.declared.instructions.Instruction.{Instruction}
-use Rattle.guest.specs.declared.instructions.Instruction.TheVariants.{Send, Recv}
-use Rattle.cpu.specs.Table.Blocks.{Buffer, OfBuffer, Asks, Sends, Receives, front, front_stands_in, side_of}
-use Rattle.cpu.specs.Table.Edits.{line_of}
+use Rattle.guest.specs.declared.instructions.Instruction.TheVariants.{Send, Recv, Close}
+use Rattle.layer_traits.specs.declared.locked.Side.{Side}
+use Rattle.layer_traits.specs.declared.locked.Side.TheVariants.{Receivers, Senders}
+use Rattle.cpu.specs.Table.Blocks.{Buffer, OfBuffer, front, front_stands_in}
 use Rattle.cpu.specs.Table.Setups.{Call, Setup, Private, home_of, thread_at, stands_at}
 use Rattle.cpu.specs.Table.Steps.{Whole, IsReached, block_at, halted_at, steps_by}
-use Rattle.cpu.specs.Wakeups.Lost.{asks_of, Allows}
+use Rattle.cpu.specs.Wakeups.Lost.{Allows}
 use Rattle.cpu.specs.Wakeups.Quiet.{AreFew}
 
--- the instruction is a send, or a receive, on this buffer
-abbrev pub IsCallOn : Asks → BufId → Instruction → Type 0
-IsCallOn Sends b (Send d r) = d ≡ b
-IsCallOn Receives b (Recv d r) = d ≡ b
+-- the instruction is a send, a receive, or a close, of this buffer
+abbrev pub IsCallOn : Group → BufId → Instruction → Type 0
+IsCallOn Sends b (Send d from k) = d ≡ b
+IsCallOn Receives b (Recv d into k) = d ≡ b
+IsCallOn Closes b (Close d) = d ≡ b
 IsCallOn asks b line = ⊥
+
+-- nobody stands in the line of such a call; a close has none
+abbrev pub HasEmptyLine : Group → Buffer → Type 0
+HasEmptyLine Sends k = k.send_line ≡ []
+HasEmptyLine Receives k = k.receive_line ≡ []
+HasEmptyLine Closes k = Unit {0}
 
 -- CPU c rests, no lock is taken or asked for, and its thread t stands at a call that has not begun, which its buffer allows and whose line is empty
 pub record IsReady (setup : Setup) (c : CpuId) (s : Whole) (p : Private) (t : Tid) : Type 0 where
@@ -32,17 +42,17 @@ pub record IsReady (setup : Setup) (c : CpuId) (s : Whole) (p : Private) (t : Ti
   pub runs : p.current ≡ Some t
   pub outside : (thread_at p t).call ≡ None
   pub goes : halted_at setup c p ≡ None
-  pub asks : Asks
+  pub asks : Group
   pub buffer : BufId
   pub at_call : IsCallOn asks buffer (stands_at setup p t)
   pub block : Buffer
   pub is : block_at setup (AtBuffer buffer) s.log ≡ Some (OfBuffer block)
   pub unowned : block.busy ≡ None
   pub effect : Kind
-  pub of_call : asks_of effect ≡ Some asks
+  pub of_call : group_of effect ≡ asks
   pub message : Message
   pub allowed : Allows block effect message
-  pub empty_line : line_of (side_of asks) block ≡ []
+  pub empty_line : HasEmptyLine asks block
 
 -- the thread is inside no call, and the trace of its CPU has one entry more, of this thread, kind and buffer
 pub record HasReturned (s : Whole) (c : CpuId) (p : Private) (t : Tid) (kind : Kind) (b : BufId) : Type 0 where
@@ -60,24 +70,34 @@ pub record IsInCall (s : Whole) (c : CpuId) (t : Tid) : Type 0 where
   pub call : Call
   pub inside : (thread_at now t).call ≡ Some call
 
--- the first of the other side's line, where it waits: the call's effect allows its own, so the first signal wakes it
-abbrev pub other_waiter : Asks → Buffer → Option Tid
-other_waiter Sends k = if front_stands_in k.receive_line k.waiting_receivers then front k.receive_line else None
-other_waiter Receives k = if front_stands_in k.send_line k.waiting_senders then front k.send_line else None
+-- the first of a line, where it waits
+abbrev pub first_waiter : Side → Buffer → Option Tid
+first_waiter Receivers k = if front_stands_in k.receive_line k.waiting_receivers then front k.receive_line else None
+first_waiter Senders k = if front_stands_in k.send_line k.waiting_senders then front k.send_line else None
 
--- whether a woken thread is of another CPU
+-- whether the first of a line waits and is of another CPU
 abbrev pub is_away : Setup → CpuId → Option Tid → Bool
 is_away setup c None = false
 is_away setup c (Some u) = not (same_cpu (home_of setup u) c)
 
--- how many steps such a call takes: six sections of three steps, and three more where the thread that it wakes is of another CPU, to put it
--- among the pending there
-abbrev pub steps_to_return : Setup → CpuId → Asks → Buffer → ℕ
-steps_to_return setup c asks k = if is_away setup c (other_waiter asks k) then 21 else 18
+-- three steps more for a woken thread of another CPU, to put it among the pending there
+abbrev pub steps_to_move : Setup → CpuId → Option Tid → ℕ
+steps_to_move setup c woke = if is_away setup c woke then 3 else 0
+
+-- How many steps such a call takes. A send and a receive have six sections of three steps each, and wake the first of the other side's
+-- line, where that waits; one that finds its buffer closed wakes nobody. A close has five sections, and wakes the first of each line.
+abbrev pub steps_to_return : Setup → CpuId → Kind → Buffer → ℕ
+steps_to_return setup c SendKind k = 18 + steps_to_move setup c (first_waiter Receivers k)
+steps_to_return setup c RecvKind k = 18 + steps_to_move setup c (first_waiter Senders k)
+steps_to_return setup c SendClosed k = 18
+steps_to_return setup c RecvClosed k = 18
+steps_to_return setup c CloseKind k = 15 + (steps_to_move setup c (first_waiter Receivers k) + steps_to_move setup c (first_waiter Senders k))
 
 -- such a call takes effect and returns after just so many steps of its CPU: one step before it is still under way
 abbrev pub CallsReturnAlone : Type 0
 CallsReturnAlone = (setup : Setup) (room : ℕ) (s : Whole) (c : CpuId) (p : Private) (t : Tid) → AreFew setup → IsReached setup room s
     → (ready : IsReady setup c s p t) → s.taken + 21 ≤ s.room
-    → HasReturned (steps_by setup c (steps_to_return setup c ready.asks ready.block) s) c p t ready.effect ready.buffer
-    × ((n : ℕ) → n + 1 ≡ steps_to_return setup c ready.asks ready.block → IsInCall (steps_by setup c n s) c t)
+    → HasReturned (steps_by setup c (steps_to_return setup c ready.effect ready.block) s) c p t ready.effect ready.buffer
+    × ((n : ℕ) → n + 1 ≡ steps_to_return setup c ready.effect ready.block → IsInCall (steps_by setup c n s) c t)
+    -- a close wakes a thread of both lines only where the buffer has no room at all
+    × (ready.effect ≡ CloseKind → 18 < steps_to_return setup c ready.effect ready.block → ready.block.capacity ≡ 0)

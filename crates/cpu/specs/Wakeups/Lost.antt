@@ -1,39 +1,32 @@
 -- No wake-up is lost: whoever is the first of its line, is asleep beside a free lock and has something to do, does not exist.
-use Rattle.std.specs.Prelude.{◌≡◌, ℕ, ◌≤◌, ◌<◌, true, false, List, [], Option, Some, None}
+use Rattle.std.specs.Prelude.{◌≡◌, ℕ, ◌≤◌, ◌<◌, true, List, [], Some, None}
 use Rattle.event_log.specs.declared.ids.CpuId.{CpuId}
 use Rattle.event_log.specs.declared.ids.Tid.{Tid}
 use Rattle.event_log.specs.declared.ids.BufId.{BufId}
 use Rattle.event_log.specs.declared.ids.LockId.TheVariants.{Buffer as AtBuffer}
 use Rattle.event_log.specs.declared.entries.Kind.{Kind}
-use Rattle.event_log.specs.declared.entries.Kind.TheVariants.{Send as SendKind, Recv as RecvKind, Close as CloseKind, SendClosed, RecvClosed}
 use Rattle.event_log.specs.Messages.{Message}
 use Rattle.event_log.specs.Buffers.{IsAllowedEffect}
+use Rattle.event_log.specs.Runs.{Sends, Receives, group_of}
 use Rattle.event_log.specs.History.{own_events}
 use Rattle.event_log.specs.Actions.{Action, doer}
 use Rattle.event_log.specs.Sections.{Section, sections_in}
-use Rattle.cpu.specs.Table.Blocks.{Buffer, OfBuffer, Name, Asks, Sends, Receives, front, stands_in}
+use Rattle.cpu.specs.Table.Blocks.{Buffer, OfBuffer, Name, front, stands_in}
 use Rattle.cpu.specs.Table.Setups.{Setup, Private}
 use Rattle.cpu.specs.Table.Steps.{Whole, IsReached, block_at, AlongTable}
 use Rattle.cpu.specs.Wakeups.Order.{block_of, IsInOrder}
 
--- what a call asks whose effect is of this kind, also where it found its buffer closed; no call closes a buffer
-abbrev pub asks_of : Kind → Option Asks
-asks_of SendKind = Some Sends
-asks_of SendClosed = Some Sends
-asks_of RecvKind = Some Receives
-asks_of RecvClosed = Some Receives
-asks_of CloseKind = None
-
--- the buffer, which no call has closed, allows an effect of this kind with this message
+-- the buffer allows an effect of this kind with this message
 abbrev pub Allows : Buffer → Kind → Message → Type 0
-Allows k e m = IsAllowedEffect e false k.capacity k.items m
+Allows k e m = IsAllowedEffect e k.closed k.capacity k.items m
 
--- while nobody owns the lock, the first of neither line waits although the buffer allows an effect of its call
+-- while nobody owns the lock, the first of neither line waits although the buffer allows an effect of its call: one that serves it, or
+-- the answer that the buffer is closed
 pub record NoWakeUpIsLost (k : Buffer) : Type 0 where
   pub senders : k.busy ≡ None → (t : Tid) (m : Message) → front k.send_line ≡ Some t → stands_in t k.waiting_senders ≡ true
-      → (e : Kind) → asks_of e ≡ Some Sends → Allows k e m → ⊥
+      → (e : Kind) → group_of e ≡ Sends → Allows k e m → ⊥
   pub receivers : k.busy ≡ None → (t : Tid) (m : Message) → front k.receive_line ≡ Some t → stands_in t k.waiting_receivers ≡ true
-      → (e : Kind) → asks_of e ≡ Some Receives → Allows k e m → ⊥
+      → (e : Kind) → group_of e ≡ Receives → Allows k e m → ⊥
 
 -- sections in the order of their calls lose no wake-up, whoever does them when
 abbrev pub OrderLosesNoWakeUp : Type 0

@@ -3,6 +3,7 @@ use Rattle.std.specs.Prelude.{◌≡◌, ◌+◌, ◌≤◌, [], ◌∷◌, Some
 use Rattle.cpu.specs.Table.Setups.{Private, Releases}
 use Rattle.cpu.specs.Table.Steps.{Whole, IsReached, cpu_numbered}
 use Rattle.cpu.specs.Table.Worked.{thread, of, run, one_sender, two_sends, two_cpus, call_of}
+use Rattle.cpu.specs.Table.Closing.{closed_apart, closed_aside}
 use Rattle.cpu.specs.Wakeups.Quiet.{AreFew, HomesExist, IsQuiet}
 use Rattle.cpu.specs.Wakeups.Alone.{IsReady}
 
@@ -26,3 +27,11 @@ pub record PremisesAreMet : Type 0 where
   -- one that wakes a thread of another CPU is under way after 20 steps and has returned after 21
   pub after_21 : (option_map (λ call. call.stage) (call_of 1 1 (run two_cpus (of 0 13 ∷ of 1 22 ∷ []))) ≡ Some Releases)
       × (call_of 1 1 (run two_cpus (of 0 13 ∷ of 1 23 ∷ [])) ≡ None)
+  -- a close is under way after 14 steps and has returned after 15; one that wakes a thread of another CPU after 17, and after 18
+  pub after_15 : (option_map (λ call. call.stage) (call_of 1 1 (run closed_apart (of 1 15 ∷ []))) ≡ Some Releases)
+      × (call_of 1 1 (run closed_apart (of 1 16 ∷ [])) ≡ None)
+  pub close_after_18 : (option_map (λ call. call.stage) (call_of 1 1 (run closed_apart (of 0 13 ∷ of 1 18 ∷ []))) ≡ Some Releases)
+      × (call_of 1 1 (run closed_apart (of 0 13 ∷ of 1 19 ∷ [])) ≡ None)
+  -- a receive that finds its buffer closed is under way after 17 steps and has returned after 18
+  pub closed_after_18 : (option_map (λ call. call.stage) (call_of 0 0 (run closed_aside (of 0 34 ∷ []))) ≡ Some Releases)
+      × (call_of 0 0 (run closed_aside (of 0 35 ∷ [])) ≡ None)

@@ -1,9 +1,10 @@
 -- What is lost where a call signals the other side alone: a concrete history.
 use Rattle.std.specs.Prelude.{◌≡◌, ℕ, List, [], ◌∷◌, Some}
 use Rattle.event_log.specs.declared.ids.LockId.TheVariants.{Buffer as AtBuffer}
+use Rattle.event_log.specs.Messages.{Message}
 use Rattle.event_log.specs.Sections.{Section}
 use Rattle.layer_traits.specs.declared.locked.Side.TheVariants.{Receivers, Senders}
-use Rattle.cpu.specs.Table.Blocks.{Buffer, OfBuffer, Name, AcqQ, Enter, TryPut, TryTake, WaitOn, SigRecv, SigSend, RelQ}
+use Rattle.cpu.specs.Table.Blocks.{Buffer, OfBuffer, Name, AcqQ, Enter, TryPut, TryTake, Shut, WaitOn, SigRecv, SigSend, RelQ}
 use Rattle.cpu.specs.Table.Setups.{Setup}
 use Rattle.cpu.specs.Table.Steps.{cpu_numbered}
 use Rattle.cpu.specs.Table.Worked.{thread, buffer_numbered, setup_of}
@@ -22,7 +23,7 @@ by t name = record { cpu = cpu_numbered t; lock = AtBuffer (buffer_numbered 0); 
 abbrev pub receiver_waits : ℕ → List (Section Name)
 receiver_waits t = by t (WaitOn (thread t) Receivers) ∷ by t (TryTake (thread t)) ∷ by t (Enter (thread t) Receivers) ∷ by t (AcqQ (thread t)) ∷ []
 
-abbrev pub sender_sends : ℕ → List (Section Name)
+abbrev pub sender_sends : Message → List (Section Name)
 sender_sends m =
     by 2 (RelQ (thread 2))
     ∷ by 2 (SigSend (thread 2))
@@ -44,8 +45,25 @@ in_turn (s ∷ later) past = s ∷ in_turn later past
 abbrev pub one_signal_log : List (Section Name)
 one_signal_log =
     in_turn receiver_signals_senders
-    (in_turn (sender_sends 8) (in_turn (sender_sends 7) (in_turn (receiver_waits 1) (receiver_waits 0))))
+    (in_turn (sender_sends (8 ∷ [])) (in_turn (sender_sends (7 ∷ [])) (in_turn (receiver_waits 1) (receiver_waits 0))))
 
 -- then a message is left, nobody owns the lock, and the second receiver, the first of its line, sleeps beside it
 abbrev pub OneSignalLosesAWakeUp : Type 0
 OneSignalLosesAWakeUp = (k : Buffer) × (block_of three_threads (AtBuffer (buffer_numbered 0)) one_signal_log ≡ Some (OfBuffer k)) × (NoWakeUpIsLost k → ⊥)
+
+-- thread 2 closes the buffer
+abbrev pub closer_closes : List (Section Name)
+closer_closes =
+    by 2 (RelQ (thread 2)) ∷ by 2 (SigSend (thread 2)) ∷ by 2 (SigRecv (thread 2)) ∷ by 2 (Shut (thread 2)) ∷ by 2 (AcqQ (thread 2)) ∷ []
+
+-- the first receiver was woken, finds the buffer closed, and signals nobody
+abbrev pub receiver_signals_nobody : List (Section Name)
+receiver_signals_nobody = by 0 (RelQ (thread 0)) ∷ by 0 (TryTake (thread 0)) ∷ by 0 (AcqQ (thread 0)) ∷ []
+
+-- two receivers wait, the buffer is closed, and the first receiver, the only one that was woken, answers that
+abbrev pub silent_log : List (Section Name)
+silent_log = in_turn receiver_signals_nobody (in_turn closer_closes (in_turn (receiver_waits 1) (receiver_waits 0)))
+
+-- then nobody owns the lock, and the second receiver, the first of its line, sleeps beside a closed buffer
+abbrev pub SilentAnswerLosesAWakeUp : Type 0
+SilentAnswerLosesAWakeUp = (k : Buffer) × (block_of three_threads (AtBuffer (buffer_numbered 0)) silent_log ≡ Some (OfBuffer k)) × (NoWakeUpIsLost k → ⊥)

@@ -6,7 +6,7 @@ use Rattle.event_log.specs.History.{same_lock, IsLawful}
 use Rattle.event_log.specs.Sections.{Section, block_after}
 use Rattle.layer_traits.specs.declared.locked.Side.{Side}
 use Rattle.layer_traits.specs.declared.locked.Side.TheVariants.{Receivers, Senders}
-use Rattle.cpu.specs.Table.Blocks.{Buffer, Block, OfBuffer, OfPending, Name, AcqQ, Enter, TryPut, TryTake, WaitOn, SigRecv, SigSend, RelQ, Pend, TakeAll}
+use Rattle.cpu.specs.Table.Blocks.{Buffer, Block, OfBuffer, OfPending, Name, AcqQ, Enter, TryPut, TryTake, Shut, WaitOn, SigRecv, SigSend, RelQ, Pend, TakeAll}
 use Rattle.cpu.specs.Table.Edits.{edited, may_put, may_take}
 use Rattle.cpu.specs.Table.Setups.{Setup, opening}
 
@@ -36,6 +36,7 @@ progress_after (AcqQ t) k g = g
 progress_after (Enter t side) k g = HasEntered side
 progress_after (TryPut t m) k g = if may_put t k then Owes true true else WasRefused Senders
 progress_after (TryTake t) k g = if may_take t k then Owes true true else WasRefused Receivers
+progress_after (Shut t) k g = Owes true true
 progress_after (WaitOn t side) k g = Begins
 progress_after (SigRecv t) k g = receivers_signalled g
 progress_after (SigSend t) k g = senders_signalled g
@@ -71,13 +72,14 @@ IsOwing Begins = ⊥
 IsOwing (HasEntered side) = ⊥
 IsOwing (WasRefused side) = ⊥
 
--- a section may come on the buffer: only the owner edits; it enters at once, waits only where its try was in vain, signals only after
+-- a section may come on the buffer: only the owner edits; it enters or closes at once, waits only where its try was in vain, signals only after
 -- an effect, and gives the lock back only once both sides are signalled
 abbrev pub MayEdit : Name → Buffer → Progress → Type 0
 MayEdit (AcqQ t) k g = k.busy ≢ Some t
 MayEdit (Enter t side) k g = (k.busy ≡ Some t) × (g ≡ Begins)
 MayEdit (TryPut t m) k g = (k.busy ≡ Some t) × MayTry Senders g
 MayEdit (TryTake t) k g = (k.busy ≡ Some t) × MayTry Receivers g
+MayEdit (Shut t) k g = (k.busy ≡ Some t) × (g ≡ Begins)
 MayEdit (WaitOn t side) k g = (k.busy ≡ Some t) × (g ≡ WasRefused side)
 MayEdit (SigRecv t) k g = (k.busy ≡ Some t) × IsOwing g
 MayEdit (SigSend t) k g = (k.busy ≡ Some t) × IsOwing g

@@ -1,5 +1,5 @@
 -- A quiet system: no CPU has anything to do. It is stuck: no call of a live thread could take effect, whoever steps when.
-use Rattle.std.specs.Prelude.{◌≡◌, ℕ, ◌<◌, ◌≤◌, true, false, [], length, Option, Some, None, slice_get}
+use Rattle.std.specs.Prelude.{◌≡◌, ◌≢◌, ℕ, ◌<◌, ◌≤◌, true, false, [], length, Option, Some, None, slice_get}
 use Rattle.event_log.specs.declared.ids.CpuId.{CpuId}
 use Rattle.event_log.specs.declared.ids.Tid.{Tid}
 use Rattle.event_log.specs.declared.ids.BufId.{BufId}
@@ -7,16 +7,17 @@ use Rattle.event_log.specs.declared.ids.LockId.TheVariants.{Pending, Buffer as A
 use Rattle.event_log.specs.declared.ids.TheConstants.{THREADS}
 use Rattle.event_log.specs.declared.entries.Kind.{Kind}
 use Rattle.event_log.specs.Messages.{Message}
+use Rattle.event_log.specs.Runs.{Group, Sends, Receives, Closes, group_of}
 use Rattle.event_log.specs.Actions.{phase}
 use Rattle.layer_traits.specs.declared.steps.Reason.{Reason}
 use Rattle.layer_traits.specs.Plans.{is_in_section}
 use Rattle.guest.specs.declared.instructions.Instruction.{Instruction}
-use Rattle.guest.specs.declared.instructions.Instruction.TheVariants.{Set, Add, Sub, Jnz, Send, Recv, Yield as YieldLine, Exit}
-use Rattle.guest.specs.State.{State, sent_from}
-use Rattle.cpu.specs.Table.Blocks.{Buffer, OfBuffer, OfPending, Asks, Sends, Receives}
+use Rattle.guest.specs.declared.instructions.Instruction.TheVariants.{Set, Add, Sub, Jnz, Send, Recv, Close, Yield as YieldLine, Exit}
+use Rattle.guest.specs.State.{State, message_from}
+use Rattle.cpu.specs.Table.Blocks.{Buffer, OfBuffer, OfPending}
 use Rattle.cpu.specs.Table.Setups.{Setup, Call, Private, thread_at, home_of, stands_at}
 use Rattle.cpu.specs.Table.Steps.{Whole, IsReached, block_at, halted_at}
-use Rattle.cpu.specs.Wakeups.Lost.{asks_of, Allows}
+use Rattle.cpu.specs.Wakeups.Lost.{Allows}
 
 -- no more threads than a machine may have
 abbrev pub AreFew : Setup → Type 0
@@ -37,10 +38,11 @@ pub record IsQuiet (setup : Setup) (s : Whole) : Type 0 where
   pub cpus : (c : CpuId) (p : Private) → slice_get s.cpus c.0 ≡ Some p → IsQuietBy setup c p (halted_at setup c p)
   pub pending : (c : CpuId) → c.0 < setup.cpus → block_at setup (Pending c) s.log ≡ Some (OfPending [])
 
--- what a thread asks next that stands at this instruction: a send or a receive at this buffer, with this message where it sends
-abbrev pub IsNextEffect : Instruction → State → Asks → BufId → Message → Type 0
-IsNextEffect (Send b r) s asks d m = (asks ≡ Sends) × (d ≡ b) × (m ≡ sent_from s r)
-IsNextEffect (Recv b r) s asks d m = (asks ≡ Receives) × (d ≡ b)
+-- what a thread asks next that stands at this instruction: a send, a receive or a close of this buffer, with this message where it sends
+abbrev pub IsNextEffect : Instruction → State → Group → BufId → Message → Type 0
+IsNextEffect (Send b from k) s asks d m = (asks ≡ Sends) × (d ≡ b) × (m ≡ message_from s from)
+IsNextEffect (Recv b into k) s asks d m = (asks ≡ Receives) × (d ≡ b)
+IsNextEffect (Close b) s asks d m = (asks ≡ Closes) × (d ≡ b)
 IsNextEffect (Set r n) s asks d m = ⊥
 IsNextEffect (Add r q) s asks d m = ⊥
 IsNextEffect (Sub r q) s asks d m = ⊥
@@ -48,12 +50,15 @@ IsNextEffect (Jnz r k) s asks d m = ⊥
 IsNextEffect YieldLine s asks d m = ⊥
 IsNextEffect Exit s asks d m = ⊥
 
--- a call that has not taken effect, is what its thread asks next, and whose buffer allows no effect of it
+-- a call that has not taken effect, is what its thread asks next, and whose buffer allows no effect of it: so it is no close, and its
+-- buffer is not closed
 pub record IsStuckCall (setup : Setup) (s : Whole) (p : Private) (u : Tid) (call : Call) : Type 0 where
   pub unfinished : call.effect ≡ None
   pub next : IsNextEffect (stands_at setup p u) (thread_at p u).guest call.asks call.buffer call.message
-  pub refused : (k : Buffer) (m : Message) (e : Kind) → asks_of e ≡ Some call.asks
+  pub refused : (k : Buffer) (m : Message) (e : Kind) → group_of e ≡ call.asks
       → block_at setup (AtBuffer call.buffer) s.log ≡ Some (OfBuffer k) → Allows k e m → ⊥
+  pub no_close : call.asks ≢ Closes
+  pub stays_open : (k : Buffer) → block_at setup (AtBuffer call.buffer) s.log ≡ Some (OfBuffer k) → k.closed ≡ false
 
 -- a thread that has not ended, at home on a CPU with this private state
 pub record IsLive (setup : Setup) (s : Whole) (p : Private) (u : Tid) : Type 0 where
@@ -65,8 +70,8 @@ pub record IsLive (setup : Setup) (s : Whole) (p : Private) (u : Tid) : Type 0 w
 pub record IsStuck (setup : Setup) (s : Whole) : Type 0 where
   pub unowned : (b : BufId) (k : Buffer) → block_at setup (AtBuffer b) s.log ≡ Some (OfBuffer k) → (k.busy ≡ None) × (k.sleepers ≡ [])
   pub threads : (p : Private) (u : Tid) → IsLive setup s p u → (call : Call) × ((thread_at p u).call ≡ Some call) × IsStuckCall setup s p u call
-  pub effects : (p : Private) (u : Tid) → IsLive setup s p u → (e : Kind) (asks : Asks) (b : BufId) (m : Message)
-      → asks_of e ≡ Some asks → IsNextEffect (stands_at setup p u) (thread_at p u).guest asks b m
+  pub effects : (p : Private) (u : Tid) → IsLive setup s p u → (e : Kind) (asks : Group) (b : BufId) (m : Message)
+      → group_of e ≡ asks → IsNextEffect (stands_at setup p u) (thread_at p u).guest asks b m
       → (k : Buffer) → block_at setup (AtBuffer b) s.log ≡ Some (OfBuffer k) → Allows k e m → ⊥
 
 -- a quiet state that a system reaches is stuck

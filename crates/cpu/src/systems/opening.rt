@@ -134,11 +134,11 @@ where
     {
         let machine = I::open(alloc, tables.len() as u8, caps, homes, room)?;
         let cpus = cpus_at_boot(alloc, homes, caps.len() as u8, tables, limit)?;
-        Ok(System::assembled(machine, cpus, homes.len() as u8, room as u64))
+        Ok(System::assembled(machine, cpus, homes.len(), room as u64))
     }
 
     /// The system of a machine and its CPUs, before its first step.
-    fn assembled(machine: I::Machine, cpus: Vec<Cpu<I>>, threads: u8, room: u64) -> System<I>
+    fn assembled(machine: I::Machine, cpus: Vec<Cpu<I>>, threads: usize, room: u64) -> System<I>
         requires { IsSystem (λ c. I.Fits c.part machine × (I.cpu_of c.part ≡ c.number)
             × IsCpu (I.homes_of machine) (length (I.caps machine)) (I.seen machine) (I.threads c.part) (I.talks c.part)
             (I.doing c.part) c.number c.guests.items c.trace.items c.limit (vec_capacity c.trace)

@@ -61,8 +61,9 @@ where
         ensures { result ≡ true ↔ AllQueuesEmpty self.now }
     {
         self.holds();
-        for number in 0..self.threads {
-            if self.pends(Tid(number)) {
+        let threads = self.threads();
+        for number in 0..threads {
+            if self.pends(Tid(number as u8)) {
                 return false;
             }
         }

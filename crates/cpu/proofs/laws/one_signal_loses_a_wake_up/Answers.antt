@@ -1,7 +1,7 @@
-use Rattle.std.proofs.Common.{refl}
+use Rattle.std.proofs.Common.{[], ◌∷◌, refl}
 use Rattle.event_log.specs.declared.entries.Kind.TheVariants.{Recv as RecvKind}
 use Rattle.cpu.specs.Table.Worked.{thread}
 use Rattle.cpu.proofs.laws.one_signal_loses_a_wake_up.Goals as goal
 
 pub returns : goal.returns
-returns c = (_, refl, λ kept. kept.receivers refl (thread 1) 8 refl refl RecvKind refl refl)
+returns c = (_, refl, λ kept. kept.receivers refl (thread 1) (8 ∷ []) refl refl RecvKind refl refl)

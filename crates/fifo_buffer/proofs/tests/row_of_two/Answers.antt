@@ -21,3 +21,13 @@ pub receiver_waits-requires-clause-away_free : goal.receiver_waits-requires-clau
 receiver_waits-requires-clause-away_free g c next =
     let small : 1 < THREADS = omega arith in
     c.part-away.ensures.free (record { 0 = 1 }) next small
+
+pub receiver_learns-requires-clause-home_free : goal.receiver_learns-requires-clause-home_free
+receiver_learns-requires-clause-home_free g c next =
+    let small : 0 < THREADS = omega arith in
+    c.part-home.ensures.free (record { 0 = 0 }) next small
+
+pub receiver_learns-requires-clause-away_free : goal.receiver_learns-requires-clause-away_free
+receiver_learns-requires-clause-away_free g c next =
+    let small : 1 < THREADS = omega arith in
+    c.part-away.ensures.free (record { 0 = 1 }) next small

@@ -1,4 +1,4 @@
-use Rattle.std.proofs.Common.{sym, ap, ◌∙◌, subst, arith}
+use Rattle.std.proofs.Common.{ap, ◌∙◌, subst, arith}
 use Rattle.std.proofs.lemmas.List.{length-take-le}
 use Rattle.cpu.specs.Claims.{IsPlaceOf, listed}
 use Rattle.cpu.specs.Systems.{halted_in}
@@ -6,14 +6,16 @@ use Rattle.mctower.proofs.ReadingLemmas.{read_front}
 use Rattle.mctower.proofs.reading.state_of.Goals as goal
 
 pub returns : goal.returns
-returns g c = record {
-  halted = c.halted_of-halted.ensures ∙ ap (λ n. listed (λ k. halted_in (record { 0 = k }) c.args.system.now) 0 n) (sym c.requires.cpus);
-  count = sym c.requires.threads;
-  many = length-take-le c.args.threads c.places_of-places.result (omega (arith, c.places_of-places.ensures.count, c.requires.few_threads))
-      ∙ sym c.requires.threads;
-  places = λ t place at.
-      let read = read_front c.places_of-places.result c.args.threads t place at in
-      subst (λ x. IsPlaceOf c.args.system.now (record { 0 = t }) x) read.1 (c.places_of-places.ensures.read t place read.0);
-  quiet = c.is_quiet-is_quiet.ensures.is;
-  still = c.is_quiet-is_quiet.ensures.still;
-}
+returns g c =
+    let threads = c.threads-threads.result in
+    let count = c.threads-threads.ensures.threads in
+    record {
+      halted = c.halted_of-halted.ensures ∙ ap (λ n. listed (λ k. halted_in (record { 0 = k }) c.args.system.now) 0 n) c.cpus.ensures.cpus;
+      count = count;
+      many = length-take-le threads c.places_of-places.result (omega (arith, c.places_of-places.ensures.count, c.threads-threads.ensures.few)) ∙ count;
+      places = λ t place at.
+          let read = read_front c.places_of-places.result threads t place at in
+          subst (λ x. IsPlaceOf c.args.system.now (record { 0 = t }) x) read.1 (c.places_of-places.ensures.read t place read.0);
+      quiet = c.is_quiet-is_quiet.ensures.is;
+      still = c.is_quiet-is_quiet.ensures.still;
+    }

@@ -1,5 +1,6 @@
-use Rattle.std.proofs.Common.{◌≡◌, List, ℕ, length, ap, sym, ◌∙◌, subst, map}
+use Rattle.std.proofs.Common.{◌≡◌, List, length, ap, sym, ◌∙◌, subst, map}
 use Rattle.event_log.specs.declared.entries.Entry.{Entry}
+use Rattle.event_log.specs.Messages.{Message}
 use Rattle.tracer.specs.Gather.{traces_in}
 use Rattle.cpu.specs.Claims.{traces_of}
 use Rattle.mctower.specs.Output.{between}
@@ -16,7 +17,7 @@ write_text-requires-clause-text g c =
     let same : traces_in c.deref.result.now ≡ traces_of c.args.system.now = ap traces_in c.deref.ensures.value ∙ c.in_ok-traces.ensures in
     let left = ap (map (λ v. v.items)) c.deref-2.ensures.0 ∙ c.contents-left.ensures in
     subst (λ (ts : List (List Entry)). HaveText c.args.caps.now ts (map (λ v. v.items) c.deref-2.result.now)) (sym same)
-    (subst (λ (l : List (List ℕ)). HaveText c.args.caps.now (traces_of c.args.system.now) l) (sym left)
+    (subst (λ (l : List (List Message)). HaveText c.args.caps.now (traces_of c.args.system.now) l) (sym left)
     (system_has c.args.cpus c.args.caps.now c.args.system.now c.requires.plan c.traces_fit.ensures c.holds.ensures.stay c.holds.ensures.one_order))
 
 pub returns : goal.returns
@@ -25,5 +26,5 @@ returns g c =
     let left = ap (map (λ v. v.items)) c.deref-2.ensures.0 ∙ c.contents-left.ensures in
     subst (λ (ts : List (List Entry)). Writes c.args.caps.now ts c.args.system.now.contents c.write_text.result
     (between g.W.Write.contents c.args.sink.now c.write_text.new.sink)) same
-    (subst (λ (l : List (List ℕ)). Writes c.args.caps.now (traces_in c.deref.result.now) l c.write_text.result
+    (subst (λ (l : List (List Message)). Writes c.args.caps.now (traces_in c.deref.result.now) l c.write_text.result
     (between g.W.Write.contents c.args.sink.now c.write_text.new.sink)) left c.write_text.ensures)

@@ -85,25 +85,25 @@ pub returns-in-Err-clause-runs : goal.returns-in-Err-clause-runs
 returns-in-Err-clause-runs g c =
     let same = c.in-Ok.ensures.cases.0 in
     let IsStepwise = on_lock g.I.IpcLayer.IsStepwise g.J.IpcLayer.IsStepwise in
-    let ran = fault_ran _ _ _ _ IsStepwise c.args.steps.now (plan_of c.in-Ok.plan.now) c.in-Err.fault _ c.in-Err.ensures.runs in
+    let ran = fault_ran _ _ _ _ IsStepwise c.args.steps.now (plan_of c.in-Ok.plan.now) c.in-Err.fault _ c.in-Err.ensures in
     rw c.run_refused.ensures (elim ran [
       | inl refused ↦ inl refused
       | inr runs ↦ inr (inr (
         c.in-Ok.ensures.cases.1,
         subst (λ t. OfPlan (RunsPlan IsStepwise c.args.steps.now) (plan_of t) (Err (from_fault c.in-Err.fault))
-            (between g.O.Write.contents c.args.out.now c.run_plan.new.sink)) same runs,
+            (between g.O.Write.contents c.args.out.now c.run_text.new.sink)) same runs,
       ))
     ])
 
-pub returns-clause-runs : goal.returns-clause-runs
-returns-clause-runs g c =
+pub returns-in-Ok-run_text-clause-runs : goal.returns-in-Ok-run_text-clause-runs
+returns-in-Ok-run_text-clause-runs g c =
     let same = c.in-Ok.ensures.cases.0 in
     let IsStepwise = on_lock g.I.IpcLayer.IsStepwise g.J.IpcLayer.IsStepwise in
     inr (inr (
       c.in-Ok.ensures.cases.1,
       subst (λ t. OfPlan (RunsPlan IsStepwise c.args.steps.now) (plan_of t) c.put_out.result
           (between g.O.Write.contents c.args.out.now c.put_out.new.out)) same
-          (ran_out IsStepwise c.args.steps.now c.in-Ok-run_plan.ran.0 c.in-Ok-run_plan.ran.1 (plan_of c.in-Ok.plan.now) c.put_out.result
-          (between g.O.Write.contents c.args.out.now c.run_plan.new.sink) (between g.O.Write.contents c.args.out.now c.put_out.new.out)
-          c.in-Ok-run_plan.ensures.runs c.in-Ok-run_plan.ensures.state c.put_out.ensures.put.0 c.put_out.ensures.put.1 refl),
+          (ran_out IsStepwise c.args.steps.now c.in-Ok-run_text.ran c.state_after.result (plan_of c.in-Ok.plan.now) c.put_out.result
+          (between g.O.Write.contents c.args.out.now c.run_text.new.sink) (between g.O.Write.contents c.args.out.now c.put_out.new.out)
+          c.in-Ok-run_text.ensures c.state_after.ensures c.put_out.ensures.put.0 c.put_out.ensures.put.1 refl),
     ))

@@ -1,6 +1,7 @@
-use Rattle.std.proofs.Common.{ℕ, ◌<◌, ◌^◌, get_or}
+use Rattle.std.proofs.Common.{ℕ, ◌<◌, get_or}
 use Rattle.event_log.specs.declared.entries.Entry.{Entry}
+use Rattle.event_log.specs.Messages.{IsMessage}
 use Rattle.mctower.proofs.texts.values_fit.Given as goal
 
 abbrev pub invariant-loop-entry : goal.invariant-loop-entry
-invariant-loop-entry l = (k : ℕ) (d : Entry) → k < l.entry-index → (get_or l.entries k d).value < 2 ^ 64
+invariant-loop-entry l = (k : ℕ) (d : Entry) → k < l.entry-index → IsMessage (get_or l.entries k d).value

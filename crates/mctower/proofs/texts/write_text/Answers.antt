@@ -1,6 +1,7 @@
-use Rattle.std.proofs.Common.{◌≡◌, ◌<◌, ◌^◌, List, ℕ, length, get_or, ap, refl, sym, ◌∙◌, subst, map}
+use Rattle.std.proofs.Common.{◌≡◌, ◌<◌, List, ℕ, length, get_or, ap, refl, sym, ◌∙◌, subst, map}
 use Rattle.std.specs.Prelude.{Err}
 use Rattle.event_log.specs.declared.entries.Entry.{Entry}
+use Rattle.event_log.specs.Messages.{IsMessage}
 use Rattle.tracer.specs.Gather.{traces_in, IsOrder, TakesFirstReady}
 use Rattle.mctower.specs.Plans.{from_gather}
 use Rattle.mctower.specs.declared.run.Fault.TheVariants.{WriteFault}
@@ -19,7 +20,7 @@ write_trace-requires-clause-spellable g c =
     let is : IsOrder (traces_in c.args.traces.now) c.deref-2.result.now =
     subst (λ es. IsOrder (traces_in c.args.traces.now) es) (sym c.deref-2.ensures.value) c.in_ok-order.ensures.order in
     spelled_so c.args.caps.now (traces_in c.args.traces.now) _ c.deref-2.result.now c.requires.text is
-    (subst (λ (es : List Entry). (k : ℕ) (d : Entry) → k < length es → (get_or es k d).value < 2 ^ 64)
+    (subst (λ (es : List Entry). (k : ℕ) (d : Entry) → k < length es → IsMessage (get_or es k d).value)
     (c.deref.ensures.value ∙ sym c.deref-2.ensures.value) c.values_fit.ensures)
 
 pub returns-in_err-write_trace : goal.returns-in_err-write_trace
@@ -32,7 +33,7 @@ returns-in_err-write_trace g c =
     c.from_residual-in_err-write_trace.ensures.1 (
       sym c.in_err-write_trace.ensures.failed,
       out_so c.args.caps.now (traces_in c.args.traces.now) _ c.deref-2.result.now _ c.requires.text is first
-          (subst (λ (es : List Entry). (k : ℕ) (d : Entry) → k < length es → (get_or es k d).value < 2 ^ 64)
+          (subst (λ (es : List Entry). (k : ℕ) (d : Entry) → k < length es → IsMessage (get_or es k d).value)
           (c.deref.ensures.value ∙ sym c.deref-2.ensures.value) c.values_fit.ensures) c.in_err-write_trace.ensures.out,
     )
 
@@ -44,6 +45,6 @@ returns g c =
     subst (λ es. TakesFirstReady (traces_in c.args.traces.now) es) (sym c.deref-2.ensures.value) c.in_ok-order.ensures.greedy in (
       sym c.in_ok-write_trace.ensures.failed,
       out_so c.args.caps.now (traces_in c.args.traces.now) _ c.deref-2.result.now _ c.requires.text is first
-          (subst (λ (es : List Entry). (k : ℕ) (d : Entry) → k < length es → (get_or es k d).value < 2 ^ 64)
+          (subst (λ (es : List Entry). (k : ℕ) (d : Entry) → k < length es → IsMessage (get_or es k d).value)
           (c.deref.ensures.value ∙ sym c.deref-2.ensures.value) c.values_fit.ensures) c.in_ok-write_trace.ensures.out,
     )

@@ -1,5 +1,6 @@
 use Rattle.std.proofs.Common.{◌≡◌, ℕ, suc, ◌+◌, ◌∷◌, ◌++◌, [], List, length, map, sym, ap, ◌∙◌, arith}
 use Rattle.std.proofs.lemmas.List.{length-map}
+use Rattle.event_log.specs.Messages.{Message}
 use Rattle.layer_traits.proofs.PlanRenaming.{map-append}
 use Rattle.cpu.specs.Claims.{buffer_at, listed}
 use Rattle.cpu.proofs.ListReads.{listed_length}
@@ -18,7 +19,7 @@ pub loop-buffer-preserved : goal.loop-buffer-preserved
 loop-buffer-preserved c =
     let next : suc c.loop-buffer.buffer ≡ c.loop-buffer.buffer + 1 = omega arith in
     let at : 0 + c.loop-buffer.buffer ≡ c.loop-buffer.buffer = omega arith in
-    let f : ℕ → List ℕ = λ n. items_in c.args.report.now.blocks.items (buffer_at n) in
+    let f : ℕ → List Message = λ n. items_in c.args.report.now.blocks.items (buffer_at n) in
     ap (map (λ v. v.items)) c.push.ensures.items ∙ map-append (λ v. v.items) c.loop-buffer.left.items (c.items.result ∷ [])
     ∙ ap (λ l. l ++ c.items.result.items ∷ []) c.loop-buffer.invariant
     ∙ ap (λ r. listed f 0 c.loop-buffer.buffer ++ r ∷ []) (c.items.ensures ∙ ap f (sym at)) ∙ sym (listed_more f c.loop-buffer.buffer 0)

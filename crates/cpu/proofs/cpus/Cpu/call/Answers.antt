@@ -6,7 +6,7 @@ use Rattle.cpu.specs.Guests.{entries_of, polled}
 use Rattle.cpu.specs.Cpus.{ActsGrow, programs_of, fresh_at, guest_at, with_guest}
 use Rattle.cpu.proofs.GuestLists.{programs_with}
 use Rattle.cpu.proofs.Passing.{called_grows, follows_grow}
-use Rattle.cpu.proofs.Steps.{PolledCpu, noted_call, poll_buffer, poll_room, poll_talks, polls_at}
+use Rattle.cpu.proofs.Steps.{PolledCpu, noted_call, poll_buffer, poll_number, poll_room, poll_talks, poll_within, polls_at}
 use Rattle.layer_traits.specs.QueueBlocks.{homes_in}
 use Rattle.cpu.proofs.TableCalls.{ToldPoll, call_steps, call_tabled, hand_kept}
 use Rattle.cpu.proofs.CpuStates.{valid_cpu}
@@ -16,6 +16,12 @@ use Rattle.cpu.proofs.cpus.Cpu.call.Goals as goal
 
 pub poll-answer-requires-clause-same : goal.poll-answer-requires-clause-same
 poll-answer-requires-clause-same g c = poll_talks (valid_cpu c.requires.is) c.args.thread c.args.call c.requires.chosen
+
+pub effect-effect-requires : goal.effect-effect-requires
+effect-effect-requires g c = poll_number (valid_cpu c.requires.is) c.args.thread c.args.call c.requires.chosen
+
+pub note_poll-fresh-requires : goal.note_poll-fresh-requires
+note_poll-fresh-requires g c = poll_within (valid_cpu c.requires.is) c.args.thread c.args.call c.requires.chosen
 
 pub note_effect-requires : goal.note_effect-requires
 note_effect-requires g c = λ f some.

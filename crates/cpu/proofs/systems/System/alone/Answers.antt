@@ -1,4 +1,4 @@
-use Rattle.std.proofs.Common.{length, subst, arith}
+use Rattle.std.proofs.Common.{subst, arith}
 use Rattle.std.proofs.lemmas.List.{length-map}
 use Rattle.cpu.specs.declared.cpus.Cpu.{Cpu}
 use Rattle.cpu.specs.Claims.{Shown, cpu_shown}

@@ -1,7 +1,6 @@
 use Rattle.cpu.specs.declared.cpus.Cpu.{Cpu}
 use Rattle.cpu.specs.Claims.{CpuShown, cpu_shown}
 use Rattle.cpu.proofs.ListReads.{map_twice}
-use Rattle.cpu.specs.Claims.{shown_of}
 use Rattle.cpu.proofs.Booting.{sounds}
 use Rattle.cpu.proofs.Started.{starts_reached}
 use Rattle.cpu.proofs.systems.System.assembled.Goals as goal

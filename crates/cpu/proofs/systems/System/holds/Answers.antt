@@ -7,7 +7,7 @@ use Rattle.layer_traits.proofs.EffectRunLemmas.{effects_are_run}
 use Rattle.cpu.specs.Claims.{FollowPrograms, HasOneOrder, MovesAgree, Shown, StandsOnce, StayHome, buffer_at, cpu_shown, shown_of}
 use Rattle.cpu.proofs.ListReads.{there_is}
 use Rattle.cpu.proofs.Onces.{once_of}
-use Rattle.cpu.proofs.Orders.{each_has, follow_programs, stay_home, traces_interleaved}
+use Rattle.cpu.proofs.Orders.{closed_by_order, each_has, follow_programs, stay_home, traces_interleaved}
 use Rattle.cpu.specs.Sound.{SoundByTable}
 use Rattle.cpu.proofs.Sounding.{Told, shown_in, sound_of}
 use Rattle.std.specs.Prelude.{Some}
@@ -126,6 +126,7 @@ returns-clause-one_order g c =
       order = reverse (I.seen m);
       keeps = traces_interleaved _ _ (I.seen m) _ _ each (subst (λ n. AllByRecursion (λ (e : Entry). e.cpu.0 < n) (I.seen m)) (sym count) is.known);
       run = effects_are_run (I.caps m) (I.seen m) (law.lawful m (record { 0 = 0 }) acts) few;
+      closed = λ b within. closed_by_order (I.seen m) (length (I.caps m)) b within;
     })
 
 pub returns-clause-follow : goal.returns-clause-follow

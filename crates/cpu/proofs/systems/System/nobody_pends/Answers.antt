@@ -1,7 +1,6 @@
-use Rattle.std.proofs.Common.{◌≡◌, ◌≢◌, ◌<◌, ℕ, length, refl, ap, sym, arith, subst}
+use Rattle.std.proofs.Common.{◌≢◌, refl, arith}
 use Rattle.event_log.specs.declared.ids.CpuId.{CpuId}
 use Rattle.layer_traits.specs.Places.{Pend, where_is}
-use Rattle.cpu.specs.Claims.{Shown}
 use Rattle.cpu.proofs.Quieting.{clash, empty_of, nobody_of, up_more}
 use Rattle.cpu.proofs.systems.System.nobody_pends.Goals as goal
 
@@ -20,9 +19,8 @@ loop-number-preserved g c =
 pub returns : goal.returns
 returns g c =
     let s = c.args.self.now in
-    let count = c.self.invariant.sound.0 in
-    let homes = ap (λ (x : Shown). length x.homes) c.self.view_is in
+    let count = c.threads-threads.ensures.threads in
     let test = c.loop-number-test.false in (
-      (λ yes. empty_of s c.holds.ensures.agree (λ t within d. c.loop-number.invariant t.0 (omega (arith, within, count, homes, test)) d)),
+      (λ yes. empty_of s c.holds.ensures.agree (λ t within d. c.loop-number.invariant t.0 (omega (arith, within, count, test)) d)),
       (λ empty. refl),
     )

@@ -1,5 +1,4 @@
-use Rattle.std.proofs.Common.{◌≡◌, sym}
-use Rattle.cpu.proofs.Quieting.{pending_is, place_pends, pends_place}
+use Rattle.cpu.proofs.Quieting.{pending_is, place_pends}
 use Rattle.cpu.proofs.systems.System.pends.Goals as goal
 
 pub returns-in_default : goal.returns-in_default

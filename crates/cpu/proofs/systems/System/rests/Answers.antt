@@ -1,4 +1,3 @@
-use Rattle.std.proofs.Common.{◌≡◌, sym}
 use Rattle.cpu.proofs.Quieting.{clash}
 use Rattle.cpu.proofs.systems.System.rests.Goals as goal
 

@@ -1,0 +1,8 @@
+use Rattle.std.proofs.Common.{◌≡◌, ◌<◌, ℕ, Some, None}
+use Rattle.std.specs.Prelude.{slice_get}
+use Rattle.cpu.specs.declared.cpus.Cpu.{Cpu}
+use Rattle.cpu.proofs.systems.System.is_closed.Given as goal
+
+abbrev pub invariant-loop-at : goal.invariant-loop-at
+invariant-loop-at g l =
+    (k : ℕ) (x : Cpu g.row.I.Denot g.row.I-Machine.Denot) → k < l.at-index → slice_get l.at-items k ≡ Some x → g.I.Owned.closed_here x.part l.buffer ≡ None

@@ -1,0 +1,43 @@
+use Rattle.std.specs.Prelude.{◌≡◌, Bool, true, false, ◌||◌, List, [], ◌∷◌, length, nat_lt, is_some, if◌then◌else◌}
+use Rattle.std.proofs.Common.{ap, refl, subst}
+use Rattle.event_log.specs.declared.ids.Tid.{Tid}
+use Rattle.thread_blocks.specs.Queues.{first}
+use Rattle.layer_traits.specs.declared.locked.Side.{Side}
+use Rattle.layer_traits.specs.declared.locked.Side.TheVariants.{Receivers, Senders}
+use Rattle.layer_traits.specs.declared.sleeps.Leave.TheVariants.{Nobody}
+use Rattle.plain_layers.specs.declared.attempts.Ask.{Ask}
+use Rattle.plain_layers.specs.declared.attempts.Ask.TheVariants.{Send, Receive, Close}
+use Rattle.plain_layers.specs.Attempts.{PlainState, allows, far_side, leaving, side_of, waiting_on, waking_by}
+use Rattle.plain_layers.proofs.attempts.closed_buffers_let_all_go.Goals as goal
+
+goes : (ask : Ask) (x : PlainState) → x.closed ≡ true → allows ask x ≡ true
+goes (Send m) x closed = ap (λ v. v || nat_lt (length x.items) x.capacity) closed
+goes Receive x closed = ap (λ v. v || nat_lt 0 (length x.items)) closed
+goes Close x closed = refl
+
+pub returns-clause-goes : goal.returns-clause-goes
+returns-clause-goes c = goes
+
+-- nobody is woken of a side only where nobody waits there
+nobody_first : (side : Side) (queue : List Tid) → leaving side (first queue) ≡ Nobody → queue ≡ []
+nobody_first side [] none = refl
+nobody_first Receivers (t ∷ queue) none = absurd (cc none)
+nobody_first Senders (t ∷ queue) none = absurd (cc none)
+
+nobody_there : (queue : List Tid) → is_some (first queue) ≡ false → queue ≡ []
+nobody_there [] none = refl
+nobody_there (t ∷ queue) none = absurd (cc none)
+
+-- of a closed buffer's two sides the own one is woken while somebody waits there, and else the other
+last_gone : (own : Side) (x : PlainState) (v : Bool) → is_some (first (waiting_on own x)) ≡ v
+    → leaving (if v then own else far_side own) (first (waiting_on (if v then own else far_side own) x)) ≡ Nobody
+    → (x.receivers ≡ []) × (x.senders ≡ [])
+last_gone own x true is none =
+    absurd (cc (is, ap (λ (queue : List Tid). is_some (first queue)) (nobody_first own (waiting_on own x) none)))
+last_gone Receivers x false is none = (nobody_there x.receivers is, nobody_first Senders x.senders none)
+last_gone Senders x false is none = (nobody_first Receivers x.receivers none, nobody_there x.senders is)
+
+pub returns-clause-wakes : goal.returns-clause-wakes
+returns-clause-wakes c = λ ask x closed none.
+    last_gone (side_of ask) x (is_some (first (waiting_on (side_of ask) x))) refl
+    (subst (λ v. leaving (waking_by v (side_of ask) x) (first (waiting_on (waking_by v (side_of ask) x) x)) ≡ Nobody) closed none)
