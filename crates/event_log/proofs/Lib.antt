@@ -16,3 +16,4 @@ mod Worked
 pub mod DigitsLemmas
 pub mod ReadingLemmas
 pub mod RingLemmas
+pub mod MessageLemmas

@@ -11,7 +11,7 @@ use Rattle.event_log.specs.Locks.{lock_number}
 abbrev pub cpu_numbered : ℕ → CpuId
 cpu_numbered n = record { 0 = n }
 
-abbrev buffer_numbered : ℕ → BufId
+abbrev pub buffer_numbered : ℕ → BufId
 buffer_numbered n = record { 0 = n }
 
 pub same_cpu_self : (a : CpuId) → same_cpu a a ≡ true

@@ -68,6 +68,10 @@ standing_other e past c other = ap (λ b. if b then left_by e else standing c pa
 pub ticket_at : {M N : Type 0} (name : M → N) (log : List (Event M)) → IsLegalWords log → (c : CpuId) → TicketOf (standing c log) (place c (acts_of name log))
 ticket_at name log legal c = told_ticket actor left_by standing (act_of name) (words_tell name) MayFollow (ticket_left name) log legal c
 
+-- the next number's rest follows that of the number
+pub next_rests : (count n : ℕ) → n ≡ count % 2 ^ 64 → (n + 1) % 2 ^ 64 ≡ (count + 1) % 2 ^ 64
+next_rests count n is = omega arith
+
 near_rests : (given spot : ℕ) → given ≤ spot → spot < given + CPUS → given % 2 ^ 64 ≡ spot % 2 ^ 64 → given ≡ spot
 near_rests given spot ahead close same = omega arith
 

@@ -1,7 +1,7 @@
 -- One section of another caller leaves a thread's stance as it is.
 use Rattle.std.proofs.Common.{◌≡◌, ◌≢◌, ℕ, Bool, true, false, not, ◌&&◌, ◌||◌, List, [], ◌∷◌, ◌++◌, Option, Some, None}
 use Rattle.std.proofs.Common.{option_map, is_some, nat_lt, if◌then◌else◌, refl, ap, sym, ◌∙◌, subst, arith}
-use Rattle.std.proofs.lemmas.Bool.{and_parts, and_right, or_parts}
+use Rattle.std.proofs.lemmas.Bool.{and_parts, and_right}
 use Rattle.event_log.specs.declared.ids.BufId.{BufId}
 use Rattle.event_log.specs.declared.ids.LockId.{LockId}
 use Rattle.event_log.specs.declared.ids.LockId.TheVariants.{Buffer}
@@ -26,24 +26,16 @@ use Rattle.layer_traits.specs.Places.{count_in, one_if}
 use Rattle.layer_traits.specs.Conditions.{CvCall}
 use Rattle.layer_traits.specs.Locking.{IsOwners, asked, lock_caller, lock_edited, owner_in}
 use Rattle.layer_traits.specs.Sleeping.{joined}
-use Rattle.layer_traits.proofs.CountLemmas.{count_append, same_tid_sym}
-use Rattle.thread_blocks.specs.Queues.{same_tid, is_in, first, rest}
+use Rattle.layer_traits.proofs.CountLemmas.{same_tid_sym, count_behind, count_other}
+use Rattle.thread_blocks.specs.Queues.{same_tid, is_in, rest}
 use Rattle.thread_blocks.proofs.Members.{same_tid_self, same_tid_true}
+use Rattle.thread_blocks.proofs.Distinct.{out_of_rest}
 use Rattle.fifo_buffer.specs.Stances.{Grip, Stance, TalkFits, holds_at, line_at, lined_at, same_side}
 
 pub not_some : (t u : Tid) → same_tid u t ≡ false → Some u ≢ Some t
 not_some t u other is = let one : u ≡ t = cc in absurd (cc (other, subst (λ v. same_tid u v ≡ true) one (same_tid_self u)))
 
--- how often a thread stands in a list that another joined, or whose first another was
-pub count_other : (t u : Tid) → same_tid u t ≡ false → one_if (same_tid t u) ≡ 0
-count_other t u other = ap one_if (same_tid_sym t u ∙ other)
-
-pub count_behind : (t u : Tid) (q : List Tid) → same_tid u t ≡ false → count_in t (q ++ u ∷ []) ≡ count_in t q
-count_behind t u q other =
-    let none = count_other t u other in
-    let sum = count_append t q (u ∷ []) in
-    omega (arith, none, sum)
-
+-- how often a thread stands in a list whose first another was
 pub count_rest : (t u : Tid) (q : List Tid) → same_tid u t ≡ false → is_first u q ≡ true → count_in t (rest q) ≡ count_in t q
 count_rest t u [] other is = absurd cc
 count_rest t u (x ∷ q) other is =
@@ -60,12 +52,6 @@ in_joined t u q other = go (nat_lt u.0 THREADS && not (is_in u q))
     go : (b : Bool) → is_in t (if b then q ++ u ∷ [] else q) ≡ is_in t q
     go true = in_append t u q other
     go false = refl
-
-pub out_of_rest : (t : Tid) (q : List Tid) → is_in t q ≡ false → (first q ≢ Some t) × (is_in t (rest q) ≡ false)
-out_of_rest t [] out = (λ is. absurd (cc is), refl)
-out_of_rest t (x ∷ q) out =
-    let parts = or_parts (same_tid t x) (is_in t q) out in
-    (not_some t x (same_tid_sym x t ∙ parts.0), parts.1)
 
 pub side_self : (side : Side) → same_side side side ≡ true
 side_self Receivers = refl

@@ -1,5 +1,6 @@
 -- What holds of a thread's talk over events, where none of them is of its CPU; and what its stance lets it do.
 use Rattle.std.proofs.Common.{◌≡◌, ◌≢◌, ℕ, Bool, true, false, ◌&&◌, List, [], ◌∷◌, ◌++◌, Option, Some, None, refl, ap, sym, ◌∙◌, subst, arith}
+use Rattle.std.proofs.Math.Bool.{and-true}
 use Rattle.event_log.specs.declared.ids.BufId.{BufId}
 use Rattle.event_log.specs.declared.ids.CpuId.{CpuId}
 use Rattle.event_log.specs.declared.ids.LockId.{LockId}
@@ -96,13 +97,9 @@ module _ (O : LockId → Option BufferLock) (past : List BufferSection) (t : Tid
   grip_here : (b : BufId) (side : Side) (holds asks lined : Bool) (position : ℕ) → Stance O past t b side holds asks lined position
       → Grip t holds asks (buffer_at O past (Buffer b))
   grip_here b side holds asks lined position stance =
-      subst (λ v. Grip t v asks (buffer_at O past (Buffer b))) (and_true holds)
-      (subst (λ v. Grip t (holds && true) v (buffer_at O past (Buffer b))) (and_true asks)
+      subst (λ v. Grip t v asks (buffer_at O past (Buffer b))) (and-true holds)
+      (subst (λ v. Grip t (holds && true) v (buffer_at O past (Buffer b))) (and-true asks)
       (subst (λ v. Grip t (holds && v) (asks && v) (buffer_at O past (Buffer b))) (same_lock_self (Buffer b)) (stance.grip (Buffer b))))
-    where
-      and_true : (x : Bool) → (x && true) ≡ x
-      and_true true = refl
-      and_true false = refl
 
   owned : (x : Option BufferLock) → Grip t true false x → owner_in x ≡ Some t
   owned None grip = absurd grip

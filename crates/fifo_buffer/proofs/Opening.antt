@@ -1,6 +1,6 @@
 -- A machine that opens with an empty buffer for each capacity boots as the layer wants it.
-use Rattle.std.proofs.Common.{◌≡◌, ℕ, zero, suc, ◌+◌, ◌≤◌, List, [], ◌∷◌, length, map, Option, Some, None, option_map, slice_get}
-use Rattle.std.proofs.Common.{refl, ap, sym, ◌∙◌, arith}
+use Rattle.std.proofs.Common.{◌≡◌, ℕ, ◌≤◌, List, [], length, map, Option, Some, None, option_map, slice_get}
+use Rattle.std.proofs.Common.{refl, ap, sym, ◌∙◌}
 use Rattle.std.proofs.Math.Path.{fun_ext}
 use Rattle.std.proofs.lemmas.Option.{slice_get-map}
 use Rattle.event_log.specs.declared.ids.BufId.{BufId}
@@ -13,7 +13,9 @@ use Rattle.layer_traits.specs.BufferBlocks.{BufferState, empty_block}
 use Rattle.layer_traits.specs.BufferEffects.{fresh_lock, opening_locks}
 use Rattle.layer_traits.specs.BufferProtocol.{BufferLock}
 use Rattle.layer_traits.specs.QueueBlocks.{StartsAs, above_of, inner}
-use Rattle.fifo_buffer.specs.FifoFits.{BootsSo, caps_at, caps_from, caps_in}
+use Rattle.layer_traits.specs.Capacities.{caps_from}
+use Rattle.layer_traits.proofs.CapacityLemmas.{caps_told}
+use Rattle.fifo_buffer.specs.FifoFits.{BootsSo, caps_in}
 
 -- a lock round a block, with no owner and nobody asleep
 abbrev pub resting : BufferState → BufferLock
@@ -44,34 +46,13 @@ module _ (opening : LockId → Option (QueueBlock BufferLock)) (caps : List ℕ)
       → inner opening ≡ opening_locks caps
   boots_at blocks kinds at are = boots_so kinds (λ b. at b ∙ ap (λ l. option_map resting (slice_get l b.0)) are)
 
--- the capacities are read off the locks one by one
-module _ (all : List ℕ) where
-  here : (n : ℕ) (o : Option ℕ) → slice_get all (n + 0) ≡ o → slice_get all n ≡ o
-  here n o is = let at : n ≡ n + 0 = omega arith in ap (slice_get all) at ∙ is
-
-  further : (n i : ℕ) (o : Option ℕ) → slice_get all (n + suc i) ≡ o → slice_get all (n + 1 + i) ≡ o
-  further n i o is = let at : n + 1 + i ≡ n + suc i = omega arith in ap (slice_get all) at ∙ is
-
-  pub caps_read : (caps : List ℕ) (more n : ℕ) → ((i : ℕ) → slice_get all (n + i) ≡ slice_get caps i) → length caps ≤ more
-      → caps_from more n (opening_locks all) ≡ caps
-  unfolding caps_from
-  caps_read [] zero n same few = refl
-  caps_read (capacity ∷ caps) zero n same few = absurd (omega (arith, few))
-  caps_read [] (suc more) n same few =
-      ap (λ o. caps_at (option_map fresh_lock o) (caps_from more (n + 1) (opening_locks all))) (here n None (same 0))
-  caps_read (capacity ∷ caps) (suc more) n same few =
-      ap (λ o. caps_at (option_map fresh_lock o) (caps_from more (n + 1) (opening_locks all))) (here n (Some capacity) (same 0))
-      ∙ ap (λ rest. capacity ∷ rest)
-      (caps_read caps more (n + 1) (λ i. further n i (slice_get caps i) (same (suc i))) (omega (arith, few)))
-
 -- the capacities that the locks tell are those with which they opened
 pub caps_are : (opening : LockId → Option (QueueBlock BufferLock)) (caps : List ℕ) → inner opening ≡ opening_locks caps → length caps ≤ 256
     → caps_in opening ≡ caps
 unfolding caps_in
-caps_are opening caps boots few = ap (caps_from 256 0) boots ∙ caps_read caps caps 256 0 from_zero few
-  where
-    from_zero : (i : ℕ) → slice_get caps (0 + i) ≡ slice_get caps i
-    from_zero i = let at : 0 + i ≡ i = omega arith in ap (slice_get caps) at
+caps_are opening caps boots few =
+    let capacity : BufferLock → ℕ = λ lock. lock.above.capacity in
+    ap (caps_from capacity 256 0) boots ∙ caps_told capacity fresh_lock (λ n. refl) caps (opening_locks caps) (λ n. refl) 256 few
 
 -- so the machine boots as the layer wants it
 pub boots_well : (opening : LockId → Option (QueueBlock BufferLock)) (caps : List ℕ) → inner opening ≡ opening_locks caps → length caps ≤ 256

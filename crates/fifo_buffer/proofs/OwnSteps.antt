@@ -1,7 +1,8 @@
 -- A thread's own sections: what each leaves of its stance, and its effect.
 use Rattle.std.proofs.Common.{◌≡◌, ◌<◌, ℕ, Bool, true, false, ◌&&◌, List, [], ◌∷◌, ◌++◌, Option, Some, None, option_map}
-use Rattle.std.proofs.Common.{is_some, nat_lt, if◌then◌else◌, refl, ap, sym, ◌∙◌, subst, arith, lt-ltb}
+use Rattle.std.proofs.Common.{nat_lt, if◌then◌else◌, refl, ap, sym, ◌∙◌, subst, arith, lt-ltb}
 use Rattle.std.proofs.lemmas.Bool.{and_parts, and_right}
+use Rattle.std.proofs.Math.Bool.{and-true}
 use Rattle.event_log.specs.declared.entries.Kind.TheVariants as kind
 use Rattle.event_log.specs.declared.ids.BufId.{BufId}
 use Rattle.event_log.specs.declared.ids.CpuId.{CpuId}
@@ -13,6 +14,7 @@ use Rattle.event_log.specs.History.{same_lock}
 use Rattle.event_log.specs.Messages.{Message, no_message}
 use Rattle.event_log.specs.Runs.{group_of}
 use Rattle.event_log.proofs.Same.{same_lock_self, same_lock_true}
+use Rattle.event_log.proofs.BoolLemmas.{none_of}
 use Rattle.layer_traits.specs.declared.buffer_edits.BufferEdit.{BufferEdit}
 use Rattle.layer_traits.specs.declared.buffer_edits.BufferEdit.TheVariants.{Enter, TryPut, TryTake, Shut}
 use Rattle.layer_traits.specs.declared.buffer_edits.BufferOut.{BufferOut}
@@ -43,14 +45,11 @@ use Rattle.layer_traits.specs.Protocol.{section}
 use Rattle.layer_traits.proofs.CountLemmas.{count_append, not_counted}
 use Rattle.thread_blocks.specs.Queues.{same_tid, is_in, rest}
 use Rattle.thread_blocks.proofs.Members.{same_tid_self}
+use Rattle.thread_blocks.proofs.Distinct.{out_of_rest}
 use Rattle.fifo_buffer.specs.BlockSteps.{kind_counts}
 use Rattle.fifo_buffer.specs.Stances.{Grip, Holds, InCall, IsFreeOf, Stance, TalkFits, done_at, heard_by, line_at, same_side}
 use Rattle.fifo_buffer.specs.Stances.{slept_by, talk_in, waits_by}
-use Rattle.fifo_buffer.proofs.Apart.{above_asked, line_shut, out_of_rest, side_self}
-
-and_true : (x : Bool) → (x && true) ≡ x
-and_true true = refl
-and_true false = refl
+use Rattle.fifo_buffer.proofs.Apart.{above_asked, line_shut, side_self}
 
 and_second : (x y : Bool) → (x && y) ≡ true → y ≡ true
 and_second true y e = e
@@ -91,9 +90,9 @@ module _ (opening : LockId → Option BufferLock) (past : List BufferSection) (c
           let now : Grip t (holds && true) (asks && true) (Some lock)
           = subst (λ x. Grip t (holds && true) (asks && true) x) (here l same)
           (subst (λ v. Grip t (holds && v) (asks && v) (buffer_at opening past l)) same (stance.grip l)) in
-          let then' : Grip t holds' asks' (Some (lock_edited buffer_rules e lock)) = grips (rw (← and_true holds, ← and_true asks) now) in
+          let then' : Grip t holds' asks' (Some (lock_edited buffer_rules e lock)) = grips (rw (← and-true holds, ← and-true asks) now) in
           subst (λ x. Grip t (holds' && true) (asks' && true) (option_map (lock_edited buffer_rules e) x)) (sym (here l same))
-          (rw (and_true holds', and_true asks') then')
+          (rw (and-true holds', and-true asks') then')
       grip_at l false same =
           let now : Grip t (holds && false) (asks && false) (buffer_at opening past l)
           = subst (λ v. Grip t (holds && v) (asks && v) (buffer_at opening past l)) same (stance.grip l) in
@@ -179,7 +178,7 @@ module _ (opening : LockId → Option BufferLock) (past : List BufferSection) (c
   in_own_line holds asks lined position stance =
       sym (ap (λ x. count_in t (line_at side x)) is) ∙ stance.line (Buffer b) side
       ∙ ap (λ v. one_if (lined && (v && same_side side side))) (same_lock_self (Buffer b))
-      ∙ ap (λ v. one_if (lined && v)) (side_self side) ∙ ap one_if (and_true lined)
+      ∙ ap (λ v. one_if (lined && v)) (side_self side) ∙ ap one_if (and-true lined)
 
   entered_line : (position : ℕ) → t.0 < THREADS → Stance opening past t b side true false false position
       → Stance opening (section c (Buffer b) (Inside (Edit (Enter t side))) ∷ past) t b side true false true (places_of side lock.above)
@@ -368,11 +367,7 @@ module _ (opening : LockId → Option BufferLock) (past : List BufferSection) (c
       }
 
   none_before : (call : Call) (stage : Stage) → done_at stage ≡ false → InCall opening past t call None None stage position effect → effect ≡ None
-  none_before call stage begins now = go effect (now.effect_is ∙ begins)
-    where
-      go : (f : Option Effect) → is_some f ≡ false → f ≡ None
-      go None is = refl
-      go (Some x) is = absurd cc
+  none_before call stage begins now = none_of effect (now.effect_is ∙ begins)
 
   enters_step : (call : Call) → t.0 < THREADS → buffer_at opening past (Buffer (buffer_of call)) ≡ Some lock
       → InCall opening past t call None None Enters position effect

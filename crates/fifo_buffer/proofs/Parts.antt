@@ -35,6 +35,7 @@ use Rattle.layer_traits.specs.QueueBlocks.{homes_in, inner}
 use Rattle.layer_traits.specs.Queues.{QueueAllowed, buffer_sections, event_actor, moves_in, with_section}
 use Rattle.layer_traits.proofs.CallLemmas.{moves_append, moves_others, moves_over}
 use Rattle.event_log.proofs.Same.{same_cpu_true}
+use Rattle.event_log.proofs.Foreign.{others_both}
 use Rattle.fifo_buffer.specs.FifoFits.{PartFits}
 use Rattle.fifo_buffer.specs.Stances.{TalkFits}
 use Rattle.fifo_buffer.specs.Turns.{BufferEvent, BufferOutcome, CallsFit, Goes, Kept, Midway}
@@ -64,10 +65,6 @@ one_entry d cpu b (Inside (Edit (Shut t))) position (Some lock) other = (other, 
 one_entry d cpu b (Inside (SignalFront t side)) position (Some lock) other = tt
 one_entry d cpu b (Release leave) position (Some lock) other = tt
 
-others_join : {E : Type 0} (by : E → CpuId) (d : CpuId) (xs ys : List E) → AreOthers by d xs → AreOthers by d ys → AreOthers by d (xs ++ ys)
-others_join by d [] ys one two = two
-others_join by d (x ∷ xs) ys one two = (one.0, others_join by d xs ys one.1 two)
-
 module _ (O : LockId → Option BufferLock) where
   -- the effects of one event, and of some
   abbrev effect_by : CpuId → QueueCall (CvCall BufferEdit) → List BufferSection → List Entry
@@ -96,7 +93,7 @@ module _ (O : LockId → Option BufferLock) where
   pub effects_others : (d : CpuId) (more past : List BufferEvent) → AreOthers event_actor d more → AreOthers entry_cpu d (effects_over more past)
   effects_others d [] past others = tt
   effects_others d (e ∷ more) past others =
-      others_join entry_cpu d (effect_by e.cpu e.call (buffer_sections (more ++ past))) (effects_over more past) (go e.call)
+      others_both entry_cpu d (effect_by e.cpu e.call (buffer_sections (more ++ past))) (effects_over more past) (go e.call)
       (effects_others d more past others.1)
     where
       go : (call : QueueCall (CvCall BufferEdit)) → AreOthers entry_cpu d (effect_by e.cpu call (buffer_sections (more ++ past)))
@@ -224,5 +221,5 @@ pub other_part : (opening : LockId → Option (QueueBlock BufferLock)) (c d : Cp
     → (own : Waiting BufferOut) (talks : List Talk) (under_way : Option (SchedCall (CvCall BufferEdit))) (calling : Option Tid)
     → PartFits opening d past own talks under_way calling → PartFits opening d new own talks under_way calling
 other_part opening c d apart mine others past new own_events foreign is lawful own talks under_way calling fits =
-    part_grown opening d (mine ++ others) past new (others_join event_actor d mine others (own_others c d apart mine own_events) foreign) lawful
+    part_grown opening d (mine ++ others) past new (others_both event_actor d mine others (own_others c d apart mine own_events) foreign) lawful
     (is ∙ sym (append_assoc mine others past)) own talks under_way calling fits

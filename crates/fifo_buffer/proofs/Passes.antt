@@ -1,5 +1,5 @@
 -- A call that is passed on to the scheduler has no effect, and leaves the talks as they fit.
-use Rattle.std.proofs.Common.{◌≡◌, Bool, true, false, List, [], ◌∷◌, ◌++◌, Option, Some, None, is_some, if◌then◌else◌, refl, ap, sym, ◌∙◌, subst}
+use Rattle.std.proofs.Common.{◌≡◌, Bool, true, false, List, [], ◌++◌, Option, Some, None, is_some, if◌then◌else◌, refl, ap, sym, ◌∙◌, subst}
 use Rattle.std.specs.List.{AllByRecursion}
 use Rattle.event_log.specs.declared.ids.CpuId.{CpuId}
 use Rattle.event_log.specs.declared.ids.LockId.{LockId}
@@ -27,6 +27,7 @@ use Rattle.layer_traits.specs.Scheds.{SchedPolled, events_of, pass_call}
 use Rattle.layer_traits.specs.SleepLaw.{done_if}
 use Rattle.layer_traits.proofs.CallLemmas.{pass_polled}
 use Rattle.layer_traits.proofs.SleepLemmas.{done_same}
+use Rattle.layer_traits.proofs.Seen.{lawful_rest}
 use Rattle.fifo_buffer.specs.FifoFits.{PartFits}
 use Rattle.fifo_buffer.specs.Turns.{BufferEvent, BufferOutcome, NoSection, doing_at}
 use Rattle.fifo_buffer.proofs.Parts.{effects_append, effects_others, effects_over, part_on}
@@ -127,16 +128,11 @@ module _ (pass : PassDone) where
       let on = part_on opening d polled.others old others lawful cv talks under_way calling fits in
       record { boots = on.boots; sizes = on.sizes; calls = rw same_sections on.calls }
 
-lawful_rest : (opening : LockId → Option (QueueBlock BufferLock)) (mine past : List BufferEvent)
-    → IsLawful (QueueAllowed (lock_kernel (cv_rules buffer_deeds) opening)) (mine ++ past) → IsLawful
-    (QueueAllowed (lock_kernel (cv_rules buffer_deeds) opening)) past
-lawful_rest opening [] past lawful = lawful
-lawful_rest opening (e ∷ mine) past lawful = lawful_rest opening mine past lawful.1
-
 pub lawful_before : (opening : LockId → Option (QueueBlock BufferLock)) (mine past new : List BufferEvent) → new ≡ mine ++ past
     → IsLawful (QueueAllowed (lock_kernel (cv_rules buffer_deeds) opening)) new → IsLawful (QueueAllowed (lock_kernel (cv_rules buffer_deeds) opening)) past
 lawful_before opening mine past new is lawful =
-    lawful_rest opening mine past (subst (IsLawful (QueueAllowed (lock_kernel (cv_rules buffer_deeds) opening))) is lawful)
+    let may = QueueAllowed (lock_kernel (cv_rules buffer_deeds) opening) in
+    lawful_rest may mine past (subst (IsLawful may) is lawful)
 
 -- what a pass changes of the part: its threads, and which pass is under way
 pub passed_own : (opening : LockId → Option (QueueBlock BufferLock)) (c : CpuId) (past : List BufferEvent) (cv cv' : Waiting BufferOut) (talks : List Talk)

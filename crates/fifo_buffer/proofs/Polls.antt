@@ -11,6 +11,7 @@ use Rattle.event_log.specs.declared.ids.LockId.TheVariants.{Buffer}
 use Rattle.event_log.specs.declared.ids.Tid.{Tid}
 use Rattle.event_log.specs.declared.ids.TheConstants.{THREADS}
 use Rattle.event_log.specs.History.{AreForeign, IsLawful}
+use Rattle.event_log.proofs.BoolLemmas.{none_of}
 use Rattle.layer_traits.specs.declared.buffer_edits.BufferEdit.{BufferEdit}
 use Rattle.layer_traits.specs.declared.buffer_edits.BufferOut.{BufferOut}
 use Rattle.layer_traits.specs.declared.calls.Call.{Call}
@@ -241,10 +242,6 @@ woken_ended homes c (Some u) own = refl
 slept_ended : (line : Option Line) (own : Threads) → (own_slept line own).ended ≡ own.ended
 slept_ended None own = refl
 slept_ended (Some l) own = refl
-
-none_of : {A : Type 0} (x : Option A) → is_some x ≡ false → x ≡ None
-none_of None is = refl
-none_of (Some a) is = absurd cc
 
 -- marks of other threads
 pub other_mark : (l : List (Option BufId)) (t u : Tid) (v : Option BufId) → same_tid t u ≡ false → slept_for (slice_set l t.0 v) u ≡ slept_for l u

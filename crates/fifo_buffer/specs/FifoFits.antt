@@ -1,9 +1,7 @@
 -- A part of the buffers and its machine agree.
-use Rattle.std.specs.Prelude.{◌≡◌, ℕ, ◌+◌, List, [], ◌∷◌, Option, Some, None}
-use Rattle.std.proofs.Common.{zero, suc}
+use Rattle.std.specs.Prelude.{◌≡◌, ℕ, List, Option}
 use Rattle.event_log.specs.declared.ids.CpuId.{CpuId}
 use Rattle.event_log.specs.declared.ids.LockId.{LockId}
-use Rattle.event_log.specs.declared.ids.LockId.TheVariants.{Buffer}
 use Rattle.event_log.specs.declared.ids.Tid.{Tid}
 use Rattle.layer_traits.specs.declared.buffer_edits.BufferEdit.{BufferEdit}
 use Rattle.layer_traits.specs.declared.buffer_edits.BufferOut.{BufferOut}
@@ -16,21 +14,12 @@ use Rattle.layer_traits.specs.Conditions.{CvCall}
 use Rattle.layer_traits.specs.CvLaw.{Waiting}
 use Rattle.layer_traits.specs.QueueBlocks.{homes_in, inner}
 use Rattle.layer_traits.specs.Queues.{buffer_sections}
+use Rattle.layer_traits.specs.Capacities.{caps_from}
 use Rattle.fifo_buffer.specs.Turns.{BufferEvent, CallsFit, Sizes}
-
--- the capacity of a buffer's lock before those of the next ones, while there is one
-abbrev pub caps_at : Option BufferLock → List ℕ → List ℕ
-caps_at None rest = []
-caps_at (Some lock) rest = lock.above.capacity ∷ rest
-
--- the capacities of buffers n, n + 1 and so on, while there is one, at most so many
-unfoldable pub caps_from : ℕ → ℕ → (LockId → Option BufferLock) → List ℕ
-caps_from zero n locks = []
-caps_from (suc more) n locks = caps_at (locks (Buffer (record { 0 = n }))) (caps_from more (n + 1) locks)
 
 -- the capacities of the buffers: a buffer's number is less than 256
 unfoldable pub caps_in : (LockId → Option (QueueBlock BufferLock)) → List ℕ
-caps_in opening = caps_from 256 0 (inner opening)
+caps_in opening = caps_from (λ (lock : BufferLock). lock.above.capacity) 256 0 (inner opening)
 
 -- the machine opened with a fresh lock round each buffer
 abbrev pub BootsSo : (LockId → Option (QueueBlock BufferLock)) → Type 0

@@ -43,6 +43,16 @@ pub count_append : (t : Tid) (p q : List Tid) → count_in t (p ++ q) ≡ count_
 count_append t [] q = sym (zero-add (count_in t q))
 count_append t (x ∷ p) q = ap (λ n. one_if (same_tid t x) + n) (count_append t p q) ∙ sym (add_assoc (one_if (same_tid t x)) (count_in t p) (count_in t q))
 
+-- how often a thread stands in a list that another one joined
+pub count_other : (t u : Tid) → same_tid u t ≡ false → one_if (same_tid t u) ≡ 0
+count_other t u other = ap one_if (same_tid_sym t u ∙ other)
+
+pub count_behind : (t u : Tid) (q : List Tid) → same_tid u t ≡ false → count_in t (q ++ u ∷ []) ≡ count_in t q
+count_behind t u q other =
+    let none = count_other t u other in
+    let sum = count_append t q (u ∷ []) in
+    omega (arith, none, sum)
+
 pub count_as_list : (t : Tid) (o : Option Tid) → count_in t (as_list o) ≡ one_if (is_thread t o)
 count_as_list t None = refl
 count_as_list t (Some u) = let turned : one_if (same_tid t u) ≡ one_if (same_tid u t) = ap one_if (same_tid_sym t u) in omega (arith, turned)

@@ -18,3 +18,4 @@ pub mod ActedLemmas
 pub mod OwnedLemmas
 pub mod EffectRunLemmas
 pub mod ItemLemmas
+pub mod CapacityLemmas

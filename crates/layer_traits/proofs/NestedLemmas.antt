@@ -26,11 +26,12 @@ use Rattle.layer_traits.specs.MoveRules.{MoveRules, WakesSleepers, edit_move}
 use Rattle.layer_traits.specs.Places.{AreMoves, MayMove, MayPush, pending_after, pending_by}
 use Rattle.layer_traits.specs.Protocol.{IsKnown, Rules, StaysAllowed, section}
 use Rattle.layer_traits.specs.QueueBlocks.{StartsAs, StartsWell, above_of, homes_in, inner, with_queue}
-use Rattle.layer_traits.specs.QueueRules.{AreProper, IsProper, IsProperCall, SectionAllowed, pushed, queue_answer, queue_edited, queue_rules}
+use Rattle.layer_traits.specs.QueueRules.{AreProper, IsProper, IsProperCall, SectionAllowed, queue_answer, queue_edited, queue_rules}
 use Rattle.layer_traits.specs.Queues.{CallAllowed, call_move, IsKnownEvent, Kernel, MayQueue, QueueAllowed}
 use Rattle.layer_traits.specs.Queues.{QueuePolled, StaysCallable, answer_of, buffer_sections}
 use Rattle.layer_traits.specs.Queues.{call_at, edit_of, event, event_actor, event_of, kernel, lock_of, moves_in, out_at}
 use Rattle.layer_traits.specs.Turns.{MayPoll, Polled}
+use Rattle.layer_traits.specs.Sleeping.{joined}
 use Rattle.layer_traits.proofs.CallLemmas.{moves_lawful}
 use Rattle.layer_traits.proofs.CountLemmas.{same_cpu_sym}
 use Rattle.layer_traits.proofs.PlaceLemmas.{pend_where}
@@ -189,7 +190,7 @@ module _ {E B O : Type 0} (rules : Rules E B O) (mv : MoveRules E O) (opening : 
             let held = may.held in
             absurd (cc (pends, held))
 
-    pushed_is : (t : Tid) (queue : List Tid) → t.0 < THREADS → is_in t queue ≡ false → pushed t queue ≡ queue ++ t ∷ []
+    pushed_is : (t : Tid) (queue : List Tid) → t.0 < THREADS → is_in t queue ≡ false → joined t queue ≡ queue ++ t ∷ []
     pushed_is t queue known new = λ i. if (lt-ltb t.0 THREADS known i) && not (new i) then queue ++ t ∷ [] else queue
 
     edits_queue : (x : QueueEdit E) (at : Bool) (found opened : Option (QueueBlock B)) (queue next : List Tid) → found ≡ with_queue queue opened

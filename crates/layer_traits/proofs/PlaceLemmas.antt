@@ -55,13 +55,13 @@ is_pend_true d (Hand c) is = absurd cc
 is_pend_true d (Pend q) is = ap Pend (same_cpu_true q d is)
 is_pend_true d (Asleep p) is = absurd cc
 
-is_hand_true : (d : CpuId) (w : Where) → is_hand d w ≡ true → w ≡ Hand d
+pub is_hand_true : (d : CpuId) (w : Where) → is_hand d w ≡ true → w ≡ Hand d
 is_hand_true d Home is = absurd cc
 is_hand_true d (Hand c) is = ap Hand (same_cpu_true c d is)
 is_hand_true d (Pend q) is = absurd cc
 is_hand_true d (Asleep p) is = absurd cc
 
-is_home_true : (w : Where) → is_home w ≡ true → w ≡ Home
+pub is_home_true : (w : Where) → is_home w ≡ true → w ≡ Home
 is_home_true Home is = refl
 is_home_true (Hand c) is = absurd cc
 is_home_true (Pend q) is = absurd cc

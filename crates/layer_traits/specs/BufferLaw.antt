@@ -196,9 +196,9 @@ pub data Doing : Type 0 where
   Passing : (pass : Pass) → Doing
 
 -- what has begun goes on
-abbrev pub MayGoOn : Option Doing → Doing → Type 0
+abbrev pub MayGoOn : {A : Type 0} → Option A → A → Type 0
 MayGoOn None next = Unit {0}
-MayGoOn (Some doing) next = doing ≡ next
+MayGoOn (Some begun) next = begun ≡ next
 
 -- after a poll of a call the CPU is still at it exactly where the thread still runs and there is no answer
 abbrev pub still_calling : Tid → Option Tid → Option Reply → Option Doing

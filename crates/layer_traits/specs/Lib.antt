@@ -33,3 +33,4 @@ pub mod Owned
 pub mod Told
 pub mod Openings
 pub mod EffectRuns
+pub mod Capacities

@@ -1,11 +1,8 @@
 -- What the edits of shared queues mean as edits of locks' blocks, and which sections of them are allowed.
-use Rattle.std.specs.Prelude.{◌≡◌, ◌&&◌, not, nat_lt, List, [], ◌∷◌, ◌++◌, Option, Some, None, map, if◌then◌else◌}
+use Rattle.std.specs.Prelude.{◌≡◌, List, [], Option, Some, None, map}
 use Rattle.std.specs.List.{AllByRecursion}
 use Rattle.event_log.specs.declared.ids.LockId.{LockId}
-use Rattle.event_log.specs.declared.ids.Tid.{Tid}
-use Rattle.event_log.specs.declared.ids.TheConstants.{THREADS}
 use Rattle.event_log.specs.Sections.{Section}
-use Rattle.thread_blocks.specs.Queues.{is_in}
 use Rattle.layer_traits.specs.declared.queue_edits.QueueBlock.{QueueBlock}
 use Rattle.layer_traits.specs.declared.queue_edits.QueueBlock.TheVariants as block
 use Rattle.layer_traits.specs.declared.queue_edits.QueueEdit.{QueueEdit}
@@ -15,14 +12,11 @@ use Rattle.layer_traits.specs.declared.queues.QueueAnswer.TheVariants.{Done, Tak
 use Rattle.layer_traits.specs.MoveRules.{MoveRules}
 use Rattle.layer_traits.specs.Protocol.{Rules}
 use Rattle.layer_traits.specs.Queues.{kernel, QueueAllowed, event_of, lock_of, call_at}
+use Rattle.layer_traits.specs.Sleeping.{joined}
 
--- the queue with this thread behind the others; a thread that stands in it already, or that no machine has, changes nothing
-abbrev pub pushed : Tid → List Tid → List Tid
-pushed t queue = if nat_lt t.0 THREADS && not (is_in t queue) then queue ++ t ∷ [] else queue
-
--- the block that an edit leaves; an edit of the other kind of block changes nothing
+-- the block that an edit leaves: a thread that is pushed joins the queue; an edit of the other kind of block changes nothing
 abbrev pub queue_edited : {E B : Type 0} → (E → B → B) → QueueEdit E → QueueBlock B → QueueBlock B
-queue_edited edited (Push t) (block.Queue queue homes) = block.Queue (pushed t queue) homes
+queue_edited edited (Push t) (block.Queue queue homes) = block.Queue (joined t queue) homes
 queue_edited edited (Push t) (block.Above b) = block.Above b
 queue_edited edited TakeAll (block.Queue queue homes) = block.Queue [] homes
 queue_edited edited TakeAll (block.Above b) = block.Above b

@@ -9,6 +9,7 @@ use Rattle.event_log.specs.declared.ids.LockId.TheVariants.{Buffer}
 use Rattle.event_log.specs.declared.ids.TheConstants.{THREADS}
 use Rattle.event_log.specs.Actions.{Action, renamed}
 use Rattle.event_log.specs.History.{IsLawful}
+use Rattle.event_log.proofs.BoolLemmas.{none_of}
 use Rattle.layer_traits.specs.declared.locked.QEdit.{QEdit}
 use Rattle.layer_traits.specs.declared.locked.QOut.{QOut}
 use Rattle.layer_traits.specs.declared.passes.Pass.{Pass}
@@ -68,10 +69,6 @@ pub pass_here : {F R B O : Type 0} (rules : LockRules F R B O) (opening : LockId
 pass_here rules opening ActsFor c p answer old new own own' polled =
     polled_renamed (beneath rules opening) (here rules opening) edit_in lock_of (locks_wrap rules opening) ActsFor c (call.Pass p) answer old new own own'
     polled
-
-no_buffer : (x : Option BufId) → is_some x ≡ false → x ≡ None
-no_buffer None none = refl
-no_buffer (Some b) none = absurd cc
 
 -- what a part knows before a poll
 pub record Before {F R B O : Type 0} (rules : LockRules F R B O) (opening : LockId → Option (QueueBlock (SleepState (QBlock B)))) : Type 0 where
@@ -144,7 +141,7 @@ module _ {F R B O : Type 0} (rules : LockRules F R B O) (opening : LockId → Op
 
   module _ (awake : is_some (slept_for slept (lock_caller rules e)) ≡ false) where
     pub none : slept_for slept (lock_caller rules e) ≡ None
-    none = no_buffer (slept_for slept (lock_caller rules e)) awake
+    none = none_of (slept_for slept (lock_caller rules e)) awake
 
     goes : MayCall (option_map (renamed_sched edit_in) under) (call.OnBuffer b e)
         (MayLock rules (here rules opening) c (renamed_events edit_in past) own.threads.hand b e)

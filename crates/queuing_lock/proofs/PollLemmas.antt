@@ -3,6 +3,7 @@ use Rattle.std.proofs.Common.{◌≡◌, ◌≢◌, inl, inr, ◌<◌, ◌≤◌
 use Rattle.std.proofs.Common.{Some, None, option_map, is_some, refl, ap, sym, ◌∙◌, subst, arith}
 use Rattle.std.proofs.lemmas.Bool.{lt-ltb}
 use Rattle.std.proofs.lemmas.Option.{slice_get_within}
+use Rattle.std.proofs.Math.Bool.{or-true}
 use Rattle.event_log.specs.declared.ids.BufId.{BufId}
 use Rattle.event_log.specs.declared.ids.CpuId.{CpuId}
 use Rattle.event_log.specs.declared.ids.LockId.{LockId}
@@ -54,11 +55,7 @@ joined_in : (t : Tid) (queue : List Tid) → t.0 < THREADS → is_in t (joined t
 joined_in t queue small = go (nat_lt t.0 THREADS) refl (is_in t queue) refl
   where
     here : is_in t (queue ++ t ∷ []) ≡ true
-    here = pushed_in t t queue ∙ (ap (λ b. is_in t queue || (b || false)) (same_tid_self t) ∙ or_true (is_in t queue))
-      where
-        or_true : (b : Bool) → (b || true) ≡ true
-        or_true true = refl
-        or_true false = refl
+    here = pushed_in t t queue ∙ (ap (λ b. is_in t queue || (b || false)) (same_tid_self t) ∙ or-true (is_in t queue))
 
     go : (b : Bool) → nat_lt t.0 THREADS ≡ b → (d : Bool) → is_in t queue ≡ d → is_in t (if b && not d then queue ++ t ∷ [] else queue) ≡ true
     go true low true stands = stands

@@ -21,8 +21,8 @@ use Rattle.layer_traits.specs.Places.{home_of}
 use Rattle.layer_traits.specs.QueueBlocks.{homes_in, inner}
 use Rattle.layer_traits.specs.Queues.{CallAllowed, QueueAllowed, buffer_sections, event_actor, with_section}
 use Rattle.thread_blocks.specs.Queues.{first, is_in, rest, same_tid}
-use Rattle.thread_blocks.proofs.Distinct.{pushed_in}
-use Rattle.thread_blocks.proofs.Members.{same_tid_self, same_tid_true}
+use Rattle.thread_blocks.proofs.Distinct.{out_of_rest, pushed_in}
+use Rattle.thread_blocks.proofs.Members.{same_tid_true}
 use Rattle.layer_traits.specs.Sleeping.{joined}
 
 -- what is true of a lock stays so by each call of the owner that another thread makes
@@ -121,18 +121,6 @@ front_or_behind t (x ∷ queue) stands = go (same_tid t x) refl stands
     go true is stands = inl (ap Some (sym (same_tid_true t x is)))
     go false is stands = inr stands
 
-not_front : (t : Tid) (queue : List Tid) → is_in t queue ≡ false → (first queue ≢ Some t) × (is_in t (rest queue) ≡ false)
-not_front t [] missing = (λ is. absurd cc, refl)
-not_front t (x ∷ queue) missing = go (same_tid t x) refl missing
-  where
-    go : (b : Bool) → same_tid t x ≡ b → (b || is_in t queue) ≡ false → (Some x ≢ Some t) × (is_in t queue ≡ false)
-    go true is missing = absurd cc
-    go false is missing = (
-      λ same. let one : x ≡ t = cc in let clash : true ≡ false = sym (same_tid_self t)
-          ∙ subst (λ y. same_tid t y ≡ false) one is in absurd cc,
-      missing,
-    )
-
 -- The three that stay.
 
 module _ {F R B O : Type 0} (rules : LockRules F R B O) (t : Tid) where
@@ -167,7 +155,7 @@ module _ {F R B O : Type 0} (rules : LockRules F R B O) (t : Tid) where
   pub keeps_nothing : Keeps rules t (HasNothing rules t)
   keeps_nothing (Acquire u) state owners apart holds = asked_nothing u state.owner state apart holds
   keeps_nothing (Inside f) state owners apart holds = holds
-  keeps_nothing (Release r) state owners apart holds = not_front t state.sleepers holds.1
+  keeps_nothing (Release r) state owners apart holds = out_of_rest t state.sleepers holds.1
 
   asked_owned : (u : Tid) (owner : Option Tid) (state : LockState B) → owner ≡ Some t → owner_in (Some (asked u owner state)) ≡ Some t
   asked_owned u None state owns = absurd cc

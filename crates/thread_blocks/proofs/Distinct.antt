@@ -1,12 +1,13 @@
 -- Queues as lists in which no thread stands twice.
-use Rattle.std.proofs.Common.{◌≡◌, ℕ, ◌<◌, ◌≤◌, Bool, true, false, List, [], ◌∷◌, ◌++◌, length, refl}
+use Rattle.std.proofs.Common.{◌≡◌, ◌≢◌, ℕ, ◌<◌, ◌≤◌, Bool, true, false, List, [], ◌∷◌, ◌++◌, length, refl}
 use Rattle.std.proofs.Common.{sym, ap, ◌∙◌, arith, subst, eqb, ◌||◌, ◌⊎◌, inl, inr, suc, ◌==◌, slice_index_or, remove, Some, None, if◌then◌else◌}
 use Rattle.std.specs.Cmp.{IsEquivalence, nat_eq_equiv}
 use Rattle.std.specs.List.{IsDistinct, AllByRecursion, list_any}
-use Rattle.std.proofs.lemmas.Bool.{or_parts, or_cases, true≢false, cond_both}
+use Rattle.std.proofs.lemmas.Bool.{or_parts, or_cases, or_from, or_left, or_right, true≢false, cond_both}
 use Rattle.std.proofs.lemmas.List.Folds.{list_any-append}
 use Rattle.std.proofs.lemmas.Map.Keys.{IsDistinct-head, IsDistinct-tail, IsDistinct-cons, IsDistinct-push}
 use Rattle.std.proofs.lemmas.Map.Steps.{length-le_from_distinct_below}
+use Rattle.std.proofs.lemmas.Option.{same_Some}
 use Rattle.event_log.specs.declared.ids.Tid.{Tid}
 use Rattle.event_log.specs.declared.ids.TheConstants.{THREADS}
 use Rattle.thread_blocks.specs.Queues.{same_tid, is_in, first, rest, without, IsQueue}
@@ -19,13 +20,6 @@ laws = record {
   symm = λ x y. nat_eq_equiv.symm x.0 y.0;
   congr = λ x y z. nat_eq_equiv.congr x.0 y.0 z.0;
 }
-
-or_first : (a b : Bool) → a ≡ true → (a || b) ≡ true
-or_first a b is = rw is refl
-
-or_second : (a b : Bool) → b ≡ true → (a || b) ≡ true
-or_second true b is = refl
-or_second false b is = is
 
 -- no thread stands in none
 pub none : IsQueue []
@@ -65,10 +59,6 @@ no_more queue is = subst (λ n. n ≤ THREADS) (length_numbers queue)
 known_one : (t u : Tid) → t.0 < THREADS → same_tid u t ≡ true → u.0 < THREADS
 known_one t u known same = subst (λ (x : Tid). x.0 < THREADS) (sym (same_tid_true u t same)) known
 
-or_none : (a b : Bool) → a ≡ false → b ≡ false → (a || b) ≡ false
-or_none true b left right = absurd (true≢false left)
-or_none false b left right = right
-
 known_more : (t u : Tid) (queue : List Tid) → ((x : Tid) → is_in x queue ≡ true → x.0 < THREADS) → t.0 < THREADS
     → (same_tid u t ≡ true) ⊎ (is_in u queue ≡ true) → u.0 < THREADS
 known_more t u queue all known (inl same) = known_one t u known same
@@ -90,7 +80,7 @@ has_room queue t is known new = omega (arith, no_more (t ∷ queue) (one_more qu
 
 pub apart_is : (t : Tid) (queue : List Tid) → AllByRecursion (λ y. same_tid t y ≡ false) queue → is_in t queue ≡ false
 apart_is t [] apart = refl
-apart_is t (x ∷ queue) apart = or_none _ _ apart.0 (apart_is t queue apart.1)
+apart_is t (x ∷ queue) apart = or_from _ _ apart.0 (apart_is t queue apart.1)
 
 last_known : (t u : Tid) (queue : List Tid) → ((x : Tid) → is_in x queue ≡ true → x.0 < THREADS) → t.0 < THREADS
     → (is_in u queue ≡ true) ⊎ (is_in u (t ∷ []) ≡ true) → u.0 < THREADS
@@ -120,12 +110,12 @@ distinct_without t (x ∷ queue) distinct = cond_both (same_tid t x) (without t 
 
 cases_without : (b : Bool) (u t x : Tid) (queue : List Tid) → (is_in u (without t queue) ≡ true → is_in u queue ≡ true)
     → is_in u (if b then without t queue else x ∷ without t queue) ≡ true → is_in u (x ∷ queue) ≡ true
-cases_without true u t x queue stays found = or_second _ _ (stays found)
+cases_without true u t x queue stays found = or_right _ _ (stays found)
 cases_without false u t x queue stays found = either (or_cases (same_tid u x) (is_in u (without t queue)) found)
   where
     either : (same_tid u x ≡ true) ⊎ (is_in u (without t queue) ≡ true) → is_in u (x ∷ queue) ≡ true
-    either (inl same) = or_first _ _ same
-    either (inr found) = or_second _ _ (stays found)
+    either (inl same) = or_left _ _ same
+    either (inr found) = or_right _ _ (stays found)
 
 in_without : (u t : Tid) (queue : List Tid) → is_in u (without t queue) ≡ true → is_in u queue ≡ true
 in_without u t [] found = found
@@ -153,7 +143,7 @@ without_parted t (y ∷ ys) zs before after =
 absent_step : (b : Bool) (t x : Tid) (queue : List Tid) → same_tid t x ≡ b → is_in t (without t queue) ≡ false
     → is_in t (if b then without t queue else x ∷ without t queue) ≡ false
 absent_step true t x queue is absent = absent
-absent_step false t x queue is absent = or_none _ _ is absent
+absent_step false t x queue is absent = or_from _ _ is absent
 
 -- a thread that was taken out stands there no more
 pub taken_absent : (t : Tid) (queue : List Tid) → is_in t (without t queue) ≡ false
@@ -183,10 +173,7 @@ parts_step t y (x ∷ ys) zs apart = parts_step t y ys zs apart.1
 pub parts : (t : Tid) (ys zs : List Tid) → IsDistinct same_tid (ys ++ t ∷ zs) → (is_in t ys ≡ false) × (is_in t zs ≡ false)
 unfolding IsDistinct
 parts t [] zs distinct = (refl, apart_is t zs distinct.0)
-parts t (y ∷ ys) zs distinct = let later = parts t ys zs distinct.1 in (or_none _ _ (parts_step t y ys zs distinct.0) later.0, later.1)
-
-some_same : (t x : Tid) → Some t ≡ Some x → t ≡ x
-some_same t x same = cc
+parts t (y ∷ ys) zs distinct = let later = parts t ys zs distinct.1 in (or_from _ _ (parts_step t y ys zs distinct.0) later.0, later.1)
 
 -- the front is taken out as any other thread
 pub without_front : (t : Tid) (queue : List Tid) → is_in t queue ≡ false → without t (t ∷ queue) ≡ queue
@@ -224,11 +211,11 @@ split t queue distinct found =
 
 -- the first thread is one of the machine's, and does not stand behind itself
 pub first_known : (t : Tid) (queue : List Tid) → IsQueue (t ∷ queue) → t.0 < THREADS
-first_known t queue is = is.1 t (or_first _ _ (same_tid_self t))
+first_known t queue is = is.1 t (or_left _ _ (same_tid_self t))
 
 -- the others are a queue too
 pub behind : (t : Tid) (queue : List Tid) → IsQueue (t ∷ queue) → IsQueue queue
-behind t queue is = (IsDistinct-tail same_tid t queue is.0, λ u found. is.1 u (or_second _ _ found))
+behind t queue is = (IsDistinct-tail same_tid t queue is.0, λ u found. is.1 u (or_right _ _ found))
 
 -- a list that is not empty is the thread at 0 before the others
 pub front_out : (queue : List Tid) (t : Tid) → (length queue == 0) ≡ false → t ≡ slice_index_or queue 0 t → queue ≡ t ∷ remove queue 0
@@ -241,14 +228,21 @@ first_once t queue is = apart_is t queue (IsDistinct-head same_tid t queue is.0)
 -- a queue with a first thread is that one before the others
 pub front_is : (t : Tid) (queue : List Tid) → first queue ≡ Some t → queue ≡ t ∷ rest queue
 front_is t [] is = absurd cc
-front_is t (x ∷ queue) is = ap (λ (y : Tid). y ∷ queue) (some_same x t is)
+front_is t (x ∷ queue) is = ap (λ (y : Tid). y ∷ queue) (same_Some x t is)
+
+-- who does not stand in a queue is not its first, and does not stand behind the first
+pub out_of_rest : (t : Tid) (queue : List Tid) → is_in t queue ≡ false → (first queue ≢ Some t) × (is_in t (rest queue) ≡ false)
+out_of_rest t [] out = (λ is. absurd (cc is), refl)
+out_of_rest t (x ∷ queue) out =
+    let parts = or_parts (same_tid t x) (is_in t queue) out in
+    (λ same. true≢false (sym (same_tid_self t) ∙ ap (same_tid t) (same_Some t x (sym same)) ∙ parts.0), parts.1)
 
 -- the same in the words of links
 pub off : (t : Tid) (queue : List Tid) → is_in t queue ≡ false → IsOff (Some t) queue
 off t [] absent = tt
 off t (x ∷ queue) absent =
     let each = or_parts (same_tid t x) (is_in t queue) absent in
-    (λ same. true≢false (sym (same_tid_self t) ∙ ap (same_tid t) (some_same t x (sym same)) ∙ each.0), off t queue each.1)
+    (λ same. true≢false (sym (same_tid_self t) ∙ ap (same_tid t) (same_Some t x (sym same)) ∙ each.0), off t queue each.1)
 
 pub all_off_end : (queue : List Tid) → IsOff None queue
 all_off_end [] = tt
@@ -261,4 +255,4 @@ all_distinct (x ∷ queue) distinct = (off x queue (apart_is x queue distinct.0)
 
 pub all_below : (n : ℕ) (queue : List Tid) → ((t : Tid) → is_in t queue ≡ true → t.0 < n) → AreBelow n queue
 all_below n [] all = tt
-all_below n (x ∷ queue) all = (all x (or_first _ _ (same_tid_self x)), all_below n queue (λ t found. all t (or_second _ _ found)))
+all_below n (x ∷ queue) all = (all x (or_left _ _ (same_tid_self x)), all_below n queue (λ t found. all t (or_right _ _ found)))

@@ -1,0 +1,14 @@
+-- The capacities of buffers, as their locks tell them one by one.
+use Rattle.std.specs.Prelude.{ℕ, zero, suc, ◌+◌, List, [], ◌∷◌, Option, Some, None}
+use Rattle.event_log.specs.declared.ids.LockId.{LockId}
+use Rattle.event_log.specs.declared.ids.LockId.TheVariants.{Buffer}
+
+-- the capacity of a buffer's lock before those of the next ones, while there is one
+abbrev pub caps_at : {L : Type 0} → (L → ℕ) → Option L → List ℕ → List ℕ
+caps_at capacity None rest = []
+caps_at capacity (Some lock) rest = capacity lock ∷ rest
+
+-- the capacities of buffers n, n + 1 and so on, while there is one, at most so many
+unfoldable pub caps_from : {L : Type 0} → (L → ℕ) → ℕ → ℕ → (LockId → Option L) → List ℕ
+caps_from capacity zero n locks = []
+caps_from capacity (suc more) n locks = caps_at capacity (locks (Buffer (record { 0 = n }))) (caps_from capacity more (n + 1) locks)
