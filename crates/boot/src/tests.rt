@@ -359,7 +359,7 @@ fn the_fault_that_is_tested_first_counts(rt: HostRuntime) -> Result<(), Fail> {
 }
 
 #[test]
-fn a_plan_has_at_most_64_threads(rt: HostRuntime) -> Result<(), Fail> {
+fn a_plan_has_a_most_of_threads(rt: HostRuntime) -> Result<(), Fail> {
     let thread = "[[thread]]\ncpu = 0\nprogram = [\"exit\"]\n";
     let more = thread.repeat(rt.alloc(), 63)?;
     let most = format!(in rt.alloc(); "{ONE_SEND}{more}")?;

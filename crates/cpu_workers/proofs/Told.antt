@@ -5,7 +5,7 @@ use Rattle.boot.specs.Plan.{BootPlan, IsPlan}
 use Rattle.event_log.specs.declared.entries.Entry.{Entry}
 use Rattle.event_log.specs.declared.ids.CpuId.{CpuId}
 use Rattle.event_log.specs.declared.ids.LockId.{LockId}
-use Rattle.event_log.specs.declared.ids.TheConstants.{CPUS, TRACE}
+use Rattle.event_log.specs.declared.ids.TheConstants.{CPUS, ENTRIES, TRACE}
 use Rattle.event_log.specs.Actions.{Action}
 use Rattle.cpu.specs.Sound.{setup_for}
 use Rattle.cpu.specs.Tower.Views.{TowerName}
@@ -24,7 +24,7 @@ seen_so plan May turns c acts site line left =
     left.apart.legal left.apart.follows left.apart.trace_is)
 
 few_entries : (plan : BootPlan) → IsPlan plan → plan.cpus * plan.trace < 2 ^ 64
-few_entries plan is = let most : plan.cpus * plan.trace ≤ 524288 = mul-le plan.cpus plan.trace CPUS TRACE is.most_cpus is.most_trace in omega (arith, most)
+few_entries plan is = let most : plan.cpus * plan.trace ≤ ENTRIES = mul-le plan.cpus plan.trace CPUS TRACE is.most_cpus is.most_trace in omega (arith, most)
 
 pub lawful_so : (plan : BootPlan) (May : CpuId → ℕ → Type 0) (turns : ℕ) (traces : List (List Entry)) (taken : List ℕ) (stops : List Stop)
     (blocks : List (LockId × Block)) → IsPlan plan → IsReportOf plan May turns traces taken stops blocks

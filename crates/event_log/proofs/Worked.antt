@@ -1,7 +1,8 @@
 -- Worked logs, newest event first: the definitions accept what they should, and nothing else.
-use Rattle.std.proofs.Common.{◌≡◌, ℕ, ◌+◌, ◌*◌, List, [], ◌∷◌, Some, refl, arith}
+use Rattle.std.proofs.Common.{◌≡◌, ℕ, ◌+◌, ◌-◌, ◌*◌, List, [], ◌∷◌, Some, refl, arith}
 use Rattle.event_log.specs.declared.ids.CpuId.{CpuId}
 use Rattle.event_log.specs.declared.ids.LockId.{LockId}
+use Rattle.event_log.specs.declared.ids.TheConstants.{CPUS}
 use Rattle.event_log.specs.declared.ids.LockId.TheVariants.{Pending, Buffer}
 use Rattle.event_log.specs.declared.events.Event.{Event}
 use Rattle.event_log.specs.declared.events.Event.TheVariants.{Draw, Look, Free}
@@ -16,7 +17,7 @@ abbrev a : CpuId
 a = cpu_numbered 0
 
 abbrev b : CpuId
-b = cpu_numbered 7
+b = cpu_numbered (CPUS - 1)
 
 abbrev lock : LockId
 lock = Buffer (record { 0 = 3 })
@@ -40,7 +41,7 @@ two_sections_edit_in_turn = refl
 wrong_ticket : IsLegalWords {M = ℕ} (Draw a lock 1 ∷ []) → ⊥
 wrong_ticket legal = omega (arith, legal.0.2)
 
-no_such_cpu : IsLegalWords {M = ℕ} (Draw (cpu_numbered 8) lock 0 ∷ []) → ⊥
+no_such_cpu : IsLegalWords {M = ℕ} (Draw (cpu_numbered CPUS) lock 0 ∷ []) → ⊥
 no_such_cpu legal = omega (arith, legal.0.0)
 
 draw_while_waiting : IsLegalWords {M = ℕ} (Draw a other 0 ∷ Draw a lock 0 ∷ []) → ⊥

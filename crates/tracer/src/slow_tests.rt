@@ -3,7 +3,7 @@
 ghost use Rattle.std.specs.Prelude.{◌<◌};
 
 use crate::{Entry, Kind, Reason, Verdict, check};
-use event_log::{BUFFERS, BufId, CpuId, Msg, Tid};
+use event_log::{BUFFERS, BufId, CPUS, CpuId, Msg, THREADS, Tid};
 use std::alloc::Global;
 use std::fmt::Write;
 use std::test::*;
@@ -243,8 +243,8 @@ fn some_entry(alloc: Global, seed: &mut u64, earlier: &[Entry]) -> Result<Entry,
         _ => some_message(seed),
     };
     Ok(Entry {
-        cpu: CpuId(pick(seed, 8) as u8),
-        thread: Tid(pick(seed, 64) as u8),
+        cpu: CpuId(pick(seed, CPUS as u64) as u8),
+        thread: Tid(pick(seed, THREADS as u64) as u8),
         kind,
         buffer: BufId(b),
         value,
