@@ -17,7 +17,8 @@ import tomllib
 
 CPUS, THREADS, BUFFERS, CAPACITY, TRACE, ENTRIES = 8, 64, 16, 32, 65536, 524288
 LINES, STEPS, WORD, WORDS = 256, 1048576, 2**64, 8
-ODD_NUMBERS = [b'00', b'01', b'', b'-', b'-1', b'+1', b'1.0', b'x', b'8', b'16', b'17', b'33', b'64', b'524287', b'524288',
+ODD_NUMBERS = [b'00', b'01', b'', b'-', b'-1', b'+1', b'1.0', b'x', b'8', b'17', b'33',
+               *(str(n).encode() for n in (CPUS - 1, CPUS, THREADS - 1, THREADS, ENTRIES - 1, ENTRIES)),
                b'18446744073709551615', b'18446744073709551616', b'99999999999999999999999']
 
 
@@ -432,9 +433,11 @@ NO_INSTRUCTIONS = [b'1, ', b'"", ', b'"exit ", ', b'"set r0", ', b'"jnz r0 9", '
 
 
 def near_a_plan(pick, text):
-    how = pick.randrange(8)
+    how = pick.randrange(9)
     if how == 0:
         return near_its_grammar(pick, text)
+    if how == 8:
+        return text + b'\n[[thread]]\ncpu = 0\nprogram = ["exit"]\n' * (THREADS - pick.randrange(4))
     if how == 1:
         old = pick.choice([b'cpus = ', b'trace = ', b'cpu = ', b'buffers = [', b'r0', b'send ', b'recv ', b'close ', b'jnz r0 ', b'set r0 ',
                            b'send 0 r0 ', b'recv 0 r1 ', b'sendm ', b'sendm 0 ', b'sendm 1 3 ', b'recvm ', b'recvm 0 '])

@@ -11,6 +11,8 @@ use std::io::Read;
 
 const SPELLING: &str = "Spelling(30)";
 const RANGE: &str = "Range(31)";
+const CPUS: u64 = 8;
+const THREADS: u64 = 64;
 const ENTRIES: u64 = 524_288;
 
 /// The pieces of a line, just as many as are wanted.
@@ -92,8 +94,8 @@ impl Judge {
         if !has_numbers || !has_its_value || least_version > self.version {
             return Err(SPELLING);
         }
-        number(cpu, 0, 7)?;
-        number(thread, 0, 63)?;
+        number(cpu, 0, CPUS - 1)?;
+        number(thread, 0, THREADS - 1)?;
         let b = number(b, 0, self.buffers.len() as u64 - 1)? as usize;
         let message = if has_value { message(value)? } else { Message { words: [0; 8], count: 1 } };
         let (op, pos) = (number(op, 0, ENTRIES - 1)?, number(pos, 0, ENTRIES - 1)?);
