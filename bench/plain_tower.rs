@@ -539,7 +539,8 @@ fn boot<const LOGS: bool>(plan: &str, room: usize) -> Kernel<LOGS> {
     let mut kernel =
         Kernel { limit: 0, locks: vec![], buffers: vec![], guests: vec![], cpus: vec![], log: Vec::with_capacity(room), log_room: room };
     let mut home = 0;
-    for line in plan.replace(",\n", ", ").lines() {
+    let plan = plan.replace(",\n", ", ").replace("{ ", "\n").replace(", program = ", "\nprogram = ");
+    for line in plan.lines() {
         let Some((key, value)) = line.split_once(" = ") else { continue };
         match key {
             "cpus" => kernel.cpus.extend((0..number(value)).map(|_| new_cpu())),
