@@ -173,7 +173,7 @@ module _ {M X : Type 0} (of : Works M X) where
   abbrev IsOne : M → X → Type 0
   IsOne m x = of.Fits x m × (of.cpu x ≡ of.number x) × Keeps m x × of.Tabled m x
 
-  abbrev Holds : M → List X → ℕ → ℕ → Type 0
+  abbrev pub Holds : M → List X → ℕ → ℕ → Type 0
   Holds m cpus room taken = IsSystem (IsOne m) of.number (of.ActsFor m) of.IsStepwise (of.told m).acts cpus (of.told m).homes (of.told m).seen room taken
       (of.left m) (of.Sound m cpus room taken)
 

@@ -1,10 +1,11 @@
 -- Tables of guests with one guest changed, and the entries of a CPU and of a thread in a grown history.
-use Rattle.std.proofs.Common.{◌≡◌, ◌≢◌, ℕ, zero, suc, ◌+◌, ◌<◌, ◌≤◌, ◌==◌, Bool, true, false, not, List, [], ◌∷◌, ◌++◌, length}
+use Rattle.std.proofs.Common.{◌≡◌, ◌≢◌, ℕ, zero, suc, ◌+◌, ◌<◌, ◌≤◌, ◌==◌, Bool, true, false, not, List, [], ◌∷◌, ◌++◌, length, slice_index_or}
 use Rattle.std.proofs.Common.{cond, reverse, get_or, Option, Some, None, option_map, refl, ap, sym, ◌∙◌, subst, arith, slice_set}
 use Rattle.std.proofs.lemmas.Bool.{eq-eqb, ne_eqb}
 use Rattle.std.proofs.lemmas.List.{append-nil, reverse-append, get_or-set_same, get_or-set_other, set-get_or, map-set}
 use Rattle.std.proofs.lemmas.List.Elements.{filter-append}
 use Rattle.std.proofs.lemmas.List.Sums.{sum_by-set}
+use Rattle.std.proofs.lemmas.Option.{same_Some}
 use Rattle.event_log.specs.declared.entries.Entry.{Entry}
 use Rattle.event_log.specs.declared.ids.BufId.{BufId}
 use Rattle.event_log.specs.declared.ids.CpuId.{CpuId}
@@ -19,12 +20,21 @@ use Rattle.cpu.specs.declared.guests.GuestStage.{GuestStage}
 use Rattle.cpu.specs.declared.guests.GuestStage.TheVariants.{Between, Begun, Done, Ended}
 use Rattle.cpu.specs.Guests.{entries_of, fresh_effect, is_begun, is_calling, stage_after}
 use Rattle.cpu.specs.Cpus.{begun_count, guest_at, is_begun_guest, of_cpu, of_thread, programs_of, with_guest}
+use Rattle.guest.specs.declared.instructions.Instruction.{Instruction}
 
 -- a guest's number is within its table
 pub guest_within : (guests : List (Option Guest)) (t : ℕ) (g : Guest) → guest_at guests t ≡ Some g → t < length guests
 guest_within [] t g is = absurd cc
 guest_within (x ∷ guests) zero g is = omega arith
 guest_within (x ∷ guests) (suc t) g is = let below = guest_within guests t g is in omega (arith, below)
+
+-- a thread with a program has a guest
+pub guest_with : (guests : List (Option Guest)) (t : ℕ) (program : List Instruction) → slice_index_or (programs_of guests) t None ≡ Some program
+    → (g : Guest) × (guest_at guests t ≡ Some g) × (g.program ≡ program)
+guest_with [] t program at = absurd (cc at)
+guest_with (None ∷ guests) zero program at = absurd (cc at)
+guest_with (Some g ∷ guests) zero program at = (g, refl, same_Some g.program program at)
+guest_with (o ∷ guests) (suc t) program at = guest_with guests t program at
 
 -- the changed guest
 pub at_same : (guests : List (Option Guest)) (t : ℕ) (f : Guest → Guest) (g : Guest) → guest_at guests t ≡ Some g

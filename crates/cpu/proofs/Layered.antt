@@ -1,5 +1,5 @@
 -- A CPU over a layer of message calls, by what the layer's laws say of its part, as the lemmas about its steps take it.
-use Rattle.std.proofs.Common.{◌≡◌, false, length, Some, None, ap, ◌∙◌, subst, vec_capacity}
+use Rattle.std.proofs.Common.{◌≡◌, false, Some, None, ap, ◌∙◌, subst, refl, arith}
 use borrow.Fn.World.{World}
 use denote.RattleType.{RattleType}
 use mir.Syntax.{Dict}
@@ -12,10 +12,11 @@ use Rattle.layer_traits.specs.Places.{AreMoves, Stands, home_of}
 use Rattle.layer_traits.specs.Plans.{is_in_section}
 use Rattle.layer_traits.proofs.PlaceLemmas.{current_at}
 use Rattle.cpu.specs.declared.cpus.Cpu.{Cpu}
-use Rattle.cpu.specs.Cpus.{IsCpu}
-use Rattle.cpu.specs.Tables.{IsTabled}
+use Rattle.cpu.specs.Cpus.{programs_of}
+use Rattle.cpu.specs.CpuSteps.{IsCpuAt, IsTabledAt, Leaves}
 use Rattle.cpu.specs.Tower.Privates.{threads_in}
 use Rattle.cpu.proofs.CpuStates.{valid_cpu}
+use Rattle.cpu.proofs.Passing.{none_grow, none_moved, none_seen}
 use Rattle.cpu.proofs.TableCalls.{ToldCpu, ToldTurn, hand_known}
 
 -- what always holds of a CPU whose part fits the machine; what names the whole state of a part is said of a layer whose polls are actions
@@ -24,13 +25,11 @@ pub record IsLayered {P M : Type 0} (I : Ghosts P M) (m : M) (p : Cpu P M) : Typ
   pub acts : I.ActsFor m (I.cpu_of p.part)
   pub stands : Stands (I.homes_of m) (I.cpu_of p.part) (I.moves m) (I.threads p.part)
   pub moved : AreMoves (I.homes_of m) (I.moves m)
-  pub is : IsCpu (I.homes_of m) (length (I.caps m)) (I.seen m) (I.threads p.part) (I.talks p.part) (I.doing p.part) p.number p.guests.items p.trace.items
-      p.limit (vec_capacity p.trace)
+  pub is : IsCpuAt I m p
   pub rests : I.doing p.part ≡ None → I.is_inside p.part ≡ false
   pub busy : I.IsStepwise → I.is_inside p.part ≡ is_in_section (phase (I.cpu_of p.part) (I.acts m))
   pub tells : I.IsStepwise → (threads_in (I.own p.part) ≡ I.threads p.part) × ((I.own p.part).talks ≡ I.talks p.part)
-  pub table : I.IsStepwise
-      → IsTabled (I.homes_of m) (I.caps m) p.number (I.own p.part) (I.doing p.part) p.guests.items (I.opening m)
+  pub table : I.IsStepwise → IsTabledAt I m p
 
 -- the laws of a layer that say so
 pub record PartLaws {P M : Type 0} (I : Ghosts P M) : Type 0 where
@@ -55,9 +54,7 @@ laws_of law = record {
 
 -- a CPU whose part fits the machine
 pub layered : {P M : Type 0} {I : Ghosts P M} (laws : PartLaws I) (m : M) (p : Cpu P M) → I.Fits p.part m → I.cpu_of p.part ≡ p.number
-    → IsCpu (I.homes_of m) (length (I.caps m)) (I.seen m) (I.threads p.part) (I.talks p.part) (I.doing p.part) p.number p.guests.items p.trace.items
-    p.limit (vec_capacity p.trace)
-    → (I.IsStepwise → IsTabled (I.homes_of m) (I.caps m) p.number (I.own p.part) (I.doing p.part) p.guests.items (I.opening m)) → IsLayered I m p
+    → IsCpuAt I m p → (I.IsStepwise → IsTabledAt I m p) → IsLayered I m p
 layered {I} laws m p fits number is table =
     let acts = laws.own_cpu p.part m fits in
     record {
@@ -105,3 +102,23 @@ module _ {P M : Type 0} {I : Ghosts P M} {m : M} {p : Cpu P M} (at : IsLayered I
       busy = at.busy step;
       known = hand_known (I.homes_of m) (I.cpu_of p.part) (I.moves m) (I.threads p.part) at.stands at.moved;
     }
+
+-- a step that touches neither the machine nor the CPU's part
+pub left_alone : {P M : Type 0} (I : Ghosts P M) (m : M) (p q : Cpu P M) → I.cpu_of p.part ≡ p.number → q.number ≡ p.number → q.limit ≡ p.limit
+    → q.part ≡ p.part → programs_of q.guests.items ≡ programs_of p.guests.items → Leaves I m p m q
+left_alone I m p q at number limit part programs = record {
+  number = number;
+  limit = limit;
+  cpu = ap I.cpu_of part ∙ at;
+  programs = programs;
+  seen = none_seen _ _ _ _ refl;
+  moves = none_moved _ _ _ _ refl;
+  grows = λ step. none_grow _ _ _ _ refl;
+  opening = refl;
+  caps = refl;
+  homes = refl;
+  site = refl;
+  room = omega arith;
+  acts = λ c acts. acts;
+  others = λ other apart fits. fits;
+}

@@ -25,3 +25,4 @@ pub mod Started
 pub mod Quieting
 pub mod Telling
 pub mod TableQuiet
+pub mod LayeredSteps

@@ -5,7 +5,7 @@ use Rattle.std.specs.Prelude.{slice_get, slice_index_or}
 use Rattle.std.specs.List.{AllByRecursion}
 use Rattle.std.proofs.lemmas.List.{reverse-append, length-map, length-set}
 use Rattle.std.proofs.lemmas.Option.{slice_get-map, slice_get_read}
-pub use Rattle.event_log.proofs.ListLemmas.{set_else, set_there}
+pub use Rattle.event_log.proofs.ListLemmas.{set_else, set_there, there_is}
 use Rattle.cpu.specs.Claims.{listed}
 
 -- a write of what stands there changes nothing
@@ -30,12 +30,6 @@ pub shown_at : {X Y : Type 0} (f : X → Y) (P : ℕ → Y → Type 0) (xs : Lis
 shown_at f P [] each k y at = absurd cc
 shown_at f P (x ∷ xs) each zero y at = let same : f x ≡ y = cc in subst (λ z. P 0 z) same (each 0 x refl)
 shown_at f P (x ∷ xs) each (suc k) y at = shown_at f (λ j z. P (suc j) z) xs (λ j z there. each (suc j) z there) k y at
-
--- an index within the list has its element
-pub there_is : {X : Type 0} (xs : List X) (i : ℕ) → i < length xs → (x : X) × (slice_get xs i ≡ Some x)
-there_is [] i within = absurd (omega arith)
-there_is (z ∷ zs) zero within = (z, refl)
-there_is (z ∷ zs) (suc i) within = there_is zs i (omega arith)
 
 -- what holds of each element of two lists holds of each of both
 pub all_both : {X : Type 0} (P : X → Type 0) (xs ys : List X) → AllByRecursion P xs → AllByRecursion P ys → AllByRecursion P (xs ++ ys)

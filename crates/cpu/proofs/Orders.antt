@@ -18,18 +18,17 @@ use Rattle.guest.specs.State.{State}
 use Rattle.layer_traits.specs.declared.calls.Call.{Call}
 use Rattle.layer_traits.specs.declared.calls.Effect.{Effect}
 use Rattle.layer_traits.specs.declared.talks.Talk.{Talk}
-use Rattle.layer_traits.specs.BufferLaw.{Buffering, Doing, begun_of, talk_of}
+use Rattle.layer_traits.specs.BufferLaw.{Doing, begun_of, talk_of}
 use Rattle.layer_traits.specs.OnePlace.{cpu_at}
-use Rattle.layer_traits.specs.Places.{Stands, Step, Threads}
+use Rattle.layer_traits.specs.Places.{Stands, Step}
 use Rattle.layer_traits.proofs.EffectRunLemmas.{count_reversed}
 use Rattle.cpu.specs.declared.guests.Guest.{Guest}
 use Rattle.cpu.specs.declared.guests.GuestStage.{GuestStage}
 use Rattle.cpu.specs.declared.guests.GuestStage.TheVariants.{Between, Begun, Done, Ended}
 use Rattle.cpu.specs.Guests.{HasComeIn, is_ended}
 use Rattle.cpu.specs.Cpus.{IsCpu, IsOfHome, guest_at, of_cpu, of_thread}
-use Rattle.cpu.specs.Claims.{CpuShown, Keeps, cpu_shown, listed}
-use Rattle.cpu.specs.Systems.{IsAt}
-use Rattle.cpu.proofs.ListReads.{all_reversed, listed_there, shown_at, there_is}
+use Rattle.cpu.specs.Claims.{CpuShown, Keeps, listed}
+use Rattle.cpu.proofs.ListReads.{all_reversed, listed_there, there_is}
 
 -- what a test picks of a list turned round
 pub filter_reversed : {X : Type 0} (p : X → Bool) (xs : List X) → filter p (reverse xs) ≡ reverse (filter p xs)
@@ -147,28 +146,3 @@ module _ (homes : List CpuId) (buffers : ℕ) (seen : List Entry) (moves : List 
           trace_of [] j p at = absurd cc
           trace_of (q ∷ ps) zero p at = let same : q ≡ p = cc in ap (λ (x : CpuShown). x.trace) same
           trace_of (q ∷ ps) (suc j) p at = trace_of ps j p at
-
--- from what always holds of each CPU to what is shown of it
-pub each_has : {X : Type 0} (Tabled IsFit : X → Type 0) (number cpu : X → CpuId) (own : X → Threads) (talks : X → List Talk) (doing : X → Option Doing)
-    (guests : X → List (Option Guest)) (trace : X → List Entry) (limit capacity : X → ℕ) (busy : X → Bool)
-    (parts : X → Buffering) (homes : List CpuId) (buffers : ℕ) (seen : List Entry)
-    (moves : List Step) (cpus : List X)
-    → ((k : ℕ) (x : X) → slice_get cpus k ≡ Some x
-    → IsAt (λ y. IsFit y × (cpu y ≡ number y) × IsCpu homes buffers seen (own y) (talks y) (doing y) (number y) (guests y) (trace y) (limit y) (capacity y)
-    × Tabled y) number k x)
-    → ((x : X) → IsFit x → Stands homes (cpu x) moves (own x)) → (k : ℕ) (p : CpuShown)
-    → slice_get (map (λ x. cpu_shown (own x) (guests x) (trace x) (limit x) (busy x) (parts x)) cpus) k ≡ Some p → Has homes buffers seen moves k p
-each_has {X = X} Tabled IsFit number cpu own talks doing guests trace limit capacity busy parts homes buffers seen moves cpus each stand =
-    shown_at (λ x. cpu_shown (own x) (guests x) (trace x) (limit x) (busy x) (parts x)) (λ k p. Has homes buffers seen moves k p) cpus
-    (λ k x at. has_of k x (each k x at).number_is (each k x at).holds)
-  where
-    has_of : (k : ℕ) (x : X) → number x ≡ cpu_at k
-        → IsFit x × (cpu x ≡ number x) × IsCpu homes buffers seen (own x) (talks x) (doing x) (number x) (guests x) (trace x) (limit x) (capacity x)
-        × Tabled x → Has homes buffers seen moves k (cpu_shown (own x) (guests x) (trace x) (limit x) (busy x) (parts x))
-    has_of k x at holds = record {
-      talks = talks x;
-      doing = doing x;
-      capacity = capacity x;
-      is = subst (λ (c : CpuId). IsCpu homes buffers seen (own x) (talks x) (doing x) c (guests x) (trace x) (limit x) (capacity x)) at holds.2;
-      stands = subst (λ (c : CpuId). Stands homes c moves (own x)) (holds.1 ∙ at) (stand x holds.0);
-    }

@@ -1,5 +1,6 @@
 -- What a step leaves beside the guests: how effects and actions grow, and the steps in which no guest's call goes on.
 use Rattle.std.proofs.Common.{◌≡◌, ◌==◌, Bool, true, false, List, [], ◌∷◌, ◌++◌, Option, Some, None, is_some, refl, ap, ◌∙◌, arith}
+use Rattle.std.specs.List.{AllByRecursion}
 use Rattle.event_log.specs.declared.entries.Entry.{Entry}
 use Rattle.event_log.specs.declared.ids.CpuId.{CpuId}
 use Rattle.event_log.specs.declared.ids.LockId.{LockId}
@@ -10,11 +11,12 @@ use Rattle.layer_traits.specs.declared.calls.Effect.{Effect}
 use Rattle.layer_traits.specs.declared.calls.Reply.{Reply}
 use Rattle.layer_traits.specs.declared.talks.Talk.{Talk}
 use Rattle.layer_traits.specs.Looks.{Tries}
-use Rattle.layer_traits.specs.Places.{Step}
+use Rattle.layer_traits.specs.Places.{Step, Threads}
 use Rattle.layer_traits.specs.Plans.{Plan, Table, Left, Now, Act, Follows}
 use Rattle.layer_traits.specs.BufferLaw.{Called, MovesGrow, OthersSeen, Passing, buffer_of, entry_of, still_passing}
 use Rattle.layer_traits.specs.declared.passes.Pass.{Pass}
 use Rattle.layer_traits.specs.declared.passes.Pass.TheVariants.{Switch, YieldNow, Drain, MakeReady, End}
+use Rattle.layer_traits.specs.Passes.{PassPolled, pass_steps}
 use Rattle.cpu.specs.declared.guests.Guest.{Guest}
 use Rattle.cpu.specs.Guests.{after_pass, entries_of}
 use Rattle.cpu.specs.Cpus.{ActsGrow, SeenGrows, of_cpu, passed_by, programs_of}
@@ -59,6 +61,21 @@ none_seen ActsFor cpu old new is = record { others = []; mine = []; foreign = λ
 
 pub none_moved : (ActsFor : CpuId → Type 0) (cpu : CpuId) (old new : List Step) → new ≡ old → MovesGrow ActsFor cpu old new
 none_moved ActsFor cpu old new is = record { others = []; mine = []; foreign = λ c acts. tt; own = tt; is = is }
+
+-- a pass moves at most its CPU's own threads
+pub passed_grows : (homes : List CpuId) (ActsFor : CpuId → Type 0) (c : CpuId) (call : Pass) {A : Type 0} (result : Option A) (old new : List Step)
+    (own own' : Threads) → PassPolled homes ActsFor c call result old new own own' → MovesGrow ActsFor c old new
+passed_grows homes ActsFor c call None old new own own' polled =
+    record { others = polled.others; mine = []; foreign = polled.foreign; own = tt; is = polled.is }
+passed_grows homes ActsFor c call (Some a) old new own own' polled =
+    record { others = polled.others; mine = pass_steps homes c call; foreign = polled.foreign; own = by_pass call; is = polled.is }
+  where
+    by_pass : (p : Pass) → AllByRecursion (λ s. s.cpu ≡ c) (pass_steps homes c p)
+    by_pass Switch = tt
+    by_pass YieldNow = (refl, tt)
+    by_pass Drain = (refl, tt)
+    by_pass (MakeReady t) = (refl, tt)
+    by_pass End = tt
 
 -- effects of others alone
 pub others_grow : (ActsFor : CpuId → Type 0) (cpu : CpuId) (old new : List Entry) → OthersSeen ActsFor old new → SeenGrows ActsFor cpu old new

@@ -2,7 +2,7 @@
 use Rattle.std.proofs.Common.{◌≡◌, ◌≢◌, ◌⊎◌, inl, inr, ℕ, ◌+◌, ◌<◌, Bool, true, false, ◌||◌, List, [], ◌∷◌, length, Some, refl, ap, sym}
 use Rattle.std.proofs.Common.{◌∙◌, subst, arith}
 use Rattle.std.proofs.lemmas.Bool.{and_right, cases_eq}
-use Rattle.std.proofs.lemmas.Option.{slice_get_within}
+use Rattle.std.proofs.lemmas.Option.{slice_get_within, same_Some}
 use Rattle.event_log.specs.declared.ids.CpuId.{CpuId}
 use Rattle.event_log.specs.declared.ids.Tid.{Tid}
 use Rattle.event_log.specs.declared.ids.LockId.TheVariants.{Buffer, Pending}
@@ -54,14 +54,11 @@ is_pending (place.WaitRecv b) = false
 is_pending (place.WaitSend b) = false
 is_pending place.Ended = false
 
-some_is : {X : Type 0} (x y : X) → Some x ≡ Some y → x ≡ y
-some_is x y is = cc is
-
 -- a thread's place is a pending queue exactly where its moves left it in one
 pub place_pends : (s : Shown) (t : Tid) (p : Place) → MovesAgree s → IsPlaceOf s t p → (d : CpuId) → where_is s.homes s.moves t ≡ Pend d → is_pending p ≡ true
 place_pends s t p agree (inl (k, q, at, own)) d pends =
     absurd (no_own_place s.homes (cpu_at k) s.moves q.own agree.lawful (agree.stands k q at) t d pends p own)
-place_pends s t p agree (inr told) d pends = ap is_pending (sym (some_is (place.Pending d) p (sym (ap queue_place pends) ∙ told)))
+place_pends s t p agree (inr told) d pends = ap is_pending (sym (same_Some (place.Pending d) p (sym (ap queue_place pends) ∙ told)))
 
 queue_pends : (w : Where) (c : CpuId) → queue_place w ≡ Some (place.Pending c) → w ≡ Pend c
 queue_pends Home c is = absurd (cc is)

@@ -3,7 +3,7 @@ use Rattle.std.proofs.Common.{◌≡◌, ◌≢◌, ℕ, zero, suc, ◌+◌, ◌
 use Rattle.std.proofs.Common.{Option, Some, None, option_map, refl, ap, sym, ◌∙◌, subst, arith, slice_set}
 use Rattle.std.specs.Prelude.{slice_get, slice_index_or}
 use Rattle.std.proofs.lemmas.List.{take_more}
-use Rattle.std.proofs.lemmas.Option.{slice_get_within}
+use Rattle.std.proofs.lemmas.Option.{slice_get_within, same_Some}
 use Rattle.event_log.specs.declared.entries.Entry.{Entry}
 use Rattle.event_log.specs.declared.ids.BufId.{BufId}
 use Rattle.event_log.specs.declared.ids.CpuId.{CpuId}
@@ -45,13 +45,10 @@ plan_back same = record {
   room = sym same.room;
 }
 
-some_is : {X : Type 0} (x y : X) → Some x ≡ Some y → x ≡ y
-some_is x y is = cc is
-
 -- what the elements at one index show, where the lists show the same
 same_shown : {X Y : Type 0} (f : X → Y) (xs ys : List X) (k : ℕ) (x y : X) → map f xs ≡ map f ys → slice_get xs k ≡ Some x → slice_get ys k ≡ Some y → f x ≡ f y
 same_shown f xs ys k x y same at there =
-    some_is (f x) (f y) (sym (shows_at f xs k x at) ∙ ap (λ l. slice_get l k) same ∙ shows_at f ys k y there)
+    same_Some (f x) (f y) (sym (shows_at f xs k x at) ∙ ap (λ l. slice_get l k) same ∙ shows_at f ys k y there)
 
 -- a guest of a table that has the programs of another one
 guest_as : (guests others : List (Option Guest)) (t : ℕ) (g : Guest) → programs_of guests ≡ programs_of others → guest_at guests t ≡ Some g
@@ -65,7 +62,7 @@ guest_as guests others t g same at = go (guest_at others t) refl
 
     go : (o : Option Guest) → guest_at others t ≡ o → (x : Guest) × (guest_at others t ≡ Some x) × (x.program ≡ g.program)
     go None is = absurd (cc (shown, is))
-    go (Some x) is = (x, is, some_is x.program g.program (sym (ap (λ (o : Option Guest). option_map (λ y. y.program) o) is) ∙ shown))
+    go (Some x) is = (x, is, same_Some x.program g.program (sym (ap (λ (o : Option Guest). option_map (λ y. y.program) o) is) ∙ shown))
 
 -- a setup of a system is that of each other state of it
 pub goes_on : (setup : Setup) {s r : Shown} → SamePlan s r → GoesBy setup s → GoesBy setup r

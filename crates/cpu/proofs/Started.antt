@@ -1,18 +1,17 @@
 -- A system before its first step is the step table's at boot, and the setup that its plan says is its own.
-use Rattle.std.proofs.Common.{◌≡◌, ℕ, zero, suc, ◌+◌, Bool, true, false, List, [], ◌∷◌, length, map, replicate, Option, Some, None, refl}
+use Rattle.std.proofs.Common.{◌≡◌, ℕ, zero, suc, ◌+◌, false, List, [], ◌∷◌, length, map, replicate, Option, Some, None, refl}
 use Rattle.std.proofs.Common.{ap, sym, ◌∙◌, subst, arith}
 use Rattle.std.specs.Prelude.{IfOk, Result, Ok, Err, slice_get, slice_index_or, if◌then◌else◌}
-use Rattle.std.proofs.lemmas.Bool.{eq-eqb, eqb-false, eqb-true, ne_eqb}
 use Rattle.std.proofs.lemmas.List.{length-map}
 use Rattle.std.proofs.lemmas.Option.{get_or_from_slice_get, slice_get_within}
-use Rattle.event_log.specs.declared.ids.BufId.{BufId}
 use Rattle.event_log.specs.declared.ids.CpuId.{CpuId}
 use Rattle.event_log.specs.declared.ids.TheConstants.{THREADS}
-use Rattle.event_log.specs.History.{same_cpu}
+use Rattle.event_log.proofs.ListLemmas.{alike_at}
 use Rattle.guest.specs.State.{State, at_start}
 use Rattle.layer_traits.specs.BufferLaw.{buffering_at_start, quiet}
 use Rattle.layer_traits.specs.OnePlace.{cpu_at}
 use Rattle.layer_traits.specs.Places.{homed}
+use Rattle.layer_traits.proofs.CountLemmas.{same_cpu_sym}
 use Rattle.boot.specs.Plan.{IsPlan, BootPlan, Task}
 use Rattle.cpu.specs.declared.guests.Guest.{Guest}
 use Rattle.cpu.specs.Guests.{new_guest}
@@ -26,25 +25,15 @@ use Rattle.cpu.specs.Tables.{private, state_of, states}
 use Rattle.cpu.specs.Tower.Privates.{numbered, thread_from, thread_of, tid}
 use Rattle.cpu.proofs.ListReads.{listed_length, listed_there, shown_at, shows_at}
 use Rattle.cpu.proofs.PlanGuests.{by_task}
-use Rattle.cpu.proofs.Tower.Passed.{alike_at}
+use Rattle.cpu.proofs.Tower.Passed.{no_buffer}
 
 -- One CPU.
-
-same_turned : (a b : CpuId) → same_cpu a b ≡ same_cpu b a
-same_turned a b = by_test (same_cpu b a) refl
-  where
-    by_test : (t : Bool) → same_cpu b a ≡ t → same_cpu a b ≡ same_cpu b a
-    by_test true is = eq-eqb a.0 b.0 (sym (eqb-true b.0 a.0 is)) ∙ sym is
-    by_test false is = ne_eqb a.0 b.0 (λ e. eqb-false b.0 a.0 is (sym e)) ∙ sym is
 
 -- the threads at home on a CPU, by rising number
 homed_is : (c : CpuId) (n : ℕ) (homes : List CpuId) → homed c n homes ≡ home_threads_from c homes n
 homed_is c n [] = refl
 homed_is c n (home ∷ homes) =
-    (λ i. if same_turned c home i then record { 0 = n } ∷ homed_is c (n + 1) homes i else homed_is c (n + 1) homes i)
-
-abbrev no_buffer : Option BufId
-no_buffer = None
+    (λ i. if same_cpu_sym c home i then record { 0 = n } ∷ homed_is c (n + 1) homes i else homed_is c (n + 1) homes i)
 
 -- a thread at boot
 thread_new : (homes : List CpuId) (c : CpuId) (n : ℕ) (guest : State) → guest ≡ at_start → thread_of (buffering_at_start homes c) (tid n) guest ≡ new_thread

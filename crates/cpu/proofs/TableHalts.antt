@@ -61,8 +61,5 @@ reasons_step c s within halts reason why setup goes =
     system_halts setup c (whole_of s) p.0.private (halted_in c s) reason (shows_at (λ (q : CpuShown). q.private) s.cpus c.0 p.0 p.1)
     (halts setup goes p.0 p.1) (sym (or_by (halted_in c s) s) ∙ why)
 
-pub some_same : {X : Type 0} (x y : X) → Some x ≡ Some y → x ≡ y
-some_same x y is = cc is
-
 pub halted_same : (a b : Reason) → Halted a ≡ Halted b → a ≡ b
 halted_same a b is = cc is

@@ -1,11 +1,13 @@
 -- A poll of a pass, and an instruction of a thread's own, are steps of the table, and the CPU stays as the table asks.
 use Rattle.std.proofs.Common.{◌≡◌, ℕ, ◌<◌, Bool, true, false, ◌||◌, List, [], ◌∷◌, ◌++◌, length}
-use Rattle.std.proofs.Common.{slice_get, slice_set, Option, Some, None, IsSome, is_some, option_map, refl, ap, sym, ◌∙◌, subst, arith}
+use Rattle.std.proofs.Common.{slice_get, slice_set, Option, Some, None, IsSome, option_map, refl, ap, sym, ◌∙◌, subst, arith}
 use Rattle.std.proofs.lemmas.List.{map-set}
+use Rattle.std.proofs.Math.Bool.{or-true}
 use Rattle.event_log.specs.declared.ids.CpuId.{CpuId}
 use Rattle.event_log.specs.declared.ids.Tid.{Tid}
 use Rattle.event_log.specs.Actions.{Action, phase}
 use Rattle.event_log.proofs.Renaming.{phase_renamed}
+use Rattle.event_log.proofs.BoolLemmas.{none_of}
 use Rattle.guest.specs.declared.instructions.Instruction.{Instruction}
 use Rattle.guest.specs.declared.instructions.Instruction.TheVariants as ins
 use Rattle.guest.specs.State.{State, after_local, after_yield, at_start, next_of}
@@ -47,7 +49,7 @@ use Rattle.cpu.proofs.TablePolls.{not_halted_so, opens_as, tabled_same, tabled_w
 use Rattle.cpu.proofs.Tower.Chains.{put_same}
 use Rattle.cpu.proofs.Tower.Numbered.{own_at}
 use Rattle.cpu.proofs.Tower.Passed.{ComesTo, at_rest, kept_none, pass_rest, passed_part, with_threads}
-use Rattle.cpu.proofs.Tower.Passing.{computed_now, drain_line, ended_now, make_ready_line, or_true, switched_now, yield_line}
+use Rattle.cpu.proofs.Tower.Passing.{computed_now, drain_line, ended_now, make_ready_line, switched_now, yield_line}
 use Rattle.cpu.proofs.Tower.Polls.{alone_is_step, choice_current, choice_hand, choice_idle, halted_is_step, line_is_step, step_goes}
 
 yield_line_is : (s : State) (i : Instruction) → todo_at s i ≡ PassOn → i ≡ ins.Yield
@@ -134,11 +136,7 @@ module _ (cpu : TabledCpu) where
       let follows = is.follow t g at in
       let none = call_is g.stage g.program g.thread (of_thread t.0 (of_cpu number seen)) (begun_of (talk_of own.talks t))
       (talk_of own.talks t).effect follows.1 ∙ free in
-      follows.0 (no_call (begun_of (talk_of own.talks t)) none)
-    where
-      no_call : (o : Option Call) → is_some o ≡ false → o ≡ None
-      no_call None so = refl
-      no_call (Some c) so = absurd (cc so)
+      follows.0 (none_of (begun_of (talk_of own.talks t)) none)
 
   not_calling : (t : Tid) (g : Guest) (todo : Todo) → guest_at guests t.0 ≡ Some g → todo_of g ≡ todo → ((c : Call) → todo ≡ Calls c → ⊥)
       → is_calling g.stage ≡ false
@@ -230,7 +228,7 @@ module _ (cpu : TabledCpu) where
             subst (λ x. x) (λ i. IsTabled homes caps number own2 doing2 (passed_by (sym runs i) guests (sym same i)) opening)
             (tabled_with cpu t g ended own2 doing2 at part2
             (λ over. subst (λ l. is_in t l ≡ true) (sym ended_is) (pushed_in t t (threads_in own).ended
-            ∙ (ap (λ b. is_in t (threads_in own).ended || (b || false)) (same_tid_self t) ∙ or_true (is_in t (threads_in own).ended))))
+            ∙ (ap (λ b. is_in t (threads_in own).ended || (b || false)) (same_tid_self t) ∙ or-true (is_in t (threads_in own).ended))))
             (λ u other before. subst (λ l. is_in u l ≡ true) (sym ended_is) (ended_more u t before)) quick2)
 
         go : (r : Option (Unit {0})) → threads_in own2 ≡ threads_if (threads_in own) pass queue r

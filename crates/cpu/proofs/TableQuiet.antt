@@ -13,6 +13,7 @@ use Rattle.guest.specs.declared.instructions.Instruction.TheVariants as ins
 use Rattle.layer_traits.specs.declared.steps.Reason.{Reason}
 use Rattle.layer_traits.specs.declared.steps.Reason.TheVariants.{AllEnded, StepsUsed, TraceFull}
 use Rattle.layer_traits.specs.Places.{Threads}
+use Rattle.layer_traits.specs.Passes.{or_else}
 use Rattle.cpu.specs.Calm.{IsQuiet, calm_by, is_calm, is_nobody}
 use Rattle.cpu.specs.Claims.{CpuShown, MovesAgree, Shown, buffer_at}
 use Rattle.cpu.specs.Cpus.{reason_in, halted_at as own_halted_at}
@@ -20,7 +21,7 @@ use Rattle.cpu.specs.Sound.{IsReachedByTable, IsSetupFor}
 use Rattle.cpu.specs.Systems.{own_reason, whole_of}
 use Rattle.cpu.specs.Table.Blocks.{OfPending}
 use Rattle.cpu.specs.Table.Choice.{Goes, Halts, at_call, at_current, at_hand, at_instruction, at_ready}
-use Rattle.cpu.specs.Table.Setups.{Call, Private, Setup, cpu_or, have_ended, home_of, home_threads, home_threads_from, stands_at, thread_at}
+use Rattle.cpu.specs.Table.Setups.{Call, Private, Setup, have_ended, home_of, home_threads, home_threads_from, stands_at, thread_at}
 use Rattle.cpu.specs.Table.Steps.{cpu_numbered, halted_at, halted_by}
 use Rattle.cpu.specs.Told.{IsStill, ToldByTable}
 use Rattle.cpu.specs.Wakeups.Quiet.{IsQuiet as IsQuietTable, IsQuietBy, IsStuck}
@@ -128,7 +129,7 @@ ended_halts setup c p reason all is = by_hand p.hand is
 home_is : (setup : Setup) (u : Tid) (c : CpuId) → home_of setup u ≡ c → u.0 < length setup.homes → slice_get setup.homes u.0 ≡ Some c
 home_is setup u c same within =
     let there = there_is setup.homes u.0 within in
-    let home : home_of setup u ≡ there.0 = ap (λ (o : Option CpuId). cpu_or (record { 0 = 0 }) o) there.1 in
+    let home : home_of setup u ≡ there.0 = ap (λ (o : Option CpuId). or_else (record { 0 = 0 }) o) there.1 in
     there.1 ∙ ap Some (sym home ∙ same)
 
 all_quiet : (setup : Setup) (c : CpuId) (p : Private) → have_ended p (home_threads setup c) ≡ true → (u : Tid) → home_of setup u ≡ c → u.0 < length setup.homes
@@ -143,7 +144,7 @@ quiet_all : (setup : Setup) (c : CpuId) (p : Private) → ((u : Tid) → home_of
 quiet_all setup c p each = all_ended p c setup.homes 0 (λ k h at same.
     let plus_zero : k ≡ 0 + k = omega arith in
     subst (λ (n : ℕ). (thread_at p (record { 0 = n })).ended ≡ true) plus_zero
-    (each (record { 0 = k }) (ap (λ (o : Option CpuId). cpu_or (record { 0 = 0 }) o) at ∙ same_cpu_true h c same) (slice_get_within setup.homes k h at)))
+    (each (record { 0 = k }) (ap (λ (o : Option CpuId). or_else (record { 0 = 0 }) o) at ∙ same_cpu_true h c same) (slice_get_within setup.homes k h at)))
 
 -- One CPU.
 
@@ -263,7 +264,7 @@ quiet_still s told agree reached quiet = record {
               let there = there_is s.homes t.0 (omega (arith, within, long)) in
               let exists = agree.within t there.0 there.1 in
               let home : home_of setup t ≡ there.0 =
-              ap (λ (l : List CpuId). cpu_or (record { 0 = 0 }) (slice_get l t.0)) homes ∙ ap (λ (o : Option CpuId). cpu_or (record { 0 = 0 }) o) there.1 in
+              ap (λ (l : List CpuId). or_else (record { 0 = 0 }) (slice_get l t.0)) homes ∙ ap (λ (o : Option CpuId). or_else (record { 0 = 0 }) o) there.1 in
               let number = ap (λ (d : CpuId). d.0) home in
               let count = is.count in omega (arith, exists, number, count),
         ) (reached setup is) (quiet_so s told setup is quiet)

@@ -27,7 +27,7 @@ use Rattle.cpu.specs.declared.guests.Todo.TheVariants.{Finish, PassOn, Compute, 
 use Rattle.cpu.specs.Guests.{HasComeIn, is_begun, is_calling, is_ended, todo_at, todo_of}
 use Rattle.cpu.specs.Cpus.{begins, begins_at, begun_count, chosen_at, chosen_by, chosen_for}
 use Rattle.cpu.specs.Cpus.{chosen_todo, guest_at, halted_at as cpu_halted, is_begun_guest, is_over, of_cpu, of_thread}
-use Rattle.cpu.specs.Table.Setups.{Setup, Call as TableCall, Private, Thread, have_ended, home_threads}
+use Rattle.cpu.specs.Table.Setups.{Setup, Call as TableCall, Private, Thread, have_ended, home_threads, has_none}
 use Rattle.cpu.specs.Table.Setups.{home_threads_from, is_open_call, open_calls, stands_at, thread_at}
 use Rattle.cpu.specs.Table.Choice.{Choice, Halts, Goes, at_call, at_current, at_hand, at_instruction, at_ready}
 use Rattle.cpu.specs.Table.Steps.{halted_at as table_halted, halted_by}
@@ -119,11 +119,6 @@ rows_open c p (h ∷ homes) (o ∷ guests) n long rows =
     go false is more =
         let plus : begun_count guests ≡ 0 + begun_count guests = omega arith in
         more ∙ (plus ∙ sym (ap (λ x. cond (is_begun_guest x) 1 0 + begun_count guests) (first_row.other is)))
-
--- no effect has come
-abbrev has_none : Option ℕ → Bool
-has_none None = true
-has_none (Some op) = false
 
 -- whether a call is open, by what its talk says
 open_is : (stage : GuestStage) (program : List Instruction) (s : State) (es : List Entry) (begun : Option Call) (effect : Option Effect) (f : Call → TableCall)

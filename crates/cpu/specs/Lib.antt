@@ -10,3 +10,4 @@ pub mod Told
 pub mod Calm
 pub mod Boots
 pub mod Tables
+pub mod CpuSteps

@@ -1,6 +1,6 @@
 //! One CPU over a layer of message calls.
 
-ghost use Rattle.std.specs.Prelude.{◌≡◌, ◌≢◌, ◌+◌, ◌<◌, true, false, ◌≤◌, [], ◌∷◌, ◌++◌, Some, None, length, vec_capacity};
+ghost use Rattle.std.specs.Prelude.{◌≡◌, ◌+◌, ◌<◌, true, false, ◌≤◌, [], ◌∷◌, ◌++◌, Some, None, length, vec_capacity};
 ghost use Rattle.std.specs.List.{list_all};
 ghost use Rattle.layer_traits.specs.BufferLaw.{buffer_of, entry_of};
 ghost use Rattle.cpu.specs.Guests.{computed, entries_of, polled};
@@ -38,13 +38,11 @@ pub struct Cpu<I: IpcLayer> {
 }
 
 impl<I: IpcLayer> Cpu<I> {
-    ghost use Rattle.event_log.specs.declared.ids.CpuId.{CpuId};
     ghost use Rattle.layer_traits.specs.declared.steps.Reason.{Reason};
     ghost use Rattle.layer_traits.specs.declared.steps.Step.TheVariants.{Halted, Stepped};
-    ghost use Rattle.layer_traits.specs.BufferLaw.{MovesGrow};
     ghost use Rattle.cpu.specs.declared.cpus.Choice.TheVariants.{Polls, Passes, Computes};
-    ghost use Rattle.cpu.specs.Tables.{IsTabled, WentByTable};
-    ghost use Rattle.cpu.specs.Cpus.{ActsGrow, IsCpu, SeenGrows, chosen, halted_at, programs_of, reason_in, step_answer};
+    ghost use Rattle.cpu.specs.CpuSteps.{IsCpuAt, IsTabledAt, Leaves, WentAt, stops_at};
+    ghost use Rattle.cpu.specs.Cpus.{chosen, halted_at, step_answer};
 
     /// What the CPU does next, where it is not halted.
     #[inline(always)]
@@ -103,8 +101,7 @@ impl<I: IpcLayer> Cpu<I> {
     #[inline(always)]
     pub fn reason(&self) -> Option<Reason>
         requires { (t : _) → (I.threads self.now.part).current ≡ Some t → t.0 < length self.now.guests.items }
-        ensures { result
-            ≡ reason_in (I.is_inside self.now.part) (halted_at (I.threads self.now.part) self.now.guests.items self.now.trace.items self.now.limit) }
+        ensures { result ≡ stops_at ⟦<I as IpcLayer>⟧ self.now }
     {
         if self.part.is_busy() {
             return None;
@@ -125,37 +122,17 @@ impl<I: IpcLayer> Cpu<I> {
         requires fits { I.Fits self.old.part m.old }
         requires room { 0 < I.room m.old }
         requires number { I.cpu_of self.old.part ≡ self.old.number }
-        requires is { IsCpu (I.homes_of m.old) (length (I.caps m.old)) (I.seen m.old) (I.threads self.old.part) (I.talks self.old.part)
-            (I.doing self.old.part) self.old.number self.old.guests.items self.old.trace.items self.old.limit (vec_capacity self.old.trace) }
-        requires live { reason_in (I.is_inside self.old.part) (halted_at (I.threads self.old.part) self.old.guests.items self.old.trace.items self.old.limit)
-            ≡ None }
+        requires is { IsCpuAt ⟦<I as IpcLayer>⟧ m.old self.old }
+        requires live { stops_at ⟦<I as IpcLayer>⟧ self.old ≡ None }
         requires chosen { chosen (I.threads self.old.part) self.old.guests.items ≡ Polls thread call }
         requires not_full { begins_at (guest_at self.old.guests.items thread.0) ≡ true
             → length self.old.trace.items + begun_count self.old.guests.items < self.old.limit }
-        requires table { I.IsStepwise → IsTabled (I.homes_of m.old) (I.caps m.old) self.old.number (I.own self.old.part)
-            (I.doing self.old.part) self.old.guests.items (I.opening m.old) }
+        requires table { I.IsStepwise → IsTabledAt ⟦<I as IpcLayer>⟧ m.old self.old }
         ensures fits { I.Fits self.new.part m.new }
-        ensures is { IsCpu (I.homes_of m.new) (length (I.caps m.new)) (I.seen m.new) (I.threads self.new.part) (I.talks self.new.part)
-            (I.doing self.new.part) self.new.number self.new.guests.items self.new.trace.items self.new.limit (vec_capacity self.new.trace) }
-        ensures number { self.new.number ≡ self.old.number }
-        ensures limit { self.new.limit ≡ self.old.limit }
-        ensures cpu { I.cpu_of self.new.part ≡ self.old.number }
-        ensures programs { programs_of self.new.guests.items ≡ programs_of self.old.guests.items }
-        ensures seen { SeenGrows (I.ActsFor m.old) self.old.number (I.seen m.old) (I.seen m.new) }
-        ensures moves { MovesGrow (I.ActsFor m.old) self.old.number (I.moves m.old) (I.moves m.new) }
-        ensures grows { I.IsStepwise → ActsGrow (I.ActsFor m.old) self.old.number (I.acts m.old) (I.acts m.new) }
-        ensures opening { I.opening m.new ≡ I.opening m.old }
-        ensures caps { I.caps m.new ≡ I.caps m.old }
-        ensures homes { I.homes_of m.new ≡ I.homes_of m.old }
-        ensures site { I.site m.new ≡ I.site m.old }
-        ensures room { I.room m.old ≤ I.room m.new + 1 }
-        ensures acts { (c : CpuId) → I.ActsFor m.old c → I.ActsFor m.new c }
-        ensures others { (p : I) → I.cpu_of p ≢ self.old.number → I.Fits p m.old → I.Fits p m.new }
-        ensures table { I.IsStepwise → IsTabled (I.homes_of m.new) (I.caps m.new) self.new.number (I.own self.new.part)
-            (I.doing self.new.part) self.new.guests.items (I.opening m.new) }
-        ensures steps { I.IsStepwise → WentByTable (I.ActsFor m.old) (I.homes_of m.old) (I.caps m.old) self.old.number self.old.limit
-            (I.own self.old.part) (I.own self.new.part) self.old.guests.items self.new.guests.items self.old.trace.items self.new.trace.items
-            (I.acts m.old) (I.acts m.new) Stepped }
+        ensures is { IsCpuAt ⟦<I as IpcLayer>⟧ m.new self.new }
+        ensures leaves { Leaves ⟦<I as IpcLayer>⟧ m.old self.old m.new self.new }
+        ensures table { I.IsStepwise → IsTabledAt ⟦<I as IpcLayer>⟧ m.new self.new }
+        ensures steps { I.IsStepwise → WentAt ⟦<I as IpcLayer>⟧ m.old self.old m.new self.new Stepped }
     {
         let answer = self.part.poll(m, thread, &call);
         let effect = self.part.effect(thread);
@@ -169,35 +146,15 @@ impl<I: IpcLayer> Cpu<I> {
         requires fits { I.Fits self.old.part m.old }
         requires room { 0 < I.room m.old }
         requires number { I.cpu_of self.old.part ≡ self.old.number }
-        requires is { IsCpu (I.homes_of m.old) (length (I.caps m.old)) (I.seen m.old) (I.threads self.old.part) (I.talks self.old.part)
-            (I.doing self.old.part) self.old.number self.old.guests.items self.old.trace.items self.old.limit (vec_capacity self.old.trace) }
-        requires live { reason_in (I.is_inside self.old.part) (halted_at (I.threads self.old.part) self.old.guests.items self.old.trace.items self.old.limit)
-            ≡ None }
+        requires is { IsCpuAt ⟦<I as IpcLayer>⟧ m.old self.old }
+        requires live { stops_at ⟦<I as IpcLayer>⟧ self.old ≡ None }
         requires chosen { chosen (I.threads self.old.part) self.old.guests.items ≡ Passes pass }
-        requires table { I.IsStepwise → IsTabled (I.homes_of m.old) (I.caps m.old) self.old.number (I.own self.old.part)
-            (I.doing self.old.part) self.old.guests.items (I.opening m.old) }
+        requires table { I.IsStepwise → IsTabledAt ⟦<I as IpcLayer>⟧ m.old self.old }
         ensures fits { I.Fits self.new.part m.new }
-        ensures is { IsCpu (I.homes_of m.new) (length (I.caps m.new)) (I.seen m.new) (I.threads self.new.part) (I.talks self.new.part)
-            (I.doing self.new.part) self.new.number self.new.guests.items self.new.trace.items self.new.limit (vec_capacity self.new.trace) }
-        ensures number { self.new.number ≡ self.old.number }
-        ensures limit { self.new.limit ≡ self.old.limit }
-        ensures cpu { I.cpu_of self.new.part ≡ self.old.number }
-        ensures programs { programs_of self.new.guests.items ≡ programs_of self.old.guests.items }
-        ensures seen { SeenGrows (I.ActsFor m.old) self.old.number (I.seen m.old) (I.seen m.new) }
-        ensures moves { MovesGrow (I.ActsFor m.old) self.old.number (I.moves m.old) (I.moves m.new) }
-        ensures grows { I.IsStepwise → ActsGrow (I.ActsFor m.old) self.old.number (I.acts m.old) (I.acts m.new) }
-        ensures opening { I.opening m.new ≡ I.opening m.old }
-        ensures caps { I.caps m.new ≡ I.caps m.old }
-        ensures homes { I.homes_of m.new ≡ I.homes_of m.old }
-        ensures site { I.site m.new ≡ I.site m.old }
-        ensures room { I.room m.old ≤ I.room m.new + 1 }
-        ensures acts { (c : CpuId) → I.ActsFor m.old c → I.ActsFor m.new c }
-        ensures others { (p : I) → I.cpu_of p ≢ self.old.number → I.Fits p m.old → I.Fits p m.new }
-        ensures table { I.IsStepwise → IsTabled (I.homes_of m.new) (I.caps m.new) self.new.number (I.own self.new.part)
-            (I.doing self.new.part) self.new.guests.items (I.opening m.new) }
-        ensures steps { I.IsStepwise → WentByTable (I.ActsFor m.old) (I.homes_of m.old) (I.caps m.old) self.old.number self.old.limit
-            (I.own self.old.part) (I.own self.new.part) self.old.guests.items self.new.guests.items self.old.trace.items self.new.trace.items
-            (I.acts m.old) (I.acts m.new) Stepped }
+        ensures is { IsCpuAt ⟦<I as IpcLayer>⟧ m.new self.new }
+        ensures leaves { Leaves ⟦<I as IpcLayer>⟧ m.old self.old m.new self.new }
+        ensures table { I.IsStepwise → IsTabledAt ⟦<I as IpcLayer>⟧ m.new self.new }
+        ensures steps { I.IsStepwise → WentAt ⟦<I as IpcLayer>⟧ m.old self.old m.new self.new Stepped }
     {
         let runs = self.part.current();
         let done = self.part.pass(m, pass);
@@ -212,35 +169,15 @@ impl<I: IpcLayer> Cpu<I> {
         requires fits { I.Fits self.old.part m.old }
         requires room { 0 < I.room m.old }
         requires number { I.cpu_of self.old.part ≡ self.old.number }
-        requires is { IsCpu (I.homes_of m.old) (length (I.caps m.old)) (I.seen m.old) (I.threads self.old.part) (I.talks self.old.part)
-            (I.doing self.old.part) self.old.number self.old.guests.items self.old.trace.items self.old.limit (vec_capacity self.old.trace) }
-        requires live { reason_in (I.is_inside self.old.part) (halted_at (I.threads self.old.part) self.old.guests.items self.old.trace.items self.old.limit)
-            ≡ None }
+        requires is { IsCpuAt ⟦<I as IpcLayer>⟧ m.old self.old }
+        requires live { stops_at ⟦<I as IpcLayer>⟧ self.old ≡ None }
         requires chosen { chosen (I.threads self.old.part) self.old.guests.items ≡ Computes thread }
-        requires table { I.IsStepwise → IsTabled (I.homes_of m.old) (I.caps m.old) self.old.number (I.own self.old.part)
-            (I.doing self.old.part) self.old.guests.items (I.opening m.old) }
+        requires table { I.IsStepwise → IsTabledAt ⟦<I as IpcLayer>⟧ m.old self.old }
         ensures fits { I.Fits self.new.part m.new }
-        ensures is { IsCpu (I.homes_of m.new) (length (I.caps m.new)) (I.seen m.new) (I.threads self.new.part) (I.talks self.new.part)
-            (I.doing self.new.part) self.new.number self.new.guests.items self.new.trace.items self.new.limit (vec_capacity self.new.trace) }
-        ensures number { self.new.number ≡ self.old.number }
-        ensures limit { self.new.limit ≡ self.old.limit }
-        ensures cpu { I.cpu_of self.new.part ≡ self.old.number }
-        ensures programs { programs_of self.new.guests.items ≡ programs_of self.old.guests.items }
-        ensures seen { SeenGrows (I.ActsFor m.old) self.old.number (I.seen m.old) (I.seen m.new) }
-        ensures moves { MovesGrow (I.ActsFor m.old) self.old.number (I.moves m.old) (I.moves m.new) }
-        ensures grows { I.IsStepwise → ActsGrow (I.ActsFor m.old) self.old.number (I.acts m.old) (I.acts m.new) }
-        ensures opening { I.opening m.new ≡ I.opening m.old }
-        ensures caps { I.caps m.new ≡ I.caps m.old }
-        ensures homes { I.homes_of m.new ≡ I.homes_of m.old }
-        ensures site { I.site m.new ≡ I.site m.old }
-        ensures room { I.room m.old ≤ I.room m.new + 1 }
-        ensures acts { (c : CpuId) → I.ActsFor m.old c → I.ActsFor m.new c }
-        ensures others { (p : I) → I.cpu_of p ≢ self.old.number → I.Fits p m.old → I.Fits p m.new }
-        ensures table { I.IsStepwise → IsTabled (I.homes_of m.new) (I.caps m.new) self.new.number (I.own self.new.part)
-            (I.doing self.new.part) self.new.guests.items (I.opening m.new) }
-        ensures steps { I.IsStepwise → WentByTable (I.ActsFor m.old) (I.homes_of m.old) (I.caps m.old) self.old.number self.old.limit
-            (I.own self.old.part) (I.own self.new.part) self.old.guests.items self.new.guests.items self.old.trace.items self.new.trace.items
-            (I.acts m.old) (I.acts m.new) Stepped }
+        ensures is { IsCpuAt ⟦<I as IpcLayer>⟧ m.new self.new }
+        ensures leaves { Leaves ⟦<I as IpcLayer>⟧ m.old self.old m.new self.new }
+        ensures table { I.IsStepwise → IsTabledAt ⟦<I as IpcLayer>⟧ m.new self.new }
+        ensures steps { I.IsStepwise → WentAt ⟦<I as IpcLayer>⟧ m.old self.old m.new self.new Stepped }
     {
         note_compute(&mut self.guests, thread);
         let _ = m;
@@ -253,34 +190,14 @@ impl<I: IpcLayer> Cpu<I> {
         requires fits { I.Fits self.old.part m.old }
         requires room { 0 < I.room m.old }
         requires number { I.cpu_of self.old.part ≡ self.old.number }
-        requires is { IsCpu (I.homes_of m.old) (length (I.caps m.old)) (I.seen m.old) (I.threads self.old.part) (I.talks self.old.part)
-            (I.doing self.old.part) self.old.number self.old.guests.items self.old.trace.items self.old.limit (vec_capacity self.old.trace) }
-        requires live { reason_in (I.is_inside self.old.part) (halted_at (I.threads self.old.part) self.old.guests.items self.old.trace.items self.old.limit)
-            ≡ None }
-        requires table { I.IsStepwise → IsTabled (I.homes_of m.old) (I.caps m.old) self.old.number (I.own self.old.part)
-            (I.doing self.old.part) self.old.guests.items (I.opening m.old) }
+        requires is { IsCpuAt ⟦<I as IpcLayer>⟧ m.old self.old }
+        requires live { stops_at ⟦<I as IpcLayer>⟧ self.old ≡ None }
+        requires table { I.IsStepwise → IsTabledAt ⟦<I as IpcLayer>⟧ m.old self.old }
         ensures fits { I.Fits self.new.part m.new }
-        ensures is { IsCpu (I.homes_of m.new) (length (I.caps m.new)) (I.seen m.new) (I.threads self.new.part) (I.talks self.new.part)
-            (I.doing self.new.part) self.new.number self.new.guests.items self.new.trace.items self.new.limit (vec_capacity self.new.trace) }
-        ensures number { self.new.number ≡ self.old.number }
-        ensures limit { self.new.limit ≡ self.old.limit }
-        ensures cpu { I.cpu_of self.new.part ≡ self.old.number }
-        ensures programs { programs_of self.new.guests.items ≡ programs_of self.old.guests.items }
-        ensures seen { SeenGrows (I.ActsFor m.old) self.old.number (I.seen m.old) (I.seen m.new) }
-        ensures moves { MovesGrow (I.ActsFor m.old) self.old.number (I.moves m.old) (I.moves m.new) }
-        ensures grows { I.IsStepwise → ActsGrow (I.ActsFor m.old) self.old.number (I.acts m.old) (I.acts m.new) }
-        ensures opening { I.opening m.new ≡ I.opening m.old }
-        ensures caps { I.caps m.new ≡ I.caps m.old }
-        ensures homes { I.homes_of m.new ≡ I.homes_of m.old }
-        ensures site { I.site m.new ≡ I.site m.old }
-        ensures room { I.room m.old ≤ I.room m.new + 1 }
-        ensures acts { (c : CpuId) → I.ActsFor m.old c → I.ActsFor m.new c }
-        ensures others { (p : I) → I.cpu_of p ≢ self.old.number → I.Fits p m.old → I.Fits p m.new }
-        ensures table { I.IsStepwise → IsTabled (I.homes_of m.new) (I.caps m.new) self.new.number (I.own self.new.part)
-            (I.doing self.new.part) self.new.guests.items (I.opening m.new) }
-        ensures steps { I.IsStepwise → WentByTable (I.ActsFor m.old) (I.homes_of m.old) (I.caps m.old) self.old.number self.old.limit
-            (I.own self.old.part) (I.own self.new.part) self.old.guests.items self.new.guests.items self.old.trace.items self.new.trace.items
-            (I.acts m.old) (I.acts m.new) Stepped }
+        ensures is { IsCpuAt ⟦<I as IpcLayer>⟧ m.new self.new }
+        ensures leaves { Leaves ⟦<I as IpcLayer>⟧ m.old self.old m.new self.new }
+        ensures table { I.IsStepwise → IsTabledAt ⟦<I as IpcLayer>⟧ m.new self.new }
+        ensures steps { I.IsStepwise → WentAt ⟦<I as IpcLayer>⟧ m.old self.old m.new self.new Stepped }
     {
         match self.choice() {
             Choice::Polls(thread, call) => self.call(m, thread, call),
@@ -298,35 +215,15 @@ impl<I: IpcLayer> Cpu<I> {
         requires fits { I.Fits self.old.part m.old }
         requires room { 0 < I.room m.old }
         requires number { I.cpu_of self.old.part ≡ self.old.number }
-        requires is { IsCpu (I.homes_of m.old) (length (I.caps m.old)) (I.seen m.old) (I.threads self.old.part) (I.talks self.old.part)
-            (I.doing self.old.part) self.old.number self.old.guests.items self.old.trace.items self.old.limit (vec_capacity self.old.trace) }
-        requires table { I.IsStepwise → IsTabled (I.homes_of m.old) (I.caps m.old) self.old.number (I.own self.old.part)
-            (I.doing self.old.part) self.old.guests.items (I.opening m.old) }
+        requires is { IsCpuAt ⟦<I as IpcLayer>⟧ m.old self.old }
+        requires table { I.IsStepwise → IsTabledAt ⟦<I as IpcLayer>⟧ m.old self.old }
         ensures fits { I.Fits self.new.part m.new }
-        ensures is { IsCpu (I.homes_of m.new) (length (I.caps m.new)) (I.seen m.new) (I.threads self.new.part) (I.talks self.new.part)
-            (I.doing self.new.part) self.new.number self.new.guests.items self.new.trace.items self.new.limit (vec_capacity self.new.trace) }
-        ensures number { self.new.number ≡ self.old.number }
-        ensures limit { self.new.limit ≡ self.old.limit }
-        ensures cpu { I.cpu_of self.new.part ≡ self.old.number }
-        ensures programs { programs_of self.new.guests.items ≡ programs_of self.old.guests.items }
-        ensures seen { SeenGrows (I.ActsFor m.old) self.old.number (I.seen m.old) (I.seen m.new) }
-        ensures moves { MovesGrow (I.ActsFor m.old) self.old.number (I.moves m.old) (I.moves m.new) }
-        ensures grows { I.IsStepwise → ActsGrow (I.ActsFor m.old) self.old.number (I.acts m.old) (I.acts m.new) }
-        ensures opening { I.opening m.new ≡ I.opening m.old }
-        ensures caps { I.caps m.new ≡ I.caps m.old }
-        ensures homes { I.homes_of m.new ≡ I.homes_of m.old }
-        ensures site { I.site m.new ≡ I.site m.old }
-        ensures room { I.room m.old ≤ I.room m.new + 1 }
-        ensures acts { (c : CpuId) → I.ActsFor m.old c → I.ActsFor m.new c }
-        ensures others { (p : I) → I.cpu_of p ≢ self.old.number → I.Fits p m.old → I.Fits p m.new }
-        ensures answer { result ≡ step_answer (reason_in (I.is_inside self.old.part)
-            (halted_at (I.threads self.old.part) self.old.guests.items self.old.trace.items self.old.limit)) }
+        ensures is { IsCpuAt ⟦<I as IpcLayer>⟧ m.new self.new }
+        ensures leaves { Leaves ⟦<I as IpcLayer>⟧ m.old self.old m.new self.new }
+        ensures answer { result ≡ step_answer (stops_at ⟦<I as IpcLayer>⟧ self.old) }
         ensures still { (r : Reason) → result ≡ Halted r → (m.new ≡ m.old) × (self.new ≡ self.old) }
-        ensures table { I.IsStepwise → IsTabled (I.homes_of m.new) (I.caps m.new) self.new.number (I.own self.new.part)
-            (I.doing self.new.part) self.new.guests.items (I.opening m.new) }
-        ensures steps { I.IsStepwise → WentByTable (I.ActsFor m.old) (I.homes_of m.old) (I.caps m.old) self.old.number self.old.limit
-            (I.own self.old.part) (I.own self.new.part) self.old.guests.items self.new.guests.items self.old.trace.items self.new.trace.items
-            (I.acts m.old) (I.acts m.new) result }
+        ensures table { I.IsStepwise → IsTabledAt ⟦<I as IpcLayer>⟧ m.new self.new }
+        ensures steps { I.IsStepwise → WentAt ⟦<I as IpcLayer>⟧ m.old self.old m.new self.new result }
     {
         if let Some(reason) = self.reason() {
             return Step::Halted(reason);
@@ -342,35 +239,15 @@ impl<I: IpcLayer> Cpu<I> {
         requires fits { I.Fits self.old.part m.old }
         requires room { 0 < I.room m.old }
         requires number { I.cpu_of self.old.part ≡ self.old.number }
-        requires is { IsCpu (I.homes_of m.old) (length (I.caps m.old)) (I.seen m.old) (I.threads self.old.part) (I.talks self.old.part)
-            (I.doing self.old.part) self.old.number self.old.guests.items self.old.trace.items self.old.limit (vec_capacity self.old.trace) }
-        requires table { I.IsStepwise → IsTabled (I.homes_of m.old) (I.caps m.old) self.old.number (I.own self.old.part)
-            (I.doing self.old.part) self.old.guests.items (I.opening m.old) }
+        requires is { IsCpuAt ⟦<I as IpcLayer>⟧ m.old self.old }
+        requires table { I.IsStepwise → IsTabledAt ⟦<I as IpcLayer>⟧ m.old self.old }
         ensures fits { I.Fits self.new.part m.new }
-        ensures is { IsCpu (I.homes_of m.new) (length (I.caps m.new)) (I.seen m.new) (I.threads self.new.part) (I.talks self.new.part)
-            (I.doing self.new.part) self.new.number self.new.guests.items self.new.trace.items self.new.limit (vec_capacity self.new.trace) }
-        ensures number { self.new.number ≡ self.old.number }
-        ensures limit { self.new.limit ≡ self.old.limit }
-        ensures cpu { I.cpu_of self.new.part ≡ self.old.number }
-        ensures programs { programs_of self.new.guests.items ≡ programs_of self.old.guests.items }
-        ensures seen { SeenGrows (I.ActsFor m.old) self.old.number (I.seen m.old) (I.seen m.new) }
-        ensures moves { MovesGrow (I.ActsFor m.old) self.old.number (I.moves m.old) (I.moves m.new) }
-        ensures grows { I.IsStepwise → ActsGrow (I.ActsFor m.old) self.old.number (I.acts m.old) (I.acts m.new) }
-        ensures opening { I.opening m.new ≡ I.opening m.old }
-        ensures caps { I.caps m.new ≡ I.caps m.old }
-        ensures homes { I.homes_of m.new ≡ I.homes_of m.old }
-        ensures site { I.site m.new ≡ I.site m.old }
-        ensures room { I.room m.old ≤ I.room m.new + 1 }
-        ensures acts { (c : CpuId) → I.ActsFor m.old c → I.ActsFor m.new c }
-        ensures others { (p : I) → I.cpu_of p ≢ self.old.number → I.Fits p m.old → I.Fits p m.new }
+        ensures is { IsCpuAt ⟦<I as IpcLayer>⟧ m.new self.new }
+        ensures leaves { Leaves ⟦<I as IpcLayer>⟧ m.old self.old m.new self.new }
         ensures still { result ≡ false → (self.new ≡ self.old) × (m.new ≡ m.old) }
-        ensures live { result ≡ true → reason_in (I.is_inside self.old.part)
-            (halted_at (I.threads self.old.part) self.old.guests.items self.old.trace.items self.old.limit) ≡ None }
-        ensures table { I.IsStepwise → IsTabled (I.homes_of m.new) (I.caps m.new) self.new.number (I.own self.new.part)
-            (I.doing self.new.part) self.new.guests.items (I.opening m.new) }
-        ensures steps { I.IsStepwise → result ≡ true → WentByTable (I.ActsFor m.old) (I.homes_of m.old) (I.caps m.old) self.old.number self.old.limit
-            (I.own self.old.part) (I.own self.new.part) self.old.guests.items self.new.guests.items self.old.trace.items self.new.trace.items
-            (I.acts m.old) (I.acts m.new) Stepped }
+        ensures live { result ≡ true → stops_at ⟦<I as IpcLayer>⟧ self.old ≡ None }
+        ensures table { I.IsStepwise → IsTabledAt ⟦<I as IpcLayer>⟧ m.new self.new }
+        ensures steps { I.IsStepwise → result ≡ true → WentAt ⟦<I as IpcLayer>⟧ m.old self.old m.new self.new Stepped }
     {
         self.part.look(m)
     }
@@ -383,35 +260,15 @@ impl<I: IpcLayer> Cpu<I> {
         requires fits { I.Fits self.old.part m.old }
         requires room { 0 < I.room m.old }
         requires number { I.cpu_of self.old.part ≡ self.old.number }
-        requires is { IsCpu (I.homes_of m.old) (length (I.caps m.old)) (I.seen m.old) (I.threads self.old.part) (I.talks self.old.part)
-            (I.doing self.old.part) self.old.number self.old.guests.items self.old.trace.items self.old.limit (vec_capacity self.old.trace) }
-        requires table { I.IsStepwise → IsTabled (I.homes_of m.old) (I.caps m.old) self.old.number (I.own self.old.part)
-            (I.doing self.old.part) self.old.guests.items (I.opening m.old) }
+        requires is { IsCpuAt ⟦<I as IpcLayer>⟧ m.old self.old }
+        requires table { I.IsStepwise → IsTabledAt ⟦<I as IpcLayer>⟧ m.old self.old }
         ensures fits { I.Fits self.new.part m.new }
-        ensures is { IsCpu (I.homes_of m.new) (length (I.caps m.new)) (I.seen m.new) (I.threads self.new.part) (I.talks self.new.part)
-            (I.doing self.new.part) self.new.number self.new.guests.items self.new.trace.items self.new.limit (vec_capacity self.new.trace) }
-        ensures number { self.new.number ≡ self.old.number }
-        ensures limit { self.new.limit ≡ self.old.limit }
-        ensures cpu { I.cpu_of self.new.part ≡ self.old.number }
-        ensures programs { programs_of self.new.guests.items ≡ programs_of self.old.guests.items }
-        ensures seen { SeenGrows (I.ActsFor m.old) self.old.number (I.seen m.old) (I.seen m.new) }
-        ensures moves { MovesGrow (I.ActsFor m.old) self.old.number (I.moves m.old) (I.moves m.new) }
-        ensures grows { I.IsStepwise → ActsGrow (I.ActsFor m.old) self.old.number (I.acts m.old) (I.acts m.new) }
-        ensures opening { I.opening m.new ≡ I.opening m.old }
-        ensures caps { I.caps m.new ≡ I.caps m.old }
-        ensures homes { I.homes_of m.new ≡ I.homes_of m.old }
-        ensures site { I.site m.new ≡ I.site m.old }
-        ensures room { I.room m.old ≤ I.room m.new + 1 }
-        ensures acts { (c : CpuId) → I.ActsFor m.old c → I.ActsFor m.new c }
-        ensures others { (p : I) → I.cpu_of p ≢ self.old.number → I.Fits p m.old → I.Fits p m.new }
-        ensures answer { result ≡ step_answer (reason_in (I.is_inside self.old.part)
-            (halted_at (I.threads self.old.part) self.old.guests.items self.old.trace.items self.old.limit)) }
+        ensures is { IsCpuAt ⟦<I as IpcLayer>⟧ m.new self.new }
+        ensures leaves { Leaves ⟦<I as IpcLayer>⟧ m.old self.old m.new self.new }
+        ensures answer { result ≡ step_answer (stops_at ⟦<I as IpcLayer>⟧ self.old) }
         ensures still { (r : Reason) → result ≡ Halted r → (m.new ≡ m.old) × (self.new ≡ self.old) }
-        ensures table { I.IsStepwise → IsTabled (I.homes_of m.new) (I.caps m.new) self.new.number (I.own self.new.part)
-            (I.doing self.new.part) self.new.guests.items (I.opening m.new) }
-        ensures steps { I.IsStepwise → WentByTable (I.ActsFor m.old) (I.homes_of m.old) (I.caps m.old) self.old.number self.old.limit
-            (I.own self.old.part) (I.own self.new.part) self.old.guests.items self.new.guests.items self.old.trace.items self.new.trace.items
-            (I.acts m.old) (I.acts m.new) result }
+        ensures table { I.IsStepwise → IsTabledAt ⟦<I as IpcLayer>⟧ m.new self.new }
+        ensures steps { I.IsStepwise → WentAt ⟦<I as IpcLayer>⟧ m.old self.old m.new self.new result }
     {
         if self.look(m) {
             return Step::Stepped;

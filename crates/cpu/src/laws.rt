@@ -4,7 +4,7 @@
 ghost use Rattle.cpu.specs.Table.Worked.{AloneRuns, RunsOfTwo, RunsOfThree};
 ghost use Rattle.cpu.specs.Table.Closing.{ClosingRuns};
 ghost use Rattle.cpu.specs.Table.Words.{RunsOfWords};
-ghost use Rattle.cpu.specs.Wakeups.Lost.{OrderLosesNoWakeUp, SystemsKeepOrder, SystemsLoseNoWakeUp, FreeLocksHaveNoSleepers, WorkersLoseNoWakeUp};
+ghost use Rattle.cpu.specs.Wakeups.Lost.{OrderLosesNoWakeUp, SystemsKeepOrder, SystemsLoseNoWakeUp, FreeLocksHaveNoSleepers, CpusLoseNoWakeUp};
 ghost use Rattle.cpu.specs.Wakeups.OneSignal.{OneSignalLosesAWakeUp, SilentAnswerLosesAWakeUp};
 ghost use Rattle.cpu.specs.Wakeups.Quiet.{QuietIsStuck};
 ghost use Rattle.cpu.specs.Wakeups.Alone.{CallsReturnAlone};
@@ -79,8 +79,8 @@ pub fn free_locks_have_no_sleepers()
 
 /// CPUs that each work by the table on one list of actions lose no wake-up, however their actions
 /// come between one another.
-pub fn workers_lose_no_wake_up()
-    ensures { WorkersLoseNoWakeUp }
+pub fn cpus_lose_no_wake_up()
+    ensures { CpusLoseNoWakeUp }
 {}
 
 /// A quiet state that a system reaches is stuck: nobody owns a lock or sleeps at one, and each live

@@ -23,7 +23,7 @@ fn each_law_can_be_called(_rt: HostRuntime) {
     stand_in_one_place();
     systems_keep_order();
     systems_lose_no_wake_up();
-    workers_lose_no_wake_up();
+    cpus_lose_no_wake_up();
 }
 
 /// Two threads of CPU 0 and one of CPU 1.

@@ -1,9 +1,9 @@
 -- The workers of a plan at one table of words: what each leaves there, and that the table may be closed.
-use Rattle.std.proofs.Common.{◌≡◌, ℕ, zero, suc, ◌+◌, ◌<◌, ◌≤◌, true, false, All, List, [], ◌∷◌, ◌++◌, length, map, drop, get_or}
-use Rattle.std.proofs.Common.{add-one, drop-cons, Option, Some, None, refl, ap, sym, ◌∙◌, subst, arith}
+use Rattle.std.proofs.Common.{◌≡◌, ℕ, zero, suc, ◌+◌, ◌<◌, ◌≤◌, true, false, All, List, [], length, map, drop, get_or}
+use Rattle.std.proofs.Common.{Some, None, refl, ap, sym, ◌∙◌, subst}
 use Rattle.std.specs.Prelude.{IfOk, Result, Ok, Err, slice_get, if◌then◌else◌}
-use Rattle.std.proofs.lemmas.List.{length-map}
-use Rattle.std.proofs.lemmas.Option.{get_or_from_slice_get, slice_get_within}
+use Rattle.std.proofs.lemmas.List.{length-map, drop_all}
+use Rattle.std.proofs.lemmas.Option.{get_or_from_slice_get}
 use Rattle.atomic_table.specs.Seated.{TableId}
 use Rattle.boot.specs.Plan.{BootPlan}
 use Rattle.event_log.specs.declared.entries.Entry.{Entry}
@@ -14,6 +14,7 @@ use Rattle.event_log.specs.History.{IsLawful, same_lock}
 use Rattle.event_log.specs.Sections.{sections_in}
 use Rattle.event_log.specs.WordsLog.{Outside, standing}
 use Rattle.event_log.proofs.Renaming.{phase_renamed}
+use Rattle.event_log.proofs.ListLemmas.{from_index}
 use Rattle.layer_traits.specs.OneLock.{opened}
 use Rattle.layer_traits.specs.OnePlace.{cpu_at}
 use Rattle.layer_traits.specs.Plans.{is_in_section}
@@ -160,15 +161,6 @@ ok_with of P (Err e) s is holds = tt
 
 -- A list of locks with their blocks, from an index on.
 
-from_index : {X : Type 0} (xs : List X) (i : ℕ) (x : X) → i < length xs → x ≡ get_or xs i x → drop i xs ≡ x ∷ drop (i + 1) xs
-from_index xs i x within is = drop-cons xs i x within ∙ (ap (λ y. y ∷ drop (suc i) xs) (sym is) ∙ ap (λ n. x ∷ drop n xs) (sym (add-one i)))
-
-none_left : {X : Type 0} (xs : List X) (n : ℕ) → length xs ≤ n → drop n xs ≡ []
-none_left [] zero past = refl
-none_left [] (suc n) past = refl
-none_left (y ∷ xs) zero past = absurd (omega (arith, past))
-none_left (y ∷ xs) (suc n) past = none_left xs n (omega (arith, past))
-
 module _ {B : Type 0} (lock : LockId) (blocks : List (LockId × B)) (i : ℕ) where
   pub opened_here : (o : LockId × B) → i < length blocks → o ≡ get_or blocks i o → same_lock o.0 lock ≡ true → opened (drop i blocks) lock ≡ Some o.1
   opened_here o within is same =
@@ -180,4 +172,4 @@ module _ {B : Type 0} (lock : LockId) (blocks : List (LockId × B)) (i : ℕ) wh
       ap (λ l. opened l lock) (from_index blocks i o within is) ∙ ap (λ b. if b then Some o.1 else opened (drop (i + 1) blocks) lock) other
 
   pub opened_end : length blocks ≤ i → opened (drop i blocks) lock ≡ None
-  opened_end past = ap (λ (l : List (LockId × B)). opened l lock) (none_left blocks i past)
+  opened_end past = ap (λ (l : List (LockId × B)). opened l lock) (drop_all i blocks past)

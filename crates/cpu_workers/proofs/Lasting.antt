@@ -11,7 +11,7 @@ use Rattle.cpu.specs.Table.Setups.{Setup, Call, Private, at_boot, have_ended, ho
 use Rattle.cpu.specs.Table.Choice.{Halts, Goes, at_call, at_current, at_hand, at_instruction, at_ready}
 use Rattle.cpu.specs.Table.Steps.{AlongTable, cpu_step, halted_at, halted_by}
 use Rattle.cpu.specs.Wakeups.Lost.{Ran}
-use Rattle.cpu.proofs.Wakeups.Working.{workers_lose_no_wake_up}
+use Rattle.cpu.proofs.Wakeups.Working.{cpus_lose_no_wake_up}
 use Rattle.cpu_workers.specs.declared.stops.Stop.TheVariants.{AllEnded, TurnsUsed, TraceFull, Held}
 use Rattle.cpu_workers.specs.Laws.{HasWorked, StopsAreTrue, WorkersLoseNoWakeUp}
 use Rattle.cpu_workers.proofs.Turning.{along_others}
@@ -26,7 +26,7 @@ has_ran setup c log worked = record {
 
 pub workers_lose : WorkersLoseNoWakeUp
 workers_lose setup log worked =
-    workers_lose_no_wake_up setup log (record { ran = λ c within. has_ran setup c log (worked.each c within); rest = worked.rest })
+    cpus_lose_no_wake_up setup log (record { ran = λ c within. has_ran setup c log (worked.each c within); rest = worked.rest })
 
 module _ (setup : Setup) (c : CpuId) (p : Private) where
   full_only : (b : Bool) (q : Private) → halted_by (if b then Halts reason.TraceFull else Goes q) ≡ Some reason.AllEnded → ⊥

@@ -3,11 +3,9 @@ use Rattle.std.proofs.Common.{◌≡◌, ◌≢◌, ℕ, zero, suc, ◌+◌, Boo
 use Rattle.std.proofs.Common.{Some, None, is_some, option_map, slice_index_or, if◌then◌else◌, refl, ap, sym, ◌∙◌, subst, arith}
 use Rattle.std.specs.List.{AllByRecursion, list_all}
 use Rattle.std.proofs.lemmas.List.{reverse-reverse}
-use Rattle.std.proofs.lemmas.Option.{same_Some}
 use Rattle.event_log.specs.declared.entries.Entry.{Entry}
 use Rattle.event_log.specs.declared.ids.CpuId.{CpuId}
 use Rattle.event_log.specs.declared.ids.Tid.{Tid}
-use Rattle.event_log.specs.declared.ids.LockId.{LockId}
 use Rattle.event_log.specs.Actions.{Action}
 use Rattle.guest.specs.declared.instructions.Instruction.{Instruction}
 use Rattle.guest.specs.Calls.{IsProgramsCalls, HasEnded}
@@ -16,25 +14,23 @@ use Rattle.layer_traits.specs.declared.calls.Call.{Call}
 use Rattle.layer_traits.specs.declared.calls.Effect.{Effect}
 use Rattle.layer_traits.specs.declared.steps.Reason.TheVariants.{AllEnded, TraceFull, StepsUsed}
 use Rattle.layer_traits.specs.declared.steps.Step.{Step}
-use Rattle.layer_traits.specs.declared.talks.Talk.{Talk}
 use Rattle.layer_traits.specs.Along.{Outcome, IsStep}
-use Rattle.layer_traits.specs.BufferLaw.{Buffering, Doing, begun_of, talk_of}
-use Rattle.layer_traits.specs.Places.{Threads, home_of}
+use Rattle.layer_traits.specs.BufferLaw.{begun_of, talk_of}
+use Rattle.layer_traits.specs.Places.{Threads}
 use Rattle.cpu.specs.declared.guests.Guest.{Guest}
 use Rattle.cpu.specs.declared.guests.GuestStage.{GuestStage}
 use Rattle.cpu.specs.declared.guests.GuestStage.TheVariants.{Between, Begun, Done, Ended}
 use Rattle.cpu.specs.Guests.{HasComeIn, after_effect, is_ended}
 use Rattle.cpu.specs.Cpus.{IsCpu, IsOfHome, begins, begun_count, chosen, guest_at, halted_at, is_over, of_cpu, of_thread, programs_of}
 use Rattle.cpu.specs.Table.Setups.{Setup, Thread, thread_at}
-use Rattle.cpu.specs.Table.Steps.{halted_at as table_halted}
-use Rattle.cpu.specs.Tables.{IsSetupOf, IsTabled, private}
-use Rattle.cpu.specs.Tower.Privates.{thread_of, threads_in}
-use Rattle.cpu.specs.Tower.Views.{TowerBlock, TowerName}
+use Rattle.cpu.specs.Tables.{IsSetupOf, private}
+use Rattle.cpu.specs.Tower.Privates.{threads_in}
+use Rattle.cpu.specs.Tower.Views.{TowerName}
 use Rattle.cpu.proofs.ListReads.{all_reversed}
 use Rattle.cpu.proofs.Orders.{filter_reversed}
-use Rattle.cpu.proofs.CpuStates.{valid_cpu}
-use Rattle.cpu.proofs.TableCalls.{halted_told}
+use Rattle.cpu.proofs.TableCalls.{ToldCpu}
 use Rattle.cpu.proofs.TableRows.{guest_there}
+use Rattle.cpu.proofs.GuestLists.{guest_with}
 use Rattle.cpu_workers.specs.Orders.{FollowsProgram, HasFollowed}
 use Rattle.cpu_workers.specs.Working.{IsPlanned}
 
@@ -63,25 +59,6 @@ own_reason own guests trace limit is =
     go false true same = absurd (cc same)
     go false false same = absurd (cc same)
 
--- the table's CPU is halted as this one is
-pub halts_so : (homes : List CpuId) (caps : List ℕ) (buffers : ℕ) (seen : List Entry) (own : Buffering) (threads : Threads) (talks : List Talk)
-    (doing : Option Doing) (number : CpuId) (guests : List (Option Guest)) (trace : List Entry) (limit capacity : ℕ) (opening : LockId → Option TowerBlock)
-    → threads_in own ≡ threads → own.talks ≡ talks → IsCpu homes buffers seen threads talks doing number guests trace limit capacity
-    → IsTabled homes caps number own doing guests opening → ((t : Tid) → threads.current ≡ Some t → home_of homes t ≡ Some number)
-    → (setup : Setup) → IsSetupOf setup homes caps guests limit → table_halted setup number (private own guests trace) ≡ halted_at threads guests trace limit
-halts_so homes caps buffers seen own threads talks doing number guests trace limit capacity opening threads_are talks_are is tabled home setup of =
-    halted_told (record {
-      cpu = valid_cpu is;
-      caps = caps;
-      part = own;
-      opening = opening;
-      part_of = number;
-      number_is = refl;
-      tells = (threads_are, talks_are);
-      tabled = tabled;
-      home = home;
-    }) setup of
-
 -- a step behind actions that are foreign to its holder is one behind other CPUs' actions
 pub step_behind : {P N : Type 0} (ActsFor : CpuId → Type 0) (cpu : CpuId) (table : P → List (Action N) → Outcome P N) (p q : P) (old new : List (Action N))
     (answer : Step) → ActsFor cpu → IsStep ActsFor table p q old new answer → IsStep (λ c. c ≡ cpu) table p q old new answer
@@ -94,14 +71,6 @@ step_behind ActsFor cpu table p q old new answer acts went = record {
 }
 
 -- Programs.
-
--- a thread with a program has a guest
-guest_with : (guests : List (Option Guest)) (t : ℕ) (program : List Instruction) → slice_index_or (programs_of guests) t None ≡ Some program
-    → (g : Guest) × (guest_at guests t ≡ Some g) × (g.program ≡ program)
-guest_with [] t program at = absurd (cc at)
-guest_with (None ∷ guests) zero program at = absurd (cc at)
-guest_with (Some g ∷ guests) zero program at = (g, refl, same_Some g.program program at)
-guest_with (o ∷ guests) (suc t) program at = guest_with guests t program at
 
 -- a guest has followed its program
 follows_by : (g : Guest) (es : List Entry) (begun : Option Call) (effect : Option Effect) (over : Bool) → (over ≡ true → is_ended g.stage ≡ true)
@@ -123,37 +92,33 @@ follows_by g es begun effect over ends come = go g.stage refl come
     go Ended at f = record { state = g.thread; calls = turned g.thread f.1; ends = λ is. f.2 }
 
 -- the threads of a worker have followed their programs
-pub has_followed : (homes : List CpuId) (caps : List ℕ) (buffers : ℕ) (seen : List Entry) (own : Buffering) (threads : Threads) (talks : List Talk)
-    (doing : Option Doing) (number : CpuId) (guests : List (Option Guest)) (trace : List Entry) (limit capacity : ℕ) (opening : LockId → Option TowerBlock)
-    (acts : List (Action TowerName)) (site : List ℕ)
-    → threads_in own ≡ threads → own.talks ≡ talks → IsCpu homes buffers seen threads talks doing number guests trace limit capacity
-    → IsTabled homes caps number own doing guests opening
-    → HasFollowed (record {
-      cpu = number;
-      plan = record { homes = homes; caps = caps; programs = programs_of guests; limit = limit };
-      private = private own guests trace;
-      acts = acts;
-      site = site;
-    })
-has_followed homes caps buffers seen own threads talks doing number guests trace limit capacity opening acts site threads_are talks_are is tabled = record {
-  room = let room = is.room in omega (arith, room);
-  stays = subst (λ (l : List Entry). AllByRecursion (IsOfHome homes number) l) (sym is.kept)
-      (all_reversed (IsOfHome homes number) (of_cpu number seen) is.stays);
-  homed = λ t home. let there = is.homed t home in (there.0.program, program_there guests t.0 there.0 there.1);
-  follows = λ t program at. let there = guest_with guests t.0 program at in
-      subst (λ (l : List Instruction). FollowsProgram l (of_thread t.0 trace) (thread_at (private own guests trace) t).ended) there.2
-      (subst (λ (l : List Entry). FollowsProgram there.0.program l (thread_at (private own guests trace) t).ended) (sym (entries t))
-      (follows_by there.0 (of_thread t.0 (of_cpu number seen)) (begun_of (talk_of talks t)) (talk_of talks t).effect
-      (thread_at (private own guests trace) t).ended
-      (λ over. is_own.over t (sym (ap (λ (x : Thread). x.ended) (thread_there t there.0 there.1)) ∙ over) there.0 there.1)
-      (is.follow t there.0 there.1).1));
-}
-  where
-    is_own : IsCpu homes buffers seen (threads_in own) own.talks doing number guests trace limit capacity
-    is_own = subst (λ x. x) (λ i. IsCpu homes buffers seen (sym threads_are i) (sym talks_are i) doing number guests trace limit capacity) is
+module _ (told : ToldCpu) where
+  open told use {homes, caps, buffers, seen, part, talks, doing, number, guests, trace, limit, capacity}
+  open told use {tells, is}
 
-    thread_there : (t : Tid) (g : Guest) → guest_at guests t.0 ≡ Some g → thread_at (private own guests trace) t ≡ thread_of own t g.thread
-    thread_there t g at = guest_there own guests trace t g at
+  is_own : IsCpu homes buffers seen (threads_in part) part.talks doing number guests trace limit capacity
+  is_own = subst (λ x. x) (λ i. IsCpu homes buffers seen (sym tells.0 i) (sym tells.1 i) doing number guests trace limit capacity) is
 
-    entries : (t : Tid) → of_thread t.0 trace ≡ reverse (of_thread t.0 (of_cpu number seen))
-    entries t = ap (λ (l : List Entry). of_thread t.0 l) is.kept ∙ filter_reversed (λ (e : Entry). e.thread.0 == t.0) (of_cpu number seen)
+  entries : (t : Tid) → of_thread t.0 trace ≡ reverse (of_thread t.0 (of_cpu number seen))
+  entries t = ap (λ (l : List Entry). of_thread t.0 l) is.kept ∙ filter_reversed (λ (e : Entry). e.thread.0 == t.0) (of_cpu number seen)
+
+  pub has_followed : (acts : List (Action TowerName)) (site : List ℕ) → HasFollowed (record {
+    cpu = number;
+    plan = record { homes = homes; caps = caps; programs = programs_of guests; limit = limit };
+    private = private part guests trace;
+    acts = acts;
+    site = site;
+  })
+  has_followed acts site = record {
+    room = let room = is.room in omega (arith, room);
+    stays = subst (λ (l : List Entry). AllByRecursion (IsOfHome homes number) l) (sym is.kept)
+        (all_reversed (IsOfHome homes number) (of_cpu number seen) is.stays);
+    homed = λ t home. let there = is.homed t home in (there.0.program, program_there guests t.0 there.0 there.1);
+    follows = λ t program at. let there = guest_with guests t.0 program at in
+        subst (λ (l : List Instruction). FollowsProgram l (of_thread t.0 trace) (thread_at (private part guests trace) t).ended) there.2
+        (subst (λ (l : List Entry). FollowsProgram there.0.program l (thread_at (private part guests trace) t).ended) (sym (entries t))
+        (follows_by there.0 (of_thread t.0 (of_cpu number seen)) (begun_of (talk_of talks t)) (talk_of talks t).effect
+        (thread_at (private part guests trace) t).ended
+        (λ over. is_own.over t (sym (ap (λ (x : Thread). x.ended) (guest_there part guests trace t there.0 there.1)) ∙ over) there.0 there.1)
+        (is.follow t there.0 there.1).1));
+  }

@@ -37,7 +37,7 @@ use Rattle.cpu.specs.Tower.Composed.{named}
 use Rattle.cpu.specs.Tower.Views.{TowerName, name_of}
 use Rattle.cpu.specs.Wakeups.Lost.{IsWorked}
 use Rattle.cpu.proofs.TableQuiet.{ended_at}
-use Rattle.cpu.proofs.Wakeups.Working.{workers_lose_no_wake_up}
+use Rattle.cpu.proofs.Wakeups.Working.{cpus_lose_no_wake_up}
 use Rattle.event_log.proofs.Same.{same_cpu_self}
 use Rattle.cpu_workers.specs.declared.stops.Stop.{Stop}
 use Rattle.cpu_workers.specs.Closing.{HasSeen, HaveCome, IsReported, Key, LockBlock, ReportsAreLawful, StartsSo, WordsOfTower, acts_in, tower_rules}
@@ -284,7 +284,7 @@ module _ (setup : Setup) (May : CpuId → ℕ → Type 0) (turns : ℕ) (board :
     gone = gone;
     rest = worked.rest;
     left = left;
-    awake = λ b k is. workers_lose_no_wake_up setup (named acts) worked b k (sym (left.buffers b) ∙ is);
+    awake = λ b k is. cpus_lose_no_wake_up setup (named acts) worked b k (sym (left.buffers b) ∙ is);
   }
 
 pub report_is_lawful : (May : CpuId → ℕ → Type 0) → ReportsAreLawful May

@@ -8,7 +8,6 @@ use Rattle.event_log.specs.declared.ids.CpuId.{CpuId}
 use Rattle.event_log.specs.declared.ids.LockId.{LockId}
 use Rattle.event_log.specs.declared.ids.TheConstants.{THREADS}
 use Rattle.event_log.specs.Actions.{Action}
-use Rattle.guest.specs.declared.instructions.Instruction.{Instruction}
 use Rattle.layer_traits.specs.declared.talks.Talk.{Talk}
 use Rattle.layer_traits.specs.BufferLaw.{Buffering, Doing, buffering_at_start, quiet}
 use Rattle.layer_traits.specs.IpcLaw.{OpensSo}
@@ -25,6 +24,7 @@ use Rattle.cpu.proofs.ListReads.{shows_at, there_is}
 use Rattle.cpu.proofs.PlanGuests.{by_task}
 use Rattle.cpu.proofs.Started.{private_boots}
 use Rattle.cpu.proofs.TableCalls.{boots_tabled}
+use Rattle.cpu.proofs.GuestLists.{guest_with}
 use Rattle.cpu_workers.specs.declared.turns.Did.{Did}
 use Rattle.cpu_workers.specs.Reports.{Both, HasRun}
 use Rattle.cpu_workers.specs.Seating.{HasLeft, IsApart, IsAtBoot}
@@ -79,13 +79,6 @@ module _ (x : Made) (are : AreGuests x.homes x.buffers x.number x.guests)
 
 -- The workers of a plan.
 
-program_back : (guests : List (Option Guest)) (t : ℕ) (program : List Instruction) → slice_index_or (programs_of guests) t None ≡ Some program
-    → (g : Guest) × (guest_at guests t ≡ Some g) × (g.program ≡ program)
-program_back [] t program at = absurd (cc at)
-program_back (None ∷ guests) zero program at = absurd (cc at)
-program_back (Some g ∷ guests) zero program at = (g, refl, cc at)
-program_back (o ∷ guests) (suc t) program at = program_back guests t program at
-
 -- the plan of a CPU's worker is that of the step table's setup
 pub planned_by : (plan : BootPlan) → IsPlan plan → (c : ℕ) (homes : List CpuId) (caps : List ℕ) (guests : List (Option Guest)) (limit : ℕ)
     → homes ≡ homes_for plan → caps ≡ plan.caps → guests ≡ guests_for plan c → limit ≡ plan.trace
@@ -95,7 +88,7 @@ planned_by plan is c homes caps guests limit homes_are caps_are guests_are limit
   caps_are = sym caps_are;
   room_is = sym limit_is;
   programs_are = λ t program at.
-      let back = program_back guests t.0 program at in
+      let back = guest_with guests t.0 program at in
       let of = by_task plan.cpus (length plan.caps) plan.tasks is.tasks.each c t.0 back.0
       (ap (λ (l : List (Option Guest)). guest_at l t.0) (sym guests_are) ∙ back.1) in
       ap program_or (shows_at (λ (task : Task). task.program) plan.tasks t.0 of.task of.there) ∙ ap (λ (x : Guest). x.program) of.is ∙ back.2;

@@ -16,7 +16,7 @@ use Rattle.cpu.specs.Tower.Composed.{answer_of}
 use Rattle.cpu.proofs.Tower.Polls.{halts_exactly}
 use Rattle.cpu_workers.specs.declared.stops.Stop.{Stop}
 use Rattle.cpu_workers.specs.declared.stops.Stop.TheVariants.{AllEnded, TurnsUsed, TraceFull, Held}
-use Rattle.cpu_workers.specs.Working.{IsPlanned, IsSame, MayGoOn, Charge, Turned, Working, is_inside, log}
+use Rattle.cpu_workers.specs.Working.{IsPlanned, IsSame, MayStep, Charge, Turned, Working, is_inside, log}
 use Rattle.cpu_workers.specs.Reports.{Counts, HasRun, IsTrueStop, MayHold, Took, counted_on, most}
 
 module _ {P N : Type 0} (table : P → List (Action N) → Outcome P N) (cpu : CpuId) (first : P) where
@@ -89,7 +89,7 @@ ran_none w fresh = record {
 }
 
 pub ran_one : (start now next : Working) (taken : ℕ) (answer : Step) → Ran start now taken → IsSame now next → Turned now next answer
-    → ((setup : Setup) → IsPlanned setup now.plan → MayGoOn setup now) → Ran start next (counted_on taken)
+    → ((setup : Setup) → IsPlanned setup now.plan → MayStep setup now) → Ran start next (counted_on taken)
 ran_one start now next taken answer ran same turned goes = record {
   same = same_then ran.same same;
   took = λ setup of.

@@ -1,14 +1,12 @@
 -- What holds of workers that run at one table.
-use Rattle.std.specs.Prelude.{◌≡◌, ℕ, ◌≤◌, ◌<◌, Bool, true, List, [], ◌++◌, Some, None}
-use Rattle.event_log.specs.declared.ids.BufId.{BufId}
+use Rattle.std.specs.Prelude.{◌≡◌, ℕ, ◌≤◌, ◌<◌, Bool, true, List, [], ◌++◌, None}
 use Rattle.event_log.specs.declared.ids.CpuId.{CpuId}
-use Rattle.event_log.specs.declared.ids.LockId.TheVariants.{Buffer as AtBuffer}
 use Rattle.event_log.specs.History.{AreOthers, own_events}
 use Rattle.event_log.specs.Actions.{Action, doer}
-use Rattle.cpu.specs.Table.Blocks.{Buffer, OfBuffer, Name}
+use Rattle.cpu.specs.Table.Blocks.{Name}
 use Rattle.cpu.specs.Table.Setups.{Setup, Private, at_boot, have_ended, home_threads}
-use Rattle.cpu.specs.Table.Steps.{block_at, cpu_step, halted_at}
-use Rattle.cpu.specs.Wakeups.Lost.{NoWakeUpIsLost}
+use Rattle.cpu.specs.Table.Steps.{cpu_step, halted_at}
+use Rattle.cpu.specs.Wakeups.Lost.{LosesNoWakeUp}
 use Rattle.cpu_workers.specs.declared.stops.Stop.{Stop}
 use Rattle.cpu_workers.specs.declared.stops.Stop.TheVariants.{AllEnded, TurnsUsed, Held}
 use Rattle.cpu_workers.specs.Reports.{IsTrueStop, Took}
@@ -30,8 +28,7 @@ pub record HaveWorked (setup : Setup) (log : List (Action Name)) : Type 0 where
 
 -- such workers lose no wake-up
 abbrev pub WorkersLoseNoWakeUp : Type 0
-WorkersLoseNoWakeUp = (setup : Setup) (log : List (Action Name)) → HaveWorked setup log
-    → (b : BufId) (k : Buffer) → block_at setup (AtBuffer b) log ≡ Some (OfBuffer k) → NoWakeUpIsLost k
+WorkersLoseNoWakeUp = (setup : Setup) (log : List (Action Name)) → HaveWorked setup log → LosesNoWakeUp setup log
 
 -- what a true stop says of the CPU: all its threads have ended, or it is not halted
 pub record SaysTrue (setup : Setup) (c : CpuId) (last : Private) (turns taken : ℕ) (stop : Stop) : Type 0 where

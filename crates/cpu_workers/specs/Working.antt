@@ -58,5 +58,5 @@ Turned old new answer = (setup : Setup) → IsPlanned setup old.plan
     → IsStep (λ c. c ≡ old.cpu) (cpu_step setup old.cpu) old.private new.private (log old) (log new) answer
 
 -- the step table takes a step of the worker's CPU, whatever other CPUs do before it: a section of it is under way, or it is not halted
-abbrev pub MayGoOn : Setup → Working → Type 0
-MayGoOn setup w = answer_of (is_inside w) (halted_at setup w.cpu w.private) ≡ Stepped
+abbrev pub MayStep : Setup → Working → Type 0
+MayStep setup w = answer_of (is_inside w) (halted_at setup w.cpu w.private) ≡ Stepped

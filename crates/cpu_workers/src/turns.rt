@@ -4,7 +4,7 @@ ghost use Rattle.std.specs.Prelude.{◌≡◌, ◌≢◌, true, false, [], None,
 ghost use Rattle.layer_traits.specs.declared.steps.Reason.TheVariants.{StepsUsed};
 ghost use Rattle.cpu.specs.Table.Setups.{Setup};
 ghost use Rattle.cpu.specs.Table.Steps.{halted_at};
-ghost use Rattle.cpu_workers.specs.Working.{IsPlanned, MayGoOn, is_inside};
+ghost use Rattle.cpu_workers.specs.Working.{IsPlanned, MayStep, is_inside};
 ghost use Rattle.cpu_workers.specs.Reports.{HasRun, IsTrueStop, MayHold, counted_on};
 
 use crate::gates::{Gate, Go};
@@ -92,7 +92,7 @@ where
     I::Machine: Drop,
     requires { held.old ≡ true → MayHold (G.MayLimit gate.now worker.now.cpu) taken }
     ensures held { held.new ≡ true → MayHold (G.MayLimit gate.now worker.now.cpu) taken }
-    ensures goes { result ≡ None → (setup : Setup) → IsPlanned setup worker.now.plan → MayGoOn setup worker.now }
+    ensures goes { result ≡ None → (setup : Setup) → IsPlanned setup worker.now.plan → MayStep setup worker.now }
     ensures rests { (stop : _) → result ≡ Some stop → is_inside worker.now ≡ false }
     ensures stops { (stop : _) → result ≡ Some stop → (setup : Setup) → IsPlanned setup worker.now.plan
         → IsTrueStop (halted_at setup worker.now.cpu worker.now.private) (G.MayLimit gate.now worker.now.cpu) turns taken stop }

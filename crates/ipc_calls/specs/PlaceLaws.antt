@@ -3,6 +3,7 @@ use Rattle.std.specs.Prelude.{◌≡◌, ◌≢◌, ℕ, ◌<◌, Bool, true, fa
 use Rattle.std.specs.Prelude.{None, length, option_map, option_and_then, if◌then◌else◌, refl}
 use Rattle.std.specs.Option.{option_or}
 use Rattle.std.proofs.lemmas.Option.{same_Some, slice_get-get_or}
+use Rattle.std.proofs.lemmas.Bool.{or_parts}
 use Rattle.std.proofs.Common.{inl, inr, ap, subst, sym, ◌∙◌, arith}
 use Rattle.event_log.specs.declared.ids.BufId.{BufId}
 use Rattle.event_log.specs.declared.ids.CpuId.{CpuId}
@@ -35,14 +36,10 @@ either : {P : Type 0} (a b : Bool) → (a || b) ≡ true → (a ≡ true → P) 
 either true b is left right = left refl
 either false b is left right = right is
 
-neither : (a b : Bool) → (a || b) ≡ false → (a ≡ false) × (b ≡ false)
-neither true b is = absurd (cc is)
-neither false b is = (refl, is)
-
 -- who is not told to stand in a queue is told so by neither
 unsaid : (t : Tid) (home here : Option (List Tid)) → pends_told t home here ≡ false
     → (said (option_map (is_in t) home) ≡ false) × (said (option_map (is_in t) here) ≡ false)
-unsaid t home here is = neither (said (option_map (is_in t) home)) (said (option_map (is_in t) here)) is
+unsaid t home here is = or_parts (said (option_map (is_in t) home)) (said (option_map (is_in t) here)) is
 
 -- the line that a test of the lists gives is one in which the thread stands
 among_in : (t : Tid) (lines : Line → List Tid) (line : Line) → line_among t lines ≡ Some line → is_in t (lines line) ≡ true

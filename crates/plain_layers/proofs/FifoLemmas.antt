@@ -1,9 +1,9 @@
 -- Polls of buffers in one section a call: what they add to the effects and to the moves, and what they leave of the parts.
-use Rattle.std.proofs.Common.{◌≡◌, ◌≢◌, ℕ, ◌<◌, inl, inr, Bool, true, false, ◌||◌, List, [], ◌∷◌, ◌++◌, length, Option, Some, None, IsSome, is_some, option_map}
+use Rattle.std.proofs.Common.{◌≡◌, ◌≢◌, ℕ, ◌<◌, inl, inr, Bool, true, false, List, [], ◌∷◌, ◌++◌, length, Option, Some, None, IsSome, is_some, option_map}
 use Rattle.std.proofs.Common.{if◌then◌else◌, refl, ap, sym, ◌∙◌, subst, slice_get, option_to_list}
 use Rattle.std.specs.Prelude.{nat_lt}
-use Rattle.std.proofs.Common.{zero, suc, ◌≤◌, ◌==◌, get_or, replicate, slice_set, arith, subst₂, unwrap_or}
-use Rattle.std.proofs.lemmas.Bool.{eqb-true, eqb-false, lt-ltb}
+use Rattle.std.proofs.Common.{◌≤◌, ◌==◌, get_or, replicate, slice_set, arith, subst₂, unwrap_or}
+use Rattle.std.proofs.lemmas.Bool.{eqb-true, eqb-false, lt-ltb, or_parts}
 use Rattle.std.proofs.lemmas.List.{get_or-set_same, get_or-set_other}
 use Rattle.std.proofs.lemmas.Option.{slice_get-get_or, slice_get_within}
 use Rattle.event_log.specs.Runs.{group_of}
@@ -30,10 +30,10 @@ use Rattle.layer_traits.proofs.PlaceLemmas.{current_at}
 use Rattle.sleep_wakeup.proofs.BootLemmas.{there_inside}
 use Rattle.plain_layers.specs.declared.attempts.Ask.TheVariants as ask
 use Rattle.plain_layers.specs.declared.attempts.Tried.TheVariants.{Acted, Refused}
-use Rattle.plain_layers.specs.Attempts.{PlainState, allows, effect_at, effect_in, line_by, side_of, told, wakes}
+use Rattle.plain_layers.specs.Attempts.{PlainState, allows, effect_at, effect_in, line_by, told}
 use Rattle.plain_layers.specs.Fifos.{ask_of, attempt_of, effect_by, locked_after, reply_to, talk_after}
 use Rattle.event_log.specs.declared.entries.Entry.{Entry}
-use Rattle.plain_layers.specs.FifoTallies.{Tally, kind_asked, plain_tally}
+use Rattle.plain_layers.specs.FifoTallies.{Tally, kind_asked, plain_tally, told_if}
 use Rattle.plain_layers.specs.Wholes.{IsDoneWhole, asked}
 use Rattle.event_log.specs.declared.ids.BufId.{BufId}
 use Rattle.event_log.specs.declared.ids.CpuId.{CpuId}
@@ -41,6 +41,7 @@ use Rattle.event_log.specs.declared.ids.LockId.{LockId}
 use Rattle.event_log.specs.declared.ids.LockId.TheVariants.{Pending, Buffer}
 use Rattle.event_log.specs.declared.ids.TheConstants.{CPUS}
 use Rattle.event_log.specs.History.{IsLawful}
+use Rattle.event_log.proofs.ListLemmas.{alike_at}
 use Rattle.layer_traits.specs.declared.moves.Line.{Line}
 use Rattle.layer_traits.specs.declared.moves.Line.TheVariants as line
 use Rattle.layer_traits.specs.declared.passes.Pass.{Pass}
@@ -60,6 +61,7 @@ use Rattle.layer_traits.specs.SleepLaw.{done_if, sleep_kernel}
 use Rattle.layer_traits.proofs.CallLemmas.{pass_polled}
 use Rattle.layer_traits.proofs.SleepLemmas.{done_same}
 use Rattle.layer_traits.proofs.PlaceLemmas.{woken_current}
+use Rattle.layer_traits.proofs.Seen.{lawful_rest}
 use Rattle.plain_layers.specs.declared.attempts.Attempt.{Attempt}
 use Rattle.plain_layers.specs.declared.attempts.Tried.{Tried}
 use Rattle.plain_layers.specs.Attempts.{attempts}
@@ -105,10 +107,6 @@ no_section homes c YieldNow past = refl
 no_section homes c Drain past = refl
 no_section homes c (MakeReady t) past = refl
 no_section homes c End past = refl
-
-lawful_rest : {E : Type 0} (P : List E → E → Type 0) (mine past : List E) → IsLawful P (mine ++ past) → IsLawful P past
-lawful_rest P [] past lawful = lawful
-lawful_rest P (e ∷ mine) past lawful = lawful_rest P mine past lawful.1
 
 -- a poll of a pass by who acts for every CPU
 pub record PolledAlone (opening : LockId → Option (QueueBlock PlainLocked)) (ActsFor : CpuId → Type 0) (c : CpuId) (p : Pass) (result : Option (Unit {0}))
@@ -163,14 +161,9 @@ nothing_under (Some a) under x answered is = is
 
 -- The talks.
 
-pub every_same : {X : Type 0} (n i : ℕ) (x : X) → get_or (replicate n x) i x ≡ x
-every_same zero i x = refl
-every_same (suc n) zero x = refl
-every_same (suc n) (suc i) x = every_same n i x
-
 -- at the start no thread has an effect
 pub quiet_waits : (t : Tid) → (talk_of (replicate THREADS quiet) t).stage ≢ Between → (talk_of (replicate THREADS quiet) t).effect ≡ None
-quiet_waits t other = ap (λ (x : Talk). x.effect) (every_same THREADS t.0 quiet)
+quiet_waits t other = ap (λ (x : Talk). x.effect) (alike_at THREADS t.0 quiet)
 
 talk_here : (talks : List Talk) (t : ℕ) (x : Talk) → t < length talks → get_or (slice_set talks t x) t quiet ≡ x
 talk_here talks t x within = get_or-set_same talks t x quiet within
@@ -216,10 +209,6 @@ pub runs_small : (homes : List CpuId) (c : CpuId) (moves : List Step) (own : Thr
 runs_small homes c moves own legal stands room t runs =
     let within = slice_get_within homes t.0 c (current_at homes c moves own legal stands t runs).0 in
     omega (arith, within, room)
-
--- what an attempt answers that the buffer allows, or does not
-abbrev told_if : Bool → Attempt → PlainState → Tried
-told_if allowed a x = if allowed then Acted (effect_at a.ask x) (wakes a.ask x) else Refused (side_of a.ask)
 
 -- its effect is the buffer's
 effect_of : (a : Attempt) (x : PlainState) (f : Effect) → effect_in (told a x) ≡ Some f → effect_at a.ask x ≡ f
@@ -377,10 +366,6 @@ module _ (opening : LockId → Option (QueueBlock PlainLocked)) (c : CpuId) (b :
       E : List Entry
       E = entries_in (inner opening) (buffer_sections old)
 
-      both : (v w : Bool) → (v || w) ≡ false → (v ≡ false) × (w ≡ false)
-      both true w none = absurd (cc none)
-      both false w none = (refl, none)
-
       -- a buffer that does not allow it is open, and full or empty
       barred : (k : Call) (x : PlainState) → effect_in (told (attempt_of t k) x) ≡ None → allows (ask_of k) x ≡ false
       barred k x nothing = by (allows (ask_of k) x) nothing
@@ -392,7 +377,7 @@ module _ (opening : LockId → Option (QueueBlock PlainLocked)) (c : CpuId) (b :
       refused : (k : Call) (x : PlainState) → Tally (caps_in (inner opening)) (buffer_of k).0 E x
           → effect_in (told (attempt_of t k) x) ≡ None → IsRefused k (caps_in (inner opening)) E
       refused (Send at m) x tally nothing =
-          let full = both x.closed (nat_lt (length x.items) x.capacity) (barred (Send at m) x nothing) in (
+          let full = or_parts x.closed (nat_lt (length x.items) x.capacity) (barred (Send at m) x nothing) in (
             λ room.
                 let low : length x.items < x.capacity = subst₂ (λ (l : List Message) (n : ℕ). length l < n) tally.items tally.capacity room.1 in
                 let yes : nat_lt (length x.items) x.capacity ≡ true = lt-ltb (length x.items) x.capacity low in
@@ -400,7 +385,7 @@ module _ (opening : LockId → Option (QueueBlock PlainLocked)) (c : CpuId) (b :
             λ closed. absurd (cc (tally.closed, closed, full.0)),
           )
       refused (Recv at) x tally nothing =
-          let empty = both x.closed (nat_lt 0 (length x.items)) (barred (Recv at) x nothing) in
+          let empty = or_parts x.closed (nat_lt 0 (length x.items)) (barred (Recv at) x nothing) in
           λ m. (
             λ first.
                 let some : slice_get x.items 0 ≡ Some m = subst (λ (l : List Message). slice_get l 0 ≡ Some m) tally.items first in

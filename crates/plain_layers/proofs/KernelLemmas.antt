@@ -1,5 +1,5 @@
 -- The lists that all CPUs share: an allowed call can be done on them, and it keeps them in agreement with the calls.
-use Rattle.std.proofs.Common.{◌≡◌, ◌≢◌, ℕ, zero, suc, ◌<◌, Bool, true, false, List, [], ◌∷◌, ◌++◌, length, slice_get, slice_set, ◌==◌}
+use Rattle.std.proofs.Common.{◌≡◌, ◌≢◌, ℕ, zero, suc, ◌<◌, Bool, true, false, List, [], ◌∷◌, ◌++◌, length, slice_get, slice_set, ◌==◌, Err, is_err, is_ok}
 use Rattle.std.proofs.Common.{if◌then◌else◌, Option, Some, None, IsSome, IfSome, option_map, refl, ap, sym, ◌∙◌, subst, arith}
 use Rattle.std.proofs.Common.{Result, Ok, OnOk, replicate, reverse, unwrap_or, ◌+◌, ◌≤◌}
 use Rattle.std.proofs.lemmas.Bool.{eq-eqb, eqb-true}
@@ -39,6 +39,12 @@ use Rattle.plain_layers.specs.Kernels.{CanDo, IsDone, IsKernel, SetsBlock, SetsQ
 -- a list of events that has grown by one, newest first
 pub grown : {A F X : Type 0} (r : Result A F) (a : A) (old new : List X) (x : X) → r ≡ Ok a → OnOk r (new ≡ old ++ x ∷ []) → reverse new ≡ x ∷ reverse old
 grown r a old new x is pushed = ap reverse (subst (λ o. OnOk o (new ≡ old ++ x ∷ [])) is pushed) ∙ reverse-append old (x ∷ [])
+
+-- a list that was empty and has grown by one
+pub one_pushed : {A F X : Type 0} (r : Result A F) (items : List X) (x : X) → is_err r ≡ false → items ≡ (if is_ok r then [] ++ x ∷ [] else [])
+    → items ≡ x ∷ []
+one_pushed (Ok a) items x went is = is
+one_pushed (Err e) items x went is = absurd cc
 
 not_equal : (i j : ℕ) → (i == j) ≡ false → i ≢ j
 not_equal i j other same = let equal : (i == j) ≡ true = eq-eqb i j same in absurd (cc (equal, other))

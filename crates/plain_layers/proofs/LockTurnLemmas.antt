@@ -9,6 +9,7 @@ use Rattle.event_log.specs.declared.ids.LockId.TheVariants.{Buffer}
 use Rattle.event_log.specs.declared.ids.Tid.{Tid}
 use Rattle.event_log.specs.declared.ids.TheConstants.{THREADS}
 use Rattle.event_log.proofs.Same.{same_lock_self}
+use Rattle.event_log.proofs.BoolLemmas.{none_of}
 use Rattle.layer_traits.specs.declared.locked.QEdit.{QEdit}
 use Rattle.layer_traits.specs.declared.locked.QEdit.TheVariants.{Acquire, Inside, Release}
 use Rattle.layer_traits.specs.declared.locked.QOut.{QOut}
@@ -25,21 +26,18 @@ use Rattle.layer_traits.specs.Locking.{LockRules, LockState, asked, line_asked, 
 use Rattle.layer_traits.specs.Locking.{lock_out, lock_slept, owner_in, owner_of, told_asker}
 use Rattle.layer_traits.specs.LockLaw.{at_start, Handed, IsAcquire, LockPolled, Locking, Locks, MayGo, MayLock, left_after, left_locked, lock_kernel, locking}
 use Rattle.layer_traits.specs.LockLaw.{slept_for}
-use Rattle.layer_traits.specs.Passes.{own_slept, own_woken, passed_on}
+use Rattle.layer_traits.specs.Passes.{own_slept, passed_on}
 use Rattle.layer_traits.specs.Places.{Threads}
 use Rattle.layer_traits.specs.Plans.{Left}
 use Rattle.layer_traits.specs.QueueBlocks.{homes_in, inner}
 use Rattle.layer_traits.specs.Queues.{buffer_sections, event}
 use Rattle.layer_traits.specs.Scheds.{own_answered}
 use Rattle.layer_traits.specs.SleepLaw.{Deed, Does, MayDo, Sends, Sleeping, Waits, left_with, must_send, seen_with}
+use Rattle.layer_traits.proofs.PlaceLemmas.{woken_current}
 use Rattle.queuing_lock.proofs.SleptLemmas.{none_at}
 use Rattle.plain_layers.specs.LockTurns.{HasEnded, IsSteady, MayTurn, SleepsFor}
 
 -- Who runs after a section.
-
-woken_current : (homes : List CpuId) (c : CpuId) (woke : Option Tid) (own : Threads) → (own_woken homes c woke own).current ≡ own.current
-woken_current homes c None own = refl
-woken_current homes c (Some u) own = refl
 
 awake_current : (line : Option Line) (own : Threads) → line ≡ None → (own_slept line own).current ≡ own.current
 awake_current None own none = refl
@@ -53,10 +51,6 @@ asleep_current (Some line) l own some = refl
 must_send_awake : (slept hand : Bool) → (not slept && hand) ≡ true → slept ≡ false
 must_send_awake false hand sends = refl
 must_send_awake true hand sends = absurd cc
-
-not_some : {A : Type 0} (o : Option A) → is_some o ≡ false → o ≡ None
-not_some None none = refl
-not_some (Some a) none = absurd cc
 
 module _ {F R B O : Type 0} (rules : LockRules F R B O) where
   -- a call says by what it is told whether its caller sleeps
@@ -247,7 +241,7 @@ module _ {F R B O : Type 0} (rules : LockRules F R B O) (opening : LockId → Op
               else record { own = record { threads = after; kept = None }; answer = Some outcome })
           by_send true sends =
               let line : line_slept rules outcome.out ≡ None
-              = not_some (line_slept rules outcome.out) (told_line rules e before outcome may.1 ∙ must_send_awake outcome.slept (is_some after.hand) sends) in
+              = none_of (line_slept rules outcome.out) (told_line rules e before outcome may.1 ∙ must_send_awake outcome.slept (is_some after.hand) sends) in
               kept_here (event c (OnBuffer b e) ∷ past) outcome after
               (current ∙ (awake_current (line_slept rules outcome.out) own.sleep.threads line ∙ runs)) line
           by_send false sends =

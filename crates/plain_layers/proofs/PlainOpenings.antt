@@ -1,6 +1,6 @@
 -- A machine that opens with empty buffers, as one-step buffers read it and as their layer's trait shows it.
-use Rattle.std.proofs.Common.{◌≡◌, ℕ, zero, suc, ◌+◌, ◌≤◌, List, [], ◌∷◌, length, map, Option, Some, None, option_map, slice_get}
-use Rattle.std.proofs.Common.{refl, ap, sym, ◌∙◌, ◌*◌, ◌/◌, lit<, arith}
+use Rattle.std.proofs.Common.{◌≡◌, ℕ, ◌≤◌, List, length, map, Option, Some, None, option_map, slice_get}
+use Rattle.std.proofs.Common.{refl, ap, sym, ◌∙◌, ◌*◌, ◌/◌, lit<}
 use Rattle.std.proofs.Math.Nat.{le-div_iff_mul-le}
 use Rattle.std.proofs.Math.Path.{fun_ext}
 use Rattle.std.proofs.lemmas.Option.{slice_get-map}
@@ -13,12 +13,14 @@ use Rattle.layer_traits.specs.declared.queue_edits.QueueBlock.TheVariants.{Queue
 use Rattle.layer_traits.specs.BufferEffects.{fresh_lock, opening_locks}
 use Rattle.layer_traits.specs.QueueBlocks.{above_of, inner}
 use Rattle.layer_traits.specs.Renaming.{viewed}
+use Rattle.layer_traits.specs.Capacities.{caps_from}
 use Rattle.layer_traits.proofs.KernelRenaming.{inner_viewed}
+use Rattle.layer_traits.proofs.CapacityLemmas.{caps_told as caps_read}
 use Rattle.sleep_wakeup.specs.declared.edits.SleepBlock.{SleepBlock}
 use Rattle.sleep_wakeup.specs.Nested.{resting, state_of}
 use Rattle.plain_layers.specs.declared.kernel.Opening.{Opening}
 use Rattle.plain_layers.specs.Attempts.{PlainState, empty_buffer}
-use Rattle.plain_layers.specs.Fifos.{PlainLocked, caps_at, caps_from, caps_in, fresh_buffer, fresh_buffers, shown}
+use Rattle.plain_layers.specs.Fifos.{PlainLocked, caps_in, fresh_buffer, fresh_buffers, shown}
 use Rattle.plain_layers.specs.Kernels.{opening_of}
 
 -- the buffers of a machine of lists that opened with these blocks
@@ -44,35 +46,14 @@ module _ (start : Opening (SleepBlock PlainState)) (caps : List ℕ) (buffers : 
   pub opens_fresh : inner (viewed state_of (opening_of start)) ≡ fresh_buffers caps
   opens_fresh = fun_ext by_lock
 
--- the capacities are read off the locks one by one
-module _ (all : List ℕ) where
-  here : (n : ℕ) (o : Option ℕ) → slice_get all (n + 0) ≡ o → slice_get all n ≡ o
-  here n o is = let at : n ≡ n + 0 = omega arith in ap (slice_get all) at ∙ is
-
-  further : (n i : ℕ) (o : Option ℕ) → slice_get all (n + suc i) ≡ o → slice_get all (n + 1 + i) ≡ o
-  further n i o is = let at : n + 1 + i ≡ n + suc i = omega arith in ap (slice_get all) at ∙ is
-
-  caps_read : (caps : List ℕ) (more n : ℕ) → ((i : ℕ) → slice_get all (n + i) ≡ slice_get caps i) → length caps ≤ more
-      → caps_from more n (fresh_buffers all) ≡ caps
-  unfolding caps_from
-  caps_read [] zero n same few = refl
-  caps_read (capacity ∷ caps) zero n same few = absurd (omega (arith, few))
-  caps_read [] (suc more) n same few =
-      ap (λ o. caps_at (option_map fresh_buffer o) (caps_from more (n + 1) (fresh_buffers all))) (here n None (same 0))
-  caps_read (capacity ∷ caps) (suc more) n same few =
-      ap (λ o. caps_at (option_map fresh_buffer o) (caps_from more (n + 1) (fresh_buffers all))) (here n (Some capacity) (same 0))
-      ∙ ap (λ rest. capacity ∷ rest)
-      (caps_read caps more (n + 1) (λ i. further n i (slice_get caps i) (same (suc i))) (omega (arith, few)))
-
 -- a machine whose locks are those of fresh buffers has their capacities
 module _ (opening : LockId → Option (QueueBlock PlainLocked)) (caps : List ℕ) (fresh : inner opening ≡ fresh_buffers caps)
     (few : length caps ≤ 256) where
   pub caps_told : caps_in (inner opening) ≡ caps
   unfolding caps_in
-  caps_told = ap (caps_from 256 0) fresh ∙ caps_read caps caps 256 0 from_zero few
-    where
-      from_zero : (i : ℕ) → slice_get caps (0 + i) ≡ slice_get caps i
-      from_zero i = let at : 0 + i ≡ i = omega arith in ap (slice_get caps) at
+  caps_told =
+      let capacity : PlainLocked → ℕ = λ state. state.above.capacity in
+      ap (caps_from capacity 256 0) fresh ∙ caps_read capacity fresh_buffer (λ n. refl) caps (fresh_buffers caps) (λ n. refl) 256 few
 
   pub fresh_told : inner opening ≡ fresh_buffers (caps_in (inner opening))
   fresh_told = fresh ∙ ap fresh_buffers (sym caps_told)

@@ -11,7 +11,7 @@ use Rattle.event_log.specs.declared.ids.LockId.TheVariants.{Buffer}
 use Rattle.event_log.specs.declared.ids.Tid.{Tid}
 use Rattle.event_log.specs.declared.ids.TheConstants.{CPUS}
 use Rattle.event_log.specs.History.{AreOthers, IsLawful}
-use Rattle.event_log.proofs.Same.{same_cpu_self, same_cpu_true}
+use Rattle.event_log.proofs.Same.{same_cpu_self}
 use Rattle.thread_blocks.specs.Queues.{same_tid}
 use Rattle.layer_traits.specs.declared.moves.Line.TheVariants.{Sleepers}
 use Rattle.layer_traits.specs.declared.queue_edits.QueueBlock.{QueueBlock}
@@ -20,7 +20,7 @@ use Rattle.layer_traits.specs.declared.queues.QueueCall.{QueueCall}
 use Rattle.layer_traits.specs.declared.queues.QueueCall.TheVariants.{Push, TakeAll, OnBuffer}
 use Rattle.layer_traits.specs.declared.queues.QueueEvent.{QueueEvent}
 use Rattle.layer_traits.specs.MoveRules.{MoveRules, WakesSleepers, edit_move}
-use Rattle.layer_traits.specs.Places.{AreMoves, Asleep, Hand, Home, Moved, Pend, Step, Where, home_of, is_cpu, is_hand, is_here, is_home, step}
+use Rattle.layer_traits.specs.Places.{AreMoves, Hand, Home, Moved, Step, home_of, is_cpu, is_hand, is_here, is_home, step}
 use Rattle.layer_traits.specs.Places.{where_is, where_slept}
 use Rattle.layer_traits.specs.Protocol.{Rules, section}
 use Rattle.layer_traits.specs.QueueBlocks.{above_of, homes_in, inner}
@@ -28,22 +28,10 @@ use Rattle.layer_traits.specs.Queues.{IsKnownEvent, Kernel, MayQueue, QueueAllow
 use Rattle.layer_traits.specs.Queues.{kernel, moves_in}
 use Rattle.layer_traits.proofs.CallLemmas.{moves_append, moves_lawful, moves_others, moves_over}
 use Rattle.layer_traits.proofs.CountLemmas.{is_cpu_true}
-use Rattle.layer_traits.proofs.PlaceLemmas.{others_keep}
+use Rattle.layer_traits.proofs.PlaceLemmas.{others_keep, is_hand_true, is_home_true}
 use Rattle.plain_layers.proofs.WholeLemmas.{no_foreign_events}
 use Rattle.plain_layers.specs.Naps.{bed, nap_answer, nap_edited, nap_moves, nap_rules, naps_wake_sleepers}
 use Rattle.plain_layers.specs.QueueTurns.{buffer_zero, cpu_one, cpu_zero, thread_one, thread_zero}
-
-at_home : (w : Where) → is_home w ≡ true → w ≡ Home
-at_home Home is = refl
-at_home (Hand c) is = absurd cc
-at_home (Pend q) is = absurd cc
-at_home (Asleep p) is = absurd cc
-
-in_hand : (c : CpuId) (w : Where) → is_hand c w ≡ true → w ≡ Hand c
-in_hand c Home is = absurd cc
-in_hand c (Hand d) is = ap Hand (same_cpu_true d c is)
-in_hand c (Pend q) is = absurd cc
-in_hand c (Asleep p) is = absurd cc
 
 module _ {E B O : Type 0} (rules : Rules E B O) (mv : MoveRules E O) (opening : LockId → Option (QueueBlock B)) (wakes : WakesSleepers rules mv)
     (c : CpuId) (past : List (QueueEvent E)) where
@@ -75,7 +63,7 @@ module _ {E B O : Type 0} (rules : Rules E B O) (mv : MoveRules E O) (opening : 
       ((kept more (mv.caller e) others lawful).1 ∙ here) in
       record {
         caller = record {
-          at_home = at_home (where_is H (moves_in K (more ++ past)) (mv.caller e)) stands.1;
+          at_home = is_home_true (where_is H (moves_in K (more ++ past)) (mv.caller e)) stands.1;
           home = is_cpu_true c (home_of H (mv.caller e)) stands.0;
           empty = λ t is. other_hand t more others lawful is;
         };
@@ -92,7 +80,7 @@ module _ {E B O : Type 0} (rules : Rules E B O) (mv : MoveRules E O) (opening : 
   -- it may push who is in its hand into the queue of that thread's home
   pub push_stays : (d : CpuId) (t : Tid) → is_hand c (where_is H (moves_in K past) t) ≡ true → home_of H t ≡ Some d → IsCallable (event c (Push d t))
   push_stays d t held home = λ more others lawful. record {
-    held = in_hand c (where_is H (moves_in K (more ++ past)) t) ((kept more t others lawful).0 ∙ held);
+    held = is_hand_true c (where_is H (moves_in K (more ++ past)) t) ((kept more t others lawful).0 ∙ held);
     home = home;
   }
 

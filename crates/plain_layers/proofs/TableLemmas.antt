@@ -1,5 +1,5 @@
 -- The list of blocks: the place of a lock in it, what an edit at that place leaves, and that a section keeps the list in agreement.
-use Rattle.std.proofs.Common.{◌≡◌, ℕ, zero, suc, ◌+◌, ◌<◌, Bool, true, false, List, [], ◌∷◌, length, get_or, drop, slice_set, add-one, drop-cons}
+use Rattle.std.proofs.Common.{◌≡◌, ℕ, zero, suc, ◌+◌, ◌<◌, Bool, true, false, List, [], ◌∷◌, length, get_or, drop, slice_set}
 use Rattle.std.proofs.Common.{if◌then◌else◌, Option, Some, IsSome, option_map, refl, ap, sym, ◌∙◌, subst, arith}
 use Rattle.event_log.specs.declared.ids.CpuId.{CpuId}
 use Rattle.event_log.specs.declared.ids.LockId.{LockId}
@@ -7,15 +7,12 @@ use Rattle.event_log.specs.declared.ids.TheConstants.{CPUS}
 use Rattle.event_log.specs.History.{same_lock}
 use Rattle.event_log.specs.Sections.{Section}
 use Rattle.event_log.proofs.Same.{same_lock_self, same_lock_true}
+use Rattle.event_log.proofs.ListLemmas.{from_index}
 use Rattle.layer_traits.proofs.Alone.{block_there}
 use Rattle.layer_traits.specs.OneLock.{opened}
 use Rattle.layer_traits.specs.Protocol.{Rules, section}
 use Rattle.layer_traits.specs.Turns.{Answers}
 use Rattle.plain_layers.specs.Tables.{IsPlace, IsTable}
-
--- the list from an index on
-pub from_index : {X : Type 0} (xs : List X) (i : ℕ) (x : X) → i < length xs → x ≡ get_or xs i x → drop i xs ≡ x ∷ drop (i + 1) xs
-from_index xs i x within is = drop-cons xs i x within ∙ (ap (λ y. y ∷ drop (suc i) xs) (sym is) ∙ ap (λ n. x ∷ drop n xs) (sym (add-one i)))
 
 -- whether an entry that names the lock names another one too
 names : (lock m l : LockId) → same_lock m lock ≡ true → (b : Bool) → same_lock l lock ≡ b → same_lock m l ≡ b

@@ -7,11 +7,11 @@ use Rattle.std.proofs.lemmas.Slice.Eq.{bytes_eq-Decides}
 use Rattle.event_log.specs.Messages.{IsMessage, Message, no_message, padded}
 use Rattle.event_log.specs.declared.entries.Entry.{Entry}
 use Rattle.event_log.specs.declared.ids.TheConstants.{CPUS, ENTRIES, THREADS}
+use Rattle.event_log.proofs.MessageLemmas.{padded_eq}
 use Rattle.tracer.specs.declared.versions.Version.{Version}
 use Rattle.tracer.specs.declared.versions.Version.TheVariants.{One, Two, Three}
 use Rattle.tracer.specs.TraceText.{IsEntryOf, IsItemOf, IsValueOf}
 use Rattle.tracer.specs.Versions.{covers, version_of_message}
-use Rattle.tracer.proofs.MessageLemmas.{padded_eq}
 
 -- an entry whose numbers are in range, with a message that its effect may tell
 pub entry_spelled : (e : Entry) → e.cpu.0 < CPUS → e.thread.0 < THREADS → e.buffer.0 ≤ 0 → e.op < ENTRIES → e.pos < ENTRIES → IsValueOf e.kind e.value

@@ -249,7 +249,8 @@ effect_if v a x = if v then Some (effect_at a.ask x) else None
 abbrev state_if : Bool → Attempt → PlainState → PlainState
 state_if v a x = if v then done a.ask x else waits a.thread (side_of a.ask) x
 
-abbrev told_if : Bool → Attempt → PlainState → Tried
+-- what an attempt answers that the buffer allows, or does not
+abbrev pub told_if : Bool → Attempt → PlainState → Tried
 told_if v a x = if v then Acted (effect_at a.ask x) (wakes a.ask x) else Refused (side_of a.ask)
 
 effect_told : (a : Attempt) (x : PlainState) → effect_in (told a x) ≡ effect_if (allows a.ask x) a x

@@ -1,6 +1,5 @@
 -- Buffers in one section a call: which section a call is, what it leaves, and what a machine of such sections shows.
 use Rattle.std.specs.Prelude.{◌≡◌, ◌≢◌, ℕ, ◌+◌, ◌<◌, List, [], ◌∷◌, ◌++◌, length, Option, Some, None, option_map, option_to_list, replicate, slice_get}
-use Rattle.std.proofs.Common.{zero, suc}
 use Rattle.event_log.specs.declared.entries.Entry.{Entry}
 use Rattle.event_log.specs.declared.ids.BufId.{BufId}
 use Rattle.event_log.specs.declared.ids.CpuId.{CpuId}
@@ -22,6 +21,7 @@ use Rattle.layer_traits.specs.BufferProtocol.{BufferLock}
 use Rattle.layer_traits.specs.Places.{Threads}
 use Rattle.layer_traits.specs.Sleeping.{SleepState, line_at, sleep_edited}
 use Rattle.layer_traits.specs.SleepLaw.{Sleeping}
+use Rattle.layer_traits.specs.Capacities.{caps_from}
 use Rattle.plain_layers.specs.declared.attempts.Ask.{Ask}
 use Rattle.plain_layers.specs.declared.attempts.Ask.TheVariants as ask
 use Rattle.plain_layers.specs.declared.attempts.Attempt.{Attempt}
@@ -70,19 +70,9 @@ abbrev pub entries_in : (LockId → Option PlainLocked) → List (Section Attemp
 entries_in opening [] = []
 entries_in opening (s ∷ past) = option_to_list (entry_at s.cpu s.lock s.edit (locked_after opening s.lock past)) ++ entries_in opening past
 
--- the capacity of a buffer before those of the next ones, while there is one
-abbrev pub caps_at : Option PlainLocked → List ℕ → List ℕ
-caps_at None rest = []
-caps_at (Some state) rest = state.above.capacity ∷ rest
-
--- the capacities of buffers n, n + 1 and so on, while there is one, at most so many
-unfoldable pub caps_from : ℕ → ℕ → (LockId → Option PlainLocked) → List ℕ
-caps_from zero n locks = []
-caps_from (suc more) n locks = caps_at (locks (Buffer (record { 0 = n }))) (caps_from more (n + 1) locks)
-
 -- the capacities of the buffers: a buffer's number is less than 256
 unfoldable pub caps_in : (LockId → Option PlainLocked) → List ℕ
-caps_in locks = caps_from 256 0 locks
+caps_in locks = caps_from (λ (state : PlainLocked). state.above.capacity) 256 0 locks
 
 -- a buffer with room for so many items, at which nobody waits
 abbrev pub fresh_buffer : ℕ → PlainLocked

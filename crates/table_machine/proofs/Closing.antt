@@ -1,7 +1,7 @@
 -- What is known once all keys are back.
-use Rattle.std.proofs.Common.{◌≡◌, ℕ, zero, suc, ◌<◌, ◌≤◌, inl, inr, ⊎_elim, List, [], ◌∷◌, ◌++◌, length, map, slice_get, Some, IsSome}
+use Rattle.std.proofs.Common.{◌≡◌, ℕ, ◌<◌, ◌≤◌, inl, inr, ⊎_elim, List, [], ◌∷◌, ◌++◌, length, map, slice_get, Some, IsSome}
 use Rattle.std.proofs.Common.{is_some, if◌then◌else◌}
-use Rattle.std.proofs.Common.{refl, ap, sym, ◌∙◌, subst, append_assoc, lt_of_not-le, arith}
+use Rattle.std.proofs.Common.{refl, ap, sym, ◌∙◌, subst, append_assoc, lt_of_not-le}
 use mathlib.Core.Option.{none, some}
 use native.Mathlib.Decide.{dec_le}
 use lib.ListN.{get_elem?, length-map}
@@ -28,6 +28,7 @@ use Rattle.table_machine.specs.Desks.{Board, Desk, IsKey, Carries, Gathered, Cov
 use Rattle.layer_traits.proofs.OneLockLemmas.{all_home}
 use Rattle.table_machine.proofs.Elements.{got, there_for}
 use Rattle.event_log.proofs.Foreign.{others_both, own_none}
+use Rattle.event_log.proofs.ListLemmas.{there_is}
 use Rattle.table_machine.proofs.Logs.{standing_since, own_since}
 use Rattle.table_machine.proofs.Finding.{rank_at}
 use Rattle.table_machine.proofs.Seeing.{at_end}
@@ -46,11 +47,6 @@ module _ {M : Type 0} where
   standing_none : (c : CpuId) (log : List (Event M)) → AreOthers actor c log → standing c log ≡ Outside
   standing_none c [] h = refl
   standing_none c (e ∷ log) h = ap (λ b. if b then left_by e else standing c log) h.0 ∙ standing_none c log h.1
-
-pub found_at : {A : Type 0} (l : List A) (i : ℕ) → i < length l → (a : A) × (slice_get l i ≡ Some a)
-found_at [] i below = absurd (omega arith)
-found_at (x ∷ xs) zero below = (x, refl)
-found_at (x ∷ xs) (suc i) below = found_at xs i (omega arith)
 
 -- what lies in the table once it is closed
 pub record Settled {E B O : Type 0} (R : Rules E B O) (board : Board B) (desks : List (Desk E B)) (homes : List (Home E B)) : Type 0 where
@@ -174,7 +170,7 @@ module _ {E B O : Type 0} (R : Rules E B O) where
       → (i : ℕ) → i < length locks → (y : Home E B) × (get_elem? homes i ≡ some y) × IsSome y.block
   all_blocks board desks homes locks settled locks_are i below =
       let within : i < length board.start = subst (λ m. i < m) (ap length locks_are ∙ length-map board.start (λ (o : LockId × B). o.0)) below in
-      let o = found_at board.start i within in
+      let o = there_is board.start i within in
       let there = settled.blocks i o.0 o.1 in
       (there.0, there.2, ap is_some there.3)
 

@@ -19,10 +19,10 @@ pub length_new : (E : Type 0) {B : Type 0} (board : Board B) (n : ℕ) → lengt
 length_new E board zero = refl
 length_new E board (suc n) = length-append (new_desks {E = E} board n) (new_desk board n ∷ []) ∙ omega (arith, length_new E board n)
 
-pub read_at : {A : Type 0} (l : List A) (k : ℕ) (d a : A) → get_elem? l k ≡ some a → get_or l k d ≡ a
-read_at [] k d a at = absurd (some-ne-none a (sym at))
-read_at (x ∷ xs) zero d a at = some-injective x a at
-read_at (x ∷ xs) (suc k) d a at = read_at xs k d a at
+pub element_read : {A : Type 0} (l : List A) (k : ℕ) (d a : A) → get_elem? l k ≡ some a → get_or l k d ≡ a
+element_read [] k d a at = absurd (some-ne-none a (sym at))
+element_read (x ∷ xs) zero d a at = some-injective x a at
+element_read (x ∷ xs) (suc k) d a at = element_read xs k d a at
 
 new_at : {E B : Type 0} (board : Board B) (n k : ℕ) → k < n → get_elem? (new_desks {E = E} board n) k ≡ some (new_desk board k)
 new_at board zero k below = absurd (omega arith)
@@ -39,7 +39,7 @@ new_cover board n c below = (c.0, new_desk board c.0, got (new_desks board n) c.
 pub new_over : {E B : Type 0} (board : Board B) (n : ℕ) → All (IsOver {E = E} board) (new_desks board n)
 new_over {E = E} board n k d below =
     let under : k < n = subst (λ (m : ℕ). k < m) (length_new E board n) below in
-    subst (λ (x : Desk _ _). IsOver board x) (sym (read_at (new_desks board n) k d (new_desk board k) (new_at board n k under)))
+    subst (λ (x : Desk _ _). IsOver board x) (sym (element_read (new_desks board n) k d (new_desk board k) (new_at board n k under)))
     (record { table = refl; outside = refl })
 
 -- two keys are those of all CPUs where there are two

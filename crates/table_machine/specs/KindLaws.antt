@@ -1,14 +1,11 @@
 -- Both kinds of words do what the counts say.
-use Rattle.std.proofs.Common.{◌≡◌, ◌≢◌, ℕ, ◌+◌, ◌%◌, ◌^◌, ◌<◌, ◌≤◌, ◌==◌, Bool, true, false, Some, if◌then◌else◌, refl, ap, sym, subst, ◌∙◌, arith}
+use Rattle.std.proofs.Common.{◌≡◌, ◌≢◌, ℕ, ◌+◌, ◌%◌, ◌^◌, ◌<◌, ◌≤◌, ◌==◌, Bool, true, false, if◌then◌else◌, refl, ap, sym, subst, ◌∙◌, arith}
 use Rattle.std.proofs.lemmas.Bool.{eqb-true, eqb-false}
 use Rattle.event_log.specs.declared.ids.TheConstants.{CPUS}
 use Rattle.event_log.specs.Grants.{after_give}
 use Rattle.event_log.proofs.GrantWords.{WordFits, fits_at_start, fits_after, served_exactly}
-use Rattle.event_log.proofs.Tickets.{same_rests}
+use Rattle.event_log.proofs.Tickets.{same_rests, next_rests}
 use Rattle.table_machine.specs.Kinds.{IsWordKind, first_words, grant_words, ticket_words}
-
-wraps : (count n : ℕ) → n ≡ count % 2 ^ 64 → (n + 1) % 2 ^ 64 ≡ (count + 1) % 2 ^ 64
-wraps count n is = omega arith
 
 at_most : (k : ℕ) → k < CPUS → k + 1 ≤ CPUS
 at_most k within = omega arith
@@ -35,9 +32,9 @@ tickets_are = record {
   begins = λ w first. (first 0 none_within, first 1 one_within);
   same = λ taken given w v equal fits. (equal 0 none_within ∙ fits.0, equal 1 one_within ∙ fits.1);
   next_is = λ taken given w fits. fits.0;
-  took = λ taken given w v fits next others. (next ∙ wraps taken (w 0) fits.0, others 1 one_within one_is_not_next ∙ fits.1);
+  took = λ taken given w v fits next others. (next ∙ next_rests taken (w 0) fits.0, others 1 one_within one_is_not_next ∙ fits.1);
   hits = λ taken given w fits ticket spot ahead close is. same_rests given spot (w 1) ticket ahead close fits.1 is;
-  gave = λ taken given w v fits ticket is serving others. (others 0 none_within (λ e. omega arith) ∙ fits.0, serving ∙ wraps given (w 1) fits.1);
+  gave = λ taken given w v fits ticket is serving others. (others 0 none_within (λ e. omega arith) ∙ fits.0, serving ∙ next_rests given (w 1) fits.1);
 }
 
 -- the first of the grant words opens with 1
@@ -79,7 +76,7 @@ grants_are = record {
   );
   next_is = λ taken given w fits. fits.0;
   took = λ taken given w v fits next others. (
-    next ∙ wraps taken (w 0) fits.0,
+    next ∙ next_rests taken (w 0) fits.0,
     λ k within. subst (λ held. WordFits k given held) (sym (others (k + 1) (at_most k within) (not_next k))) (fits.1 k within),
   );
   hits = λ taken given w fits ticket spot ahead close is.

@@ -14,7 +14,7 @@ use Rattle.event_log.specs.declared.entries.Entry.{Entry}
 use Rattle.event_log.specs.Buffers.{items_of, empty_buffers, IsAllowedEffect, after_effect}
 use Rattle.event_log.specs.Runs.{kind_eq, group_of, count_of, count_of_kind, IsNext, after_entry}
 use Rattle.event_log.specs.Reading.{◌>>=◌}
-use Rattle.event_log.proofs.RunLemmas.{count_more, count_kind_more}
+use Rattle.event_log.proofs.RunLemmas.{count_more, count_kind_more, items_none}
 use Rattle.tracer.specs.declared.verdicts.Reason.TheVariants.{Op, Pos, Full, WrongValue, CloseState, NotEmpty}
 use Rattle.tracer.specs.Judging.{Seen, fresh, wanted, or_range, was_closed, next_pos, bumped, counted, take_first, effect_of, entry_on, entry_among}
 use Rattle.tracer.proofs.ReadLemmas.{bind_ok, wanted_ok, same_ok}
@@ -226,12 +226,7 @@ among_taken caps earlier contents e after long none taken =
           ∙ known_after caps earlier contents e long inside,
     )
 
-nothing_in : (all : List ℕ) (b : ℕ) → items_of (empty_buffers all) b ≡ []
-nothing_in [] b = refl
-nothing_in (k ∷ ks) zero = refl
-nothing_in (k ∷ ks) (suc b) = nothing_in ks b
-
 -- before the first entry
 pub known_fresh_from : (b : ℕ) (all caps : List ℕ) → known_from [] (empty_buffers all) b caps ≡ map fresh caps
 known_fresh_from b all [] = refl
-known_fresh_from b all (k ∷ ks) = rw (nothing_in all b, known_fresh_from (b + 1) all ks) refl
+known_fresh_from b all (k ∷ ks) = rw (items_none all b, known_fresh_from (b + 1) all ks) refl

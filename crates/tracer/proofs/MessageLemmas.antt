@@ -1,8 +1,7 @@
 -- A message is spelled and read again, and what is read as a message is spelled so.
-use Rattle.std.proofs.Common.{◌-◌, ◌≡◌, ℕ, ◌<◌, ◌≤◌, ◌^◌, ◌==◌, Bool, true, false, not, ◌&&◌, List, [], ◌∷◌, length, map, take, drop, replicate}
-use Rattle.std.proofs.Common.{Result, Ok, Err, refl, sym, ap, subst, ◌∙◌, eq-eqb, eqb-true, lt-ltb, lit<, arith}
+use Rattle.std.proofs.Common.{◌-◌, ◌≡◌, ℕ, ◌<◌, ◌≤◌, ◌^◌, ◌==◌, Bool, true, false, not, ◌&&◌, List, [], ◌∷◌, length, map, drop}
+use Rattle.std.proofs.Common.{Result, Ok, Err, refl, sym, ap, subst, ◌∙◌, lt-ltb, lit<, arith}
 use Rattle.std.specs.Prelude.{decimal, nat_lt, nat_le, slice_index_or}
-use Rattle.std.proofs.Math.Seq.{take-append_seam}
 use Rattle.std.specs.Str.{bytes_eq}
 use Rattle.std.specs.List.{AllByRecursion, list_all, join_with_byte}
 use Rattle.std.proofs.lemmas.Bool.{and_parts}
@@ -14,6 +13,7 @@ use Rattle.event_log.specs.Messages.{Message, IsMessage, padded}
 use Rattle.event_log.specs.Digits.{is_number}
 use Rattle.event_log.specs.Reading.{◌>>=◌}
 use Rattle.event_log.proofs.DigitsLemmas.{number_to-decimal}
+use Rattle.event_log.proofs.MessageLemmas.{padded_eq}
 use Rattle.tracer.specs.declared.verdicts.Reason.{Reason}
 use Rattle.tracer.specs.declared.verdicts.Reason.TheVariants.{Range}
 use Rattle.tracer.specs.declared.versions.Version.{Version}
@@ -33,28 +33,6 @@ words_lack at [] lt small = tt
 words_lack at (n ∷ ns) lt small = (decimal_lacks at n lt small.0, words_lack at ns lt small.1)
 
 -- ---- equal
-
-both_tests : (a b c : Bool) → (a ≡ true → b ≡ true → c ≡ true) → (c ≡ true → (a ≡ true) × (b ≡ true)) → (a && b) ≡ c
-both_tests true true c there back = sym (there refl refl)
-both_tests true false true there back = absurd (let z = (back refl).1 in cc)
-both_tests true false false there back = refl
-both_tests false b true there back = absurd (let z = (back refl).0 in cc)
-both_tests false b false there back = refl
-
--- messages are equal where they have equally many words, and are equal with zeroes behind them
-pub padded_eq : (x m : Message) → (bytes_eq (padded x) (padded m) && (length x == length m)) ≡ bytes_eq x m
-padded_eq x m =
-    both_tests (bytes_eq (padded x) (padded m)) (length x == length m) (bytes_eq x m)
-    (λ all long.
-    let same : padded x ≡ padded m = (bytes_eq-Decides (padded x) (padded m)).0 all in
-    let count : length x ≡ length m = eqb-true (length x) (length m) long in
-    let front : take (length x) (padded x) ≡ x = take-append_seam x (replicate (WORDS - length x) 0) in
-    let front' : take (length m) (padded m) ≡ m = take-append_seam m (replicate (WORDS - length m) 0) in
-    let cut : take (length x) (padded x) ≡ take (length m) (padded m) = rw (same, count) refl in
-    (bytes_eq-Decides x m).1 (sym front ∙ cut ∙ front'))
-    (λ equal.
-    let same : x ≡ m = (bytes_eq-Decides x m).0 equal in
-    ((bytes_eq-Decides (padded x) (padded m)).1 (ap padded same), eq-eqb (length x) (length m) (ap length same)))
 
 not_other : (differs test same : Bool) → differs ≡ not test → differs ≡ false → test ≡ same → same ≡ true
 not_other differs true same is equal e = sym e

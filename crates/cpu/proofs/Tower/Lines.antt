@@ -45,9 +45,10 @@ use Rattle.layer_traits.specs.Locking.{LockState, lock_answer, lock_moves}
 use Rattle.layer_traits.specs.Places.{Threads, is_cpu}
 use Rattle.layer_traits.specs.Plans.{Left, Plan, Now, Act, raised}
 use Rattle.layer_traits.specs.SleepLaw.{Sleeping, left_done, sleep_plan}
+use Rattle.layer_traits.specs.Passes.{or_else}
 use Rattle.cpu.specs.Guests.{after_answer}
 use Rattle.cpu.specs.Table.Blocks.{Answer, DidShut, Told, effect_of}
-use Rattle.cpu.specs.Table.Setups.{Enters, Tries, Waits, Signals, SignalsOwn, Returns, Stage, Call, Thread, Private, cpu_or, home_of, program_of, thread_at}
+use Rattle.cpu.specs.Table.Setups.{Enters, Tries, Waits, Signals, SignalsOwn, Returns, Stage, Call, Thread, Private, home_of, program_of, thread_at}
 use Rattle.cpu.specs.Table.Choice.{after_section, at_buffer, first_section, guest_after, heard, heard_entry, heard_position, heard_try, returned_at}
 use Rattle.cpu.specs.Table.Choice.{section_at}
 use Rattle.cpu.specs.Table.Choice.{settled, slept_if, with_call as call_put, woken}
@@ -216,7 +217,7 @@ try_heard c p t (Recv b) position op true m lined same =
 try_heard c p t (Close b) position op closed m lined same = absurd lined
 
 -- whether a woken thread is at home here: the table and the layers test the same, where it has a home
-same_home : (c : CpuId) (o : Option CpuId) → (is_cpu c o ≡ false → IsSome o) → is_cpu c o ≡ same_cpu (cpu_or (record { 0 = 0 }) o) c
+same_home : (c : CpuId) (o : Option CpuId) → (is_cpu c o ≡ false → IsSome o) → is_cpu c o ≡ same_cpu (or_else (record { 0 = 0 }) o) c
 same_home c None known = absurd (cc (known refl))
 same_home c (Some d) known = same_cpu_sym c d
 

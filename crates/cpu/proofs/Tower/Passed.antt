@@ -1,6 +1,6 @@
 -- How all threads stand to a part is kept by the passes from thread to thread, and holds at boot.
 use Rattle.std.proofs.Common.{◌≡◌, ◌⊎◌, inl, inr, ℕ, zero, suc, List}
-use Rattle.std.proofs.Common.{length, get_or, replicate, Option, Some, None, refl, ap, sym, ◌∙◌, subst, arith}
+use Rattle.std.proofs.Common.{length, replicate, Option, Some, None, refl, ap, sym, ◌∙◌, subst, arith}
 use Rattle.std.proofs.lemmas.Bool.{cases_eq, ne_eqb}
 use Rattle.event_log.specs.declared.ids.BufId.{BufId}
 use Rattle.event_log.specs.declared.ids.CpuId.{CpuId}
@@ -8,6 +8,7 @@ use Rattle.event_log.specs.declared.ids.LockId.{LockId}
 use Rattle.event_log.specs.declared.ids.Tid.{Tid}
 use Rattle.event_log.specs.declared.ids.TheConstants.{THREADS}
 use Rattle.event_log.specs.Actions.{Action}
+use Rattle.event_log.proofs.ListLemmas.{alike_at}
 use Rattle.layer_traits.specs.declared.calls.Effect.{Effect}
 use Rattle.layer_traits.specs.declared.passes.Pass.{Pass}
 use Rattle.layer_traits.specs.declared.passes.Pass.TheVariants as pass
@@ -184,17 +185,11 @@ module _ (own : Buffering) (part : IsPart own) where
 
 -- At boot.
 
--- an element of a list of equal ones
-pub alike_at : {X : Type 0} (n k : ℕ) (x : X) → get_or (replicate n x) k x ≡ x
-alike_at zero k x = refl
-alike_at (suc n) zero x = refl
-alike_at (suc n) (suc k) x = alike_at n k x
-
 pub alike_long : {X : Type 0} (n : ℕ) (x : X) → length (replicate n x) ≡ n
 alike_long zero x = refl
 alike_long (suc n) x = let rec = alike_long n x in omega (arith, rec)
 
-abbrev no_buffer : Option BufId
+abbrev pub no_buffer : Option BufId
 no_buffer = None
 
 pub boots_part : (homes : List CpuId) (c : CpuId) → IsPart (buffering_at_start homes c)

@@ -3,6 +3,7 @@ use Rattle.std.proofs.Common.{◌≡◌, ◌≢◌, ℕ, ◌+◌, ◌<◌, Bool,
 use Rattle.std.proofs.Common.{IsSome, refl, ap, sym, ◌∙◌, arith, inl, inr}
 use Rattle.std.proofs.lemmas.Bool.{ne_eqb}
 use Rattle.std.proofs.lemmas.List.{append-nil}
+use Rattle.std.proofs.Math.Bool.{or-true}
 use Rattle.event_log.specs.declared.entries.Entry.{Entry}
 use Rattle.event_log.specs.declared.ids.BufId.{BufId}
 use Rattle.event_log.specs.declared.ids.CpuId.{CpuId}
@@ -45,10 +46,6 @@ PassLine setup c p own guests trace =
 or_false : (b : Bool) → (b || false) ≡ b
 or_false true = refl
 or_false false = refl
-
-pub or_true : (b : Bool) → (b || true) ≡ true
-or_true true = refl
-or_true false = refl
 
 and_false : (b : Bool) → (b && false) ≡ false
 and_false true = refl
@@ -193,7 +190,7 @@ module _ (setup : Setup) (c : CpuId) (guests : List State) (trace : List Entry) 
         here =
             ap (λ s. thread_from (record (talk_of talks t) { stage = s }) (slept_for slept t) (slept_for waits t) false (is_in t (ended ++ t ∷ [])) g) between
             ∙ ap (λ b. record { guest = g; call = None; ended = b })
-            (pushed_in t t ended ∙ (ap (λ b. is_in t ended || (b || false)) (same_tid_self t) ∙ or_true (is_in t ended)))
+            (pushed_in t t ended ∙ (ap (λ b. is_in t ended || (b || false)) (same_tid_self t) ∙ or-true (is_in t ended)))
 
   -- an instruction of the thread's own
   pub computed_now : (own : Buffering) (t : Tid) (guest : State) → t.0 < length guests

@@ -31,7 +31,7 @@ use Rattle.layer_traits.specs.Locking.{lock_moves}
 use Rattle.layer_traits.specs.Plans.{Left, Plan, raised}
 use Rattle.layer_traits.specs.SleepLaw.{sleep_plan}
 use Rattle.cpu.specs.Guests.{after_answer}
-use Rattle.cpu.specs.Table.Setups.{SignalsOwn, Releases, Returns, Call, Thread, Private, cpu_or, program_of}
+use Rattle.cpu.specs.Table.Setups.{SignalsOwn, Releases, Returns, Call, Thread, Private, program_of}
 use Rattle.cpu.specs.Table.Choice.{settled, at_pending}
 use Rattle.cpu.specs.Tower.Views.{TowerAnswer, TowerName, TowerOut}
 use Rattle.cpu.specs.Tower.Privates.{call_from, guest_at, guests_after, private_after, private_of, thread_from, trace_after}
@@ -45,7 +45,7 @@ use Rattle.cpu.specs.Tower.Composed.{outcome_of}
 use Rattle.cpu.proofs.Tower.Lines.{react_in, reply_guest}
 use Rattle.cpu.proofs.Tower.Chains.{LineOf, fifo_at, private_here, put_same}
 
-pub queue_is : (c : CpuId) (o : Option CpuId) → IsSome o → or_else c o ≡ cpu_or (record { 0 = 0 }) o
+pub queue_is : (c : CpuId) (o : Option CpuId) → IsSome o → or_else c o ≡ or_else (record { 0 = 0 }) o
 queue_is c None there = absurd (cc there)
 queue_is c (Some d) there = refl
 

@@ -1,10 +1,11 @@
 -- The layers' sections are the table's: of every section on every block.
-use Rattle.std.proofs.Common.{◌≡◌, Bool, true, false, ◌&&◌, ◌||◌, List, [], ◌∷◌, length, nat_lt, Option, Some, None, is_some, if◌then◌else◌, refl}
+use Rattle.std.proofs.Common.{◌≡◌, Bool, true, false, ◌&&◌, List, [], ◌∷◌, length, nat_lt, Option, Some, None, is_some, if◌then◌else◌, refl}
 use Rattle.std.proofs.Common.{ap, sym, arith, lt-ltb}
 use Rattle.event_log.specs.declared.ids.Tid.{Tid}
 use Rattle.event_log.specs.declared.entries.Kind.TheVariants.{Send, Recv, SendClosed, RecvClosed}
 use Rattle.event_log.specs.Messages.{Message}
-use Rattle.thread_blocks.specs.Queues.{same_tid, is_in, first, without}
+use Rattle.thread_blocks.specs.Queues.{is_in, first, without}
+use Rattle.thread_blocks.proofs.Distinct.{without_none}
 use Rattle.layer_traits.specs.declared.locked.QEdit.TheVariants.{Acquire, Inside, Release}
 use Rattle.layer_traits.specs.declared.locked.Side.TheVariants.{Receivers, Senders}
 use Rattle.layer_traits.specs.declared.conditions.CvEdit.TheVariants.{Edit, SignalFront}
@@ -52,14 +53,6 @@ codes (queue.Above (Release (Wait t side))) = refl
 
 -- The lists after a signal.
 
-without_absent : (u : Tid) (q : List Tid) → is_in u q ≡ false → without u q ≡ q
-without_absent u [] is = refl
-without_absent u (x ∷ q) is = go (same_tid u x) is (without_absent u q)
-  where
-    go : (b : Bool) → (b || is_in u q) ≡ false → (is_in u q ≡ false → without u q ≡ q) → (if b then without u q else x ∷ without u q) ≡ x ∷ q
-    go true now more = absurd (cc now)
-    go false now more = ap (λ l. x ∷ l) (more now)
-
 left_in_list : (line queue : List Tid) (m : Bool)
     → waiting_without Receivers (signal_to Receivers (if m then first line else None)) queue
     ≡ without_any (if front_stands_in line queue && m then first line else None) queue
@@ -74,7 +67,7 @@ left_in_list (u ∷ line) queue true = go (is_in u queue) refl
   where
     go : (b : Bool) → is_in u queue ≡ b → without u queue ≡ without_any (if b && true then Some u else None) queue
     go true is = refl
-    go false is = without_absent u queue is
+    go false is = without_none u queue is
 
 left_in_list_senders : (line queue : List Tid) (m : Bool)
     → waiting_without Senders (signal_to Senders (if m then first line else None)) queue
@@ -90,7 +83,7 @@ left_in_list_senders (u ∷ line) queue true = go (is_in u queue) refl
   where
     go : (b : Bool) → is_in u queue ≡ b → without u queue ≡ without_any (if b && true then Some u else None) queue
     go true is = refl
-    go false is = without_absent u queue is
+    go false is = without_none u queue is
 
 other_senders : (front : Option Tid) (queue : List Tid) → waiting_without Senders (signal_to Receivers front) queue ≡ queue
 other_senders None queue = refl

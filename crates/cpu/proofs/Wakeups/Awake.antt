@@ -1,10 +1,12 @@
 -- One buffer and the progress of its owner: whoever is due to be woken is the owner itself, or will be signalled before the lock is given back.
 use Rattle.std.proofs.Common.{◌≡◌, Bool, true, false, ◌&&◌, List, [], ◌∷◌, ◌++◌, Option, Some, None, if◌then◌else◌, refl, sym, ap, ◌∙◌, subst}
 use Rattle.std.proofs.lemmas.Bool.{and_parts, and_from, false_from_ne_true}
+use Rattle.std.proofs.lemmas.Option.{same_Some}
 use Rattle.event_log.specs.declared.ids.Tid.{Tid}
 use Rattle.event_log.specs.Messages.{Message}
 use Rattle.thread_blocks.specs.Queues.{same_tid, is_in, first, rest}
 use Rattle.thread_blocks.proofs.Members.{same_tid_self, same_tid_true}
+use Rattle.thread_blocks.proofs.Distinct.{taken_absent}
 use Rattle.layer_traits.specs.declared.locked.Side.{Side}
 use Rattle.layer_traits.specs.declared.locked.Side.TheVariants.{Receivers, Senders}
 use Rattle.layer_traits.specs.Sleeping.{joined}
@@ -14,7 +16,7 @@ use Rattle.cpu.specs.Table.Edits.{can_put, can_take, may_put, may_take, sender_i
 use Rattle.cpu.specs.Table.Edits.{acquired, line_of, entered, put, taken, shut, waiting, released, edited_buffer}
 use Rattle.cpu.specs.Wakeups.Order.{Progress, Begins, HasEntered, WasRefused, Owes, progress_after}
 use Rattle.cpu.specs.Wakeups.Order.{receivers_signalled, senders_signalled, MayTry, IsOwing, MayEdit}
-use Rattle.cpu.proofs.Wakeups.Lists.{refuted, some_is, none_is_not, not_in_without, in_joined}
+use Rattle.cpu.proofs.Wakeups.Lists.{refuted, none_is_not, in_joined}
 
 -- nobody is due
 abbrev pub IsCalm : Buffer → Type 0
@@ -64,11 +66,11 @@ due_behind t (x ∷ line) list can calm due u is = refuted calm due
 after_enter : (t : Tid) (side : Side) (k : Buffer) (joins : Bool) → k.busy ≡ Some t → IsCalm k
     → IsAwake (if joins then entered t side k else k) (HasEntered side)
 after_enter t Senders k true owner calm = record {
-  fits = (λ due u is. due_behind t k.send_line k.waiting_senders (can_put k) calm.0 due u (some_is u t (sym is ∙ owner)), calm.1);
+  fits = (λ due u is. due_behind t k.send_line k.waiting_senders (can_put k) calm.0 due u (same_Some u t (sym is ∙ owner)), calm.1);
   idle = λ e. owned k.busy owner e;
 }
 after_enter t Receivers k true owner calm = record {
-  fits = (λ due u is. due_behind t k.receive_line k.waiting_receivers (can_take k) calm.1 due u (some_is u t (sym is ∙ owner)), calm.0);
+  fits = (λ due u is. due_behind t k.receive_line k.waiting_receivers (can_take k) calm.1 due u (same_Some u t (sym is ∙ owner)), calm.0);
   idle = λ e. owned k.busy owner e;
 }
 after_enter t Senders k false owner calm = record { fits = (λ due u is. refuted calm.0 due, calm.1); idle = λ e. owned k.busy owner e }
@@ -103,7 +105,7 @@ after_put : (t : Tid) (m : Message) (k : Buffer) (g : Progress) (may : Bool) →
     → IsAwake (if may then put m k else k) (if may then Owes true true else WasRefused Senders)
 after_put t m k g true is owner may fits = record { fits = (λ e. absurd (cc e), λ e. absurd (cc e)); idle = λ e. owned k.busy owner e }
 after_put t m k g false is owner may fits = record {
-  fits = (calm_put t k g owner may fits is, λ u own. subst (λ x. may_put x k ≡ false) (some_is t u (sym owner ∙ own)) is);
+  fits = (calm_put t k g owner may fits is, λ u own. subst (λ x. may_put x k ≡ false) (same_Some t u (sym owner ∙ own)) is);
   idle = λ e. owned k.busy owner e;
 }
 
@@ -111,7 +113,7 @@ after_take : (t : Tid) (k : Buffer) (g : Progress) (may : Bool) → may_take t k
     → IsAwake (if may then taken k else k) (if may then Owes true true else WasRefused Receivers)
 after_take t k g true is owner may fits = record { fits = (λ e. absurd (cc e), λ e. absurd (cc e)); idle = λ e. owned k.busy owner e }
 after_take t k g false is owner may fits = record {
-  fits = (calm_take t k g owner may fits is, λ u own. subst (λ x. may_take x k ≡ false) (some_is t u (sym owner ∙ own)) is);
+  fits = (calm_take t k g owner may fits is, λ u own. subst (λ x. may_take x k ≡ false) (same_Some t u (sym owner ∙ own)) is);
   idle = λ e. owned k.busy owner e;
 }
 
@@ -153,7 +155,7 @@ calm_signal : (line list : List Tid) (can due : Bool) → (front_stands_in line 
     → (front_stands_in line (without_any (if due then first line else None) list) && can) ≡ false
 calm_signal line list can false is = is
 calm_signal [] list can true is = refl
-calm_signal (x ∷ line) list can true is = ap (λ b. b && can) (not_in_without x list)
+calm_signal (x ∷ line) list can true is = ap (λ b. b && can) (taken_absent x list)
 
 after_sig_recv : (t : Tid) (k : Buffer) (g : Progress) → k.busy ≡ Some t → IsOwing g → Fits k g
     → IsAwake (edited_buffer (SigRecv t) k) (receivers_signalled g)

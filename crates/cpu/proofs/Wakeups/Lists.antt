@@ -1,20 +1,13 @@
 -- Lists of threads: who stands in them, and who is first.
-use Rattle.std.proofs.Common.{◌≡◌, Bool, true, false, ◌||◌, List, [], ◌∷◌, ◌++◌, Option, Some, None, if◌then◌else◌, refl, sym, ap, ◌∙◌, subst}
+use Rattle.std.proofs.Common.{◌≡◌, Bool, true, false, ◌||◌, List, [], ◌∷◌, ◌++◌, Some, None, if◌then◌else◌, sym, ap, subst}
 use Rattle.std.proofs.lemmas.Bool.{or_parts, or_from}
+use Rattle.std.proofs.lemmas.Option.{same_Some}
 use Rattle.event_log.specs.declared.ids.Tid.{Tid}
 pub use Rattle.event_log.proofs.BoolLemmas.{refuted}
-use Rattle.thread_blocks.specs.Queues.{same_tid, is_in, first, without}
+use Rattle.thread_blocks.specs.Queues.{same_tid, is_in, first}
 use Rattle.thread_blocks.proofs.Members.{same_tid_self, same_tid_true}
 use Rattle.layer_traits.specs.Sleeping.{joined}
 use Rattle.layer_traits.specs.BufferBlocks.{is_first}
-
--- what is in an option
-abbrev pub tid_or : Tid → Option Tid → Tid
-tid_or t None = t
-tid_or t (Some u) = u
-
-pub some_is : (t u : Tid) → Some t ≡ Some u → t ≡ u
-some_is t u same = ap (tid_or t) same
 
 pub none_is_not : {A : Type 0} {t : Tid} → None ≡ Some t → A
 none_is_not {A = A} {t = t} same = absurd (cc same)
@@ -26,16 +19,7 @@ first_is t (x ∷ line) is = ap Some (sym (same_tid_true t x is))
 
 pub is_the_first : (t : Tid) (line : List Tid) → first line ≡ Some t → is_first t line ≡ true
 is_the_first t [] is = none_is_not is
-is_the_first t (x ∷ line) is = subst (λ y. same_tid t y ≡ true) (sym (some_is x t is)) (same_tid_self t)
-
--- nobody stands in a list that is without them
-pub not_in_without : (t : Tid) (list : List Tid) → is_in t (without t list) ≡ false
-not_in_without t [] = refl
-not_in_without t (x ∷ list) = by_test (same_tid t x) refl (not_in_without t list)
-  where
-    by_test : (b : Bool) → same_tid t x ≡ b → is_in t (without t list) ≡ false → is_in t (if b then without t list else x ∷ without t list) ≡ false
-    by_test true is before = before
-    by_test false is before = ap (λ c. c || is_in t (without t list)) is ∙ before
+is_the_first t (x ∷ line) is = subst (λ y. same_tid t y ≡ true) (sym (same_Some x t is)) (same_tid_self t)
 
 -- whoever stands in a list at whose end a thread was put is that thread, or stood in it
 pub in_end : (u t : Tid) (list : List Tid) → is_in u list ≡ false → same_tid u t ≡ false → is_in u (list ++ t ∷ []) ≡ false

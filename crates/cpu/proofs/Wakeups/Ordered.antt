@@ -1,7 +1,7 @@
 -- Sections in the order of their calls lose no wake-up.
 use Rattle.std.proofs.Common.{◌≡◌, ℕ, Bool, true, false, ◌||◌, List, [], ◌∷◌, length, slice_get, Option, Some}
 use Rattle.std.proofs.Common.{None, option_map, nat_lt, if◌then◌else◌, refl, sym, ap, subst, arith}
-use Rattle.std.proofs.lemmas.Bool.{and_from, lt-ltb}
+use Rattle.std.proofs.lemmas.Bool.{and_from, lt-ltb, or_right}
 use Rattle.event_log.specs.declared.ids.Tid.{Tid}
 use Rattle.event_log.specs.declared.ids.BufId.{BufId}
 use Rattle.event_log.specs.declared.ids.LockId.TheVariants.{Buffer as AtBuffer}
@@ -61,13 +61,9 @@ buffer_awake setup (s ∷ past) order b k is = by_test (same_lock (AtBuffer b) s
         edits_awake s.edit (block_of setup (AtBuffer b) past) (progress setup (AtBuffer b) past) k may before now
     by_test false here now before = before k now
 
-pub either : (a b : Bool) → b ≡ true → (a || b) ≡ true
-either true b on = refl
-either false b on = on
-
 -- all that an allowed effect says of the buffer
 pub putting : (k : Buffer) (e : Kind) (m : Message) → group_of e ≡ Sends → Allows k e m → can_put k ≡ true
-putting k SendKind m asks allowed = either k.closed (has_room k) (lt-ltb (length k.items) k.capacity allowed.1)
+putting k SendKind m asks allowed = or_right k.closed (has_room k) (lt-ltb (length k.items) k.capacity allowed.1)
 putting k SendClosed m asks allowed = ap (λ c. c || has_room k) allowed
 putting k RecvKind m asks allowed = absurd (cc asks)
 putting k RecvClosed m asks allowed = absurd (cc asks)
@@ -78,7 +74,7 @@ some_items [] m is = absurd (cc is)
 some_items (x ∷ items) m is = lt-ltb 0 (length (x ∷ items)) (omega arith)
 
 pub taking : (k : Buffer) (e : Kind) (m : Message) → group_of e ≡ Receives → Allows k e m → can_take k ≡ true
-taking k RecvKind m asks allowed = either k.closed (has_items k) (some_items k.items m allowed)
+taking k RecvKind m asks allowed = or_right k.closed (has_items k) (some_items k.items m allowed)
 taking k RecvClosed m asks allowed = ap (λ c. c || has_items k) allowed.0
 taking k SendKind m asks allowed = absurd (cc asks)
 taking k SendClosed m asks allowed = absurd (cc asks)

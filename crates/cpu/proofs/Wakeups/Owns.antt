@@ -2,6 +2,8 @@
 use Rattle.std.proofs.Common.{◌≡◌, ◌≢◌, ℕ, ◌+◌, ◌≤◌, Bool, true, false, not, ◌&&◌, List, [], ◌∷◌, ◌++◌}
 use Rattle.std.proofs.Common.{Option, Some, None, nat_lt, if◌then◌else◌, refl, sym, ap, ◌∙◌, subst, arith}
 use Rattle.std.proofs.lemmas.Bool.{and_parts, and_from, and_right, false_from_ne_true}
+use Rattle.std.proofs.lemmas.Option.{same_Some}
+use Rattle.std.proofs.Math.Bool.{and-true}
 use Rattle.event_log.specs.declared.ids.CpuId.{CpuId}
 use Rattle.event_log.specs.declared.ids.Tid.{Tid}
 use Rattle.event_log.specs.declared.ids.BufId.{BufId}
@@ -21,7 +23,7 @@ use Rattle.cpu.specs.Table.Edits.{acquired, line_of, entered, put, taken, shut, 
 use Rattle.cpu.specs.Table.Setups.{Setup}
 use Rattle.cpu.specs.Wakeups.Order.{Progress, Begins, HasEntered, WasRefused, Owes, progress_after}
 use Rattle.cpu.specs.Wakeups.Order.{receivers_signalled, senders_signalled, MayTry, IsOwing, MayEdit}
-use Rattle.cpu.proofs.Wakeups.Lists.{refuted, some_is, first_is}
+use Rattle.cpu.proofs.Wakeups.Lists.{refuted, first_is}
 use Rattle.cpu.proofs.Wakeups.Spots.{Spot, Home, AtLock, AtWait, Doing, GotIt, Trying, Failed, Waiting, Owing, Turn, Outside, In}
 use Rattle.cpu.proofs.Wakeups.Spots.{is_buffer, is_lock, is_wait, names, goes_on, is_inside, starts_here, stands, is_lined, InStep}
 use Rattle.cpu.proofs.Wakeups.Spots.{caller_in, is_caller, bed, spot_woken, spot_slept, spot_moved, acquired_turn, next_turn, turn_moved, IsTurn, marked}
@@ -320,10 +322,10 @@ module _ (b : BufId) (u : Tid) where
   own_at (AcqQ t) k g turn is idle may due pair =
       subst (λ v. IsTurn b (AcqQ v) turn → Pair b u (acquired v k.busy k) g (acquired_turn b turn)
       (if (answer_of_acquire k.busy).slept then AtLock b else Home))
-      (some_is u t (sym is)) (λ own. own_acquire k g k.busy turn refl idle own pair) due
+      (same_Some u t (sym is)) (λ own. own_acquire k g k.busy turn refl idle own pair) due
   own_at (Enter t side) k g (In d GotIt) is idle may due pair =
       let at_b : Pair b u k g (In b GotIt) Home = subst (λ x. Pair b u k g (In x GotIt) Home) due pair in
-      let same : u ≡ t = some_is u t (sym is) in
+      let same : u ≡ t = same_Some u t (sym is) in
       subst (λ v. Pair b u (if may_join v (line_of side k) then entered v side k else k) (HasEntered side) (In b (Trying side)) Home) same
       (own_enter k g side (may_join u (line_of side k)) refl (subst (λ v. k.busy ≡ Some v) (sym same) may.0) at_b)
   own_at (Shut t) k g (In d GotIt) is idle may due pair =
@@ -331,19 +333,19 @@ module _ (b : BufId) (u : Tid) where
       own_shut k g (may.0 ∙ is) at_b
   own_at (TryPut t m) k g (In d (Trying Senders)) is idle may due pair =
       let at_b : Pair b u k g (In b (Trying Senders)) Home = subst (λ x. Pair b u k g (In x (Trying Senders)) Home) due pair in
-      let same : u ≡ t = some_is u t (sym is) in
+      let same : u ≡ t = same_Some u t (sym is) in
       subst (λ v. Pair b u (if may_put v k then put m k else k) (if may_put v k then Owes true true else WasRefused Senders)
       (if may_put v k then In b (Owing true true) else In b (Failed Senders)) Home) same
       (own_put k g m (may_put u k) refl (subst (λ v. k.busy ≡ Some v) (sym same) may.0) at_b)
   own_at (TryTake t) k g (In d (Trying Receivers)) is idle may due pair =
       let at_b : Pair b u k g (In b (Trying Receivers)) Home = subst (λ x. Pair b u k g (In x (Trying Receivers)) Home) due pair in
-      let same : u ≡ t = some_is u t (sym is) in
+      let same : u ≡ t = same_Some u t (sym is) in
       subst (λ v. Pair b u (if may_take v k then taken k else k) (if may_take v k then Owes true true else WasRefused Receivers)
       (if may_take v k then In b (Owing true true) else In b (Failed Receivers)) Home) same
       (own_take k g (may_take u k) refl (subst (λ v. k.busy ≡ Some v) (sym same) may.0) at_b)
   own_at (WaitOn t side) k g (In d (Failed other)) is idle may due pair =
       let at_b : Pair b u k g (In b (Failed side)) Home = subst (λ x. x) (λ i. Pair b u k g (In (due.0 i) (Failed (due.1 i))) Home) pair in
-      subst (λ v. Pair b u (released (waiting v side k)) Begins (In b (Waiting side)) (AtWait b side)) (some_is u t (sym is)) (own_wait k g side at_b)
+      subst (λ v. Pair b u (released (waiting v side k)) Begins (In b (Waiting side)) (AtWait b side)) (same_Some u t (sym is)) (own_wait k g side at_b)
   own_at (SigRecv t) k g (In d (Owing r s)) is idle may due pair =
       let at_b : Pair b u k g (In b (Owing r s)) Home = subst (λ x. Pair b u k g (In x (Owing r s)) Home) due pair in
       let owner : k.busy ≡ Some u = may.0 ∙ is in
@@ -383,16 +385,12 @@ module _ (b : BufId) (u : Tid) where
       let at_spot : spot_moved setup c b u name slept (answer_of_buffer name k).woke spot ≡ (if slept then bed b name else Home) =
       ap (λ w. if w then spot_woken setup c u else spot_slept b u name slept spot) (not_woken name k g turn pair)
       ∙ ap (λ d. if slept && d then bed b name else spot) calls
-      ∙ ap (λ d. if d then bed b name else spot) (and_true slept)
+      ∙ ap (λ d. if d then bed b name else spot) (and-true slept)
       ∙ ap (λ x. if slept then bed b name else x) here in
       subst (λ z. Pair b u (edited_buffer name k) (progress_after name k g) z (spot_moved setup c b u name slept (answer_of_buffer name k).woke spot))
       (sym at_turn)
       (subst (λ x. Pair b u (edited_buffer name k) (progress_after name k g) (next_turn b name k turn) x)
       (sym at_spot) (own_at name k g turn is idle may due pair))
-    where
-      and_true : (d : Bool) → (d && true) ≡ d
-      and_true true = refl
-      and_true false = refl
 
 -- A section elsewhere: the pair of any thread with another buffer.
 

@@ -3,12 +3,14 @@
 use Rattle.std.proofs.Common.{◌≡◌, ℕ, ◌+◌, ◌<◌, ◌≤◌, Bool, true, false, not, ◌&&◌, List, [], ◌∷◌, ◌++◌}
 use Rattle.std.proofs.Common.{Option, Some, None, nat_lt, if◌then◌else◌, refl, sym, ap, ◌∙◌, subst, arith}
 use Rattle.std.proofs.lemmas.Bool.{eq-eqb, eqb-true, and_parts, and_right, false_from_ne_true}
+use Rattle.std.proofs.lemmas.Option.{same_Some}
 use Rattle.event_log.specs.declared.ids.CpuId.{CpuId}
 use Rattle.event_log.specs.declared.ids.Tid.{Tid}
 use Rattle.event_log.specs.declared.ids.BufId.{BufId}
 use Rattle.event_log.specs.declared.ids.TheConstants.{THREADS}
 use Rattle.event_log.specs.Messages.{Message}
 use Rattle.event_log.specs.History.{same_cpu}
+use Rattle.event_log.proofs.Same.{buffer_numbered}
 use Rattle.thread_blocks.specs.Queues.{same_tid, is_in, first, rest}
 use Rattle.thread_blocks.proofs.Members.{same_tid_self, same_tid_true}
 use Rattle.layer_traits.specs.declared.locked.Side.{Side}
@@ -16,14 +18,14 @@ use Rattle.layer_traits.specs.declared.locked.Side.TheVariants.{Receivers, Sende
 use Rattle.layer_traits.specs.Places.{is_thread, one_if, count_in}
 use Rattle.layer_traits.specs.Sleeping.{joined}
 use Rattle.layer_traits.specs.BufferBlocks.{may_join, is_first}
-use Rattle.layer_traits.proofs.CountLemmas.{same_tid_sym, count_append, count_front, in_counted, not_counted}
+use Rattle.layer_traits.proofs.CountLemmas.{same_tid_sym, count_append, count_front, in_counted, not_counted, count_behind}
 use Rattle.layer_traits.proofs.ListsLemmas.{count_without}
 use Rattle.cpu.specs.Table.Blocks.{Buffer, Name, AcqQ, Enter, TryPut, TryTake, Shut, WaitOn, SigRecv, SigSend, RelQ, Pend, TakeAll, front_stands_in}
 use Rattle.cpu.specs.Table.Edits.{can_put, can_take, may_put, may_take, due_sender, due_receiver, without_any}
 use Rattle.cpu.specs.Table.Edits.{acquired, line_of, entered, put, taken, shut, waiting, released, edited_buffer, answer_of_acquire, answer_of_buffer}
 use Rattle.cpu.specs.Table.Setups.{Setup, home_of}
 use Rattle.cpu.specs.Wakeups.Order.{Progress, Begins, HasEntered, WasRefused, Owes, progress_after, receivers_signalled, senders_signalled, MayEdit}
-use Rattle.cpu.proofs.Wakeups.Lists.{refuted, some_is, none_is_not, first_is}
+use Rattle.cpu.proofs.Wakeups.Lists.{refuted, none_is_not, first_is}
 use Rattle.cpu.proofs.Wakeups.Spots.{Spot, Home, InHand, IsPending, AtLock, AtWait, GotIt, Trying, Failed, Waiting, Owing, Turn, Outside, In}
 use Rattle.cpu.proofs.Wakeups.Spots.{is_buffer, is_side, is_lock, is_wait, is_asleep, is_inside, is_starting, is_lined, InStep}
 use Rattle.cpu.proofs.Wakeups.Spots.{is_caller, bed, spot_by, spot_woken, spot_moved, next_turn, turn_moved, marked}
@@ -94,12 +96,6 @@ other_joined u t list other = by_test (nat_lt t.0 THREADS && not (is_in t list))
         omega (arith, more, none)
     by_test false = refl
 
-other_behind : (u t : Tid) (list : List Tid) → same_tid t u ≡ false → count_in u (list ++ t ∷ []) ≡ count_in u list
-other_behind u t list other =
-    let none : one_if (same_tid u t) ≡ 0 = ap one_if (same_tid_sym u t ∙ other) in
-    let more : count_in u (list ++ t ∷ []) ≡ count_in u list + (one_if (same_tid u t) + 0) = count_append u list (t ∷ []) in
-    omega (arith, more, none)
-
 -- the first has left a list
 pub first_left : (u : Tid) (list : List Tid) → count_in u list ≤ 1 → count_in u (rest list) ≡ (if is_thread u (first list) then 0 else count_in u list)
 first_left u list most = by_test (is_thread u (first list)) refl
@@ -142,9 +138,6 @@ woken_waits u (x ∷ line) list can woke = by_test (is_in x list) refl can woke
 
 pub buffer_self : (b : BufId) → is_buffer b b ≡ true
 buffer_self b = eq-eqb b.0 b.0 refl
-
-abbrev buffer_numbered : ℕ → BufId
-buffer_numbered n = record { 0 = n }
 
 pub buffer_true : (b d : BufId) → is_buffer b d ≡ true → b ≡ d
 buffer_true b d same = ap buffer_numbered (eqb-true b.0 d.0 same)
@@ -278,7 +271,7 @@ start_inside b (In d (Owing r s)) on = absurd (cc (and_parts (is_buffer b d) fal
 
 -- another thread owns the lock
 not_mine : {A : Type 0} (u t : Tid) (o : Option Tid) → o ≡ Some t → same_tid t u ≡ false → o ≡ Some u → A
-not_mine u t o owner other mine = refuted other (subst (λ x. same_tid t x ≡ true) (some_is t u (sym owner ∙ mine)) (same_tid_self t))
+not_mine u t o owner other mine = refuted other (subst (λ x. same_tid t x ≡ true) (same_Some t u (sym owner ∙ mine)) (same_tid_self t))
 
 module _ (setup : Setup) (c : CpuId) (b : BufId) (u t : Tid) (other : same_tid t u ≡ false) (turn : Turn) (spot : Spot) where
   other_acquire : (k : Buffer) (g : Progress) (o : Option Tid) → k.busy ≡ o → Pair b u k g turn spot → Pair b u (acquired t o k) g turn spot
@@ -335,10 +328,10 @@ module _ (setup : Setup) (c : CpuId) (b : BufId) (u t : Tid) (other : same_tid t
   other_enter : (k : Buffer) (g : Progress) (side : Side) (joins : Bool) → k.busy ≡ Some t → Pair b u k g turn spot
       → Pair b u (if joins then entered t side k else k) (HasEntered side) turn spot
   other_enter k g Senders true owner pair =
-      let grown = with_lines k g (HasEntered Senders) owner pair (k.send_line ++ t ∷ []) k.receive_line (other_behind u t k.send_line other) refl in
+      let grown = with_lines k g (HasEntered Senders) owner pair (k.send_line ++ t ∷ []) k.receive_line (count_behind u t k.send_line other) refl in
       with_items _ (HasEntered Senders) k.items k.effects (entered t Senders k).send_positions k.receive_positions grown
   other_enter k g Receivers true owner pair =
-      let grown = with_lines k g (HasEntered Receivers) owner pair k.send_line (k.receive_line ++ t ∷ []) refl (other_behind u t k.receive_line other) in
+      let grown = with_lines k g (HasEntered Receivers) owner pair k.send_line (k.receive_line ++ t ∷ []) refl (count_behind u t k.receive_line other) in
       with_items _ (HasEntered Receivers) k.items k.effects k.send_positions (entered t Receivers k).receive_positions grown
   other_enter k g side false owner pair = with_lines k g (HasEntered side) owner pair k.send_line k.receive_line refl refl
 

@@ -3,6 +3,7 @@ use Rattle.std.proofs.Common.{◌≡◌, ℕ, zero, suc, ◌+◌, ◌<◌, ◌==
 use Rattle.std.proofs.Common.{slice_set, get_or, Option, Some, None, option_map, nat_lt, if◌then◌else◌, refl, sym, ap, ◌∙◌, subst, arith}
 use Rattle.std.proofs.lemmas.Bool.{and_right, eq-eqb, ne_eqb, eqb-true, eqb-false, lt-ltb, le-ltb, ltb-true, ltb-false}
 use Rattle.std.proofs.lemmas.List.{length-map}
+use Rattle.std.proofs.Math.Bool.{and-true}
 use Rattle.event_log.specs.declared.ids.CpuId.{CpuId}
 use Rattle.event_log.specs.declared.ids.Tid.{Tid}
 use Rattle.event_log.specs.declared.ids.LockId.{LockId}
@@ -16,9 +17,10 @@ use Rattle.layer_traits.specs.declared.steps.Step.TheVariants.{Stepped, Halted}
 use Rattle.layer_traits.specs.Places.{is_thread, one_if, count_in}
 use Rattle.layer_traits.specs.Plans.{is_in_section, at_give}
 use Rattle.layer_traits.specs.Along.{Outcome}
+use Rattle.layer_traits.specs.Passes.{or_else}
 use Rattle.cpu.specs.Table.Blocks.{Name}
 use Rattle.cpu.specs.Table.Edits.{answer}
-use Rattle.cpu.specs.Table.Setups.{Setup, Private, new_thread, cpu_or, home_threads_from, home_threads, at_boot}
+use Rattle.cpu.specs.Table.Setups.{Setup, Private, new_thread, home_threads_from, home_threads, at_boot}
 use Rattle.cpu.specs.Table.Choice.{asked, Choice, Halts, Alone, Goes, choice}
 use Rattle.cpu.specs.Table.Steps.{after_reply, chosen, step_in, cpu_step, Whole, cpu_numbered, boots_from, whole_at_boot}
 use Rattle.cpu.specs.Table.Steps.{whole_after, roomy, answered_by, step_at, system_step, IsReached, boots, steps}
@@ -214,7 +216,7 @@ below_suc k n m is = by_test (nat_lt k n) refl
     by_test false above = let more = ltb-false k n above in sym (le-ltb (suc k) m (omega (arith, more, is)))
 
 homed_at : (c : CpuId) (homes : List CpuId) (i k : ℕ) (u : Tid) → u.0 ≡ i + k
-    → count_in u (home_threads_from c homes i) ≡ one_if (same_cpu (cpu_or (record { 0 = 0 }) (slice_get homes k)) c && nat_lt k (length homes))
+    → count_in u (home_threads_from c homes i) ≡ one_if (same_cpu (or_else (record { 0 = 0 }) (slice_get homes k)) c && nat_lt k (length homes))
 homed_at c [] i k u at =
     sym (ap one_if (and_right (same_cpu (record { 0 = 0 }) c) (nat_lt k 0) (le-ltb k 0 (omega arith))))
 homed_at c (home ∷ homes) i zero u at = by_test (same_cpu home c) (homed_before c homes (i + 1) u (omega (arith, at)))
@@ -233,14 +235,14 @@ homed_at c (home ∷ homes) i (suc k) u at = by_test (same_cpu home c) (homed_at
     same_below = below_suc k (length homes) (length (home ∷ homes)) (omega arith)
 
     by_test : (here : Bool)
-        → count_in u (home_threads_from c homes (i + 1)) ≡ one_if (same_cpu (cpu_or (record { 0 = 0 }) (slice_get homes k)) c && nat_lt k (length homes))
+        → count_in u (home_threads_from c homes (i + 1)) ≡ one_if (same_cpu (or_else (record { 0 = 0 }) (slice_get homes k)) c && nat_lt k (length homes))
         → count_in u (if here then record { 0 = i } ∷ home_threads_from c homes (i + 1) else home_threads_from c homes (i + 1))
-        ≡ one_if (same_cpu (cpu_or (record { 0 = 0 }) (slice_get homes k)) c && nat_lt (suc k) (length (home ∷ homes)))
+        ≡ one_if (same_cpu (or_else (record { 0 = 0 }) (slice_get homes k)) c && nat_lt (suc k) (length (home ∷ homes)))
     by_test true more =
         let other : one_if (u.0 == i) ≡ 0 = ap one_if (ne_eqb u.0 i (λ same. absurd (omega (arith, same, at)))) in
         let now : one_if (u.0 == i) + count_in u (home_threads_from c homes (i + 1)) ≡ count_in u (home_threads_from c homes (i + 1)) = omega (arith, other) in
-        now ∙ more ∙ ap (λ b. one_if (same_cpu (cpu_or (record { 0 = 0 }) (slice_get homes k)) c && b)) same_below
-    by_test false more = more ∙ ap (λ b. one_if (same_cpu (cpu_or (record { 0 = 0 }) (slice_get homes k)) c && b)) same_below
+        now ∙ more ∙ ap (λ b. one_if (same_cpu (or_else (record { 0 = 0 }) (slice_get homes k)) c && b)) same_below
+    by_test false more = more ∙ ap (λ b. one_if (same_cpu (or_else (record { 0 = 0 }) (slice_get homes k)) c && b)) same_below
 
 pub ok_at_boot : (setup : Setup) (c : CpuId) → Ok setup c (at_boot setup c) []
 ok_at_boot setup c = record {
@@ -250,17 +252,13 @@ ok_at_boot setup c = record {
     seats = λ u.
         let is = homed_at c setup.homes 0 u.0 u (omega arith) in
         let now : one_if (is_thread u None) + count_in u (home_threads setup c) ≡ count_in u (home_threads setup c) = omega arith in
-        now ∙ is ∙ sym (ap (λ y. one_if (seat setup c u Home y.ended)) (all_new setup.homes u.0) ∙ ap one_if (and_true (is_local setup c u)));
+        now ∙ is ∙ sym (ap (λ y. one_if (seat setup c u Home y.ended)) (all_new setup.homes u.0) ∙ ap one_if (and-true (is_local setup c u)));
     hands = λ u. refl;
     ends = λ u local ended. refl;
   };
   settled = λ u local done. refuted (ap (λ y. is_done y.call) (all_new setup.homes u.0)) done;
   under = λ lock at. no_lock at;
 }
-  where
-    and_true : (b : Bool) → (b && true) ≡ b
-    and_true true = refl
-    and_true false = refl
 
 -- Systems.
 

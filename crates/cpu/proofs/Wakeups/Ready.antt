@@ -1,7 +1,7 @@
 -- A call that is ready, on a CPU alone, returns after just so many steps.
 use Rattle.std.proofs.Common.{◌≡◌, ℕ, ◌+◌, ◌<◌, ◌≤◌, ◌==◌, Bool, true, false, ◌&&◌, ◌||◌, ◌⊎◌, inl, inr, List, [], ◌∷◌, ◌++◌}
 use Rattle.std.proofs.Common.{length, slice_get, Option, Some, None, is_some, nat_lt, if◌then◌else◌, refl, sym, ap, ◌∙◌, subst, arith, length-append}
-use Rattle.std.proofs.lemmas.Bool.{and_from, cases_lt, lt-ltb}
+use Rattle.std.proofs.lemmas.Bool.{and_from, cases_lt, lt-ltb, or_right}
 use Rattle.event_log.specs.declared.ids.CpuId.{CpuId}
 use Rattle.event_log.specs.declared.ids.Tid.{Tid}
 use Rattle.event_log.specs.declared.ids.BufId.{BufId}
@@ -35,7 +35,7 @@ use Rattle.cpu.specs.Wakeups.Quiet.{AreFew}
 use Rattle.cpu.specs.Wakeups.Alone.{IsCallOn, HasEmptyLine, IsInCall, IsReady, HasReturned, CallsReturnAlone, is_away, first_waiter}
 use Rattle.cpu.specs.Wakeups.Alone.{steps_to_move, steps_to_return}
 use Rattle.cpu.proofs.Wakeups.Lists.{refuted}
-use Rattle.cpu.proofs.Wakeups.Ordered.{buffer_awake, either, putting, taking}
+use Rattle.cpu.proofs.Wakeups.Ordered.{buffer_awake, putting, taking}
 use Rattle.cpu.proofs.Wakeups.Awake.{IsCalm, Fits, IsAwake}
 use Rattle.cpu.proofs.Wakeups.Spots.{is_local, spot, turn}
 use Rattle.cpu.proofs.Wakeups.Agreement.{Agrees, runs, known_of, within}
@@ -304,7 +304,7 @@ module _ (setup : Setup) (room : ℕ) (s : Whole) (c : CpuId) (p : Private) (t :
         (told _ RecvKind b (entry_of c t now k.effects (first_item k.items)) (refl, refl, refl)
         (received_back (record now { effect = Some k.effects }) _ woke refl line
         (woken_is (front_stands_in k.send_line k.waiting_senders) _ (front k.send_line)
-        (either k.closed _ (room_now k.items m k.capacity (holds_no_more setup (sections_in s.log) b k block) allowed))) done))
+        (or_right k.closed _ (room_now k.items m k.capacity (holds_no_more setup (sections_in s.log) b k block) allowed))) done))
     returns RecvClosed m at_call allowed line =
         let begin = begins_as Receives b (stands_at setup p t) refl at_call in
         let now = record (queued Receives b begin.0 k.receive_positions) { closed = true } in

@@ -13,7 +13,7 @@ use Rattle.cpu.specs.Table.Blocks.{Name}
 use Rattle.cpu.specs.Table.Setups.{Setup, Private}
 use Rattle.cpu.specs.Table.Choice.{Choice, Halts, Alone, Goes, choice}
 use Rattle.cpu.specs.Table.Steps.{chosen, step_in, cpu_step, AlongTable}
-use Rattle.cpu.specs.Wakeups.Lost.{IsWorked, WorkersLoseNoWakeUp}
+use Rattle.cpu.specs.Wakeups.Lost.{IsWorked, CpusLoseNoWakeUp}
 use Rattle.cpu.proofs.Wakeups.Lists.{refuted}
 use Rattle.cpu.proofs.Wakeups.Ordered.{order_loses_no_wake_up}
 use Rattle.cpu.proofs.Wakeups.Reaching.{IsFair, IsFairLog, fair_good, Ok, step_ok, ok_beside, ok_at_boot}
@@ -130,6 +130,6 @@ worked_fair setup (a ∷ past) worked = by_cpu (cases_lt (doer a).0 setup.cpus) 
         let none = worked.rest (doer a) beyond in
         absurd (cc (ap (λ b. if b then a ∷ own_events doer (doer a) past else own_events doer (doer a) past) (sym (same_cpu_self (doer a))) ∙ none))
 
-pub workers_lose_no_wake_up : WorkersLoseNoWakeUp
-workers_lose_no_wake_up setup log worked b k is =
+pub cpus_lose_no_wake_up : CpusLoseNoWakeUp
+cpus_lose_no_wake_up setup log worked b k is =
     order_loses_no_wake_up setup (sections_in log) (fair_good setup log (worked_fair setup log worked)).ordered b k is

@@ -12,6 +12,7 @@ use Rattle.event_log.specs.Runs.{Group}
 use Rattle.guest.specs.declared.instructions.Instruction.{Instruction}
 use Rattle.guest.specs.State.{State, at_start, next_of}
 use Rattle.cpu.specs.Table.Blocks.{Buffer, Block, OfBuffer, OfPending}
+use Rattle.layer_traits.specs.Passes.{or_else}
 
 -- how many CPUs there are, the home of each thread, its program, the capacity of each buffer, and for how many entries a CPU's trace has room
 pub record Setup : Type 0 where
@@ -72,13 +73,9 @@ thread_at p t = slice_index_or p.threads t.0 new_thread
 abbrev pub with_thread : Private → Tid → Thread → Private
 with_thread p t x = record p { threads = slice_set p.threads t.0 x }
 
-abbrev pub cpu_or : CpuId → Option CpuId → CpuId
-cpu_or c None = c
-cpu_or c (Some home) = home
-
 -- the CPU on which a thread runs
 abbrev pub home_of : Setup → Tid → CpuId
-home_of setup t = cpu_or (record { 0 = 0 }) (slice_get setup.homes t.0)
+home_of setup t = or_else (record { 0 = 0 }) (slice_get setup.homes t.0)
 
 abbrev pub program_or : Option (List Instruction) → List Instruction
 program_or None = []
@@ -133,7 +130,8 @@ abbrev pub opening : Setup → LockId → Option Block
 opening setup (Pending c) = Some (OfPending [])
 opening setup (AtBuffer b) = opening_buffer (slice_get setup.caps b.0)
 
-abbrev has_none : Option ℕ → Bool
+-- no effect has come
+abbrev pub has_none : Option ℕ → Bool
 has_none None = true
 has_none (Some op) = false
 

@@ -28,6 +28,10 @@ pub record NoWakeUpIsLost (k : Buffer) : Type 0 where
   pub receivers : k.busy ≡ None → (t : Tid) (m : Message) → front k.receive_line ≡ Some t → stands_in t k.waiting_receivers ≡ true
       → (e : Kind) → group_of e ≡ Receives → Allows k e m → ⊥
 
+-- after these actions no wake-up is lost
+abbrev pub LosesNoWakeUp : Setup → List (Action Name) → Type 0
+LosesNoWakeUp setup log = (b : BufId) (k : Buffer) → block_at setup (AtBuffer b) log ≡ Some (OfBuffer k) → NoWakeUpIsLost k
+
 -- sections in the order of their calls lose no wake-up, whoever does them when
 abbrev pub OrderLosesNoWakeUp : Type 0
 OrderLosesNoWakeUp = (setup : Setup) (sections : List (Section Name)) → IsInOrder setup sections
@@ -39,8 +43,7 @@ SystemsKeepOrder = (setup : Setup) (room : ℕ) (s : Whole) → IsReached setup 
 
 -- so no state that a system reaches has lost a wake-up
 abbrev pub SystemsLoseNoWakeUp : Type 0
-SystemsLoseNoWakeUp = (setup : Setup) (room : ℕ) (s : Whole) → IsReached setup room s
-    → (b : BufId) (k : Buffer) → block_at setup (AtBuffer b) s.log ≡ Some (OfBuffer k) → NoWakeUpIsLost k
+SystemsLoseNoWakeUp = (setup : Setup) (room : ℕ) (s : Whole) → IsReached setup room s → LosesNoWakeUp setup s.log
 
 -- where nobody owns a lock, nobody sleeps at it
 abbrev pub FreeLocksHaveNoSleepers : Type 0
@@ -59,6 +62,5 @@ pub record IsWorked (setup : Setup) (log : List (Action Name)) : Type 0 where
   pub rest : (c : CpuId) → setup.cpus ≤ c.0 → own_events doer c log ≡ []
 
 -- CPUs that each work by the table on one list lose no wake-up
-abbrev pub WorkersLoseNoWakeUp : Type 0
-WorkersLoseNoWakeUp = (setup : Setup) (log : List (Action Name)) → IsWorked setup log
-    → (b : BufId) (k : Buffer) → block_at setup (AtBuffer b) log ≡ Some (OfBuffer k) → NoWakeUpIsLost k
+abbrev pub CpusLoseNoWakeUp : Type 0
+CpusLoseNoWakeUp = (setup : Setup) (log : List (Action Name)) → IsWorked setup log → LosesNoWakeUp setup log

@@ -1,10 +1,7 @@
-use Rattle.std.proofs.Common.{◌≡◌, false, List, [], ◌∷◌, ◌++◌, if◌then◌else◌, is_err, is_ok, slice_get, ap, None, Result, Ok, Err, subst, sym, ◌∙◌}
+use Rattle.std.proofs.Common.{◌≡◌, false, [], ◌∷◌, ◌++◌, if◌then◌else◌, is_err, is_ok, slice_get, ap, None, subst, sym, ◌∙◌}
 use Rattle.plain_layers.specs.QueueTurns.{buffer_zero}
 use Rattle.plain_layers.proofs.queue_tests.cpus_meet.Goals as goal
-
-one_pushed : {A F X : Type 0} (r : Result A F) (items : List X) (x : X) → is_err r ≡ false → items ≡ (if is_ok r then [] ++ x ∷ [] else []) → items ≡ x ∷ []
-one_pushed (Ok a) items x went is = is
-one_pushed (Err e) items x went is = absurd cc
+use Rattle.plain_layers.proofs.KernelLemmas.{one_pushed}
 
 -- buffer 0 opens with the one block
 pub meet_at_one_queue-requires-clause-free : goal.meet_at_one_queue-requires-clause-free

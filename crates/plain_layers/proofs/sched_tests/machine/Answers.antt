@@ -2,10 +2,7 @@ use Rattle.std.proofs.Common.{◌≡◌, false, List, [], ◌∷◌, ◌++◌, i
 use Rattle.std.proofs.Common.{IfOk, subst, sym, ◌∙◌}
 use Rattle.event_log.specs.declared.ids.BufId.{BufId}
 use Rattle.plain_layers.proofs.sched_tests.machine.Goals as goal
-
-one_pushed : {A F X : Type 0} (r : Result A F) (items : List X) (x : X) → is_err r ≡ false → items ≡ (if is_ok r then [] ++ x ∷ [] else []) → items ≡ x ∷ []
-one_pushed (Ok a) items x went is = is
-one_pushed (Err e) items x went is = absurd cc
+use Rattle.plain_layers.proofs.KernelLemmas.{one_pushed}
 
 -- buffer 0 opens with the one block
 opens_first : {W F B : Type 0} (r : Result W F) (opens : W → BufId → Option B) (items : List B) (x : B) → items ≡ x ∷ []

@@ -1,9 +1,8 @@
 use Rattle.std.proofs.Common.{refl, ◌∙◌, sym}
-use Rattle.cpu.proofs.Passing.{none_grow, none_moved, none_seen}
 use Rattle.cpu.proofs.Schedules.{current_within}
 use Rattle.cpu.proofs.TableCalls.{stopped_steps}
 use Rattle.cpu.proofs.CpuStates.{valid_cpu}
-use Rattle.cpu.proofs.Layered.{laws_of, layered, runs_home, told_cpu, told_turn}
+use Rattle.cpu.proofs.Layered.{laws_of, layered, runs_home, told_cpu, told_turn, left_alone}
 use Rattle.cpu.proofs.cpus.Cpu.act.Goals as goal
 
 pub reason-requires : goal.reason-requires
@@ -13,14 +12,8 @@ reason-requires g c =
     let cpu = layered (laws_of g.met.I.IpcLayer) m p c.requires.fits c.requires.number c.requires.is c.requires.table in
     current_within (valid_cpu c.requires.is) (runs_home cpu)
 
-pub returns-in-Some-clause-seen : goal.returns-in-Some-clause-seen
-returns-in-Some-clause-seen g c = none_seen _ _ _ _ refl
-
-pub returns-in-Some-clause-moves : goal.returns-in-Some-clause-moves
-returns-in-Some-clause-moves g c = none_moved _ _ _ _ refl
-
-pub returns-in-Some-clause-grows : goal.returns-in-Some-clause-grows
-returns-in-Some-clause-grows g c = λ step. none_grow _ _ _ _ refl
+pub returns-in-Some-clause-leaves : goal.returns-in-Some-clause-leaves
+returns-in-Some-clause-leaves g c = left_alone g.I.IpcLayer c.args.m.now c.args.self.now _ c.requires.number refl refl refl refl
 
 pub returns-in-Some-clause-steps : goal.returns-in-Some-clause-steps
 returns-in-Some-clause-steps g c = λ step.

@@ -93,20 +93,29 @@ returns-clause-is g c =
     rw (c.poll-answer.ensures.homes, c.poll-answer.ensures.caps)
     (noted_call (valid_cpu c.requires.is) t c.args.call c.requires.chosen _ after)
 
-pub returns-clause-programs : goal.returns-clause-programs
-returns-clause-programs g c = ap programs_of c.note_poll-fresh.ensures.guests ∙ programs_with c.args.self.now.guests.items c.args.thread.0 _ (λ x. refl)
-
-pub returns-clause-seen : goal.returns-clause-seen
-returns-clause-seen g c =
-    let less = poll_buffer (valid_cpu c.requires.is) c.args.thread c.args.call c.requires.chosen in
-    called_grows _ _ _ _ _ _ _ _ _ (rw c.requires.number at (c.poll-answer.ensures.called less))
-
-pub returns-clause-grows : goal.returns-clause-grows
-returns-clause-grows g c = λ step.
+pub returns-clause-leaves : goal.returns-clause-leaves
+returns-clause-leaves g c =
     let I = g.I.IpcLayer in
     let m = c.args.m.now in
-    subst (λ (d : CpuId). ActsGrow (λ e. I.ActsFor m e) d (I.acts m) (I.acts c.poll-answer.new.m)) c.requires.number
-    (follows_grow _ _ _ _ _ _ _ _ (c.poll-answer.ensures.follows step))
+    let e = c.poll-answer.ensures in
+    let less = poll_buffer (valid_cpu c.requires.is) c.args.thread c.args.call c.requires.chosen in
+    record {
+      number = refl;
+      limit = refl;
+      cpu = e.cpu ∙ c.requires.number;
+      programs = ap programs_of c.note_poll-fresh.ensures.guests ∙ programs_with c.args.self.now.guests.items c.args.thread.0 _ (λ x. refl);
+      seen = called_grows _ _ _ _ _ _ _ _ _ (rw c.requires.number at (e.called less));
+      moves = rw c.requires.number at e.moves;
+      grows = λ step. subst (λ (d : CpuId). ActsGrow (λ e. I.ActsFor m e) d (I.acts m) (I.acts c.poll-answer.new.m)) c.requires.number
+          (follows_grow _ _ _ _ _ _ _ _ (e.follows step));
+      opening = e.opening;
+      caps = e.caps;
+      homes = e.homes;
+      site = e.site;
+      room = e.room;
+      acts = e.acts;
+      others = λ q apart fits. e.others q (rw c.requires.number apart) fits;
+    }
 
 -- what the poll leaves of the CPU over the tower
 abbrev told_poll : (g : Over) (c : goal.After-note_effect g) (step : g.I.IpcLayer.IsStepwise)

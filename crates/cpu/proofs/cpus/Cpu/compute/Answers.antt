@@ -2,13 +2,12 @@ use Rattle.std.proofs.Common.{List, length, Option, refl, ap, sym, ◌∙◌, su
 use Rattle.cpu.specs.declared.guests.Guest.{Guest}
 use Rattle.cpu.specs.Cpus.{IsCpu, programs_of}
 use Rattle.cpu.proofs.GuestLists.{programs_with}
-use Rattle.cpu.proofs.Passing.{none_grow, none_moved, none_seen}
 use Rattle.cpu.proofs.Schedules.{noted_compute}
 use Rattle.layer_traits.specs.declared.steps.Step.TheVariants.{Stepped}
 use Rattle.cpu.specs.Tables.{IsTabled, WentByTable}
 use Rattle.cpu.proofs.TableCalls.{computed_steps, computed_tabled}
 use Rattle.cpu.proofs.CpuStates.{valid_cpu}
-use Rattle.cpu.proofs.Layered.{laws_of, layered, told_cpu, told_turn}
+use Rattle.cpu.proofs.Layered.{laws_of, layered, told_cpu, told_turn, left_alone}
 use Rattle.cpu.proofs.cpus.Cpu.compute.Goals as goal
 
 pub returns-clause-is : goal.returns-clause-is
@@ -21,17 +20,10 @@ returns-clause-is g c =
     (vec_capacity p.trace)) (sym c.note_compute.ensures)
     (noted_compute (valid_cpu c.requires.is) c.args.thread c.requires.chosen)
 
-pub returns-clause-programs : goal.returns-clause-programs
-returns-clause-programs g c = ap programs_of c.note_compute.ensures ∙ programs_with c.args.self.now.guests.items c.args.thread.0 _ (λ x. refl)
-
-pub returns-clause-seen : goal.returns-clause-seen
-returns-clause-seen g c = none_seen _ _ _ _ refl
-
-pub returns-clause-moves : goal.returns-clause-moves
-returns-clause-moves g c = none_moved _ _ _ _ refl
-
-pub returns-clause-grows : goal.returns-clause-grows
-returns-clause-grows g c = λ step. none_grow _ _ _ _ refl
+pub returns-clause-leaves : goal.returns-clause-leaves
+returns-clause-leaves g c =
+    let programs = ap programs_of c.note_compute.ensures ∙ programs_with c.args.self.now.guests.items c.args.thread.0 _ (λ x. refl) in
+    left_alone g.I.IpcLayer c.args.m.now c.args.self.now _ c.requires.number refl refl refl programs
 
 pub returns-clause-table : goal.returns-clause-table
 returns-clause-table g c = λ step.

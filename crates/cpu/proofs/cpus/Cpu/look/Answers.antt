@@ -1,8 +1,8 @@
-use Rattle.std.proofs.Common.{ap, subst}
+use Rattle.std.proofs.Common.{ap, subst, refl, ◌∙◌}
 use Rattle.event_log.specs.declared.ids.CpuId.{CpuId}
 use Rattle.layer_traits.specs.Looks.{Tries}
 use Rattle.cpu.proofs.CpuStates.{valid_cpu}
-use Rattle.cpu.proofs.Passing.{look_grows, others_same}
+use Rattle.cpu.proofs.Passing.{look_grows, others_same, others_grow}
 use Rattle.cpu.proofs.Schedules.{seen_stays}
 use Rattle.cpu.proofs.TableCalls.{looked_steps}
 use Rattle.cpu.proofs.cpus.Cpu.look.Goals as goal
@@ -19,13 +19,29 @@ returns-clause-is g c =
     (others_same (λ d. I.ActsFor m d) p.number (I.seen m) (I.seen c.look.new.m) c.look.ensures.seen
     (subst (λ (d : CpuId). I.ActsFor m d) c.requires.number acts)))
 
-pub returns-clause-grows : goal.returns-clause-grows
-returns-clause-grows g c = λ step.
+pub returns-clause-leaves : goal.returns-clause-leaves
+returns-clause-leaves g c =
     let I = g.I.IpcLayer in
     let m = c.args.m.now in
-    look_grows (λ d. I.ActsFor m d) c.args.self.now.number (I.acts m) (I.acts c.look.new.m) c.look.result
-    (λ looked. subst (λ (d : CpuId). Tries (λ e. I.ActsFor m e) d (I.acts m) (I.acts c.look.new.m)) c.requires.number (c.look.ensures.tries step looked))
-    (λ no. ap I.acts (c.look.ensures.still no).1)
+    let e = c.look.ensures in
+    record {
+      number = refl;
+      limit = refl;
+      cpu = e.cpu ∙ c.requires.number;
+      programs = refl;
+      seen = others_grow _ _ _ _ e.seen;
+      moves = rw c.requires.number at e.moves;
+      grows = λ step. look_grows (λ d. I.ActsFor m d) c.args.self.now.number (I.acts m) (I.acts c.look.new.m) c.look.result
+          (λ looked. subst (λ (d : CpuId). Tries (λ e. I.ActsFor m e) d (I.acts m) (I.acts c.look.new.m)) c.requires.number (e.tries step looked))
+          (λ no. ap I.acts (e.still no).1);
+      opening = e.opening;
+      caps = e.caps;
+      homes = e.homes;
+      site = e.site;
+      room = e.room;
+      acts = e.acts;
+      others = λ q apart fits. e.others q (rw c.requires.number apart) fits;
+    }
 
 pub returns-clause-table : goal.returns-clause-table
 returns-clause-table g c = λ step.

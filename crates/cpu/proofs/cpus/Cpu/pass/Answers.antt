@@ -1,12 +1,13 @@
-use Rattle.std.proofs.Common.{rules, ◌≡◌, true, false, ◌++◌, Option, is_some, ap, sym}
+use Rattle.std.proofs.Common.{rules, ◌≡◌, true, false, ◌++◌, Option, is_some, ap, sym, refl}
 use Rattle.std.proofs.Common.{◌∙◌, subst, if◌then◌else◌}
 use Rattle.event_log.specs.declared.ids.CpuId.{CpuId}
 use Rattle.event_log.specs.declared.ids.Tid.{Tid}
 use Rattle.layer_traits.specs.Places.{pending_by}
 use Rattle.cpu.specs.Cpus.{ActsGrow, passed_by, programs_of}
-use Rattle.cpu.proofs.Passing.{doing_done, doing_waits, follows_grow, others_same, programs_passed}
+use Rattle.cpu.proofs.Passing.{doing_done, doing_waits, follows_grow, others_same, programs_passed, passed_grows, others_grow}
 use Rattle.cpu.proofs.Schedules.{current_within, may_pass, noted_done, noted_wait}
 use Rattle.layer_traits.specs.QueueBlocks.{homes_in}
+use Rattle.layer_traits.specs.BufferLaw.{MovesGrow}
 use Rattle.cpu.proofs.TableCalls.{ToldPass, hand_kept, passed_steps, passed_tabled}
 use Rattle.cpu.proofs.CpuStates.{valid_cpu}
 use Rattle.cpu.proofs.Layered.{acts_for, laws_of, layered, runs_home, told_cpu, told_turn}
@@ -43,16 +44,29 @@ returns-then-is_some-clause-is g c =
     (c.pass-done.ensures.doing ∙ doing_done c.args.pass c.pass-done.result some)
     (c.note_pass.ensures ∙ ap (λ (o : Option Tid). passed_by o p.guests.items c.args.pass) c.current-runs.ensures))
 
-pub returns-then-is_some-clause-programs : goal.returns-then-is_some-clause-programs
-returns-then-is_some-clause-programs g c =
-    ap programs_of c.note_pass.ensures ∙ programs_passed c.current-runs.result c.args.self.now.guests.items c.args.pass
-
-pub returns-then-is_some-clause-grows : goal.returns-then-is_some-clause-grows
-returns-then-is_some-clause-grows g c = λ step.
+pub returns-then-is_some-clause-leaves : goal.returns-then-is_some-clause-leaves
+returns-then-is_some-clause-leaves g c =
     let I = g.I.IpcLayer in
     let m = c.args.m.now in
-    subst (λ (d : CpuId). ActsGrow (λ e. I.ActsFor m e) d (I.acts m) (I.acts c.pass-done.new.m)) c.requires.number
-    (follows_grow _ _ _ _ _ _ _ _ (c.pass-done.ensures.follows step))
+    let e = c.pass-done.ensures in
+    record {
+      number = refl;
+      limit = refl;
+      cpu = e.cpu ∙ c.requires.number;
+      programs = ap programs_of c.note_pass.ensures ∙ programs_passed c.current-runs.result c.args.self.now.guests.items c.args.pass;
+      seen = others_grow _ _ _ _ e.seen;
+      moves = subst (λ (d : CpuId). MovesGrow (λ e. I.ActsFor m e) d (I.moves m) (I.moves c.pass-done.new.m)) c.requires.number
+          (passed_grows _ _ _ _ _ _ _ _ _ e.passed);
+      grows = λ step. subst (λ (d : CpuId). ActsGrow (λ e. I.ActsFor m e) d (I.acts m) (I.acts c.pass-done.new.m)) c.requires.number
+          (follows_grow _ _ _ _ _ _ _ _ (e.follows step));
+      opening = e.opening;
+      caps = e.caps;
+      homes = e.homes;
+      site = e.site;
+      room = e.room;
+      acts = e.acts;
+      others = λ q apart fits. e.others q (rw c.requires.number apart) fits;
+    }
 
 pub returns-else-is_some-clause-is : goal.returns-else-is_some-clause-is
 returns-else-is_some-clause-is g c =
@@ -69,12 +83,29 @@ returns-else-is_some-clause-is g c =
     (rw none at told.after)
     (c.pass-done.ensures.doing ∙ doing_waits c.args.pass c.pass-done.result none))
 
-pub returns-else-is_some-clause-grows : goal.returns-else-is_some-clause-grows
-returns-else-is_some-clause-grows g c = λ step.
+pub returns-else-is_some-clause-leaves : goal.returns-else-is_some-clause-leaves
+returns-else-is_some-clause-leaves g c =
     let I = g.I.IpcLayer in
     let m = c.args.m.now in
-    subst (λ (d : CpuId). ActsGrow (λ e. I.ActsFor m e) d (I.acts m) (I.acts c.pass-done.new.m)) c.requires.number
-    (follows_grow _ _ _ _ _ _ _ _ (c.pass-done.ensures.follows step))
+    let e = c.pass-done.ensures in
+    record {
+      number = refl;
+      limit = refl;
+      cpu = e.cpu ∙ c.requires.number;
+      programs = refl;
+      seen = others_grow _ _ _ _ e.seen;
+      moves = subst (λ (d : CpuId). MovesGrow (λ e. I.ActsFor m e) d (I.moves m) (I.moves c.pass-done.new.m)) c.requires.number
+          (passed_grows _ _ _ _ _ _ _ _ _ e.passed);
+      grows = λ step. subst (λ (d : CpuId). ActsGrow (λ e. I.ActsFor m e) d (I.acts m) (I.acts c.pass-done.new.m)) c.requires.number
+          (follows_grow _ _ _ _ _ _ _ _ (e.follows step));
+      opening = e.opening;
+      caps = e.caps;
+      homes = e.homes;
+      site = e.site;
+      room = e.room;
+      acts = e.acts;
+      others = λ q apart fits. e.others q (rw c.requires.number apart) fits;
+    }
 
 -- what a poll that ended the pass leaves of the CPU over the tower
 abbrev done_told : (g : Over) (c : goal.After-note_pass g) (step : g.I.IpcLayer.IsStepwise)

@@ -1,4 +1,5 @@
 use Rattle.std.proofs.Common.{◌≡◌, ℕ, map, Some, ap, sym, ◌∙◌, subst}
+use Rattle.std.proofs.lemmas.Option.{same_Some}
 use Rattle.std.specs.Prelude.{Option, slice_get}
 use Rattle.event_log.specs.declared.ids.CpuId.{CpuId}
 use Rattle.cpu.specs.declared.cpus.Cpu.{Cpu}
@@ -11,7 +12,6 @@ use Rattle.cpu.specs.Cpus.{step_answer}
 use Rattle.cpu.specs.Table.Steps.{cpu_step}
 use Rattle.cpu.specs.Tower.Composed.{named}
 use Rattle.cpu.proofs.TableCalls.{answers_step}
-use Rattle.cpu.proofs.TableHalts.{some_same}
 use Rattle.cpu.proofs.CpuStates.{valid_cpu}
 use Rattle.cpu.proofs.Layered.{laws_of, layered, runs_home, told_cpu, told_turn}
 use Rattle.cpu.proofs.systems.System.halted.Goals as goal
@@ -58,7 +58,7 @@ returns-clause-table g c =
     let there_now = subst (λ (k : ℕ). slice_get (map shown items) k ≡ Some (shown p)) c.from.ensures there in
     let number_is : p.number ≡ c.args.cpu = one.number_is ∙ ap (λ (j : ℕ). cpu_at j) c.from.ensures in
     rw (← c.self.view_is) (λ step setup goes q at_q.
-    let same : shown p ≡ q = some_same (shown p) q (sym there_now ∙ at_q) in
+    let same : shown p ≡ q = same_Some (shown p) q (sym there_now ∙ at_q) in
     let answers = answers_step (told_cpu cpu step) _ _ (told_turn cpu step) setup (goes.each c.from.result (shown p) there) in
     subst (λ (x : CpuShown). (cpu_step setup c.args.cpu x.private (named (I.acts m))).answer ≡ step_answer (own_reason_in
     (slice_get (map shown items) c.args.cpu.0))) same

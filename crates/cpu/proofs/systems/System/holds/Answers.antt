@@ -4,12 +4,12 @@ use Rattle.std.proofs.lemmas.List.{length-map}
 use Rattle.event_log.specs.declared.entries.Entry.{Entry}
 use Rattle.event_log.specs.declared.ids.TheConstants.{CPUS}
 use Rattle.layer_traits.proofs.EffectRunLemmas.{effects_are_run}
-use Rattle.cpu.specs.Claims.{FollowPrograms, HasOneOrder, MovesAgree, Shown, StandsOnce, StayHome, buffer_at, cpu_shown, shown_of}
+use Rattle.cpu.specs.Claims.{FollowPrograms, HasOneOrder, MovesAgree, Shown, StandsOnce, StayHome, buffer_at}
 use Rattle.cpu.proofs.ListReads.{there_is}
 use Rattle.cpu.proofs.Onces.{once_of}
-use Rattle.cpu.proofs.Orders.{closed_by_order, each_has, follow_programs, stay_home, traces_interleaved}
+use Rattle.cpu.proofs.Orders.{closed_by_order, follow_programs, stay_home, traces_interleaved}
 use Rattle.cpu.specs.Sound.{SoundByTable}
-use Rattle.cpu.proofs.Sounding.{Told, shown_in, sound_of}
+use Rattle.cpu.proofs.Sounding.{shown_in, sound_of}
 use Rattle.std.specs.Prelude.{Some}
 use Rattle.event_log.specs.declared.ids.CpuId.{CpuId}
 use Rattle.event_log.specs.declared.ids.LockId.TheVariants.{Pending}
@@ -18,7 +18,6 @@ use Rattle.event_log.proofs.Renaming.{phase_renamed}
 use Rattle.layer_traits.specs.OnePlace.{cpu_at}
 use Rattle.layer_traits.specs.Places.{Threads, pending_by}
 use Rattle.layer_traits.specs.Plans.{is_in_section}
-use Rattle.cpu.specs.declared.cpus.Cpu.{Cpu}
 use Rattle.cpu.specs.Cpus.{halted_at as own_halted_at}
 use Rattle.cpu.specs.Sound.{IsSetupFor}
 use Rattle.cpu.specs.Table.Blocks.{OfPending}
@@ -32,6 +31,7 @@ use Rattle.cpu.proofs.TableCalls.{halted_told}
 use Rattle.cpu.proofs.Telling.{has_buffer, pending_told}
 use Rattle.cpu.proofs.Layered.{laws_of, layered, told_cpu}
 use Rattle.cpu.proofs.systems.System.holds.Goals as goal
+use Rattle.cpu.proofs.LayeredSteps.{shown_by, cpus_have, told_by}
 
 pub returns-clause-sound : goal.returns-clause-sound
 returns-clause-sound g c = λ step. subst (λ (s : Shown). SoundByTable s) c.self.view_is (sound_of _ (c.self.invariant.sound.1 step))
@@ -44,10 +44,8 @@ returns-clause-agree g c =
     let is = c.self.invariant in
     let some : 0 < CPUS = let least = is.some in let most = is.most in omega (arith, least, most) in
     let acts = is.acts_for (record { 0 = 0 }) some in
-    let each = each_has _ _ _ _ _ _ _ _ _ _ _ (λ x. I.is_inside x.part) (λ x. I.own x.part) _ _ _ (I.moves m) c.self.inside.cpus.items is.each
-    (λ x fits. law.stands x.part m fits) in
-    let count = length-map c.self.inside.cpus.items (λ x. cpu_shown (I.threads x.part) x.guests.items x.trace.items x.limit (I.is_inside x.part)
-    (I.own x.part)) in
+    let each = cpus_have I m c.self.inside.cpus.items is.each (λ part fits. law.stands part m fits) in
+    let count = length-map c.self.inside.cpus.items (shown_by I) in
     subst (λ (s : Shown). MovesAgree s) c.self.view_is (record {
       lawful = law.moved m (record { 0 = 0 }) acts;
       stands = λ k p at. (each k p at).stands;
@@ -64,22 +62,13 @@ returns-clause-told g c = λ step.
     let zero : CpuId = cpu_at 0 in
     let some : 0 < CPUS = let least = is.some in let most = is.most in omega (arith, least, most) in
     let acts = is.acts_for zero some in
-    let shown = λ (x : Cpu g.row.I.Denot g.row.I-Machine.Denot).
-    cpu_shown (I.threads x.part) x.guests.items x.trace.items x.limit (I.is_inside x.part) (I.own x.part) in
+    let shown = shown_by I in
     let count = length-map items shown in
     let are = law.moves_are step m zero acts in
     let first = there_is items 0 is.some in
     let one = (is.each 0 first.0 first.1).holds in
     let tabled = one.3 step in
-    let machine : Told = record {
-      caps = I.caps m;
-      homes = I.homes_of m;
-      seen = I.seen m;
-      lines = I.lines m;
-      owner = g.I.Owned.owner m;
-      moves = I.moves m;
-      acts = I.acts m;
-    } in
+    let machine = told_by I g.I.Owned.owner m in
     let s = shown_in machine (map shown items) c.self.inside.room c.self.inside.taken in
     let caps : (setup : Setup) → IsSetupFor setup s → setup.caps ≡ I.caps m =
     λ setup goes. (goes.goes.each 0 (shown first.0) (shows_at shown items 0 first.0 first.1)).caps_are in
@@ -117,10 +106,8 @@ returns-clause-one_order g c =
     let is = c.self.invariant in
     let some : 0 < CPUS = let least = is.some in let most = is.most in omega (arith, least, most) in
     let acts = is.acts_for (record { 0 = 0 }) some in
-    let each = each_has _ _ _ _ _ _ _ _ _ _ _ (λ x. I.is_inside x.part) (λ x. I.own x.part) _ _ _
-    (I.moves m) c.self.inside.cpus.items is.each (λ x fits. law.stands x.part m fits) in
-    let count =
-    length-map c.self.inside.cpus.items (λ x. cpu_shown (I.threads x.part) x.guests.items x.trace.items x.limit (I.is_inside x.part) (I.own x.part)) in
+    let each = cpus_have I m c.self.inside.cpus.items is.each (λ part fits. law.stands part m fits) in
+    let count = length-map c.self.inside.cpus.items (shown_by I) in
     let few : length (I.seen m) < 2 ^ 64 = let short = is.short in let used = is.used in let small = is.small in omega (arith, short, used, small) in
     subst (λ (s : Shown). HasOneOrder s) c.self.view_is (record {
       order = reverse (I.seen m);
@@ -135,8 +122,7 @@ returns-clause-follow g c =
     let law = g.met.I.IpcLayer in
     let m = c.self.inside.machine in
     let is = c.self.invariant in
-    let each = each_has _ _ _ _ _ _ _ _ _ _ _ (λ x. I.is_inside x.part) (λ x. I.own x.part) _ _ _
-    (I.moves m) c.self.inside.cpus.items is.each (λ x fits. law.stands x.part m fits) in
+    let each = cpus_have I m c.self.inside.cpus.items is.each (λ part fits. law.stands part m fits) in
     subst (λ (s : Shown). FollowPrograms s) c.self.view_is (λ k p t guest at there. follow_programs _ _ _ _ k p (each k p at) t guest there)
 
 pub returns-clause-stay : goal.returns-clause-stay
@@ -145,8 +131,7 @@ returns-clause-stay g c =
     let law = g.met.I.IpcLayer in
     let m = c.self.inside.machine in
     let is = c.self.invariant in
-    let each = each_has _ _ _ _ _ _ _ _ _ _ _ (λ x. I.is_inside x.part) (λ x. I.own x.part) _ _ _
-    (I.moves m) c.self.inside.cpus.items is.each (λ x fits. law.stands x.part m fits) in
+    let each = cpus_have I m c.self.inside.cpus.items is.each (λ part fits. law.stands part m fits) in
     subst (λ (s : Shown). StayHome s) c.self.view_is (λ k p at. stay_home _ _ _ _ k p (each k p at))
 
 pub returns-clause-once : goal.returns-clause-once
@@ -157,16 +142,12 @@ returns-clause-once g c =
     let is = c.self.invariant in
     let some : 0 < CPUS = let least = is.some in let most = is.most in omega (arith, least, most) in
     let acts = is.acts_for (record { 0 = 0 }) some in
-    let each = each_has _ _ _ _ _ _ _ _ _ _ _ (λ x. I.is_inside x.part) (λ x. I.own x.part) _ _ _
-    (I.moves m) c.self.inside.cpus.items is.each (λ x fits. law.stands x.part m fits) in
-    let count =
-    length-map c.self.inside.cpus.items (λ x. cpu_shown (I.threads x.part) x.guests.items x.trace.items x.limit (I.is_inside x.part) (I.own x.part)) in
+    let each = cpus_have I m c.self.inside.cpus.items is.each (λ part fits. law.stands part m fits) in
+    let count = length-map c.self.inside.cpus.items (shown_by I) in
     let first = there_is c.self.inside.cpus.items 0 is.some in
     let fits = (is.each 0 first.0 first.1).holds.0 in
     subst (λ (s : Shown). StandsOnce s) c.self.view_is
     (once_of
-    (shown_of (I.caps m) (I.homes_of m) (I.seen m) (I.lines m) (g.I.Owned.owner m) (I.moves m) (I.acts m)
-    (map (λ x. cpu_shown (I.threads x.part) x.guests.items x.trace.items x.limit (I.is_inside x.part) (I.own x.part)) c.self.inside.cpus.items)
-    c.self.inside.room c.self.inside.taken)
+    (shown_in (told_by I g.I.Owned.owner m) (map (shown_by I) c.self.inside.cpus.items) c.self.inside.room c.self.inside.taken)
     (length (I.caps m)) (I.lines m) refl (law.lists first.0.part m fits)
     (λ t home at. let inside = is.within t home at in omega (arith, inside, count)) (law.moved m (record { 0 = 0 }) acts) (λ k p at. (each k p at).stands))

@@ -1,17 +1,15 @@
 use Rattle.std.proofs.Common.{◌<◌, map, ◌∙◌, arith}
 use Rattle.event_log.specs.declared.ids.TheConstants.{CPUS}
-use Rattle.cpu.specs.declared.cpus.Cpu.{Cpu}
-use Rattle.cpu.specs.Claims.{cpu_shown}
 use Rattle.cpu.proofs.ListReads.{shows_at, there_is}
 use Rattle.cpu.proofs.Tellers.{item_at, own_place, place_here, up_to, up_to_end}
 use Rattle.cpu.proofs.systems.System.place.Goals as goal
+use Rattle.cpu.proofs.LayeredSteps.{shown_by}
 
 pub returns-in-Some : goal.returns-in-Some
 returns-in-Some g c =
     let I = g.I.IpcLayer in
     let items = c.self.inside.cpus.items in
-    let shown = λ (x : Cpu g.row.I.Denot g.row.I-Machine.Denot).
-    cpu_shown (I.threads x.part) x.guests.items x.trace.items x.limit (I.is_inside x.part) (I.own x.part) in
+    let shown = shown_by I in
     let x = c.at-item.result in
     let at = item_at items c.deref-at-items.result.now c.loop-at.at-index x c.deref-at-items.ensures.value c.loop-at-test.true c.at-item.is in
     let is = c.self.invariant.each c.loop-at.at-index x at in

@@ -1,9 +1,10 @@
-use Rattle.std.proofs.Common.{ap, ◌∙◌, length, subst, map, reverse, vec_capacity}
+use Rattle.std.proofs.Common.{ap, ◌∙◌, subst, map, reverse}
 use Rattle.event_log.specs.Actions.{AreLegal}
 use Rattle.event_log.specs.Sections.{sections_in}
 use Rattle.layer_traits.specs.BufferEffects.{effects_in}
 use Rattle.layer_traits.specs.Queues.{buffer_sections, event_of}
 use Rattle.cpu.specs.Cpus.{of_cpu}
+use Rattle.cpu.proofs.Layered.{laws_of, layered, told_cpu}
 use Rattle.cpu_workers.specs.Orders.{HasFollowed, IsTraceOf}
 use Rattle.cpu_workers.specs.Working.{Working}
 use Rattle.cpu_workers.proofs.Planning.{has_followed}
@@ -32,11 +33,8 @@ returns-clause-legal g c =
 pub returns-clause-follows : goal.returns-clause-follows
 returns-clause-follows g c =
     let I = g.I.IpcLayer in
-    let law = g.met.I.IpcLayer in
     let m = c.self.inside.machine in
     let p = c.self.inside.cpu in
     let is = c.self.invariant in
-    let tells = law.tells is.stepwise p.part in
-    subst (λ (w : Working). HasFollowed w) c.self.view_is
-    (has_followed (I.homes_of m) (I.caps m) (length (I.caps m)) (I.seen m) (I.own p.part) (I.threads p.part) (I.talks p.part) (I.doing p.part)
-    p.number p.guests.items p.trace.items p.limit (vec_capacity p.trace) (I.opening m) (I.acts m) (I.site m) tells.0 tells.1 is.is is.tabled)
+    let cpu = layered (laws_of g.met.I.IpcLayer) m p is.fits is.number is.is (λ step. is.tabled) in
+    subst (λ (w : Working). HasFollowed w) c.self.view_is (has_followed (told_cpu cpu is.stepwise) (I.acts m) (I.site m))

@@ -15,11 +15,11 @@ invariant_of-self g c =
     record {
       stepwise = is.stepwise;
       fits = e.fits;
-      number = e.cpu ∙ sym e.number;
+      number = e.leaves.cpu ∙ sym e.leaves.number;
       is = e.is;
       tabled = e.table is.stepwise;
       room = is.room;
-      opens = ap inner e.opening ∙ (is.opens ∙ ap opening_locks (sym e.caps));
+      opens = ap inner e.leaves.opening ∙ (is.opens ∙ ap opening_locks (sym e.leaves.caps));
     }
 
 pub returns-clause-turned : goal.returns-clause-turned

@@ -1,0 +1,102 @@
+-- A system over a layer of message calls, after a step of one of its CPUs.
+use Rattle.std.proofs.Common.{◌≡◌, ℕ, ◌+◌, ◌<◌, List, length, map, Option, Some, slice_set, vec_capacity, subst, ◌∙◌, refl}
+use Rattle.std.specs.Prelude.{slice_get}
+use Rattle.std.specs.List.{AllByRecursion}
+use Rattle.event_log.specs.declared.ids.BufId.{BufId}
+use Rattle.event_log.specs.declared.ids.TheConstants.{CPUS}
+use Rattle.event_log.specs.declared.ids.Tid.{Tid}
+use Rattle.event_log.specs.declared.ids.CpuId.{CpuId}
+use Rattle.layer_traits.specs.declared.ipc_layers.IpcLayer.{Ghosts}
+use Rattle.layer_traits.specs.Places.{Stands}
+use Rattle.cpu.specs.declared.cpus.Cpu.{Cpu}
+use Rattle.cpu.specs.Claims.{CpuShown, cpu_shown}
+use Rattle.cpu.specs.CpuSteps.{IsCpuAt, IsTabledAt, Leaves}
+use Rattle.cpu.specs.Sound.{IsReachedByTable}
+use Rattle.cpu.specs.Cpus.{IsCpu, programs_of}
+use Rattle.cpu.specs.Systems.{IsAt, SamePlan}
+use Rattle.cpu.proofs.Advances.{Holds, Works, stepped}
+use Rattle.cpu.proofs.Sounding.{Told, shown_in}
+use Rattle.cpu.proofs.ListReads.{shown_at, shown_same, shown_length}
+use Rattle.cpu.proofs.Orders.{Has}
+
+-- what a CPU shows
+abbrev pub shown_by : {P M : Type 0} → Ghosts P M → Cpu P M → CpuShown
+shown_by I x = cpu_shown (I.threads x.part) x.guests.items x.trace.items x.limit (I.is_inside x.part) (I.own x.part)
+
+-- what the machine tells, who owns its locks among it
+abbrev pub told_by : {P M : Type 0} → Ghosts P M → (M → BufId → Option Tid) → M → Told
+told_by I owner m = record {
+  caps = I.caps m;
+  homes = I.homes_of m;
+  seen = I.seen m;
+  lines = I.lines m;
+  owner = owner m;
+  moves = I.moves m;
+  acts = I.acts m;
+}
+
+-- the CPUs of a system of so many threads
+abbrev pub works_by : {P M : Type 0} → Ghosts P M → (M → BufId → Option Tid) → ℕ → Works M (Cpu P M)
+works_by I owner threads = record {
+  Fits = λ x m. I.Fits x.part m;
+  number = λ x. x.number;
+  cpu = λ x. I.cpu_of x.part;
+  shown = shown_by I;
+  talks = λ x. I.talks x.part;
+  doing = λ x. I.doing x.part;
+  capacity = λ x. vec_capacity x.trace;
+  ActsFor = λ m c. I.ActsFor m c;
+  IsStepwise = I.IsStepwise;
+  told = told_by I owner;
+  left = λ m. I.room m;
+  Tabled = λ m x. I.IsStepwise → IsTabledAt I m x;
+  Sound = λ m cpus space done. (threads ≡ length (I.homes_of m))
+      × (I.IsStepwise → IsReachedByTable (shown_in (told_by I owner m) (map (shown_by I) cpus) space done));
+}
+
+module _ {P M : Type 0} (I : Ghosts P M) (owner : M → BufId → Option Tid) (threads : ℕ) where
+  abbrev W : Works M (Cpu P M)
+  W = works_by I owner threads
+
+  -- CPU number k took a step, from x to y
+  pub went_on : (m n : M) (cpus : List (Cpu P M)) (room taken k : ℕ) (x y : Cpu P M) → Holds W m cpus room taken
+      → W.Sound n (slice_set cpus k y) room (taken + 1) → slice_get cpus k ≡ Some x → I.Fits y.part n → IsCpuAt I n y → (I.IsStepwise → IsTabledAt I n y)
+      → Leaves I m x n y → AllByRecursion (λ e. e.cpu.0 < CPUS) (I.seen n) → taken < room → Holds W n (slice_set cpus k y) room (taken + 1)
+  went_on m n cpus room taken k x y is sound at fits keeps table left known live =
+      stepped W m n cpus room taken k x y is sound at left.number left.cpu fits keeps table
+      (λ z before step. rw (left.homes, left.caps, left.opening) (before step)) (λ z other there. left.others z.part other there) left.acts left.seen
+      left.grows known left.homes left.caps left.room live
+
+  -- and the system keeps its plan
+  pub plan_kept : (m n : M) (cpus : List (Cpu P M)) (room taken later k : ℕ) (x y : Cpu P M) → slice_get cpus k ≡ Some x → Leaves I m x n y
+      → SamePlan (shown_in (told_by I owner m) (map (shown_by I) cpus) room taken)
+      (shown_in (told_by I owner n) (map (shown_by I) (slice_set cpus k y)) room later)
+  plan_kept m n cpus room taken later k x y at left = record {
+    caps = left.caps;
+    homes = left.homes;
+    programs = shown_same (shown_by I) (λ (p : CpuShown). programs_of p.guests) cpus k x y at left.programs;
+    count = shown_length (shown_by I) cpus k y;
+    limits = shown_same (shown_by I) (λ (p : CpuShown). p.limit) cpus k x y at left.limit;
+    room = refl;
+  }
+
+-- from what always holds of each CPU to what is shown of it
+pub cpus_have : {P M : Type 0} (I : Ghosts P M) (m : M) (cpus : List (Cpu P M))
+    → ((k : ℕ) (x : Cpu P M) → slice_get cpus k ≡ Some x
+    → IsAt (λ y. I.Fits y.part m × (I.cpu_of y.part ≡ y.number) × IsCpuAt I m y × (I.IsStepwise → IsTabledAt I m y)) (λ y. y.number) k x)
+    → ((part : P) → I.Fits part m → Stands (I.homes_of m) (I.cpu_of part) (I.moves m) (I.threads part))
+    → (k : ℕ) (p : CpuShown) → slice_get (map (shown_by I) cpus) k ≡ Some p → Has (I.homes_of m) (length (I.caps m)) (I.seen m) (I.moves m) k p
+cpus_have {P} {M} I m cpus each stand = shown_at (shown_by I) (λ k p. Has (I.homes_of m) (length (I.caps m)) (I.seen m) (I.moves m) k p) cpus has_of
+  where
+    has_of : (k : ℕ) (x : Cpu P M) → slice_get cpus k ≡ Some x → Has (I.homes_of m) (length (I.caps m)) (I.seen m) (I.moves m) k (shown_by I x)
+    has_of k x there =
+        let at = (each k x there).number_is in
+        let holds = (each k x there).holds in
+        record {
+          talks = I.talks x.part;
+          doing = I.doing x.part;
+          capacity = vec_capacity x.trace;
+          is = subst (λ (c : CpuId). IsCpu (I.homes_of m) (length (I.caps m)) (I.seen m) (I.threads x.part) (I.talks x.part) (I.doing x.part) c x.guests.items
+              x.trace.items x.limit (vec_capacity x.trace)) at holds.2;
+          stands = subst (λ (c : CpuId). Stands (I.homes_of m) c (I.moves m) (I.threads x.part)) (holds.1 ∙ at) (stand x.part holds.0);
+        }
