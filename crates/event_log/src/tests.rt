@@ -140,7 +140,10 @@ fn what_breaks_a_section_is_not_legal(rt: HostRuntime) {
     let inside = [draw(A, LOCK, 0), look(A, LOCK, 0, 0)];
     assert!(rt; is_legal(&inside));
     assert!(rt; !is_legal(&[draw(A, LOCK, 1)]), "a ticket that was not due");
-    assert!(rt; !is_legal(&[draw(CpuId(CPUS as u8), LOCK, 0)]), "no such CPU");
+    assert!(rt;
+        !is_legal(&[draw(CpuId(CPUS as u8), LOCK, 0)]),
+        "no such CPU"
+    );
     assert!(rt;
         !is_legal(&[draw(A, LOCK, 0), draw(A, OTHER, 0)]),
         "a draw while it waits"
