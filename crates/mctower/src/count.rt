@@ -181,6 +181,7 @@ pub fn count_plain(alloc: Global, cpus: u8, times: u64, lock: LockKind) -> Resul
 #[cfg(test)]
 mod tests {
     use super::*;
+    use event_log::CPUS;
     use std::test::Fail;
 
     #[test]
@@ -208,7 +209,11 @@ mod tests {
         let machine = count_rounds::<Grant<GrantPlain<AddOne>>>(rt.alloc(), 1, 2)?;
         let words = machine.words(NUMBER);
         assert_eq!(rt; words.next, 2);
-        assert_eq!(rt; words.words, [1, 2, 3, 0, 0, 0, 0, 0]);
+        let mut wanted = [0; CPUS];
+        wanted[0] = 1;
+        wanted[1] = 2;
+        wanted[2] = 3;
+        assert_eq!(rt; words.words, wanted);
         assert_eq!(rt; number_in::<Grant<GrantPlain<AddOne>>>(&machine), 2);
         Ok(())
     }
