@@ -15,7 +15,7 @@ import subprocess
 import sys
 import tomllib
 
-CPUS, THREADS, BUFFERS, CAPACITY, TRACE, ENTRIES = 8, 64, 16, 32, 65536, 524288
+CPUS, THREADS, BUFFERS, CAPACITY, TRACE, ENTRIES = 16, 256, 16, 32, 65536, 1048576
 LINES, STEPS, WORD, WORDS = 256, 1048576, 2**64, 8
 ODD_NUMBERS = [b'00', b'01', b'', b'-', b'-1', b'+1', b'1.0', b'x', b'8', b'17', b'33',
                *(str(n).encode() for n in (CPUS - 1, CPUS, THREADS - 1, THREADS, ENTRIES - 1, ENTRIES)),

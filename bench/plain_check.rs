@@ -11,9 +11,9 @@ use std::io::Read;
 
 const SPELLING: &str = "Spelling(30)";
 const RANGE: &str = "Range(31)";
-const CPUS: u64 = 8;
-const THREADS: u64 = 64;
-const ENTRIES: u64 = 524_288;
+const CPUS: u64 = 16;
+const THREADS: u64 = 256;
+const ENTRIES: u64 = 1_048_576;
 
 /// The pieces of a line, just as many as are wanted.
 fn pieces<const N: usize>(line: &[u8]) -> Result<[&[u8]; N], &'static str> {

@@ -10,7 +10,7 @@ use std::sync::Barrier;
 use std::sync::atomic::{AtomicU64, Ordering::SeqCst};
 
 const LOOKS: u32 = 1000;
-const CPUS: usize = 8;
+const CPUS: usize = 16;
 
 #[repr(align(64))]
 struct Word(AtomicU64);

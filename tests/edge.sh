@@ -52,6 +52,8 @@ rows() {
   row 0 $'plain 6\ntable 6\n' '' 'mctower count --cpus 2 --times 3'
   row 0 $'plain 8000\ntable 8000\n' '' 'mctower count --cpus 8 --times 1000 --lock grant'
   row 0 $'plain 8000\ntable 8000\n' '' 'mctower count --cpus 8 --times 1000 --lock ticket'
+  row 0 $'plain 16000\ntable 16000\n' '' 'mctower count --cpus 16 --times 1000 --lock grant'
+  row 0 $'plain 16000\ntable 16000\n' '' 'mctower count --cpus 16 --times 1000 --lock ticket'
   row 0 "$sent" "$state" "$send"
   row 0 $'yes\n' "$state" "$send | mctower check"
   row 0 "$sent" $'cpu 0 AllEnded\n' "$thread"
@@ -61,6 +63,7 @@ rows() {
   # a bad command line
   row 2 '' '~mctower: ' 'mctower'
   row 2 '' '~mctower count' 'mctower count --cpus 0 --times 1'
+  row 2 '' '~mctower count' 'mctower count --cpus 17 --times 1'
   row 2 '' '~mctower count' 'mctower count --cpus 2 --times 3 --lock mcs'
   row 2 '' '~mctower threads' 'mctower threads < plans/one-send.toml'
   row 2 '' '~mctower threads' 'mctower threads --turns 0 < plans/one-send.toml'
@@ -69,13 +72,16 @@ rows() {
   row 2 '' $'error: BadSchedule(9)\n' 'mctower run --schedule 0, < plans/one-send.toml'
   # a refusal
   row 1 '' $'error: BadCpu(4)\n' 'mctower run --schedule 0,1 < plans/one-send.toml'
-  row 1 '' $'error: OutOfRange(22) cpus\n' 'echo cpus = 99 | mctower run'
-  row 1 '' $'error: OutOfRange(22) cpus\n' 'echo cpus = 99 | mctower threads --turns 9'
+  row 1 '' $'error: OutOfRange(22) cpus\n' 'echo cpus = 17 | mctower run'
+  row 1 '' $'error: OutOfRange(22) cpus\n' 'echo cpus = 17 | mctower threads --turns 9'
   row 1 '' $'error: BadToml(20)\n' "printf '# \\xff\\n' | mctower run"
   # each change of a trace text alone, and the first line with a fault
   verdict '1 Spelling(30)' 'head -c 0'
   verdict '1 Spelling(30)' "sed '1s/\$/\\r/'"
   verdict '2 Range(31)' "sed '2s/1/17/'"
+  row 0 $'yes\n' '' "printf '%s' '$sent' | sed '4s/e 0 0/e 15 255/' | mctower check"
+  verdict '4 Range(31)' "sed '4s/e 0/e 16/'"
+  verdict '4 Range(31)' "sed '4s/e 0 0/e 0 256/'"
   verdict '4 Range(31)' "sed '4s/7/18446744073709551616/'"
   verdict '4 Spelling(30)' "sed '4s/7/\\xff/'"
   verdict '4 Op(32)' "sed '4s/0 0\$/1 0/'"

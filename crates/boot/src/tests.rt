@@ -58,7 +58,7 @@ fn each_change_of_a_number_has_its_line(rt: HostRuntime) -> Result<(), Fail> {
         "MissingKey(21) cpus"
     );
     assert_eq!(rt;
-        changed(&rt, "cpus = 1", "cpus = 9")?.as_str(),
+        changed(&rt, "cpus = 1", "cpus = 17")?.as_str(),
         "OutOfRange(22) cpus"
     );
     assert_eq!(rt;
@@ -213,7 +213,7 @@ fn a_text_that_is_no_document_is_refused(rt: HostRuntime) -> Result<(), Fail> {
 /// Each key of the plan: at the end of its range, absent, of another kind, with an item of another
 /// kind, out of range.
 const KEYS: [(&str, &str, &str); 40] = [
-    ("cpus = 1", "cpus = 8", "read"),
+    ("cpus = 1", "cpus = 16", "read"),
     ("trace = 4", "trace = 1", "read"),
     ("[1]", "[1,2,3,4,5,6,7,8,9,10,11,12,13,14,15,32]", "read"),
     ("cpus = 1", "cpus = 1.0", "MissingKey(21) cpus"),
@@ -295,7 +295,7 @@ fn each_key_is_there_and_in_its_range(rt: HostRuntime) -> Result<(), Fail> {
 const TWO_FAULTS: [(&str, &str, &str); 13] = [
     (
         "cpus = 1\ntrace = 4",
-        "cpus = 9\ntrace = 0",
+        "cpus = 17\ntrace = 0",
         "OutOfRange(22) cpus",
     ),
     ("cpus = 1\ntrace = 4", "trace = 0", "MissingKey(21) cpus"),
@@ -337,7 +337,7 @@ const TWO_FAULTS: [(&str, &str, &str); 13] = [
         "\"send 1 r0\", \"what\"",
         "Guest(23) thread 0 line 3 UnknownWord(10)",
     ),
-    ("cpus = 1", "cpus = 9\n= 1", "BadToml(20)"),
+    ("cpus = 1", "cpus = 17\n= 1", "BadToml(20)"),
 ];
 
 #[test]
@@ -361,7 +361,7 @@ fn the_fault_that_is_tested_first_counts(rt: HostRuntime) -> Result<(), Fail> {
 #[test]
 fn a_plan_has_a_most_of_threads(rt: HostRuntime) -> Result<(), Fail> {
     let thread = "[[thread]]\ncpu = 0\nprogram = [\"exit\"]\n";
-    let more = thread.repeat(rt.alloc(), 63)?;
+    let more = thread.repeat(rt.alloc(), 255)?;
     let most = format!(in rt.alloc(); "{ONE_SEND}{more}")?;
     assert_eq!(rt; line(&rt, most.as_str())?.as_str(), "read");
     let over = format!(in rt.alloc(); "{most}{thread}")?;

@@ -7,11 +7,11 @@ ghost use Rattle.event_log.specs.Locks.{lock_number};
 
 /// How many CPUs a machine may have: they are numbered from 0 to `CPUS - 1`. A table indexed by
 /// CPU has this size.
-pub const CPUS: usize = 8;
+pub const CPUS: usize = 16;
 
 /// How many threads a machine may have: they are numbered from 0 to `THREADS - 1`. A table indexed
 /// by thread has this size.
-pub const THREADS: usize = 64;
+pub const THREADS: usize = 256;
 
 /// How many buffers a machine may have: they are numbered from 0 to `BUFFERS - 1`. A table indexed
 /// by buffer has this size.
@@ -25,7 +25,7 @@ pub const TRACE: usize = 65_536;
 
 /// How many entries the traces of all CPUs may have together, `CPUS` times `TRACE`. The op and the
 /// pos of an entry are less.
-pub const ENTRIES: usize = 524_288;
+pub const ENTRIES: usize = 1_048_576;
 
 /// A CPU by its number, from 0.
 #[derive(Clone, Copy, Debug, Default, PartialEq, Eq)]

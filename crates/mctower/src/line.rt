@@ -220,11 +220,11 @@ mod tests {
                 Order::Count(2, 3, LockKind::Grant)
             )
         );
-        let joined = ["count", "--lock=ticket", "--times=1000", "--cpus=8"];
+        let joined = ["count", "--lock=ticket", "--times=1000", "--cpus=16"];
         assert!(rt;
             matches!(
                 read_line(rt.alloc(), joined.as_slice())?,
-                Order::Count(8, 1000, LockKind::Ticket)
+                Order::Count(16, 1000, LockKind::Ticket)
             )
         );
         let spelled = ["count", "--times", "007", "--cpus=+1", "--lock", "grant"];

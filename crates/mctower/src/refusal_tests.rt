@@ -9,7 +9,7 @@ use std::thread::Threads;
 /// Each change of the plan of one send: a part of its text, what stands there instead, and the error line.
 const CHANGES: [(&str, &str, &str); 20] = [
     ("cpus = 1", "cpus = \"1\"", "MissingKey(21) cpus"),
-    ("cpus = 1", "cpus = 9", "OutOfRange(22) cpus"),
+    ("cpus = 1", "cpus = 17", "OutOfRange(22) cpus"),
     ("trace = 4", "", "MissingKey(21) trace"),
     ("trace = 4", "trace = 65537", "OutOfRange(22) trace"),
     ("[1]", "[\"1\"]", "MissingKey(21) buffers"),
@@ -156,7 +156,7 @@ fn a_bad_schedule_is_a_bad_command_line(rt: HostRuntime) -> Result<(), Fail> {
         );
         // It is read before any input, so before a plan that is refused.
         assert!(rt;
-            is_refused(&rt, words.as_slice(), b"cpus = 9", 2, line)?,
+            is_refused(&rt, words.as_slice(), b"cpus = 17", 2, line)?,
             "{schedule}"
         );
     }
@@ -174,7 +174,7 @@ fn a_cpu_that_the_plan_has_not_is_told_after_the_plan(rt: HostRuntime) -> Result
         );
         let line = "OutOfRange(22) cpus";
         assert!(rt;
-            is_refused(&rt, words.as_slice(), b"cpus = 9", 1, line)?,
+            is_refused(&rt, words.as_slice(), b"cpus = 17", 1, line)?,
             "{schedule}"
         );
     }

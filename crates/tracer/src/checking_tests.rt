@@ -113,16 +113,16 @@ const LINES: [(usize, &str, usize, Reason); 60] = [
     (4, "e 0 0 send 0 7 0 0 \n", 4, Reason::Spelling),
     (4, "e 0 0 send 0 7 0\n", 4, Reason::Spelling),
     (4, "e 0 0 give 0 7 0 0\n", 4, Reason::Spelling),
-    (4, "e 8 0 send 0 7 0 00\n", 4, Reason::Spelling),
+    (4, "e 16 0 send 0 7 0 00\n", 4, Reason::Spelling),
     (4, "E 0 0 send 0 7 0 0\n", 4, Reason::Spelling),
-    (4, "e 8 0 send 0 7 0 0\n", 4, Reason::Range),
-    (4, "e 0 64 send 0 7 0 0\n", 4, Reason::Range),
+    (4, "e 16 0 send 0 7 0 0\n", 4, Reason::Range),
+    (4, "e 0 256 send 0 7 0 0\n", 4, Reason::Range),
     (4, "e 0 0 send 1 7 0 0\n", 4, Reason::Range),
-    (4, "e 0 0 send 0 7 524288 0\n", 4, Reason::Range),
-    (4, "e 0 0 send 0 7 0 524288\n", 4, Reason::Range),
+    (4, "e 0 0 send 0 7 1048576 0\n", 4, Reason::Range),
+    (4, "e 0 0 send 0 7 0 1048576\n", 4, Reason::Range),
     (4, "e 0 0 recv 1 8 1 1\n", 4, Reason::Range),
-    (4, "e 0 0 recv 0 8 524287 1\n", 4, Reason::Op),
-    (4, "e 0 0 recv 0 8 0 524287\n", 4, Reason::Pos),
+    (4, "e 0 0 recv 0 8 1048575 1\n", 4, Reason::Op),
+    (4, "e 0 0 recv 0 8 0 1048575\n", 4, Reason::Pos),
     (4, "e 0 0 recv 0 8 0 0\n", 4, Reason::EmptyTake),
     (4, "e 0 0 send 0 7 0 0\ne 0 0 send 0 8 2 2\n", 5, Reason::Op),
     (
@@ -288,12 +288,12 @@ fn several_words_are_read_in_the_third_version(rt: HostRuntime) -> Result<(), Fa
     Ok(())
 }
 
-/// The text of 524,288 entries of buffer 0, of `more` behind them, and of nothing left.
+/// The text of 1,048,576 entries of buffer 0, of `more` behind them, and of nothing left.
 fn with_most_entries(alloc: Global, more: &str) -> Result<String, Fail> {
     let mut text = String::from_str(alloc, "mctower-trace 1\nbuffers 2\ncap 0 1\ncap 1 1\n")?;
-    for i in 0..262_144u64 {
+    for i in 0..524_288u64 {
         let op = i.wrapping_mul(2);
-        write!(text, "e 7 63 send 0 {i} {op} {i}\n")?;
+        write!(text, "e 15 255 send 0 {i} {op} {i}\n")?;
         write!(text, "e 0 0 recv 0 {i} {} {i}\n", op.wrapping_add(1))?;
     }
     write!(text, "{more}left 0\nleft 1\nend\n")?;
@@ -305,7 +305,10 @@ fn there_are_no_more_entries_than_the_limit(rt: HostRuntime) -> Result<(), Fail>
     let most = with_most_entries(rt.alloc(), "")?;
     assert_eq!(rt; check(most.as_bytes()), Verdict::Yes);
     let over = with_most_entries(rt.alloc(), "e 0 0 recv 1 7 1 1\n")?;
-    assert_eq!(rt; check(over.as_bytes()), Verdict::No(524_293, Reason::Range));
+    assert_eq!(rt;
+        check(over.as_bytes()),
+        Verdict::No(1_048_581, Reason::Range)
+    );
     Ok(())
 }
 
