@@ -1,7 +1,7 @@
 #!/usr/bin/env bash
 # Compares `mctower run` with the plain program of the step table over random plans and schedules: trace text, state lines
-# and status. It takes how many (500 where nothing is said), the first seed, and the program where it is another one than the gate's; its
-# last line counts what was equal.
+# and status. It takes how many (500 where nothing is said), the first seed, the program where it is another one than the gate's, and the
+# word `large` for systems up to the limits (16 CPUs, 256 threads), with schedules of up to 20,000 steps; its last line counts what was equal.
 # Build first: (cd crates/mctower && rt run -- count --cpus 1 --times 1).
 set -eu
 ours=${3:+$(realpath "$3")}
@@ -12,7 +12,8 @@ work=$(mktemp -d); trap 'rm -rf "$work"' EXIT
 rustc -O -o "$work/plain_tower" plain_tower.rs
 equal=0
 mkdir "$work/plans"
-python3 random_plan.py "$work/plans" "$first" "$count"
+most=3000; [ "${4:-}" = large ] && most=20000
+python3 random_plan.py "$work/plans" "$first" "$count" $most ${4:-}
 for seed in $(seq "$first" $((first + count - 1))); do
   plan=$work/plans/$seed.toml
   schedule=$(sed -n "s/^# *mctower run --schedule '\(.*\)' <.*/\1/p" "$plan")

@@ -1,17 +1,19 @@
 #!/usr/bin/env python3
 """Writes random plans, each with a schedule in the command of its first lines:
 
-    random_plan.py FOLDER FIRST COUNT [STEPS]
+    random_plan.py FOLDER FIRST COUNT [STEPS [large]]
 
 FOLDER/SEED.toml for COUNT seeds from FIRST on, with schedules of at most STEPS steps (3,000 where
 nothing is said). Small systems that block often: up to 4 CPUs, 8 threads and 3 buffers of little
 room, schedules that run a CPU for a while or hand over at every step, and traces that are sometimes
-too short. In every other plan threads close buffers, some of them twice, and calls have targets; in
+too short. With the word `large`, systems up to the limits: up to 16 CPUs, 256 threads and 16 buffers,
+of each every third as many as there may be, and longer schedules. In every other plan threads close buffers, some of them twice, and calls have targets; in
 every other one, whichever of these it is, they send and receive messages of several words."""
 import random
 import sys
 
 
+CPUS, THREADS, BUFFERS = 16, 256, 16
 WORDS = ["set", "add", "sub", "send", "recv", "yield", "exit", "loop", "close", "sendm", "recvm"]
 REGISTERS = [0, 1, 2, 3] * 3 + [4, 5, 6, 7]
 
@@ -43,9 +45,9 @@ def program(choose, buffers, closes, has_words):
     return lines
 
 
-def schedule(choose, cpus, most):
+def schedule(choose, cpus, most, items_at_most=40):
     items, left = [], most
-    for _ in range(choose.randint(1, 40)):
+    for _ in range(choose.randint(1, items_at_most)):
         steps = min(left, choose.choice([1, 1, 2, 3, choose.randint(1, 30), choose.randint(1, 80)]))
         if steps == 0:
             break
@@ -54,23 +56,31 @@ def schedule(choose, cpus, most):
     return ",".join(items)
 
 
-def plan(choose, most):
-    cpus, threads, buffers = choose.randint(1, 4), choose.randint(1, 8), choose.randint(1, 3)
+def up_to(choose, limit):
+    return choose.choice([limit, choose.randint(1, limit), choose.randint(1, limit)])
+
+
+def plan(choose, most, is_large=False):
+    if is_large:
+        cpus, threads, buffers = up_to(choose, CPUS), up_to(choose, THREADS), up_to(choose, BUFFERS)
+    else:
+        cpus, threads, buffers = choose.randint(1, 4), choose.randint(1, 8), choose.randint(1, 3)
     capacities = ", ".join(str(choose.choice([1, 1, 2, 3])) for _ in range(buffers))
     closes, has_words = choose.random() < 0.5, choose.random() < 0.5
     text = f"cpus = {cpus}\ntrace = {choose.choice([1, 2, 5, 40, 40, 40])}\nbuffers = [{capacities}]\n"
     for _ in range(threads):
         lines = ", ".join(f'"{line}"' for line in program(choose, buffers, closes, has_words))
         text += f"\n[[thread]]\ncpu = {choose.randrange(cpus)}\nprogram = [{lines}]\n"
-    return f"#   mctower run --schedule '{schedule(choose, cpus, most)}' < THIS\n{text}"
+    return f"#   mctower run --schedule '{schedule(choose, cpus, most, 1000 if is_large else 40)}' < THIS\n{text}"
 
 
 def main():
     folder, first, count = sys.argv[1], int(sys.argv[2]), int(sys.argv[3])
     most = int(sys.argv[4]) if len(sys.argv) > 4 else 3000
+    is_large = sys.argv[5:] == ["large"]
     for seed in range(first, first + count):
         with open(f"{folder}/{seed}.toml", "w") as file:
-            file.write(plan(random.Random(seed), most))
+            file.write(plan(random.Random(seed), most, is_large))
 
 
 if __name__ == "__main__":

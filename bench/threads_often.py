@@ -2,7 +2,9 @@
 """Runs random plans in threads, one worker for each CPU, each with one lock and the other in turn, and
 looks at what comes: the status, that `check` says yes to the text, and why each worker stopped.
 
-    threads_often.py MCTOWER FIRST COUNT
+    threads_often.py MCTOWER FIRST COUNT [large]
+
+With the word `large` the plans are up to the limits: up to 16 workers and 256 threads.
 
 On standard error one line tells of each CPU why its worker stopped: with AllEnded only where each
 thread at home there has ended by its program, followed along its entries; with TraceFull only where
@@ -47,12 +49,12 @@ def run(program, words, text):
 
 
 def main():
-    program, first, count = sys.argv[1], int(sys.argv[2]), int(sys.argv[3])
+    program, first, count, is_large = sys.argv[1], int(sys.argv[2]), int(sys.argv[3]), sys.argv[4:] == ["large"]
     ran = wrong = 0
     seen = collections.Counter()
     for seed in range(first, first + count):
         choose = random.Random(seed)
-        plan = random_plan.plan(choose, 0)
+        plan = random_plan.plan(choose, 0, is_large)
         lock = ("ticket", "grant")[seed % 2]
         plan = plan.replace("\n[[thread]]", f'\nlock = "{lock}"\n\n[[thread]]', 1)
         cpus = int(plan.split("cpus = ")[1].split("\n")[0])

@@ -2,9 +2,9 @@
 """Holds two programs of the step table beside one another over random plans: plans/kernel.py and bench/plain_tower.rs, which share
 neither a line nor a language, and none with the tower.
 
-    bench/twins_often.py PLAIN_TOWER [COUNT] [FIRST]
+    bench/twins_often.py PLAIN_TOWER [COUNT] [FIRST] [large]
 
-PLAIN_TOWER is the built bench/plain_tower.rs. Compares trace text and state lines at the end of each plan's schedule; the last line
+PLAIN_TOWER is the built bench/plain_tower.rs; with the word `large` the plans are up to the limits. Compares trace text and state lines at the end of each plan's schedule; the last line
 counts the plans, those in which a close took effect, those with a message of several words, and how often each kind of effect came. The
 status is 1 where one differs, or where none had a close, or a message of several words.
 """
@@ -20,7 +20,7 @@ import random_plan
 sys.path.append(str(Path(__file__).resolve().parent.parent / "plans"))
 import kernel  # noqa: E402
 
-STEPS = 3000
+STEPS, LARGE_STEPS = 3000, 20_000
 
 
 def by_kernel(plan, schedule):
@@ -37,10 +37,11 @@ def by_plain_tower(program, plan, schedule):
 
 def main():
     program = sys.argv[1]
+    is_large = sys.argv[4:] == ["large"]
     count, first = (int(sys.argv[i]) if len(sys.argv) > i else many for i, many in ((2, 2000), (3, 1)))
     kinds, closed, worded, differ = collections.Counter(), 0, 0, 0
     for seed in range(first, first + count):
-        plan = random_plan.plan(random.Random(seed), STEPS)
+        plan = random_plan.plan(random.Random(seed), LARGE_STEPS if is_large else STEPS, is_large)
         schedule = kernel.schedule_in(plan)
         text, states = by_kernel(plan, schedule)
         if (text, states) != by_plain_tower(program, plan, schedule):

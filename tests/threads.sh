@@ -22,7 +22,7 @@ same() {
 }
 # Runs the plan $1 with the lock `lock` for $2 turns.
 run() {
-  sed "0,/^\[\[/s/^\[\[/lock = \"$lock\"\n[[/" "$1" > "$room/plan"
+  { echo "lock = \"$lock\""; cat "$1"; } > "$room/plan"
   timeout 60 "$program" threads --turns "$2" < "$room/plan" > "$room/out" 2> "$room/err"
   same "status with $2 turns of $1" 0 "$?"
 }
@@ -81,8 +81,16 @@ program = ["set r0 100", "set r1 1", "sendm 0 8", "sub r0 r1", "jnz r0 2", "clos
 cpu = 1
 program = ["recvm 0 2", "jnz r1 0", "exit"]
 PLAN
+{
+  printf 'cpus = 16\ntrace = 20\nbuffers = [4]\n'
+  for c in $(seq 0 15); do
+    call='send 0 r0'; [ "$c" -lt 8 ] || call='recv 0 r2'
+    printf '[[thread]]\ncpu = %d\nprogram = ["set r0 10", "set r1 1", "%s", "sub r0 r1", "jnz r0 2"]\n' "$c" "$call"
+  done
+} > "$room/sixteen.toml"
 words=$'mctower-trace 3\nbuffers 1\ncap 0 1\ne 0 0 send 0 1,2 0 0\ne 0 0 recv 0 1,2 1 0\ne 0 0 send 0 0 2 1\nleft 0 0\nend'
 stops=$'cpu 0 AllEnded\ncpu 1 AllEnded'
+all=$(for c in $(seq 0 15); do echo "cpu $c AllEnded"; done)
 
 # One hundred messages from one CPU to another. The order of sends and receives is the threads' own; each side's is not.
 hundred() {
@@ -121,6 +129,16 @@ records() {
   same 'verdict on a hundred messages of words' yes "$("$program" check < "$room/out")"
 }
 
+# Eighty messages from eight CPUs to eight others, through one buffer.
+sixteen() {
+  run "$room/sixteen.toml" 1000000000
+  same 'stops of sixteen workers' "$all" "$(cat "$room/err")"
+  same 'sends and receives of each of sixteen workers' "$(for c in $(seq 0 7); do echo "$c send 10"; done; for c in $(seq 8 15); do echo "$c recv 10"; done)" \
+    "$(awk '$1 == "e" { count[$2 " " $4]++ } END { for (c in count) print c, count[c] }' "$room/out" | sort -n)"
+  same 'what is left of sixteen workers' 'left 0' "$(grep '^left' "$room/out")"
+  same 'verdict on sixteen workers' yes "$("$program" check < "$room/out")"
+}
+
 for program; do
   for lock in ticket grant; do
     # the effect comes in the eleventh turn, which ends a section that was under way after ten
@@ -129,10 +147,12 @@ for program; do
     row plans/one-send.toml 5 "${head}1"$'\nleft 0\nend' 'cpu 0 TurnsUsed'
     row "$room/twice.toml" 1000 "${head}32$sent" 'cpu 0 TraceFull'
     row tests/rows/closed-before-two-receivers.toml 1000000000 "$closes" 'cpu 0 AllEnded'
+    row tests/rows/most-threads.toml 1000000000 "${head}1"$'\nleft 0\nend' "$all"
     row tests/rows/words.toml 1000000000 "$words" 'cpu 0 AllEnded'
     hundred
     closed
     records
+    sixteen
   done
 done
 [ $((passed + failed)) -gt 0 ] || { echo "threads: build the program first: (cd crates/mctower && rt run -- count --cpus 1 --times 1)"; exit 1; }

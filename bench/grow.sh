@@ -1,0 +1,82 @@
+#!/usr/bin/env bash
+# How a step's cost grows with the system: instructions a step (callgrind) of `mctower run`, from 1 to 16 CPUs and from 1 to 256 threads,
+# and the peak of memory of full traces. Each number is the difference of two whole runs of which one takes 65,536 steps more, so opening
+# is left out; what gathers and writes entries is in. It takes a minute or two, and other work disturbs none of these numbers.
+# Build first: (cd crates/mctower && rt run -- count --cpus 1 --times 1).
+#
+#   bench/grow.sh [PROGRAM]
+#
+# The kinds of steps: `calls`, where each thread sends, receives and yields in turn, at a buffer that is its CPU's alone; `yields`, where
+# each only yields; `idle`, where all wait at an empty buffer and the CPUs look for who is sent home; `last`, where the steps are all of a
+# CPU whose one thread has the last number, and waits; `ended`, where all threads have ended and no step is taken any more.
+set -eu
+export LC_ALL=C
+cd "$(dirname "$0")/.."
+program=$(realpath "${1:-crates/mctower/out/mctower}" 2> /dev/null) && [ -x "$program" ] || { echo "build mctower first: (cd crates/mctower && rt run -- count --cpus 1 --times 1)"; exit 1; }
+work=$(mktemp -d); trap 'rm -rf "$work"' EXIT
+more=65536
+
+# The plan of $1 for $2 CPUs and $3 threads.
+plan() {
+  local t cpu lines
+  printf 'cpus = %d\ntrace = 65536\nbuffers = [32, 32, 32, 32, 32, 32, 32, 32, 32, 32, 32, 32, 32, 32, 32, 32]\n' "$2"
+  for ((t = 0; t < $3; t++)); do
+    cpu=$((t % $2))
+    [ "$1" != last ] || cpu=$((t == $3 - 1 ? $2 - 1 : 0))
+    case $1 in
+      calls) lines="\"set r1 1\", \"send $((t % 16)) r1\", \"recv $((t % 16)) r2\", \"yield\", \"jnz r1 1\"" ;;
+      yields) lines='"set r1 1", "yield", "jnz r1 1"' ;;
+      ended) lines='"exit"' ;;
+      *) lines="\"recv $((t % 16)) r0\"" ;;
+    esac
+    printf '\n[[thread]]\ncpu = %d\nprogram = [%s]\n' $cpu "$lines"
+  done
+}
+# Steps of the CPUs from $1 to $2, in rounds of 128 steps each, $3 in all.
+schedule() {
+  local round cpu comma=
+  for ((round = 0; round < $3 / 128 / ($2 - $1 + 1); round++)); do
+    for ((cpu = $1; cpu <= $2; cpu++)); do printf '%s%d*128' "$comma" "$cpu"; comma=,; done
+  done
+}
+# The instructions of a whole run of the plan under the schedule $1.
+instructions() {
+  valgrind --tool=callgrind --callgrind-out-file="$work/out" "$program" run --schedule "$1" < "$work/plan" > /dev/null 2> "$work/err"
+  awk '$1 == "summary:" || $1 == "totals:" { print $2; exit }' "$work/out"
+}
+# Prints the instructions a step of $1 for $2 CPUs and $3 threads.
+step() {
+  local first=0 before after
+  plan "$1" "$2" "$3" > "$work/plan"
+  [ "$1" != last ] || first=$(($2 - 1))
+  # all threads begin their calls, or end, before the steps that are counted
+  before=$(instructions "$(schedule $first $(($2 - 1)) 65536)")
+  after=$(instructions "$(schedule $first $(($2 - 1)) $((65536 + more)))")
+  printf ' %6d' $(((after - before) / more))
+}
+
+for kind in calls yields idle ended; do
+  printf '%-7s with 32 threads, on 1, 2, 4, 8, 16 CPUs:' $kind
+  for cpus in 1 2 4 8 16; do step $kind $cpus 32; done; echo
+done
+for kind in calls yields idle ended; do
+  printf '%-7s on one CPU, with 1, 4, 16, 64, 256 threads:' $kind
+  for threads in 1 4 16 64 256; do step $kind 1 $threads; done; echo
+done
+printf '%-7s on two CPUs, with 2, 4, 16, 64, 256 threads:' last
+for threads in 2 4 16 64 256; do step last 2 $threads; done; echo
+
+# A system with as many CPUs and threads as there may be: opened, run by workers until each trace is full, and the text judged.
+plan calls 16 256 > "$work/plan"
+# Runs the program on the file $2, and tells of it as $1.
+tells() {
+  local name=$1 input=$2; shift 2
+  /usr/bin/time -q -f '%e %M' -o "$work/cost" "$program" "$@" < "$input" > "$work/out" 2> "$work/err" || true
+  awk -v name="$name" '{ printf "%s: %s s, %.0f MB at most\n", name, $1, $2 / 1024 }' "$work/cost"
+}
+tells '16 CPUs, 256 threads, traces of 65,536 entries, opened' "$work/plan" run
+tells 'until each trace is full, by workers' "$work/plan" threads --turns 1000000000
+mv "$work/out" "$work/text"
+printf '  %d entries, %d traces full\n' "$(grep -c '^e ' "$work/text")" "$(grep -c TraceFull "$work/err")"
+tells 'its text, judged' "$work/text" check
+printf '  %s\n' "$(cat "$work/out")"
