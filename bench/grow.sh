@@ -1,7 +1,7 @@
 #!/usr/bin/env bash
 # How a step's cost grows with the system: instructions a step (callgrind) of `mctower run`, from 1 to 16 CPUs and from 1 to 256 threads,
 # and the peak of memory of full traces. Each number is the difference of two whole runs of which one takes 65,536 steps more, so opening
-# is left out; what gathers and writes entries is in. It takes a minute or two, and other work disturbs none of these numbers.
+# is left out; what gathers and writes entries is in. It takes some minutes, and other work disturbs no count.
 # Build first: (cd crates/mctower && rt run -- count --cpus 1 --times 1).
 #
 #   bench/grow.sh [PROGRAM]
