@@ -35,6 +35,10 @@ pub struct Cpu<I: IpcLayer> {
     pub trace: Vec<Entry>,
     /// How many entries the trace may have.
     pub limit: usize,
+    /// The number of a thread of this home that had not ended when one was looked for last: so a CPU
+    /// on which none runs need not ask them all whether they have. They are gone through where it
+    /// ends, and behind the first pass. Nothing rests on it.
+    pub lives: usize,
 }
 
 impl<I: IpcLayer> Cpu<I> {
@@ -61,7 +65,8 @@ impl<I: IpcLayer> Cpu<I> {
         }
     }
 
-    /// Whether a thread runs whose guest has not ended: the cheap reason why not all have.
+    /// Whether the thread that runs, or where none does the one that was found last, has not ended:
+    /// the cheap reason why not all have.
     #[inline(always)]
     fn goes_on(&self) -> bool
         requires { (t : _) → (I.threads self.now.part).current ≡ Some t → t.0 < length self.now.guests.items }
@@ -69,7 +74,7 @@ impl<I: IpcLayer> Cpu<I> {
     {
         match self.part.current() {
             Some(thread) => !is_over(&self.guests[usize::from(thread.0)]),
-            None => false,
+            None => lives_at(&self.guests, self.lives),
         }
     }
 
@@ -159,7 +164,7 @@ impl<I: IpcLayer> Cpu<I> {
         let runs = self.part.current();
         let done = self.part.pass(m, pass);
         if done.is_some() {
-            note_pass(&mut self.guests, runs, pass);
+            note_pass(&mut self.guests, &mut self.lives, runs, pass);
         }
     }
 
@@ -345,6 +350,27 @@ fn are_over(guests: &[Option<Guest>]) -> bool
     guests.iter().all(is_over)
 }
 
+/// Whether there is a guest at this index and it has not ended.
+#[inline(always)]
+fn lives_at(guests: &[Option<Guest>], index: usize) -> bool
+    ensures { result ≡ true → list_all is_over guests.now ≡ false }
+{
+    if index < guests.len() {
+        return !is_over(&guests[index]);
+    }
+    false
+}
+
+/// The index of the first guest that has not ended; 0 where all have.
+fn first_that_lives(guests: &[Option<Guest>]) -> usize {
+    for index in 0..guests.len() {
+        if lives_at(guests, index) {
+            return index;
+        }
+    }
+    0
+}
+
 /// How many of the guests are in a call that has had no effect.
 #[inline(always)]
 fn count_begun(guests: &[Option<Guest>]) -> usize
@@ -383,7 +409,19 @@ fn note_poll(
 
 /// Notes that a pass is done which began while this thread ran.
 #[inline(always)]
-fn note_pass(guests: &mut Vec<Option<Guest>>, runs: Option<Tid>, pass: Pass)
+fn note_pass(guests: &mut Vec<Option<Guest>>, lives: &mut usize, runs: Option<Tid>, pass: Pass)
+    requires { (t : _) → runs ≡ Some t → t.0 < length guests.old.items }
+    ensures { guests.new.items ≡ passed_by runs guests.old.items pass }
+{
+    hear_pass(guests, runs, pass);
+    if !lives_at(guests, *lives) {
+        *lives = first_that_lives(guests);
+    }
+}
+
+/// Tells the guest that ran of this pass.
+#[inline(always)]
+fn hear_pass(guests: &mut Vec<Option<Guest>>, runs: Option<Tid>, pass: Pass)
     requires { (t : _) → runs ≡ Some t → t.0 < length guests.old.items }
     ensures { guests.new.items ≡ passed_by runs guests.old.items pass }
 {

@@ -44,6 +44,7 @@ impl<I: IpcLayer> Cpu<I> {
             guests,
             trace,
             limit,
+            lives: 0,
         })
     }
 }
