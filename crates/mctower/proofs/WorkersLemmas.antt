@@ -24,12 +24,13 @@ use Rattle.layer_traits.specs.declared.edits.Mark.{Mark}
 use Rattle.layer_traits.specs.OneLock.{opened}
 use Rattle.layer_traits.specs.Protocol.{section}
 use Rattle.layer_traits.specs.WordsProtocol.{edit_of, sections}
+use Rattle.layer_traits.specs.BufferLaw.{MayGoOn}
 use Rattle.table_machine.specs.Desks.{Board, Desk, site_of, new_desk, new_desks, Covers, IsOver, Closes}
 use Rattle.mctower.specs.declared.count.AddOne.{AddOne}
 use Rattle.mctower.specs.declared.count.TheConstants.{NUMBER}
 use Rattle.mctower.specs.declared.line.TheConstants.{MOST_TIMES}
 use Rattle.mctower.specs.Count.{counting, sections_at}
-use Rattle.mctower.specs.Workers.{made, MayGoOn, Both, HasMade, AllHaveMade, IsFresh, IsNumberOfFrees, nowhere}
+use Rattle.mctower.specs.Workers.{made, Both, HasMade, AllHaveMade, IsFresh, IsNumberOfFrees, nowhere}
 use Rattle.mctower.proofs.CountLemmas.{frees_are_sections, number_is}
 
 one_more : (b : Bool) (k : ℕ) → (if b then k + 1 else k) ≡ k + (if b then 1 else 0)

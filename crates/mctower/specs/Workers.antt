@@ -1,5 +1,5 @@
 -- What a worker leaves: its CPU has done so many sections more.
-use Rattle.std.specs.Prelude.{◌≡◌, ℕ, ◌+◌, ◌≤◌, List, [], slice_get, Option, None, Some, MatchOption}
+use Rattle.std.specs.Prelude.{◌≡◌, ℕ, ◌+◌, ◌≤◌, List, [], slice_get, Option, Some, MatchOption}
 use Rattle.event_log.specs.declared.ids.CpuId.{CpuId}
 use Rattle.event_log.specs.declared.ids.LockId.{LockId}
 use Rattle.event_log.specs.declared.events.Event.{Event}
@@ -17,11 +17,6 @@ use Rattle.mctower.specs.Count.{sections_at}
 -- how many sections at this lock are this CPU's
 abbrev pub made : {E : Type 0} → CpuId → LockId → List (Section E) → ℕ
 made cpu lock past = sections_at lock (own_events section_actor cpu past)
-
--- no section is under way, or it is this one
-abbrev pub MayGoOn : {S : Type 0} → Option S → S → Type 0
-MayGoOn None s = Unit {0}
-MayGoOn (Some under_way) s = under_way ≡ s
 
 -- no table at all
 abbrev pub nowhere : Board ℕ

@@ -1,7 +1,8 @@
 use Rattle.std.proofs.Common.{◌≡◌}
 use Rattle.event_log.specs.declared.ids.CpuId.{CpuId}
 use Rattle.layer_traits.specs.Protocol.{section}
-use Rattle.mctower.specs.Workers.{made, MayGoOn}
+use Rattle.layer_traits.specs.BufferLaw.{MayGoOn}
+use Rattle.mctower.specs.Workers.{made}
 use Rattle.mctower.proofs.workers.add_one.Given as goal
 
 abbrev pub invariant-loop : goal.invariant-loop
