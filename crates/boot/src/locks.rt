@@ -10,7 +10,7 @@ use crate::refusals::{BootError, PlanKey};
 use crate::tables::value_at;
 use toml::Table;
 
-/// The lock at which CPUs take turns.
+/// The lock at which CPUs stand in line.
 #[derive(Clone, Copy, Debug, PartialEq, Eq)]
 pub enum LockKind {
     /// `ticket`: a ticket lock.

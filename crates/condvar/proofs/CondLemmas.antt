@@ -26,7 +26,7 @@ use Rattle.layer_traits.specs.ListsAgree.{is_at}
 use Rattle.layer_traits.specs.Locking.{LockState, lock_after, lock_caller, line_in}
 use Rattle.layer_traits.specs.LockLaw.{Locking, LockPolled, LocksAgree, lock_kernel, lock_plan, slept_for}
 use Rattle.layer_traits.specs.MoveRules.{MoveRules}
-use Rattle.layer_traits.specs.Places.{AreMoves, Stands, Threads, home_of, one_if, place_of}
+use Rattle.layer_traits.specs.Places.{AreMoves, Stands, Threads, home_of, one_if, berth_of}
 use Rattle.layer_traits.specs.Plans.{Follows, Table}
 use Rattle.layer_traits.specs.QueueBlocks.{homes_in, inner}
 use Rattle.layer_traits.specs.Queues.{Kernel, buffer_sections, moves_in}
@@ -55,7 +55,7 @@ pub current_awake : {G B O : Type 0} (deeds : Deeds G B O) (opening : LockId →
 current_awake deeds opening seen c own t legal stands agree runs lock line =
     let at = (current_at (homes_in opening) c (moves_in (lock_kernel (cv_rules deeds) opening) seen) own legal stands t runs).1 in
     not_counted t (line_in line (lock_after (cv_rules deeds) (inner opening) lock (buffer_sections seen)))
-    (agree lock line t ∙ ap (λ w. one_if (is_at lock line (place_of w))) at)
+    (agree lock line t ∙ ap (λ w. one_if (is_at lock line (berth_of w))) at)
 
 -- the poll of a thread that was woken out of its wait
 pub over_polled : {G B O : Type 0} (deeds : Deeds G B O) (k : Kernel (CvCall G) (LockState B) (Outcome (QOut (CvOut O)))) (ActsFor : CpuId → Type 0)

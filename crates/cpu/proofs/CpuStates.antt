@@ -71,7 +71,7 @@ abbrev pub valid : TabledCpu → ValidCpu
 valid cpu = record { state = cpu.state; own = threads_in cpu.own; talks = cpu.own.talks; is = cpu.is }
 
 -- the machine's holder acts for a CPU, of whose part it is known whether a section is under way and that the thread in its hand has a home
-pub record Turn (ActsFor : CpuId → Type 0) (cpu : TabledCpu) (old : List (Action TowerName)) : Type 0 where
+pub record Outset (ActsFor : CpuId → Type 0) (cpu : TabledCpu) (old : List (Action TowerName)) : Type 0 where
   pub inside : Bool
   pub acts : ActsFor cpu.number
   pub rests : cpu.doing ≡ None → inside ≡ false

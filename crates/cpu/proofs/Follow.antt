@@ -19,7 +19,7 @@ use Rattle.layer_traits.specs.declared.calls.Call.TheVariants.{Send, Recv, Close
 use Rattle.layer_traits.specs.declared.calls.Effect.{Effect}
 use Rattle.layer_traits.specs.declared.calls.Reply.{Reply}
 use Rattle.layer_traits.specs.declared.talks.Talk.{Talk}
-use Rattle.layer_traits.specs.declared.talks.Stage.{Stage as TalkStage}
+use Rattle.layer_traits.specs.declared.talks.Stage.{Stage}
 use Rattle.layer_traits.specs.declared.talks.Stage.TheVariants as at
 use Rattle.layer_traits.specs.BufferLaw.{Answered, IsEffectOf, MayTalk, begun_at, begun_of, buffer_of, entry_of, going, going_at, reply_by, reply_of}
 use Rattle.cpu.specs.declared.guests.GuestStage.{GuestStage}
@@ -27,7 +27,7 @@ use Rattle.cpu.specs.declared.guests.GuestStage.TheVariants.{Between, Begun, Don
 use Rattle.cpu.specs.declared.guests.Todo.TheVariants.{Finish, Calls}
 use Rattle.cpu.specs.Guests.{HasComeIn, IsSettled, after_answer, after_effect, after_received, after_sent, entries_of, fresh_effect, had, stage_after, todo_at}
 
-going_effect : (stage : TalkStage) (talk : Talk) (c : Call) → (going_at stage talk c).call ≡ Some c
+going_effect : (stage : Stage) (talk : Talk) (c : Call) → (going_at stage talk c).call ≡ Some c
     → (going_at stage talk c).effect ≡ had (begun_at stage talk.call) talk.effect
 going_effect at.Between talk c may = refl
 going_effect at.Acquires talk c may = sym (ap (λ x. had x talk.effect) may)
@@ -43,7 +43,7 @@ going_effect at.Releases talk c may = sym (ap (λ x. had x talk.effect) may)
 pub had_going : (talk : Talk) (c : Call) → MayTalk talk c → (going talk c).effect ≡ had (begun_of talk) talk.effect
 had_going talk c may = going_effect talk.stage talk c may
 
-going_begun : (stage : TalkStage) (talk : Talk) (c : Call) → begun_at stage talk.call ≡ Some c → (going_at stage talk c).call ≡ Some c
+going_begun : (stage : Stage) (talk : Talk) (c : Call) → begun_at stage talk.call ≡ Some c → (going_at stage talk c).call ≡ Some c
 going_begun at.Between talk c is = refl
 going_begun at.Acquires talk c is = is
 going_begun at.Enters talk c is = is
@@ -56,7 +56,7 @@ going_begun at.Releases talk c is = is
 
 -- a talk may go on with the call that it has begun, and where it has begun none with any
 pub may_talk : (talk : Talk) (c : Call) → IsSettled talk → (begun_of talk ≡ None) ⊎ (begun_of talk ≡ Some c) → MayTalk talk c
-may_talk talk c settled (inl none) = subst (λ (s : TalkStage). (going_at s talk c).call ≡ Some c) (sym (settled none)) refl
+may_talk talk c settled (inl none) = subst (λ (s : Stage). (going_at s talk c).call ≡ Some c) (sym (settled none)) refl
 may_talk talk c settled (inr some) = going_begun talk.stage talk c some
 
 -- an answered talk is settled

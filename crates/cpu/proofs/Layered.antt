@@ -17,7 +17,7 @@ use Rattle.cpu.specs.CpuSteps.{IsCpuAt, IsTabledAt, Leaves}
 use Rattle.cpu.specs.Tower.Privates.{threads_in}
 use Rattle.cpu.proofs.CpuStates.{valid_cpu}
 use Rattle.cpu.proofs.Passing.{none_grow, none_moved, none_seen}
-use Rattle.cpu.proofs.TableCalls.{ToldCpu, ToldTurn, hand_known}
+use Rattle.cpu.proofs.TableCalls.{ToldCpu, ToldOutset, hand_known}
 
 -- what always holds of a CPU whose part fits the machine; what names the whole state of a part is said of a layer whose polls are actions
 pub record IsLayered {P M : Type 0} (I : Ghosts P M) (m : M) (p : Cpu P M) : Type 0 where
@@ -94,8 +94,8 @@ module _ {P M : Type 0} {I : Ghosts P M} {m : M} {p : Cpu P M} (at : IsLayered I
       home = runs_home;
     }
 
-    abbrev pub told_turn : ToldTurn (λ d. I.ActsFor m d) told_cpu (I.acts m)
-    told_turn = record {
+    abbrev pub told_outset : ToldOutset (λ d. I.ActsFor m d) told_cpu (I.acts m)
+    told_outset = record {
       inside = I.is_inside p.part;
       acts = acts_for;
       rests = at.rests;

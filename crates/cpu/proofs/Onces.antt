@@ -12,13 +12,13 @@ use Rattle.layer_traits.specs.declared.moves.Line.TheVariants.{Sleepers, Receive
 use Rattle.layer_traits.specs.IpcLaw.{LinesAgree}
 use Rattle.layer_traits.specs.ListsAgree.{is_at, same_line}
 use Rattle.layer_traits.specs.OnePlace.{cpu_at, total}
-use Rattle.layer_traits.specs.Places.{AreMoves, Asleep, At, Hand, Home, Pend, Place, Stands, Step, Where, home_of, is_asleep, one_if, place_of, where_is}
+use Rattle.layer_traits.specs.Places.{AreMoves, Asleep, At, Hand, Home, Pend, Berth, Stands, Step, Where, home_of, is_asleep, one_if, berth_of, where_is}
 use Rattle.layer_traits.proofs.OnePlaceLemmas.{one_place, total_none, total_one, total_same}
 use Rattle.cpu.specs.Claims.{Beds, CpuShown, Shown, StandsOnce, beds_at, beds_by, buffer_at, in_beds, listed, no_beds, own_at, own_in}
 use Rattle.cpu.proofs.ListReads.{listed_length, listed_there, there_is}
 
 -- how often a place is one of buffer b
-times_at : ℕ → Option Place → ℕ
+times_at : ℕ → Option Berth → ℕ
 times_at b p =
     one_if (is_at (Buffer (buffer_at b)) Sleepers p) + one_if (is_at (Buffer (buffer_at b)) Receivers p) + one_if (is_at (Buffer (buffer_at b)) Senders p)
 
@@ -41,7 +41,7 @@ unfolding times_at
 times_none b = refl
 
 module _ (n : ℕ) (homes : List CpuId) (moves : List Step) (lines : BufId → Line → List Tid) (agree : LinesAgree n homes moves lines) (t : Tid) where
-  by_times : (b : ℕ) → b < n → in_beds t (beds_by lines b) ≡ times_at b (place_of (where_is homes moves t))
+  by_times : (b : ℕ) → b < n → in_beds t (beds_by lines b) ≡ times_at b (berth_of (where_is homes moves t))
   unfolding times_at
   by_times b within =
       let s = agree.once (buffer_at b) Sleepers t within in
@@ -52,9 +52,9 @@ module _ (n : ℕ) (homes : List CpuId) (moves : List Step) (lines : BufId → L
   -- over all buffers a thread stands once among the sleepers where it sleeps, and else never
   pub sleeping_is : total (λ b. in_beds t (beds_by lines b)) n ≡ one_if (is_asleep (where_is homes moves t))
   sleeping_is =
-      total_same (λ b. in_beds t (beds_by lines b)) (λ b. times_at b (place_of (where_is homes moves t))) n by_times ∙ go (where_is homes moves t) refl
+      total_same (λ b. in_beds t (beds_by lines b)) (λ b. times_at b (berth_of (where_is homes moves t))) n by_times ∙ go (where_is homes moves t) refl
     where
-      go : (w : Where) → where_is homes moves t ≡ w → total (λ b. times_at b (place_of w)) n ≡ one_if (is_asleep w)
+      go : (w : Where) → where_is homes moves t ≡ w → total (λ b. times_at b (berth_of w)) n ≡ one_if (is_asleep w)
       go Home is = total_none (λ b. times_at b None) n (λ b within. times_none b)
       go (Hand c) is = total_none (λ b. times_at b None) n (λ b within. times_none b)
       go (Pend c) is = total_none (λ b. times_at b None) n (λ b within. times_none b)

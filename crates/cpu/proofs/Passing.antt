@@ -5,7 +5,7 @@ use Rattle.event_log.specs.declared.entries.Entry.{Entry}
 use Rattle.event_log.specs.declared.ids.CpuId.{CpuId}
 use Rattle.event_log.specs.declared.ids.LockId.{LockId}
 use Rattle.event_log.specs.declared.ids.Tid.{Tid}
-use Rattle.event_log.specs.Actions.{Action, Try, Phase, Rests, Waits, Holds, action_in, doer, gives, phase, place}
+use Rattle.event_log.specs.Actions.{Action, Try, Phase, Rests, Waits, Holds, action_in, doer, gives, phase, spot_of}
 use Rattle.layer_traits.specs.declared.calls.Call.{Call}
 use Rattle.layer_traits.specs.declared.calls.Effect.{Effect}
 use Rattle.layer_traits.specs.declared.calls.Reply.{Reply}
@@ -46,10 +46,10 @@ pub tries_grow : {N : Type 0} (ActsFor : CpuId → Type 0) (cpu : CpuId) (old ne
     → ActsGrow ActsFor cpu old new
 tries_grow ActsFor cpu old new tries = record {
   others = tries.others;
-  mine = Try cpu tries.lock (gives tries.lock tries.past == place cpu tries.past) ∷ [];
+  mine = Try cpu tries.lock (gives tries.lock tries.past == spot_of cpu tries.past) ∷ [];
   foreign = tries.foreign;
   own = (refl, tt);
-  is = tries.grows ∙ ap (λ (l : List (Action _)). Try cpu tries.lock (gives tries.lock tries.past == place cpu tries.past) ∷ l) tries.joined;
+  is = tries.grows ∙ ap (λ (l : List (Action _)). Try cpu tries.lock (gives tries.lock tries.past == spot_of cpu tries.past) ∷ l) tries.joined;
 }
 
 -- nothing came

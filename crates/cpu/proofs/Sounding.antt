@@ -113,7 +113,7 @@ shown_in m cpus room taken = shown_of m.caps m.homes m.seen m.lines m.owner m.mo
 
 -- a step of CPU c, at number k among those that are shown: x became y, and what the machine told before, it tells after; there was room
 -- for so many steps, and so many were taken
-pub record Turn (X : Type 0) : Type 0 where
+pub record Change (X : Type 0) : Type 0 where
   pub shown : X → CpuShown
   pub before : Told
   pub after : Told
@@ -127,33 +127,33 @@ pub record Turn (X : Type 0) : Type 0 where
   pub at : slice_get cpus k ≡ Some x
   pub same : k ≡ c.0
 
-module _ {X : Type 0} (turn : Turn X) where
+module _ {X : Type 0} (one : Change X) where
   -- the system before the step, and after it
   abbrev pub old_of : Shown
-  old_of = shown_in turn.before (map turn.shown turn.cpus) turn.room turn.taken
+  old_of = shown_in one.before (map one.shown one.cpus) one.room one.taken
 
   abbrev pub new_of : Shown
-  new_of = shown_in turn.after (map turn.shown (slice_set turn.cpus turn.k turn.y)) turn.room (turn.taken + 1)
+  new_of = shown_in one.after (map one.shown (slice_set one.cpus one.k one.y)) one.room (one.taken + 1)
 
-  pub same_plan : turn.after.caps ≡ turn.before.caps → turn.after.homes ≡ turn.before.homes
-      → programs_of (turn.shown turn.y).guests ≡ programs_of (turn.shown turn.x).guests → (turn.shown turn.y).limit ≡ (turn.shown turn.x).limit
+  pub same_plan : one.after.caps ≡ one.before.caps → one.after.homes ≡ one.before.homes
+      → programs_of (one.shown one.y).guests ≡ programs_of (one.shown one.x).guests → (one.shown one.y).limit ≡ (one.shown one.x).limit
       → SamePlan old_of new_of
   same_plan caps homes programs limit = record {
     caps = caps;
     homes = homes;
-    programs = shown_same turn.shown (λ (p : CpuShown). programs_of p.guests) turn.cpus turn.k turn.x turn.y turn.at programs;
-    count = shown_length turn.shown turn.cpus turn.k turn.y;
-    limits = shown_same turn.shown (λ (p : CpuShown). p.limit) turn.cpus turn.k turn.x turn.y turn.at limit;
+    programs = shown_same one.shown (λ (p : CpuShown). programs_of p.guests) one.cpus one.k one.x one.y one.at programs;
+    count = shown_length one.shown one.cpus one.k one.y;
+    limits = shown_same one.shown (λ (p : CpuShown). p.limit) one.cpus one.k one.x one.y one.at limit;
     room = refl;
   }
 
   pub went_so : (ActsFor : CpuId → Type 0)
-      → ((setup : Setup) → IsSetupOf setup turn.before.homes turn.before.caps (turn.shown turn.x).guests (turn.shown turn.x).limit
-      → IsStep ActsFor (cpu_step setup turn.c) (turn.shown turn.x).private (turn.shown turn.y).private (named turn.before.acts) (named turn.after.acts) Stepped)
-      → ((d : CpuId) → d.0 < CPUS → ActsFor d) → AreLegal turn.after.acts → turn.taken ≢ turn.room → SteppedByTable turn.c old_of new_of Stepped
+      → ((setup : Setup) → IsSetupOf setup one.before.homes one.before.caps (one.shown one.x).guests (one.shown one.x).limit
+      → IsStep ActsFor (cpu_step setup one.c) (one.shown one.x).private (one.shown one.y).private (named one.before.acts) (named one.after.acts) Stepped)
+      → ((d : CpuId) → d.0 < CPUS → ActsFor d) → AreLegal one.after.acts → one.taken ≢ one.room → SteppedByTable one.c old_of new_of Stepped
   went_so ActsFor went all legal live setup goes =
-      shown_step turn.shown ActsFor setup turn.c turn.cpus turn.k turn.x turn.y turn.before.acts turn.after.acts turn.room turn.taken turn.at turn.same
-      (went setup (goes.each turn.k (turn.shown turn.x) (shows_at turn.shown turn.cpus turn.k turn.x turn.at))) all legal live
+      shown_step one.shown ActsFor setup one.c one.cpus one.k one.x one.y one.before.acts one.after.acts one.room one.taken one.at one.same
+      (went setup (goes.each one.k (one.shown one.x) (shows_at one.shown one.cpus one.k one.x one.at))) all legal live
 
 -- A schedule.
 

@@ -38,7 +38,7 @@ use Rattle.cpu.specs.Tower.Views.{TowerBlock, TowerName, name_of, tower, view}
 use Rattle.cpu.specs.Tower.Privates.{threads_in}
 use Rattle.cpu.specs.Tower.Composed.{OpensAs, named}
 use Rattle.cpu.specs.Tables.{IsSetupOf, IsTabled, WentByTable, bare, private}
-use Rattle.cpu.proofs.CpuStates.{TabledCpu, Turn, ValidCpu, valid}
+use Rattle.cpu.proofs.CpuStates.{TabledCpu, Outset, ValidCpu, valid}
 use Rattle.cpu.proofs.Steps.{poll_buffer}
 use Rattle.event_log.proofs.Renaming.{phase_renamed}
 use Rattle.cpu.proofs.TableRows.{halted_same}
@@ -79,7 +79,7 @@ pub record ToldCpu : Type 0 where
   pub home : (u : Tid) → own.current ≡ Some u → home_of homes u ≡ Some number
 
 -- the machine's holder acts for such a CPU
-pub record ToldTurn (ActsFor : CpuId → Type 0) (told : ToldCpu) (old : List (Action TowerName)) : Type 0 where
+pub record ToldOutset (ActsFor : CpuId → Type 0) (told : ToldCpu) (old : List (Action TowerName)) : Type 0 where
   pub inside : Bool
   pub acts : ActsFor told.number
   pub rests : told.doing ≡ None → inside ≡ false
@@ -151,19 +151,19 @@ module _ (told : ToldCpu) where
       → reason_in inside (halted_at (threads_in part) guests trace limit) ≡ reason
   halted_own inside reason so = ap (λ (x : Threads). reason_in inside (halted_at x guests trace limit)) tells.0 ∙ so
 
-  module _ (ActsFor : CpuId → Type 0) (old : List (Action TowerName)) (turn : ToldTurn ActsFor told old) where
-    abbrev turn_own : Turn ActsFor tabled_cpu old
-    turn_own = record {
-      inside = turn.inside;
-      acts = turn.acts;
-      rests = turn.rests;
-      busy = turn.busy ∙ ap (λ d. is_in_section (phase d old)) number_is;
-      known = λ u has. turn.known u (sym (ap (λ (x : Threads). x.hand) tells.0) ∙ has);
+  module _ (ActsFor : CpuId → Type 0) (old : List (Action TowerName)) (outset : ToldOutset ActsFor told old) where
+    abbrev outset_own : Outset ActsFor tabled_cpu old
+    outset_own = record {
+      inside = outset.inside;
+      acts = outset.acts;
+      rests = outset.rests;
+      busy = outset.busy ∙ ap (λ d. is_in_section (phase d old)) number_is;
+      known = λ u has. outset.known u (sym (ap (λ (x : Threads). x.hand) tells.0) ∙ has);
     }
 
     -- a poll of a call
     module _ (t : Tid) (c : Call) (chose : chosen threads guests ≡ Polls t c)
-        (live : reason_in turn.inside (halted_at threads guests trace limit) ≡ None) (after : ToldPoll ActsFor told t c old) where
+        (live : reason_in outset.inside (halted_at threads guests trace limit) ≡ None) (after : ToldPoll ActsFor told t c old) where
       chose_own : chosen (threads_in part) guests ≡ Polls t c
       chose_own = ap (λ (x : Threads). chosen x guests) tells.0 ∙ chose
 
@@ -190,14 +190,14 @@ module _ (told : ToldCpu) where
       }
 
       pub call_tabled : IsTabled homes caps number after.part after.doing after.guests opening
-      call_tabled = poll_tabled tabled_cpu t c chose_own ActsFor old turn_own (halted_own turn.inside None live) poll_own
+      call_tabled = poll_tabled tabled_cpu t c chose_own ActsFor old outset_own (halted_own outset.inside None live) poll_own
 
       pub call_steps : WentByTable ActsFor homes caps number limit part after.part guests after.guests trace after.trace old after.new Stepped
-      call_steps setup of = poll_steps tabled_cpu t c chose_own ActsFor old turn_own (halted_own turn.inside None live) poll_own setup of
+      call_steps setup of = poll_steps tabled_cpu t c chose_own ActsFor old outset_own (halted_own outset.inside None live) poll_own setup of
 
     -- a poll of a pass
     module _ (pass : Pass) (chose : chosen threads guests ≡ Passes pass)
-        (live : reason_in turn.inside (halted_at threads guests trace limit) ≡ None) (after : ToldPass ActsFor told pass old) where
+        (live : reason_in outset.inside (halted_at threads guests trace limit) ≡ None) (after : ToldPass ActsFor told pass old) where
       chose_pass : chosen (threads_in part) guests ≡ Passes pass
       chose_pass = ap (λ (x : Threads). chosen x guests) tells.0 ∙ chose
 
@@ -245,28 +245,28 @@ module _ (told : ToldCpu) where
       passed_tabled = pass_tabled tabled_cpu pass chose_pass ActsFor old pass_own
 
       pub passed_steps : WentByTable ActsFor homes caps number limit part after.part guests after.guests trace trace old after.new Stepped
-      passed_steps setup of = pass_steps tabled_cpu pass chose_pass ActsFor old pass_own setup of turn_own (halted_own turn.inside None live)
+      passed_steps setup of = pass_steps tabled_cpu pass chose_pass ActsFor old pass_own setup of outset_own (halted_own outset.inside None live)
 
     -- an instruction of a thread's own
-    pub computed_steps : (t : Tid) → chosen threads guests ≡ Computes t → reason_in turn.inside (halted_at threads guests trace limit) ≡ None
+    pub computed_steps : (t : Tid) → chosen threads guests ≡ Computes t → reason_in outset.inside (halted_at threads guests trace limit) ≡ None
         → WentByTable ActsFor homes caps number limit part part guests (with_guest guests t.0 computed) trace trace old old Stepped
     computed_steps t chose live setup of =
-        compute_steps tabled_cpu t (ap (λ (x : Threads). chosen x guests) tells.0 ∙ chose) ActsFor old turn_own (halted_own turn.inside None live) setup of
+        compute_steps tabled_cpu t (ap (λ (x : Threads). chosen x guests) tells.0 ∙ chose) ActsFor old outset_own (halted_own outset.inside None live) setup of
 
     -- no step
-    pub stopped_steps : (reason : Reason) → reason_in turn.inside (halted_at threads guests trace limit) ≡ Some reason
+    pub stopped_steps : (reason : Reason) → reason_in outset.inside (halted_at threads guests trace limit) ≡ Some reason
         → WentByTable ActsFor homes caps number limit part part guests guests trace trace old old (Halted reason)
     stopped_steps reason halted setup of =
-        halted_steps tabled_cpu ActsFor old setup of turn.inside reason turn_own.busy (halted_own turn.inside (Some reason) halted)
+        halted_steps tabled_cpu ActsFor old setup of outset.inside reason outset_own.busy (halted_own outset.inside (Some reason) halted)
 
     -- what the table's step answers, by the CPU's own reason to take none
     pub answers_step : (setup : Setup) → IsSetupOf setup homes caps guests limit → (cpu_step setup number (private part guests trace) (named old)).answer
-        ≡ step_answer (reason_in turn.inside (halted_at threads guests trace limit))
+        ≡ step_answer (reason_in outset.inside (halted_at threads guests trace limit))
     answers_step setup of =
-        answers_so setup number (private part guests trace) (named old) turn.inside (halted_at (threads_in part) guests trace limit)
-        (turn_own.busy ∙ sym (ap is_in_section (phase_renamed name_of number old)))
+        answers_so setup number (private part guests trace) (named old) outset.inside (halted_at (threads_in part) guests trace limit)
+        (outset_own.busy ∙ sym (ap is_in_section (phase_renamed name_of number old)))
         (halted_same tabled_cpu setup of)
-        ∙ ap (λ (x : Threads). step_answer (reason_in turn.inside (halted_at x guests trace limit))) tells.0
+        ∙ ap (λ (x : Threads). step_answer (reason_in outset.inside (halted_at x guests trace limit))) tells.0
 
   pub computed_tabled : (t : Tid) → chosen threads guests ≡ Computes t → IsTabled homes caps number part doing (with_guest guests t.0 computed) opening
   computed_tabled t chose = compute_tabled tabled_cpu t (ap (λ (x : Threads). chosen x guests) tells.0 ∙ chose)

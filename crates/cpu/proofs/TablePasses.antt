@@ -41,7 +41,7 @@ use Rattle.cpu.specs.Tower.Privates.{guests_passed, private_of, private_passed, 
 use Rattle.cpu.specs.Tower.Composed.{HandIsKnown, IsLine, OpensAs, named}
 use Rattle.cpu.specs.Tower.Standing.{IsPart}
 use Rattle.cpu.specs.Tables.{IsSetupOf, IsTabled, private, state_of, states}
-use Rattle.cpu.proofs.CpuStates.{TabledCpu, Turn, valid}
+use Rattle.cpu.proofs.CpuStates.{TabledCpu, Outset, valid}
 use Rattle.cpu.proofs.GuestLists.{guest_within}
 use Rattle.cpu.proofs.Schedules.{PassCase, computes_at, finish_exit, in_no_call, pass_case, switches, drains, sends_idle, sends_on, passes_on, finishes}
 use Rattle.cpu.proofs.TableRows.{call_is, call_of, guest_there, halted_same, stands_there, states_at, states_long}
@@ -238,9 +238,9 @@ module _ (cpu : TabledCpu) where
             (λ u before. abbrev_same u _ same refl before) quick2
         go (Some x) same = by_case pass refl case_is same
 
-    module _ (setup : Setup) (of : IsSetupOf setup homes caps guests limit) (turn : Turn ActsFor cpu old)
-        (live : reason_in turn.inside (cpu_halted (threads_in own) guests trace limit) ≡ None) where
-      open turn use {inside, acts, rests, busy, known}
+    module _ (setup : Setup) (of : IsSetupOf setup homes caps guests limit) (outset : Outset ActsFor cpu old)
+        (live : reason_in outset.inside (cpu_halted (threads_in own) guests trace limit) ≡ None) where
+      open outset use {inside, acts, rests, busy, known}
 
       opens : OpensAs setup number opening
       opens = opens_as setup homes caps number opening of.homes_are of.caps_are tabled.opens
@@ -460,17 +460,17 @@ module _ (cpu : TabledCpu) where
         tabled_with cpu t g computed own doing at tabled.part
         (λ over. tabled.ends t g at over) (λ u other before. before) tabled.quick
 
-    pub compute_steps : (ActsFor : CpuId → Type 0) (old : List (Action TowerName)) (turn : Turn ActsFor cpu old)
-        → reason_in turn.inside (cpu_halted (threads_in own) guests trace limit) ≡ None
+    pub compute_steps : (ActsFor : CpuId → Type 0) (old : List (Action TowerName)) (outset : Outset ActsFor cpu old)
+        → reason_in outset.inside (cpu_halted (threads_in own) guests trace limit) ≡ None
         → (setup : Setup) (of : IsSetupOf setup homes caps guests limit)
         → IsStep ActsFor (cpu_step setup number) p (private own (with_guest guests t.0 computed) trace) (named old) (named old) Stepped
-    compute_steps ActsFor old turn live setup of =
+    compute_steps ActsFor old outset live setup of =
         let free : is_calling g.stage ≡ false = not_calling t g Compute at does.1.2 (λ c e. absurd (cc e)) in
         let between = free_between t g at free in
         let rest = at_rest _ _ _ _ _ _ (tabled.part.mine t does.0) between in
-        let outside : is_in_section (phase number old) ≡ false = sym turn.busy ∙ turn.rests (idle doing refl) in
+        let outside : is_in_section (phase number old) ≡ false = sym outset.busy ∙ outset.rests (idle doing refl) in
         let live_now = halted_same cpu setup of
-        ∙ not_halted_so turn.inside (is_in_section (phase number old)) (cpu_halted (threads_in own) guests trace limit) turn.busy live outside in
+        ∙ not_halted_so outset.inside (is_in_section (phase number old)) (cpu_halted (threads_in own) guests trace limit) outset.busy live outside in
         let quiet = call_of cpu setup of t g at
         ∙ unbegun _ (talk_of own.talks t) between in
         let there = guest_there own guests trace t g at in

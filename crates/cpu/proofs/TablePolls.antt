@@ -21,7 +21,7 @@ use Rattle.layer_traits.specs.declared.calls.Reply.{Reply}
 use Rattle.layer_traits.specs.declared.passes.Pass.{Pass}
 use Rattle.layer_traits.specs.declared.steps.Reason.{Reason}
 use Rattle.layer_traits.specs.declared.steps.Step.TheVariants.{Stepped}
-use Rattle.layer_traits.specs.declared.talks.Stage.{Stage as TalkStage}
+use Rattle.layer_traits.specs.declared.talks.Stage.{Stage}
 use Rattle.layer_traits.specs.declared.talks.Stage.TheVariants as at_stage
 use Rattle.layer_traits.specs.declared.talks.Talk.{Talk}
 use Rattle.layer_traits.specs.Along.{IsStep}
@@ -43,7 +43,7 @@ use Rattle.cpu.specs.Tower.Privates.{guests_after, private_after, private_of, th
 use Rattle.cpu.specs.Tower.Composed.{AsksFor, HandIsKnown, IsBeginning, IsGoing, IsUsed, OpensAs, named}
 use Rattle.cpu.specs.Tower.Standing.{IsPart}
 use Rattle.cpu.specs.Tables.{IsSetupOf, IsTabled, bare, private, state_of, states}
-use Rattle.cpu.proofs.CpuStates.{TabledCpu, Turn, valid}
+use Rattle.cpu.proofs.CpuStates.{TabledCpu, Outset, valid}
 use Rattle.cpu.proofs.Follow.{had_going}
 use Rattle.cpu.proofs.GuestLists.{at_other, at_same, guest_within}
 use Rattle.cpu.proofs.Steps.{PollsAt, polls_at, poll_number, poll_talks}
@@ -81,7 +81,7 @@ asks_for (ins.Add r q) s c is = absurd (cc is)
 asks_for (ins.Sub r q) s c is = absurd (cc is)
 asks_for (ins.Jnz r k) s c is = absurd (cc is)
 
-is_between : (s : TalkStage) → (s ≡ at_stage.Between) ⊎ (s ≡ at_stage.Between → ⊥)
+is_between : (s : Stage) → (s ≡ at_stage.Between) ⊎ (s ≡ at_stage.Between → ⊥)
 is_between at_stage.Between = inl refl
 is_between at_stage.Acquires = inr (λ e. absurd (cc e))
 is_between at_stage.Enters = inr (λ e. absurd (cc e))
@@ -93,7 +93,7 @@ is_between at_stage.SignalsOwn = inr (λ e. absurd (cc e))
 is_between at_stage.Releases = inr (λ e. absurd (cc e))
 
 -- a talk inside a call goes on as it is
-goes_same : (s : TalkStage) (talk : Talk) (c : Call) → (s ≡ at_stage.Between → ⊥) → going_at s talk c ≡ talk
+goes_same : (s : Stage) (talk : Talk) (c : Call) → (s ≡ at_stage.Between → ⊥) → going_at s talk c ≡ talk
 goes_same at_stage.Between talk c calls = absurd (calls refl)
 goes_same at_stage.Acquires talk c calls = refl
 goes_same at_stage.Enters talk c calls = refl
@@ -278,9 +278,9 @@ module _ (cpu : TabledCpu) where
             let none : is_some (begun_of talk) ≡ false = ap (λ s. is_some (begun_of (record talk { stage = s }))) between in
             absurd (cc (yes, begun, none))
 
-    module _ (ActsFor : CpuId → Type 0) (old : List (Action TowerName)) (turn : Turn ActsFor cpu old)
-        (live : reason_in turn.inside (cpu_halted (threads_in own) guests trace limit) ≡ None) (after : TabledPoll ActsFor cpu t c old) where
-      open turn use {inside, acts, rests, busy, known}
+    module _ (ActsFor : CpuId → Type 0) (old : List (Action TowerName)) (outset : Outset ActsFor cpu old)
+        (live : reason_in outset.inside (cpu_halted (threads_in own) guests trace limit) ≡ None) (after : TabledPoll ActsFor cpu t c old) where
+      open outset use {inside, acts, rests, busy, known}
       open after use {own as own2, doing as doing2, guests as guests2, trace as trace2, new, result, known as known2}
       open after use {follows, ended_is, doing_is, guests_is, trace_is}
 

@@ -45,11 +45,11 @@ module _ {P M : Type 0} (I : Ghosts P M) (m : M) (cpus : List (Cpu P M))
       held.has there.0.part (is.2 ∙ is.0) is.1 (nobody held.cpu.0 there.0 there.1)
 
   -- of a thread at home in the system some part is not silent
-  pub place_here : (IsSilent : P → Type 0) (homes : List CpuId) (moves : List Step) (t : Tid) → AreMoves homes moves
+  pub berth_here : (IsSilent : P → Type 0) (homes : List CpuId) (moves : List Step) (t : Tid) → AreMoves homes moves
       → ((u : Tid) (home : CpuId) → home_of homes u ≡ Some home → home.0 < length cpus)
       → Tells (λ p. I.Fits p m) (λ p. I.cpu_of p) IsInside IsSilent (home_of homes t) (where_is homes moves t)
       → ((k : ℕ) (x : Cpu P M) → slice_get cpus k ≡ Some x → IsSilent x.part) → ⊥
-  place_here IsSilent homes moves t moved within tells silent =
+  berth_here IsSilent homes moves t moved within tells silent =
       let there = there_is cpus tells.cpu.0 (may_within tells.may) in
       let is = each tells.cpu.0 there.0 there.1 in
       tells.has there.0.part (is.2 ∙ is.0) is.1 (silent tells.cpu.0 there.0 there.1)

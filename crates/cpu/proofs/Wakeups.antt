@@ -1,7 +1,7 @@
 pub mod Lists
 pub mod Awake
 pub mod Ordered
-pub mod Spots
+pub mod Posts
 pub mod Pairs
 pub mod Owns
 pub mod Called

@@ -54,7 +54,7 @@ new_guest program = record { program = program; thread = at_start; stage = Betwe
 abbrev pub computed : Guest → Guest
 computed g = record g { thread = after_local (next_of g.program g.thread) g.thread }
 
--- a guest that passed its turn on
+-- a guest that yielded
 abbrev pub passed : Guest → Guest
 passed g = record g { thread = after_yield (next_of g.program g.thread) g.thread }
 

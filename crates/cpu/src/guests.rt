@@ -23,7 +23,7 @@ pub enum GuestStage {
 pub enum Todo {
     /// It ends.
     Finish,
-    /// It passes its turn on to the other threads of its CPU.
+    /// It yields to the other threads of its CPU.
     PassOn,
     /// It does an instruction that touches its own line and registers alone.
     Compute,

@@ -20,8 +20,8 @@ use Rattle.layer_traits.proofs.buffer_edits.BufferEdit.TheSendSync as buffer_edi
 use Rattle.sleep_wakeup.proofs.edits.SleepBlock.TheSendSync as sleep_block
 use Rattle.queuing_lock.proofs.edits.QBlock.TheSendSync as lock_block
 use Rattle.layer_traits.proofs.buffer_blocks.BufferBlock.TheSendSync as buffer_block
-use Rattle.spinlock.specs.contracts.turn.Turn as turn
-use Rattle.spinlock.proofs.turn.Turn.TheSendSync as turn_crosses
+use Rattle.spinlock.specs.contracts.spinner.Spinner as spinner
+use Rattle.spinlock.proofs.spinner.Spinner.TheSendSync as spinner_crosses
 use Rattle.table_machine.specs.contracts.seats.Seat as table_seat
 use Rattle.table_machine.proofs.seats.Seat.TheSendSync as seat_crosses
 use Rattle.layer_traits.specs.contracts.queue_edits.QueueEdit as edit_row
@@ -83,5 +83,5 @@ tower_seat_send a K k = view_send _ _ _ _ _ (declared_send (inside.the_type a K 
 ))
 
 -- and so does a lock over it
-pub turn_send : (a : NamedLft) (K : RattleType) (k : _) (By : RattleType) → IsSend (turn.the_row (seat.the_row a K k) By edit guarded answer)
-turn_send a K k By = turn_crosses.the_send _ _ _ _ _ (tower_seat_send a K k) edit_send tower_block_send
+pub turn_send : (a : NamedLft) (K : RattleType) (k : _) (By : RattleType) → IsSend (spinner.the_row (seat.the_row a K k) By edit guarded answer)
+turn_send a K k By = spinner_crosses.the_send _ _ _ _ _ (tower_seat_send a K k) edit_send tower_block_send

@@ -20,7 +20,7 @@ use Rattle.layer_traits.specs.OnePlace.{cpu_at}
 use Rattle.layer_traits.specs.Protocol.{section}
 use Rattle.layer_traits.specs.Queues.{buffer_at, buffer_sections, event_of}
 use Rattle.layer_traits.proofs.EffectRunLemmas.{effects_are_run}
-use Rattle.fifo_buffer.specs.Tallies.{effect_place}
+use Rattle.fifo_buffer.specs.Tallies.{effect_position}
 use Rattle.cpu.specs.Cpus.{of_cpu}
 use Rattle.cpu.specs.Tower.Views.{TowerName}
 use Rattle.cpu.proofs.ListReads.{all_reversed}
@@ -49,7 +49,7 @@ module _ (caps : List ℕ) where
       record {
         effect = effect_of (opening_locks caps) before (section cpu (Buffer b) call);
         is = refl;
-        its = λ e at. (effect_place cpu b call (λ side t. drawn (opening_locks caps) (Buffer b) side t before)
+        its = λ e at. (effect_position cpu b call (λ side t. drawn (opening_locks caps) (Buffer b) side t before)
             (block_at (opening_locks caps) before (Buffer b)) e at).0;
       }
 

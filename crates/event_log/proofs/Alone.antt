@@ -5,7 +5,7 @@ use Rattle.event_log.specs.declared.ids.CpuId.{CpuId}
 use Rattle.event_log.specs.declared.ids.LockId.{LockId}
 use Rattle.event_log.specs.declared.ids.TheConstants.{CPUS}
 use Rattle.event_log.specs.History.{same_lock}
-use Rattle.event_log.specs.Actions.{Action, Take, Try, Give, Phase, Rests, Waits, Holds, phase, place, takes, gives, AreLegal, action_in, next_action, IsFree}
+use Rattle.event_log.specs.Actions.{Action, Take, Try, Give, Phase, Rests, Waits, Holds, phase, spot_of, takes, gives, AreLegal, action_in, next_action, IsFree}
 use Rattle.event_log.specs.Actions.{AreFree}
 use Rattle.event_log.specs.Sections.{sections_in}
 use Rattle.event_log.specs.Laws.{IsOneSection}
@@ -13,7 +13,7 @@ use Rattle.event_log.proofs.Same.{same_cpu_self, same_lock_self}
 use Rattle.event_log.proofs.Line.{crowd, crowd_absent}
 use Rattle.event_log.proofs.Exclusion.{is_at, phase_own, line_at}
 
--- a CPU that rests takes a place
+-- a CPU that rests takes a spot
 pub first_action : {N : Type 0} (cpu : CpuId) (lock : LockId) (name : N) (past : List (Action N)) → phase cpu past ≡ Rests
     → next_action cpu lock name past ≡ Take cpu lock
 first_action cpu lock name past rests = ap (action_in cpu lock name past) rests
@@ -22,9 +22,9 @@ first_action cpu lock name past rests = ap (action_in cpu lock name past) rests
 pub second_action : {N : Type 0} (cpu : CpuId) (lock : LockId) (name : N) (past : List (Action N)) → IsFree lock past
     → next_action cpu lock name (Take cpu lock ∷ past) ≡ Try cpu lock true
 second_action cpu lock name past free =
-    let here : place cpu (Take cpu lock ∷ past) ≡ takes lock past = ap (λ b. if b then takes lock past else place cpu past) (same_cpu_self cpu) in
-    let served : (gives lock past == place cpu (Take cpu lock ∷ past)) ≡ true =
-    eq-eqb (gives lock past) (place cpu (Take cpu lock ∷ past)) (sym free ∙ sym here) in
+    let here : spot_of cpu (Take cpu lock ∷ past) ≡ takes lock past = ap (λ b. if b then takes lock past else spot_of cpu past) (same_cpu_self cpu) in
+    let served : (gives lock past == spot_of cpu (Take cpu lock ∷ past)) ≡ true =
+    eq-eqb (gives lock past) (spot_of cpu (Take cpu lock ∷ past)) (sym free ∙ sym here) in
     ap (action_in cpu lock name (Take cpu lock ∷ past)) (phase_own (Take cpu lock) past) ∙ ap (Try cpu lock) served
 
 -- and then it gives the lock on

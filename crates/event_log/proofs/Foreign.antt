@@ -6,10 +6,10 @@ use Rattle.event_log.specs.declared.events.Event.{Event}
 use Rattle.event_log.specs.declared.events.Event.TheVariants.{Draw, Look, Free}
 use Rattle.event_log.specs.History.{same_cpu, own_events, IsLawful, AreOthers, AreForeign}
 use Rattle.event_log.specs.WordsLog.{actor, standing, IsLegalWords}
-use Rattle.event_log.specs.Actions.{Action, Take, Try, Give, phase, doer, place, MayAct, AreLegal, act_of, acts_of}
+use Rattle.event_log.specs.Actions.{Action, Take, Try, Give, phase, doer, spot_of, MayAct, AreLegal, act_of, acts_of}
 use Rattle.event_log.specs.Sections.{section_actor, sections_of, sections_in}
 use Rattle.event_log.proofs.Same.{same_cpu_self, same_lock_self}
-use Rattle.event_log.proofs.Exclusion.{is_at, phase_other, place_other, knows}
+use Rattle.event_log.proofs.Exclusion.{is_at, phase_other, spot_other, knows}
 use Rattle.event_log.proofs.Tickets.{standing_other, legal_acts, doer_is}
 
 -- Any relation and any event.
@@ -63,9 +63,9 @@ pub phase_others : {N : Type 0} (c : CpuId) (others past : List (Action N)) → 
 phase_others c [] past foreign = refl
 phase_others c (a ∷ others) past foreign = phase_other a (others ++ past) c foreign.0 ∙ phase_others c others past foreign.1
 
-pub place_others : {N : Type 0} (c : CpuId) (others past : List (Action N)) → AreOthers doer c others → place c (others ++ past) ≡ place c past
-place_others c [] past foreign = refl
-place_others c (a ∷ others) past foreign = place_other a (others ++ past) c foreign.0 ∙ place_others c others past foreign.1
+pub spot_others : {N : Type 0} (c : CpuId) (others past : List (Action N)) → AreOthers doer c others → spot_of c (others ++ past) ≡ spot_of c past
+spot_others c [] past foreign = refl
+spot_others c (a ∷ others) past foreign = spot_other a (others ++ past) c foreign.0 ∙ spot_others c others past foreign.1
 
 -- who acts is a CPU of the machine
 pub doer_known : {N : Type 0} (a : Action N) (past : List (Action N)) → MayAct past a → AreLegal past → (doer a).0 < CPUS

@@ -11,7 +11,7 @@ use Rattle.event_log.specs.History.{same_lock}
 use Rattle.event_log.specs.WordsLog.{Inside}
 use Rattle.event_log.specs.Grants.{grant_actor, is_ticket, tickets, left_by_grant, grant_standing, ticket_in, after_give, grant_word, MayFollowGrants}
 use Rattle.event_log.specs.Grants.{IsLegalGrants, act_of_grant, acts_of_grants}
-use Rattle.event_log.specs.Actions.{Waits, Holds, phase, left_in, doer, place, takes, gives, is_take, MayAct, AreLegal}
+use Rattle.event_log.specs.Actions.{Waits, Holds, phase, left_in, doer, spot_of, takes, gives, is_take, MayAct, AreLegal}
 use Rattle.event_log.proofs.Same.{same_cpu_self, same_lock_self, same_lock_true}
 use Rattle.event_log.proofs.Exclusion.{is_at, is_holding, line_at, one_holds, near}
 use Rattle.event_log.proofs.Told.{phase_of, phase_either, TicketOf, ticket_either, how_many-map, Tells, told_phase, told_ticket, eqb_same}
@@ -38,29 +38,29 @@ is_take_ticket name lock (Take cpu at ticket) = refl
 is_take_ticket name lock (Peek cpu at ticket read) = refl
 is_take_ticket name lock (Give cpu at mark) = refl
 
--- the places taken are the tickets
+-- the spots taken are the tickets
 pub takes_grants : {M N : Type 0} (name : M → N) (lock : LockId) (log : List (GrantEvent M)) → takes lock (acts_of_grants name log) ≡ tickets lock log
 takes_grants name lock log = how_many-map (act_of_grant name) (is_ticket lock) (is_take lock) (is_take_ticket name lock) log
 
 ticket_left : {M N : Type 0} (name : M → N) (e : GrantEvent M) (past : List (GrantEvent M)) → MayFollowGrants past e
-    → TicketOf (grant_standing (grant_actor e) past) (place (grant_actor e) (acts_of_grants name past))
-    → TicketOf (left_by_grant e) (place (grant_actor e) (acts_of_grants name (e ∷ past)))
+    → TicketOf (grant_standing (grant_actor e) past) (spot_of (grant_actor e) (acts_of_grants name past))
+    → TicketOf (left_by_grant e) (spot_of (grant_actor e) (acts_of_grants name (e ∷ past)))
 ticket_left name (Take cpu lock ticket) past may had =
     may.2 ∙ ap (λ n. n % 2 ^ 64) (sym (takes_grants name lock past)
-    ∙ sym (ap (λ b. if b then takes lock (acts_of_grants name past) else place cpu (acts_of_grants name past)) (same_cpu_self cpu)))
+    ∙ sym (ap (λ b. if b then takes lock (acts_of_grants name past) else spot_of cpu (acts_of_grants name past)) (same_cpu_self cpu)))
 ticket_left name (Peek cpu lock ticket read) past may had =
-    ticket_either (read == (ticket + 1) % 2 ^ 64) lock ticket (place cpu (acts_of_grants name past))
-    (subst (λ s. TicketOf s (place cpu (acts_of_grants name past))) may.0 had)
+    ticket_either (read == (ticket + 1) % 2 ^ 64) lock ticket (spot_of cpu (acts_of_grants name past))
+    (subst (λ s. TicketOf s (spot_of cpu (acts_of_grants name past))) may.0 had)
 ticket_left name (Give cpu lock mark) past may had = tt
 
--- in a legal log each ticket is the rest of the true place
+-- in a legal log each ticket is the rest of the true spot
 pub grant_ticket_at : {M N : Type 0} (name : M → N) (log : List (GrantEvent M)) → IsLegalGrants log → (c : CpuId)
-    → TicketOf (grant_standing c log) (place c (acts_of_grants name log))
+    → TicketOf (grant_standing c log) (spot_of c (acts_of_grants name log))
 grant_ticket_at name log legal c =
     told_ticket grant_actor left_by_grant grant_standing (act_of_grant name) (grants_tell name) MayFollowGrants (ticket_left name) log legal c
 
--- What a grant word holds after a lock was given on `given` times: the place k that came to it last is the one that it lets in.
--- Where no place has come to it yet, it holds 0.
+-- What a grant word holds after a lock was given on `given` times: the spot k that came to it last is the one that it lets in.
+-- Where no spot has come to it yet, it holds 0.
 pub record WordFits (word given held : ℕ) : Type 0 where
   pub written : word ≤ given → (k : ℕ) × (k ≤ given) × (given < k + CPUS) × (k % CPUS ≡ word) × (held ≡ (k + 1) % 2 ^ 64)
   pub unwritten : given < word → held ≡ 0
@@ -76,7 +76,7 @@ fits_at_start word within = go (word == 0) refl
         let later : word ≡ 0 → ⊥ = eqb-false word 0 is in
         record { written = λ le. absurd (later (omega arith)); unwritten = λ lt. refl }
 
--- a Give at the place that is served writes the next place's word
+-- a Give at the spot that is served writes the next spot's word
 fits_here : (word given ticket : ℕ) → word < CPUS → ticket ≡ given % 2 ^ 64 → word ≡ (ticket + 1) % CPUS → WordFits word (given + 1) ((ticket + 2) % 2 ^ 64)
 fits_here word given ticket within is here = record {
   written = λ le. (given + 1, omega arith, omega arith, omega arith, omega arith);
@@ -110,7 +110,7 @@ served_is_latest : (given spot ticket word held k : ℕ) → given ≡ spot → 
     → k ≤ given → given < k + CPUS → k % CPUS ≡ word → held ≡ (k + 1) % 2 ^ 64 → held ≡ (ticket + 1) % 2 ^ 64
 served_is_latest given spot ticket word held k served is at le lt same holds = omega arith
 
--- a waiter near the front reads its place plus 1 exactly where it is served
+-- a waiter near the front reads its spot plus 1 exactly where it is served
 pub served_exactly : (given spot ticket word held : ℕ) → given ≤ spot → spot < given + CPUS → ticket ≡ spot % 2 ^ 64 → word ≡ ticket % CPUS
     → WordFits word given held
     → (held == (ticket + 1) % 2 ^ 64) ≡ (given == spot)
@@ -145,16 +145,16 @@ one_word word given a b first second = elim (within_or_past word given) [
   | inr new ↦ first.unwritten new ∙ sym (second.unwritten new)
 ]
 
--- who is inside a lock holds the ticket of the place that is served
+-- who is inside a lock holds the ticket of the spot that is served
 inside_is_served : {M N : Type 0} (name : M → N) (cpu : CpuId) (lock : LockId) (ticket : ℕ) (past : List (GrantEvent M)) → IsLegalGrants past
     → AreLegal (acts_of_grants name past)
     → grant_standing cpu past ≡ Inside lock ticket → ticket_in (grant_standing cpu past) ≡ gives lock (acts_of_grants name past) % 2 ^ 64
 inside_is_served name cpu lock ticket past legal acts inside =
     let holds : phase cpu (acts_of_grants name past) ≡ Holds lock = phase_grants name cpu past ∙ ap phase_of inside in
-    let served : place cpu (acts_of_grants name past) ≡ gives lock (acts_of_grants name past) =
+    let served : spot_of cpu (acts_of_grants name past) ≡ gives lock (acts_of_grants name past) =
     (line_at lock (acts_of_grants name past) acts).first cpu (ap (is_holding lock) holds ∙ same_lock_self lock) in
-    let has : ticket ≡ place cpu (acts_of_grants name past) % 2 ^ 64 =
-    subst (λ s. TicketOf s (place cpu (acts_of_grants name past))) inside (grant_ticket_at name past legal cpu) in
+    let has : ticket ≡ spot_of cpu (acts_of_grants name past) % 2 ^ 64 =
+    subst (λ s. TicketOf s (spot_of cpu (acts_of_grants name past))) inside (grant_ticket_at name past legal cpu) in
     ap ticket_in inside ∙ (has ∙ ap (λ n. n % 2 ^ 64) served)
 
 -- in a legal log each grant word holds what the number of gives says
@@ -187,14 +187,14 @@ legal_grant name (Take cpu lock ticket) past may legal acts = (may.0, phase_gran
 legal_grant name (Peek cpu lock ticket read) past may legal acts =
     let waits : phase cpu (acts_of_grants name past) ≡ Waits lock = phase_grants name cpu past ∙ ap phase_of may.0 in
     let there : is_at lock (phase cpu (acts_of_grants name past)) ≡ true = ap (is_at lock) waits ∙ same_lock_self lock in
-    let has : ticket ≡ place cpu (acts_of_grants name past) % 2 ^ 64 =
-    subst (λ s. TicketOf s (place cpu (acts_of_grants name past))) may.0 (grant_ticket_at name past legal cpu) in
+    let has : ticket ≡ spot_of cpu (acts_of_grants name past) % 2 ^ 64 =
+    subst (λ s. TicketOf s (spot_of cpu (acts_of_grants name past))) may.0 (grant_ticket_at name past legal cpu) in
     let close = near (acts_of_grants name past) acts cpu lock there in
     let within : ticket % CPUS < CPUS = omega arith in
     let fits = words_fit name lock (ticket % CPUS) within past legal acts in (
       waits,
       ap (λ r. r == (ticket + 1) % 2 ^ 64) may.1
-          ∙ served_exactly (gives lock (acts_of_grants name past)) (place cpu (acts_of_grants name past)) ticket (ticket % CPUS)
+          ∙ served_exactly (gives lock (acts_of_grants name past)) (spot_of cpu (acts_of_grants name past)) ticket (ticket % CPUS)
           (grant_word lock (ticket % CPUS) past) close.0 close.1 has refl fits,
     )
 legal_grant name (Give cpu lock mark) past may legal acts = phase_grants name cpu past ∙ ap phase_of may.1

@@ -1,4 +1,4 @@
--- The line at one lock: who stands in it, in which place, and why nobody enters out of turn.
+-- The line at one lock: who stands in it, in which spot, and why nobody enters out of turn.
 use Rattle.std.proofs.Common.{◌≡◌, ℕ, zero, suc, ◌+◌, ◌<◌, ◌≤◌, ◌⊎◌, inl, inr, Bool, true, false, if◌then◌else◌, refl, ap, sym, subst, ◌∙◌, arith}
 use Rattle.std.proofs.lemmas.Bool.{eqb-true}
 use Rattle.event_log.specs.declared.ids.CpuId.{CpuId}
@@ -101,8 +101,8 @@ self_differs d other = let same : same_cpu d d ≡ true = same_cpu_self d in abs
 next_or_more : (g k : ℕ) → g ≤ k → (k ≡ g → ⊥) → g + 1 ≤ k
 next_or_more g k at_least not_equal = grind arith
 
--- The line at a lock: of `taken` places `given` were served. Each CPU that stands there has a place among the rest, no
--- two have the same, there are as many places left as CPUs, and the one that holds the lock has the place that is served.
+-- The line at a lock: of `taken` spots `given` were served. Each CPU that stands there has a spot among the rest, no
+-- two have the same, there are as many spots left as CPUs, and the one that holds the lock has the spot that is served.
 pub record Line (taken given : ℕ) (stands holds : CpuId → Bool) (spot : CpuId → ℕ) : Type 0 where
   pub balance : taken ≡ given + crowd stands CPUS
   pub known : (c : CpuId) → stands c ≡ true → c.0 < CPUS
@@ -114,7 +114,7 @@ pub record Line (taken given : ℕ) (stands holds : CpuId → Bool) (spot : CpuI
 
 module _ (taken given : ℕ) (stands holds : CpuId → Bool) (spot : CpuId → ℕ) (stands' holds' : CpuId → Bool) (spot' : CpuId → ℕ)
     (line : Line taken given stands holds spot) where
-  -- nobody comes or goes; one may enter whose place is served
+  -- nobody comes or goes; one may enter whose spot is served
   pub line_stays : ((c : CpuId) → stands' c ≡ stands c) → ((c : CpuId) → stands c ≡ true → spot' c ≡ spot c)
       → ((c : CpuId) → holds' c ≡ true → (stands c ≡ true) × (spot c ≡ given)) → Line taken given stands' holds' spot'
   line_stays same still entered =
@@ -129,7 +129,7 @@ module _ (taken given : ℕ) (stands holds : CpuId → Bool) (spot : CpuId → �
         first = λ c h. still c (entered c h).0 ∙ (entered c h).1;
       }
 
-  -- one comes: it takes the place behind all others
+  -- one comes: it takes the spot behind all others
   pub line_joined : (d : CpuId) → d.0 < CPUS → stands d ≡ false → stands' d ≡ true → holds' d ≡ false → spot' d ≡ taken
       → ((c : CpuId) → same_cpu d c ≡ false → (stands' c ≡ stands c) × (holds' c ≡ holds c) × (spot' c ≡ spot c))
       → Line (taken + 1) given stands' holds' spot'

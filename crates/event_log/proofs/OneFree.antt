@@ -6,10 +6,10 @@ use Rattle.event_log.specs.declared.events.Event.{Event}
 use Rattle.event_log.specs.declared.events.Event.TheVariants.{Draw, Look, Free}
 use Rattle.event_log.specs.History.{same_cpu, same_lock, own_events}
 use Rattle.event_log.specs.WordsLog.{actor, frees, IsLegalWords}
-use Rattle.event_log.specs.Actions.{Action, Take, Try, Give, Waits, Holds, phase, left_in, doer, place, takes, gives, MayAct, AreLegal, act_of, acts_of}
+use Rattle.event_log.specs.Actions.{Action, Take, Try, Give, Waits, Holds, phase, left_in, doer, spot_of, takes, gives, MayAct, AreLegal, act_of, acts_of}
 use Rattle.event_log.specs.Laws.{OnlyTries, OnlyLooks}
 use Rattle.event_log.proofs.Same.{same_cpu_self, same_cpu_true, same_lock_self, same_lock_true}
-use Rattle.event_log.proofs.Exclusion.{is_at, is_holding, at_either, phase_own, phase_other, place_other, line_at}
+use Rattle.event_log.proofs.Exclusion.{is_at, is_holding, at_either, phase_own, phase_other, spot_other, line_at}
 use Rattle.event_log.proofs.Tickets.{doer_is, gives_acts, legal_acts}
 use Rattle.event_log.proofs.Foreign.{acts_of-append}
 
@@ -29,12 +29,12 @@ none_yet : (n spot given later : ℕ) → (1 ≤ n → spot < later) → n ≤ 1
 none_yet n spot given later behind once served ahead = grind arith
 
 module _ {N : Type 0} (lock : LockId) (cpu other : CpuId) (first : ℕ) (differ : same_cpu cpu other ≡ false) where
-  -- the first CPU still has its place, and the other one, if it has given the lock on, stands behind it
+  -- the first CPU still has its spot, and the other one, if it has given the lock on, stands behind it
   record Meanwhile (between log : List (Action N)) : Type 0 where
     stands : is_at lock (phase cpu log) ≡ true
-    spot : place cpu log ≡ first
+    spot : spot_of cpu log ≡ first
     once : gives lock (own_events doer other between) ≤ 1
-    behind : 1 ≤ gives lock (own_events doer other between) → is_at lock (phase other log) ≡ true → first < place other log
+    behind : 1 ≤ gives lock (own_events doer other between) → is_at lock (phase other log) ≡ true → first < spot_of other log
 
   -- an action of a third CPU
   by_third : (a : Action N) (between log : List (Action N)) → Meanwhile between log → same_cpu (doer a) cpu ≡ false → same_cpu (doer a) other ≡ false
@@ -43,9 +43,9 @@ module _ {N : Type 0} (lock : LockId) (cpu other : CpuId) (first : ℕ) (differ 
       let same : own_events doer other (a ∷ between) ≡ own_events doer other between = own_not doer other a between not_other in
       record {
         stands = ap (is_at lock) (phase_other a log cpu not_cpu) ∙ so_far.stands;
-        spot = place_other a log cpu not_cpu ∙ so_far.spot;
+        spot = spot_other a log cpu not_cpu ∙ so_far.spot;
         once = subst (λ xs. gives lock xs ≤ 1) (sym same) so_far.once;
-        behind = λ some there. subst (λ k. first < k) (sym (place_other a log other not_other))
+        behind = λ some there. subst (λ k. first < k) (sym (spot_other a log other not_other))
             (so_far.behind (subst (λ xs. 1 ≤ gives lock xs) same some) (sym (ap (is_at lock) (phase_other a log other not_other)) ∙ there));
       }
 
@@ -71,11 +71,11 @@ module _ {N : Type 0} (lock : LockId) (cpu other : CpuId) (first : ℕ) (differ 
   by_other (Take d m) between log may legal so_far by not_cpu =
       let is : same_cpu d other ≡ true = subst (λ c. same_cpu d c ≡ true) by (same_cpu_self d) in
       let same : own_events doer other (Take d m ∷ between) ≡ Take d m ∷ own_events doer other between = own_yes doer other (Take d m) between is in
-      let taken : place other (Take d m ∷ log) ≡ takes m log = ap (λ b. if b then takes m log else place other log) is in
-      let ahead : place cpu log < takes lock log = (line_at lock log legal).behind cpu so_far.stands in
+      let taken : spot_of other (Take d m ∷ log) ≡ takes m log = ap (λ b. if b then takes m log else spot_of other log) is in
+      let ahead : spot_of cpu log < takes lock log = (line_at lock log legal).behind cpu so_far.stands in
       record {
         stands = ap (is_at lock) (phase_other {N = N} (Take d m) log cpu not_cpu) ∙ so_far.stands;
-        spot = place_other (Take d m) log cpu not_cpu ∙ so_far.spot;
+        spot = spot_other (Take d m) log cpu not_cpu ∙ so_far.spot;
         once = subst (λ xs. gives lock xs ≤ 1) (sym same) so_far.once;
         behind = λ some there.
             let here : lock ≡ m = same_lock_true lock m (sym (ap (is_at lock) (left_own {N = N} (Take d m) log other by)) ∙ there) in
@@ -103,7 +103,7 @@ module _ {N : Type 0} (lock : LockId) (cpu other : CpuId) (first : ℕ) (differ 
       → (if b then gives lock (own_events doer other between) + 1 else gives lock (own_events doer other between)) ≤ 1 =
       λ b. elim b as (λ b. same_lock lock m ≡ b → (if b then gives lock (own_events doer other between) + 1 else gives lock (own_events doer other between))
       ≤ 1) [
-        | true ↦ λ here. none_yet (gives lock (own_events doer other between)) first (gives lock log) (place other log)
+        | true ↦ λ here. none_yet (gives lock (own_events doer other between)) first (gives lock log) (spot_of other log)
             (λ some. so_far.behind some (ap (is_at lock) holds ∙ here)) so_far.once
             (line.first other (ap (is_holding lock) holds ∙ here))
             (subst (λ k. gives lock log ≤ k) so_far.spot (line.ahead cpu so_far.stands))
@@ -143,7 +143,7 @@ meanwhile : {N : Type 0} (past between : List (Action N)) (cpu other : CpuId) (l
     → Meanwhile lock cpu other (takes lock past) differ between (between ++ (Take cpu lock ∷ past))
 meanwhile {N = N} past [] cpu other lock differ legal tries = record {
   stands = ap (is_at lock) (phase_own {N = N} (Take cpu lock) past) ∙ same_lock_self lock;
-  spot = ap (λ b. if b then takes lock past else place cpu past) (same_cpu_self cpu);
+  spot = ap (λ b. if b then takes lock past else spot_of cpu past) (same_cpu_self cpu);
   once = omega arith;
   behind = λ some there. absurd (omega arith);
 }

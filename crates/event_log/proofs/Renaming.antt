@@ -5,7 +5,7 @@ use Rattle.event_log.specs.declared.ids.LockId.{LockId}
 use Rattle.event_log.specs.declared.events.Event.{Event}
 use Rattle.event_log.specs.declared.events.Event.TheVariants.{Draw, Look, Free}
 use Rattle.event_log.specs.History.{same_cpu, AreOthers}
-use Rattle.event_log.specs.Actions.{Action, Take, Try, Give, Phase, Rests, Waits, Holds, phase, left_in, doer, place, takes, gives, is_take, is_give, MayAct}
+use Rattle.event_log.specs.Actions.{Action, Take, Try, Give, Phase, Rests, Waits, Holds, phase, left_in, doer, spot_of, takes, gives, is_take, is_give, MayAct}
 use Rattle.event_log.specs.Actions.{AreLegal, action_in, next_action, renamed, act_of, acts_of}
 use Rattle.event_log.specs.Sections.{renamed_section, sections_in}
 
@@ -42,16 +42,16 @@ module _ {N L : Type 0} (f : N → L) where
   gives_renamed lock [] = refl
   gives_renamed lock (a ∷ past) = λ i. if is_give_renamed lock a i then gives_renamed lock past i + 1 else gives_renamed lock past i
 
-  pub place_renamed : (c : CpuId) (past : List (Action N)) → place c (map (renamed f) past) ≡ place c past
-  place_renamed c [] = refl
-  place_renamed c (Take cpu lock ∷ past) = λ i. if same_cpu cpu c then takes_renamed lock past i else place_renamed c past i
-  place_renamed c (Try cpu lock hit ∷ past) = place_renamed c past
-  place_renamed c (Give cpu lock name ∷ past) = place_renamed c past
+  pub spot_renamed : (c : CpuId) (past : List (Action N)) → spot_of c (map (renamed f) past) ≡ spot_of c past
+  spot_renamed c [] = refl
+  spot_renamed c (Take cpu lock ∷ past) = λ i. if same_cpu cpu c then takes_renamed lock past i else spot_renamed c past i
+  spot_renamed c (Try cpu lock hit ∷ past) = spot_renamed c past
+  spot_renamed c (Give cpu lock name ∷ past) = spot_renamed c past
 
   may_act_renamed : (a : Action N) (past : List (Action N)) → MayAct past a → MayAct (map (renamed f) past) (renamed f a)
   may_act_renamed (Take cpu lock) past may = (may.0, phase_renamed cpu past ∙ may.1)
   may_act_renamed (Try cpu lock hit) past may =
-      (phase_renamed cpu past ∙ may.0, may.1 ∙ (λ i. sym (gives_renamed lock past) i == sym (place_renamed cpu past) i))
+      (phase_renamed cpu past ∙ may.0, may.1 ∙ (λ i. sym (gives_renamed lock past) i == sym (spot_renamed cpu past) i))
   may_act_renamed (Give cpu lock name) past may = phase_renamed cpu past ∙ may
 
   -- legal actions are legal under other names
@@ -62,7 +62,7 @@ module _ {N L : Type 0} (f : N → L) where
   action_in_renamed : (cpu : CpuId) (lock : LockId) (name : N) (past : List (Action N)) (p : Phase)
       → action_in cpu lock (f name) (map (renamed f) past) p ≡ renamed f (action_in cpu lock name past p)
   action_in_renamed cpu lock name past Rests = refl
-  action_in_renamed cpu lock name past (Waits at) = λ i. Try cpu at (gives_renamed at past i == place_renamed cpu past i)
+  action_in_renamed cpu lock name past (Waits at) = λ i. Try cpu at (gives_renamed at past i == spot_renamed cpu past i)
   action_in_renamed cpu lock name past (Holds at) = refl
 
   -- the next action is the same, under the other name

@@ -1,4 +1,4 @@
--- A legal words log is a legal list of actions: the rests modulo 2^64 tell the true counts, since at most CPUS places wait.
+-- A legal words log is a legal list of actions: the rests modulo 2^64 tell the true counts, since at most CPUS spots wait.
 use Rattle.std.proofs.Common.{◌≡◌, ℕ, ◌+◌, ◌%◌, ◌^◌, ◌<◌, ◌≤◌, true, false, List, [], ◌∷◌, ◌==◌, if◌then◌else◌, refl, ap, sym, subst, ◌∙◌, arith}
 use Rattle.event_log.specs.declared.ids.CpuId.{CpuId}
 use Rattle.event_log.specs.declared.ids.LockId.{LockId}
@@ -7,7 +7,7 @@ use Rattle.event_log.specs.declared.events.Event.{Event}
 use Rattle.event_log.specs.declared.events.Event.TheVariants.{Draw, Look, Free}
 use Rattle.event_log.specs.History.{same_cpu}
 use Rattle.event_log.specs.WordsLog.{actor, draws, frees, is_draw, is_free, Inside, left_by, standing, MayFollow, IsLegalWords}
-use Rattle.event_log.specs.Actions.{Waits, phase, left_in, doer, place, takes, gives, is_take, is_give, MayAct, AreLegal, act_of, acts_of}
+use Rattle.event_log.specs.Actions.{Waits, phase, left_in, doer, spot_of, takes, gives, is_take, is_give, MayAct, AreLegal, act_of, acts_of}
 use Rattle.event_log.proofs.Same.{same_cpu_self, same_lock_self}
 use Rattle.event_log.proofs.Exclusion.{is_at, one_holds, near}
 pub use Rattle.event_log.proofs.Told.{phase_of, TicketOf}
@@ -40,7 +40,7 @@ is_give_free name lock (Draw cpu at ticket) = refl
 is_give_free name lock (Look cpu at ticket read) = refl
 is_give_free name lock (Free cpu at mark) = refl
 
--- the places taken are the draws
+-- the spots taken are the draws
 pub takes_acts : {M N : Type 0} (name : M → N) (lock : LockId) (log : List (Event M)) → takes lock (acts_of name log) ≡ draws lock log
 takes_acts name lock log = how_many-map (act_of name) (is_draw lock) (is_take lock) (is_take_draw name lock) log
 
@@ -48,24 +48,24 @@ takes_acts name lock log = how_many-map (act_of name) (is_draw lock) (is_take lo
 pub gives_acts : {M N : Type 0} (name : M → N) (lock : LockId) (log : List (Event M)) → gives lock (acts_of name log) ≡ frees lock log
 gives_acts name lock log = how_many-map (act_of name) (is_free lock) (is_give lock) (is_give_free name lock) log
 
--- where its own event leaves a CPU, with the place that it then has
+-- where its own event leaves a CPU, with the spot that it then has
 ticket_left : {M N : Type 0} (name : M → N) (e : Event M) (past : List (Event M)) → MayFollow past e
-    → TicketOf (standing (actor e) past) (place (actor e) (acts_of name past))
-    → TicketOf (left_by e) (place (actor e) (acts_of name (e ∷ past)))
+    → TicketOf (standing (actor e) past) (spot_of (actor e) (acts_of name past))
+    → TicketOf (left_by e) (spot_of (actor e) (acts_of name (e ∷ past)))
 ticket_left name (Draw cpu lock ticket) past may had =
     may.2 ∙ ap (λ n. n % 2 ^ 64) (sym (takes_acts name lock past)
-    ∙ sym (ap (λ b. if b then takes lock (acts_of name past) else place cpu (acts_of name past)) (same_cpu_self cpu)))
+    ∙ sym (ap (λ b. if b then takes lock (acts_of name past) else spot_of cpu (acts_of name past)) (same_cpu_self cpu)))
 ticket_left name (Look cpu lock ticket read) past may had =
-    ticket_either (read == ticket) lock ticket (place cpu (acts_of name past))
-    (subst (λ s. TicketOf s (place cpu (acts_of name past))) may.0 had)
+    ticket_either (read == ticket) lock ticket (spot_of cpu (acts_of name past))
+    (subst (λ s. TicketOf s (spot_of cpu (acts_of name past))) may.0 had)
 ticket_left name (Free cpu lock mark) past may had = tt
 
 -- an event changes the standing of no other CPU
 pub standing_other : {M : Type 0} (e : Event M) (past : List (Event M)) (c : CpuId) → same_cpu (actor e) c ≡ false → standing c (e ∷ past) ≡ standing c past
 standing_other e past c other = ap (λ b. if b then left_by e else standing c past) other
 
--- in a legal log each ticket is the rest of the true place
-pub ticket_at : {M N : Type 0} (name : M → N) (log : List (Event M)) → IsLegalWords log → (c : CpuId) → TicketOf (standing c log) (place c (acts_of name log))
+-- in a legal log each ticket is the rest of the true spot
+pub ticket_at : {M N : Type 0} (name : M → N) (log : List (Event M)) → IsLegalWords log → (c : CpuId) → TicketOf (standing c log) (spot_of c (acts_of name log))
 ticket_at name log legal c = told_ticket actor left_by standing (act_of name) (words_tell name) MayFollow (ticket_left name) log legal c
 
 -- the next number's rest follows that of the number
@@ -75,7 +75,7 @@ next_rests count n is = omega arith
 near_rests : (given spot : ℕ) → given ≤ spot → spot < given + CPUS → given % 2 ^ 64 ≡ spot % 2 ^ 64 → given ≡ spot
 near_rests given spot ahead close same = omega arith
 
--- among places so near one another equal rests are equal places
+-- among spots so near one another equal rests are equal spots
 pub same_rests : (given spot read ticket : ℕ) → given ≤ spot → spot < given + CPUS → read ≡ given % 2 ^ 64 → ticket ≡ spot % 2 ^ 64
     → (read == ticket) ≡ (given == spot)
 same_rests given spot read ticket ahead close reads has =
@@ -87,10 +87,11 @@ legal_act name (Draw cpu lock ticket) past may legal acts = (may.0, phase_acts n
 legal_act name (Look cpu lock ticket read) past may legal acts =
     let waits : phase cpu (acts_of name past) ≡ Waits lock = phase_acts name cpu past ∙ ap phase_of may.0 in
     let there : is_at lock (phase cpu (acts_of name past)) ≡ true = ap (is_at lock) waits ∙ same_lock_self lock in
-    let has : ticket ≡ place cpu (acts_of name past) % 2 ^ 64 = subst (λ s. TicketOf s (place cpu (acts_of name past))) may.0 (ticket_at name past legal cpu) in
+    let has : ticket ≡ spot_of cpu (acts_of name past) % 2 ^ 64 =
+    subst (λ s. TicketOf s (spot_of cpu (acts_of name past))) may.0 (ticket_at name past legal cpu) in
     let close = near (acts_of name past) acts cpu lock there in (
       waits,
-      same_rests (gives lock (acts_of name past)) (place cpu (acts_of name past)) read ticket close.0 close.1
+      same_rests (gives lock (acts_of name past)) (spot_of cpu (acts_of name past)) read ticket close.0 close.1
           (may.1 ∙ ap (λ n. n % 2 ^ 64) (sym (gives_acts name lock past))) has,
     )
 legal_act name (Free cpu lock mark) past may legal acts = phase_acts name cpu past ∙ ap phase_of may.1

@@ -1,14 +1,14 @@
--- What a lock's log tells of its actions, whatever its events are: the phases, and that a ticket is the rest of a true place.
+-- What a lock's log tells of its actions, whatever its events are: the phases, and that a ticket is the rest of a true spot.
 use Rattle.std.proofs.Common.{◌≡◌, ℕ, ◌+◌, ◌%◌, ◌^◌, Bool, true, false, List, [], ◌∷◌, ◌==◌, if◌then◌else◌, map, refl, ap, sym, subst, ◌∙◌}
 use Rattle.std.proofs.lemmas.Bool.{eqb-true, eq-eqb}
 use Rattle.event_log.specs.declared.ids.CpuId.{CpuId}
 use Rattle.event_log.specs.declared.ids.LockId.{LockId}
 use Rattle.event_log.specs.History.{same_cpu, how_many, IsLawful}
 use Rattle.event_log.specs.WordsLog.{Standing, Outside, Waiting, Inside}
-use Rattle.event_log.specs.Actions.{Action, Phase, Rests, Waits, Holds, phase, left_in, doer, place}
+use Rattle.event_log.specs.Actions.{Action, Phase, Rests, Waits, Holds, phase, left_in, doer, spot_of}
 use Rattle.event_log.proofs.Same.{same_cpu_self}
 use Rattle.event_log.proofs.Line.{by_cpu}
-use Rattle.event_log.proofs.Exclusion.{place_other}
+use Rattle.event_log.proofs.Exclusion.{spot_other}
 
 -- what a CPU does that stands here
 abbrev pub phase_of : Standing → Phase
@@ -16,7 +16,7 @@ phase_of Outside = Rests
 phase_of (Waiting lock ticket) = Waits lock
 phase_of (Inside lock ticket) = Holds lock
 
--- a ticket is the rest of the place modulo 2^64
+-- a ticket is the rest of the spot modulo 2^64
 abbrev pub TicketOf : Standing → ℕ → Type 0
 TicketOf Outside spot = Unit {0}
 TicketOf (Waiting lock ticket) spot = ticket ≡ spot % 2 ^ 64
@@ -67,21 +67,21 @@ module _ {E N : Type 0} (by : E → CpuId) (left : E → Standing) (stand : CpuI
   pub stand_other : (e : E) (past : List E) (c : CpuId) → same_cpu (by e) c ≡ false → stand c (e ∷ past) ≡ stand c past
   stand_other e past c other = tells.at_next c e past ∙ ap (λ b. if b then left e else stand c past) other
 
-  place_told_other : (e : E) (past : List E) (c : CpuId) → same_cpu (by e) c ≡ false → place c (map act (e ∷ past)) ≡ place c (map act past)
-  place_told_other e past c other = place_other (act e) (map act past) c (subst (λ d. same_cpu d c ≡ false) (sym (tells.doer_is e)) other)
+  spot_told_other : (e : E) (past : List E) (c : CpuId) → same_cpu (by e) c ≡ false → spot_of c (map act (e ∷ past)) ≡ spot_of c (map act past)
+  spot_told_other e past c other = spot_other (act e) (map act past) c (subst (λ d. same_cpu d c ≡ false) (sym (tells.doer_is e)) other)
 
-  -- where each event leaves its CPU with a true ticket, every ticket of a lawful log is the rest of the true place
+  -- where each event leaves its CPU with a true ticket, every ticket of a lawful log is the rest of the true spot
   pub told_ticket : (May : List E → E → Type 0)
-      → ((e : E) (past : List E) → May past e → TicketOf (stand (by e) past) (place (by e) (map act past))
-      → TicketOf (left e) (place (by e) (map act (e ∷ past))))
-      → (log : List E) → IsLawful May log → (c : CpuId) → TicketOf (stand c log) (place c (map act log))
+      → ((e : E) (past : List E) → May past e → TicketOf (stand (by e) past) (spot_of (by e) (map act past))
+      → TicketOf (left e) (spot_of (by e) (map act (e ∷ past))))
+      → (log : List E) → IsLawful May log → (c : CpuId) → TicketOf (stand c log) (spot_of c (map act log))
   told_ticket May keeps [] lawful c = subst (λ s. TicketOf s 0) (sym (tells.at_start c)) tt
   told_ticket May keeps (e ∷ past) lawful c =
-      by_cpu (by e) (λ d. TicketOf (stand d (e ∷ past)) (place d (map act (e ∷ past))))
-      (subst (λ s. TicketOf s (place (by e) (map act (e ∷ past)))) (sym (stand_own e past))
+      by_cpu (by e) (λ d. TicketOf (stand d (e ∷ past)) (spot_of d (map act (e ∷ past))))
+      (subst (λ s. TicketOf s (spot_of (by e) (map act (e ∷ past)))) (sym (stand_own e past))
       (keeps e past lawful.0 (told_ticket May keeps past lawful.1 (by e))))
-      (λ d o. subst (λ s. TicketOf s (place d (map act (e ∷ past)))) (sym (stand_other e past d o))
-      (subst (TicketOf (stand d past)) (sym (place_told_other e past d o)) (told_ticket May keeps past lawful.1 d)))
+      (λ d o. subst (λ s. TicketOf s (spot_of d (map act (e ∷ past)))) (sym (stand_other e past d o))
+      (subst (TicketOf (stand d past)) (sym (spot_told_other e past d o)) (told_ticket May keeps past lawful.1 d)))
       c
 
 -- tests that say the same of two pairs of numbers agree

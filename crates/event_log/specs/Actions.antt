@@ -1,4 +1,4 @@
--- What any fair lock's log says, whatever its words are: who took a place in the line of a lock, tried, and gave the lock on.
+-- What any fair lock's log says, whatever its words are: who took a spot in the line of a lock, tried, and gave the lock on.
 -- A give carries the name of the section that it ends. Newest first, with true numbers.
 use Rattle.std.specs.Prelude.{◌≡◌, ℕ, ◌<◌, Bool, true, false, List, [], ◌∷◌, ◌==◌, map, if◌then◌else◌}
 use Rattle.event_log.specs.declared.ids.CpuId.{CpuId}
@@ -8,7 +8,7 @@ use Rattle.event_log.specs.declared.events.Event.{Event}
 use Rattle.event_log.specs.declared.events.Event.TheVariants.{Draw, Look, Free}
 use Rattle.event_log.specs.History.{same_cpu, same_lock, how_many, IsLawful}
 
--- an action at a lock: a place in its line is taken, an entry is tried, or the lock is given on by a section of this name
+-- an action at a lock: a spot in its line is taken, an entry is tried, or the lock is given on by a section of this name
 pub data Action (N : Type 0) : Type 0 where
   Take : (cpu : CpuId) (lock : LockId) → Action N
   Try : (cpu : CpuId) (lock : LockId) (hit : Bool) → Action N
@@ -26,7 +26,7 @@ lock_of (Take cpu lock) = lock
 lock_of (Try cpu lock hit) = lock
 lock_of (Give cpu lock name) = lock
 
--- whether it takes a place in the line of this lock
+-- whether it takes a spot in the line of this lock
 abbrev pub is_take : {N : Type 0} → LockId → Action N → Bool
 is_take lock (Take cpu at) = same_lock lock at
 is_take lock (Try cpu at hit) = false
@@ -44,7 +44,7 @@ is_any_give (Take cpu lock) = false
 is_any_give (Try cpu lock hit) = false
 is_any_give (Give cpu lock name) = true
 
--- how many places in the line of this lock were taken
+-- how many spots in the line of this lock were taken
 abbrev pub takes : {N : Type 0} → LockId → List (Action N) → ℕ
 takes lock past = how_many (is_take lock) past
 
@@ -69,25 +69,25 @@ abbrev pub phase : {N : Type 0} → CpuId → List (Action N) → Phase
 phase cpu [] = Rests
 phase cpu (a ∷ past) = if same_cpu (doer a) cpu then left_in a else phase cpu past
 
--- the place in line that a CPU took last: how many places of that lock had been taken before
-abbrev pub place : {N : Type 0} → CpuId → List (Action N) → ℕ
-place cpu [] = 0
-place cpu (Take by lock ∷ past) = if same_cpu by cpu then takes lock past else place cpu past
-place cpu (Try by lock hit ∷ past) = place cpu past
-place cpu (Give by lock name ∷ past) = place cpu past
+-- the spot in line that a CPU took last: how many spots of that lock had been taken before
+abbrev pub spot_of : {N : Type 0} → CpuId → List (Action N) → ℕ
+spot_of cpu [] = 0
+spot_of cpu (Take by lock ∷ past) = if same_cpu by cpu then takes lock past else spot_of cpu past
+spot_of cpu (Try by lock hit ∷ past) = spot_of cpu past
+spot_of cpu (Give by lock name ∷ past) = spot_of cpu past
 
--- the action may come after this past. A CPU of the machine takes a place while it rests. While it waits it tries, and
--- enters exactly where the lock has been given on as often as its place says. While it holds the lock it may give it on.
+-- the action may come after this past. A CPU of the machine takes a spot while it rests. While it waits it tries, and
+-- enters exactly where the lock has been given on as often as its spot says. While it holds the lock it may give it on.
 abbrev pub MayAct : {N : Type 0} → List (Action N) → Action N → Type 0
 MayAct past (Take cpu lock) = (cpu.0 < CPUS) × (phase cpu past ≡ Rests)
-MayAct past (Try cpu lock hit) = (phase cpu past ≡ Waits lock) × (hit ≡ (gives lock past == place cpu past))
+MayAct past (Try cpu lock hit) = (phase cpu past ≡ Waits lock) × (hit ≡ (gives lock past == spot_of cpu past))
 MayAct past (Give cpu lock name) = phase cpu past ≡ Holds lock
 
 -- a legal list of actions
 abbrev pub AreLegal : {N : Type 0} → List (Action N) → Type 0
 AreLegal actions = IsLawful MayAct actions
 
--- the lock is free: it was given on as often as a place in its line was taken
+-- the lock is free: it was given on as often as a spot in its line was taken
 abbrev pub IsFree : {N : Type 0} → LockId → List (Action N) → Type 0
 IsFree lock actions = takes lock actions ≡ gives lock actions
 
@@ -98,7 +98,7 @@ AreFree actions = (lock : LockId) → IsFree lock actions
 -- the action that is due to a CPU in this phase: at this lock, and its section to be given this name
 abbrev pub action_in : {N : Type 0} → CpuId → LockId → N → List (Action N) → Phase → Action N
 action_in cpu lock name past Rests = Take cpu lock
-action_in cpu lock name past (Waits at) = Try cpu at (gives at past == place cpu past)
+action_in cpu lock name past (Waits at) = Try cpu at (gives at past == spot_of cpu past)
 action_in cpu lock name past (Holds at) = Give cpu at name
 
 -- the next action of a CPU: the past tells which it is

@@ -79,9 +79,9 @@ act_of_grant name (Give cpu lock mark) = GiveOn cpu lock (name mark)
 abbrev pub acts_of_grants : {M N : Type 0} → (M → N) → List (GrantEvent M) → List (Action N)
 acts_of_grants name log = map (act_of_grant name) log
 
--- a legal log of grant words is a legal list of actions: a word tells exactly the place that is served
-abbrev pub GrantsTellPlaces : Type 0 → Type 0
-GrantsTellPlaces M = (log : List (GrantEvent M)) → IsLegalGrants log → AreLegal (acts_of_grants (λ (m : M). m) log)
+-- a legal log of grant words is a legal list of actions: a word tells exactly the spot that is served
+abbrev pub GrantsTellSpots : Type 0 → Type 0
+GrantsTellSpots M = (log : List (GrantEvent M)) → IsLegalGrants log → AreLegal (acts_of_grants (λ (m : M). m) log)
 
 -- two CPUs are never inside one lock, whatever their tickets are
 abbrev pub OneInsideGrants : Type 0 → Type 0

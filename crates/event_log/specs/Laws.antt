@@ -20,9 +20,9 @@ abbrev pub OneInside : Type 0 → Type 0
 OneInside M = (log : List (Event M)) → IsLegalWords log → (a b : CpuId) (lock : LockId) (s t : ℕ)
     → standing a log ≡ Inside lock s → standing b log ≡ Inside lock t → a ≡ b
 
--- a legal words log is a legal list of actions: its tickets, modulo 2^64, tell the true places
-abbrev pub TicketsTellPlaces : Type 0 → Type 0
-TicketsTellPlaces M = (log : List (Event M)) → IsLegalWords log → AreLegal (acts_of (λ (m : M). m) log)
+-- a legal words log is a legal list of actions: its tickets, modulo 2^64, tell the true spots
+abbrev pub TicketsTellSpots : Type 0 → Type 0
+TicketsTellSpots M = (log : List (Event M)) → IsLegalWords log → AreLegal (acts_of (λ (m : M). m) log)
 
 -- a CPU that rests, alone at a free lock: its next three actions are one section, of this name, and leave the lock free
 abbrev pub IsOneSection : {N : Type 0} → CpuId → LockId → N → List (Action N) → Type 0

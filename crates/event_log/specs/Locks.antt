@@ -1,4 +1,4 @@
--- The numbers of the locks: a table with a place for each lock that there can be is indexed by them.
+-- The numbers of the locks: a table with a slot for each lock that there can be is indexed by them.
 use Rattle.std.specs.Prelude.{ℕ, ◌+◌, ◌*◌}
 use Rattle.event_log.specs.declared.ids.LockId.{LockId}
 use Rattle.event_log.specs.declared.ids.LockId.TheVariants.{Pending, Buffer}

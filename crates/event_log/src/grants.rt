@@ -6,7 +6,7 @@ use crate::ids::{CpuId, LockId};
 /// word for each of the [`CPUS`](crate::CPUS) CPUs that may wait. Each waiter polls a word of its
 /// own (Mellor-Crummey and Scott, 1991; Anderson's array lock, 1990).
 ///
-/// The place `n` waits at the grant word `n % CPUS`, and enters once that word holds `n + 1`. At
+/// The spot `n` waits at the grant word `n % CPUS`, and enters once that word holds `n + 1`. At
 /// the start word 0 holds 1 and the others hold 0.
 #[derive(Clone, Copy, Debug, PartialEq, Eq)]
 pub enum GrantEvent<M> {

@@ -2,8 +2,8 @@
 //! the law is proved with the crate.
 
 ghost use Rattle.event_log.specs.Forms.{BothFormsAgree, LegalLogsGrow};
-ghost use Rattle.event_log.specs.Laws.{FreedOnceMeanwhile, FreeWhereAllRest, GivenOnceMeanwhile, OneHolds, OneInside, ThreeAreOneSection, TicketsTellPlaces};
-ghost use Rattle.event_log.specs.Grants.{GrantsTellPlaces, OneInsideGrants};
+ghost use Rattle.event_log.specs.Laws.{FreedOnceMeanwhile, FreeWhereAllRest, GivenOnceMeanwhile, OneHolds, OneInside, ThreeAreOneSection, TicketsTellSpots};
+ghost use Rattle.event_log.specs.Grants.{GrantsTellSpots, OneInsideGrants};
 
 /// A words log, oldest first, is legal where each event may follow what stands before it, however
 /// the log is split. The recursion on its history, newest first, says the same.
@@ -30,12 +30,12 @@ pub fn one_inside<M>()
 
 /// A legal words log is a legal list of actions: a look hits exactly where its lock was freed as
 /// often as it had been drawn at before the CPU's draw.
-pub fn tickets_tell_places<M>()
-    ensures { TicketsTellPlaces M }
+pub fn tickets_tell_spots<M>()
+    ensures { TicketsTellSpots M }
 {}
 
 /// Where a CPU is alone at a free lock, three of its actions are exactly one section: it takes a
-/// place, enters at its first try and gives the lock on.
+/// spot, enters at its first try and gives the lock on.
 pub fn three_are_one_section<N>()
     ensures { ThreeAreOneSection N }
 {}
@@ -45,7 +45,7 @@ pub fn free_where_all_rest<N>()
     ensures { FreeWhereAllRest N }
 {}
 
-/// From the time that a CPU takes a place in the line of a lock, and while it does nothing but try,
+/// From the time that a CPU takes a spot in the line of a lock, and while it does nothing but try,
 /// no other CPU gives that lock on twice: to come back it would have to pass the first one.
 pub fn given_once_meanwhile<N>()
     ensures { GivenOnceMeanwhile N }
@@ -59,8 +59,8 @@ pub fn freed_once_meanwhile<M>()
 
 /// A legal log of grant words is a legal list of actions: a peek hits exactly where its lock was
 /// given on as often as tickets had been taken before the CPU's own.
-pub fn grants_tell_places<M>()
-    ensures { GrantsTellPlaces M }
+pub fn grants_tell_spots<M>()
+    ensures { GrantsTellSpots M }
 {}
 
 /// In a legal log of grant words two CPUs are never inside one lock.

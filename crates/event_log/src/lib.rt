@@ -23,8 +23,8 @@ pub use grants::GrantEvent;
 pub use ids::{BUFFERS, BufId, CAPACITY, CPUS, CpuId, ENTRIES, LOCKS, LockId, THREADS, TRACE, Tid};
 pub use laws::{
     both_forms_agree, free_where_all_rest, freed_once_meanwhile, given_once_meanwhile,
-    grants_tell_places, legal_logs_grow, one_holds, one_inside, one_inside_grants,
-    three_are_one_section, tickets_tell_places,
+    grants_tell_spots, legal_logs_grow, one_holds, one_inside, one_inside_grants,
+    three_are_one_section, tickets_tell_spots,
 };
 pub use logs::EventLog;
 pub use messages::{Msg, WORDS};

@@ -5,7 +5,7 @@ use std::test::*;
 
 /// Where a CPU stands, by its latest event.
 #[derive(Clone, Copy, Debug, PartialEq, Eq)]
-enum Place {
+enum Standing {
     Outside,
     Waiting(LockId, u64),
     Inside(LockId),
@@ -17,9 +17,9 @@ fn actor(event: &Event<u8>) -> CpuId {
     }
 }
 
-fn place_after(event: &Event<u8>) -> Place {
+fn standing_after(event: &Event<u8>) -> Standing {
     match *event {
-        Event::Draw { lock, ticket, .. } => Place::Waiting(lock, ticket),
+        Event::Draw { lock, ticket, .. } => Standing::Waiting(lock, ticket),
         Event::Look {
             lock,
             ticket,
@@ -27,22 +27,22 @@ fn place_after(event: &Event<u8>) -> Place {
             ..
         } => {
             if read == ticket {
-                Place::Inside(lock)
+                Standing::Inside(lock)
             } else {
-                Place::Waiting(lock, ticket)
+                Standing::Waiting(lock, ticket)
             }
         }
-        Event::Free { .. } => Place::Outside,
+        Event::Free { .. } => Standing::Outside,
     }
 }
 
-fn place_of(before: &[Event<u8>], cpu: CpuId) -> Place {
+fn standing_of(before: &[Event<u8>], cpu: CpuId) -> Standing {
     for event in before.iter().rev() {
         if actor(event) == cpu {
-            return place_after(event);
+            return standing_after(event);
         }
     }
-    Place::Outside
+    Standing::Outside
 }
 
 fn drawn(before: &[Event<u8>], of: LockId) -> usize {
@@ -63,7 +63,7 @@ fn may_follow(before: &[Event<u8>], event: &Event<u8>) -> bool {
     match *event {
         Event::Draw { cpu, lock, ticket } => {
             usize::from(cpu.0) < CPUS
-                && place_of(before, cpu) == Place::Outside
+                && standing_of(before, cpu) == Standing::Outside
                 && ticket == drawn(before, lock) as u64
         }
         Event::Look {
@@ -72,10 +72,10 @@ fn may_follow(before: &[Event<u8>], event: &Event<u8>) -> bool {
             ticket,
             read,
         } => {
-            place_of(before, cpu) == Place::Waiting(lock, ticket)
+            standing_of(before, cpu) == Standing::Waiting(lock, ticket)
                 && read == freed(before, lock) as u64
         }
-        Event::Free { cpu, lock, .. } => place_of(before, cpu) == Place::Inside(lock),
+        Event::Free { cpu, lock, .. } => standing_of(before, cpu) == Standing::Inside(lock),
     }
 }
 
@@ -233,11 +233,11 @@ fn each_law_can_be_called(_rt: HostRuntime) {
     legal_logs_grow::<u8>();
     one_holds::<u8>();
     one_inside::<u8>();
-    tickets_tell_places::<u8>();
+    tickets_tell_spots::<u8>();
     three_are_one_section::<u8>();
     free_where_all_rest::<u8>();
     given_once_meanwhile::<u8>();
     freed_once_meanwhile::<u8>();
-    grants_tell_places::<u8>();
+    grants_tell_spots::<u8>();
     one_inside_grants::<u8>();
 }

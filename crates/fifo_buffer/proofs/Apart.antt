@@ -18,8 +18,8 @@ use Rattle.layer_traits.specs.declared.locked.QEdit.TheVariants.{Acquire, Inside
 use Rattle.layer_traits.specs.declared.locked.Side.{Side}
 use Rattle.layer_traits.specs.declared.locked.Side.TheVariants.{Receivers, Senders}
 use Rattle.layer_traits.specs.declared.talks.Talk.{Talk}
-use Rattle.layer_traits.specs.BufferBlocks.{BufferState, buffer_edited, editor, entered, is_first, is_turn, line_of, may_go, may_join, put_in, shut, taken_out}
-use Rattle.layer_traits.specs.BufferEffects.{drawn, is_enter, places_in}
+use Rattle.layer_traits.specs.BufferBlocks.{BufferState, buffer_edited, editor, entered, is_first, is_next, line_of, may_go, may_join, put_in, shut, taken_out}
+use Rattle.layer_traits.specs.BufferEffects.{drawn, is_enter, drawn_in}
 use Rattle.layer_traits.specs.BufferProtocol.{BufferLock, BufferSection, buffer_at, buffer_rules, has_tried_in_vain}
 use Rattle.layer_traits.specs.BufferLaw.{buffer_of, side_of}
 use Rattle.layer_traits.specs.Places.{count_in, one_if}
@@ -113,16 +113,16 @@ line_edit t (Enter u at) side x other = go (may_join u (line_of at x))
     go : (b : Bool) → count_in t (line_of side (if b then entered at u x else x)) ≡ count_in t (line_of side x)
     go true = line_entered t u at side x other
     go false = refl
-line_edit t (TryPut u m) side x other = go (is_turn Senders u x) refl
+line_edit t (TryPut u m) side x other = go (is_next Senders u x) refl
   where
-    go : (b : Bool) → is_turn Senders u x ≡ b → count_in t (line_of side (if b then put_in m x else x)) ≡ count_in t (line_of side x)
-    go true turn = line_put t u m side x other (and_parts (is_first u x.send_line) (may_go Senders x) turn).0
-    go false turn = refl
-line_edit t (TryTake u) side x other = go (is_turn Receivers u x) refl
+    go : (b : Bool) → is_next Senders u x ≡ b → count_in t (line_of side (if b then put_in m x else x)) ≡ count_in t (line_of side x)
+    go true next = line_put t u m side x other (and_parts (is_first u x.send_line) (may_go Senders x) next).0
+    go false next = refl
+line_edit t (TryTake u) side x other = go (is_next Receivers u x) refl
   where
-    go : (b : Bool) → is_turn Receivers u x ≡ b → count_in t (line_of side (if b then taken_out x else x)) ≡ count_in t (line_of side x)
-    go true turn = line_taken t u side x other (and_parts (is_first u x.receive_line) (may_go Receivers x) turn).0
-    go false turn = refl
+    go : (b : Bool) → is_next Receivers u x ≡ b → count_in t (line_of side (if b then taken_out x else x)) ≡ count_in t (line_of side x)
+    go true next = line_taken t u side x other (and_parts (is_first u x.receive_line) (may_go Receivers x) next).0
+    go false next = refl
 line_edit t (Shut u) side x other = ap (count_in t) (line_shut side x)
 
 -- an Acquire changes nothing above
@@ -156,7 +156,7 @@ module _ (opening : LockId → Option BufferLock) (past : List BufferSection) (s
   pub drawn_apart : (lock : LockId) (side : Side) → same_tid (lock_caller buffer_rules s.edit) t ≡ false
       → drawn opening lock side t (s ∷ past) ≡ drawn opening lock side t past
   drawn_apart lock side other =
-      ap (λ b. if b then places_in side (buffer_at opening past lock) else drawn opening lock side t past)
+      ap (λ b. if b then drawn_in side (buffer_at opening past lock) else drawn opening lock side t past)
       (and_right (same_lock lock s.lock) (is_enter side t s.edit) (enter_apart t s.edit side other))
 
   pub vain_apart : (lock : LockId) (side : Side) → same_tid (lock_caller buffer_rules s.edit) t ≡ false
@@ -186,7 +186,7 @@ module _ (opening : LockId → Option BufferLock) (past : List BufferSection) (s
           (asks && same_lock lock (Buffer b)) other owns) (stance.grip lock);
       line = λ lock at. at_after lock (λ x. count_in t (line_at at x) ≡ one_if (lined && (same_lock lock (Buffer b) && same_side at side)))
           (λ one is. line_apart t s.edit (buffer_at opening past s.lock) at other ∙ is) (stance.line lock at);
-      place = λ is. stance.place is ∙ sym (drawn_apart (Buffer b) side other);
+      drawn_is = λ is. stance.drawn_is is ∙ sym (drawn_apart (Buffer b) side other);
     }
 
     pub fits_apart : (call : Option Call) (slept waits : Option BufId) (talk : Talk) → TalkFits opening past t call slept waits talk

@@ -1,4 +1,4 @@
--- A poll of a call follows its plan: one turn, or two where the first did nothing beneath.
+-- A poll of a call follows its plan: one pace, or two where the first did nothing beneath.
 use Rattle.std.proofs.Common.{◌≡◌, Bool, true, false, List, Option, Some, None, is_some, refl, ap, sym, ◌∙◌, subst}
 use Rattle.event_log.specs.declared.ids.BufId.{BufId}
 use Rattle.event_log.specs.declared.ids.CpuId.{CpuId}
@@ -27,7 +27,7 @@ use Rattle.layer_traits.specs.Plans.{Follows, Left, Plan, Now, Act, Table, raise
 use Rattle.layer_traits.specs.Scheds.{sched_plan}
 use Rattle.layer_traits.specs.SleepLaw.{due, sleep_plan}
 use Rattle.fifo_buffer.specs.Stances.{called_at, waits_at}
-use Rattle.fifo_buffer.specs.Turns.{BufferOutcome, is_at_once}
+use Rattle.fifo_buffer.specs.Paces.{BufferOutcome, is_at_once}
 use Rattle.fifo_buffer.proofs.Events.{caller_is}
 
 some_of : {A : Type 0} (x : Option A) → is_some x ≡ true → (a : A) × (x ≡ Some a)
@@ -78,7 +78,7 @@ chained_act ActsFor table opening cpu next f (Act lock name react) old new got a
 module _ {B : Type 0} (ActsFor : CpuId → Type 0) (table : Table (QueueEdit (CvCall BufferEdit)) B (QueueAnswer BufferOutcome))
     (opening : LockId → Option B) (cpu : CpuId)
     (homes : List CpuId) (t : Tid) (call : Call) where
-  -- one turn of a thread that neither sleeps for the lock nor waits
+  -- one pace of a thread that neither sleeps for the lock nor waits
   pub one_follows : (stage : Stage) (talk : Talk) (own : Buffering) (old new : List (Action (QueueEdit (CvCall BufferEdit)))) (got : Left Buffering Reply)
       → called_at stage ≡ true
       → slept_for own.cv.lock.slept t ≡ None → slept_for own.cv.waits t ≡ None
@@ -130,7 +130,7 @@ module _ {B : Type 0} (ActsFor : CpuId → Type 0) (table : Table (QueueEdit (Cv
     refl,
   )
 
-  -- two turns in one poll
+  -- two paces in one poll
   two_chain : (next : Buffering → BufferPlan Reply) (f : Left (Waiting BufferOut) BufferOutcome → Left Buffering Reply)
       (plan : Plan (QueueEdit (CvCall BufferEdit)) (QueueAnswer BufferOutcome) (Waiting BufferOut) BufferOutcome)
       (old mid new : List (Action (QueueEdit (CvCall BufferEdit)))) (one two : Left Buffering Reply) → Answers plan

@@ -35,7 +35,7 @@ use Rattle.layer_traits.proofs.ListsLemmas.{counted_in}
 use Rattle.thread_blocks.specs.Queues.{same_tid}
 use Rattle.thread_blocks.proofs.Members.{same_tid_true}
 use Rattle.fifo_buffer.specs.Stances.{Grip, InCall, Stance, TalkFits, line_at, same_side}
-use Rattle.fifo_buffer.specs.Turns.{BufferEvent}
+use Rattle.fifo_buffer.specs.Paces.{BufferEvent}
 use Rattle.fifo_buffer.proofs.Apart.{fits_apart, side_self}
 
 module _ (opening : LockId → Option (QueueBlock BufferLock)) where

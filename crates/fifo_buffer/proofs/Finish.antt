@@ -1,4 +1,4 @@
--- What a poll of a call leaves, after its last turn.
+-- What a poll of a call leaves, after its last pace.
 use Rattle.std.proofs.Common.{◌≡◌, ◌≢◌, ◌⊎◌, inl, inr, Bool, true, false, List, ◌++◌, Option, Some, None, option_map}
 use Rattle.std.proofs.Common.{option_to_list, is_some, if◌then◌else◌, refl, ap, sym, ◌∙◌, subst}
 use Rattle.event_log.specs.declared.ids.CpuId.{CpuId}
@@ -16,7 +16,7 @@ use Rattle.layer_traits.specs.declared.talks.Stage.{Stage}
 use Rattle.layer_traits.specs.declared.talks.Stage.TheVariants.{Between, Acquires, Enters, Tries, Waits, AcquiresAgain, Signals, SignalsOwn, Releases}
 use Rattle.layer_traits.specs.declared.talks.Talk.{Talk}
 use Rattle.layer_traits.specs.BufferEffects.{effects_in}
-use Rattle.layer_traits.specs.BufferLaw.{Answered, Called, begun_at, buffer_of, entry_of, going, heard, placed, replied, reply_of, talk_of, told_by, tried}
+use Rattle.layer_traits.specs.BufferLaw.{Answered, Called, begun_at, buffer_of, entry_of, going, heard, enlisted, replied, reply_of, talk_of, told_by, tried}
 use Rattle.layer_traits.specs.Conditions.{CvCall}
 use Rattle.layer_traits.specs.LockLaw.{slept_for}
 use Rattle.layer_traits.specs.Places.{home_of}
@@ -24,15 +24,15 @@ use Rattle.layer_traits.specs.Queues.{buffer_sections}
 use Rattle.thread_blocks.specs.Queues.{same_tid}
 use Rattle.thread_blocks.proofs.Members.{same_tid_true}
 use Rattle.fifo_buffer.specs.Stances.{InCall, TalkFits, called_at, done_at}
-use Rattle.fifo_buffer.specs.Turns.{After, CallsFit, FitsAt, NoSection, Sleeps, Stays, calling_after}
-use Rattle.fifo_buffer.proofs.TurnTaken.{TurnTaken}
+use Rattle.fifo_buffer.specs.Paces.{After, CallsFit, FitsAt, NoSection, Sleeps, Stays, calling_after}
+use Rattle.fifo_buffer.proofs.PaceTaken.{PaceTaken}
 use Rattle.fifo_buffer.proofs.Parts.{effects_append, effects_others, effects_over}
 
-placed_call : (talk : Talk) (out : BufferOut) → (placed talk out).call ≡ talk.call
-placed_call talk (Entered p) = refl
-placed_call talk NotYet = refl
-placed_call talk (Done kind op value) = refl
-placed_call talk (WasShut op pos) = refl
+enlisted_call : (talk : Talk) (out : BufferOut) → (enlisted talk out).call ≡ talk.call
+enlisted_call talk (Entered p) = refl
+enlisted_call talk NotYet = refl
+enlisted_call talk (Done kind op value) = refl
+enlisted_call talk (WasShut op pos) = refl
 
 tried_call : (talk : Talk) (out : BufferOut) → (tried talk out).call ≡ talk.call
 tried_call talk (Entered p) = refl
@@ -48,7 +48,7 @@ pub goes_or_ends : (talk : Talk) (call : Call) (stage : Stage) (out : QOut (CvOu
     × ((heard talk stage out).effect ≡ talk.effect))
 goes_or_ends talk call Between out is done = inl (refl, is)
 goes_or_ends talk call Acquires out is done = inl (refl, is)
-goes_or_ends talk call Enters out is done = inl (refl, placed_call talk (told_by out) ∙ is)
+goes_or_ends talk call Enters out is done = inl (refl, enlisted_call talk (told_by out) ∙ is)
 goes_or_ends talk call Tries out is done = inl (refl, tried_call talk (told_by out) ∙ is)
 goes_or_ends talk call Waits out is done = inl (refl, is)
 goes_or_ends talk call AcquiresAgain out is done = inl (refl, is)
@@ -74,16 +74,16 @@ begun_there Signals o is = refl
 begun_there SignalsOwn o is = refl
 begun_there Releases o is = refl
 
-module _ (turn : TurnTaken) (home : home_of turn.homes turn.t ≡ Some turn.c) (called : turn.talk.call ≡ Some turn.call)
-    (talks now : List Talk) (own_talk : talk_of now turn.t ≡ turn.later) (same : (u : Tid) → same_tid turn.t u ≡ false → talk_of now u ≡ talk_of talks u) where
-  open turn use {homes, ActsFor, O, c, t, call, talk, old, new, own, left, under_way, done, later, turned}
+module _ (pace : PaceTaken) (home : home_of pace.homes pace.t ≡ Some pace.c) (called : pace.talk.call ≡ Some pace.call)
+    (talks now : List Talk) (own_talk : talk_of now pace.t ≡ pace.later) (same : (u : Tid) → same_tid pace.t u ≡ false → talk_of now u ≡ talk_of talks u) where
+  open pace use {homes, ActsFor, O, c, t, call, talk, old, new, own, left, under_way, done, later, paced}
 
   -- the talks of the other threads fit as before
   pub others_after : ((u : Tid) → home_of homes u ≡ Some c → same_tid t u ≡ false → FitsAt O (buffer_sections old) own talks u)
       → (u : Tid) → home_of homes u ≡ Some c → same_tid t u ≡ false → FitsAt O (buffer_sections new) left now u
   others_after before u there other =
-      rw (same u other, (turned.marks u other).0, (turned.marks u other).1)
-      (turned.apart u there other (talk_of talks u).call (slept_for own.lock.slept u) (slept_for own.waits u) (talk_of talks u) (before u there other))
+      rw (same u other, (paced.marks u other).0, (paced.marks u other).1)
+      (paced.apart u there other (talk_of talks u).call (slept_for own.lock.slept u) (slept_for own.waits u) (talk_of talks u) (before u there other))
 
   abbrev Fit : Option Tid → Type 0
   Fit calling = CallsFit homes c O (buffer_sections new) left now under_way calling
@@ -99,7 +99,7 @@ module _ (turn : TurnTaken) (home : home_of turn.homes turn.t ≡ Some turn.c) (
   pub finish : ((u : Tid) → home_of homes u ≡ Some c → same_tid t u ≡ false → FitsAt O (buffer_sections old) own talks u)
       → (answer : Option Reply) → answer ≡ (if done then replied call talk talk.stage else None)
       → Fit (calling_after t left.lock.sleep.threads.current answer)
-  finish before answer answers = go done answers turned.after
+  finish before answer answers = go done answers paced.after
     where
       others : (u : Tid) → home_of homes u ≡ Some c → same_tid t u ≡ false → FitsAt O (buffer_sections new) left now u
       others = others_after before
@@ -173,15 +173,15 @@ module _ (turn : TurnTaken) (home : home_of turn.homes turn.t ≡ Some turn.c) (
       → (answer : Option Reply) → answer ≡ (if done then replied call talk talk.stage else None)
       → Called Acts c t call first now (effects_in O (buffer_sections old)) (effects_in O (buffer_sections new)) answer
   called_by Acts weaker first same_effect apart in_call answer answers = record {
-    others = effects_over O turned.others old;
-    mine = turned.effect;
-    foreign = λ d acts. effects_others O d turned.others old (turned.foreign d (weaker d acts));
+    others = effects_over O paced.others old;
+    mine = paced.effect;
+    foreign = λ d acts. effects_others O d paced.others old (paced.foreign d (weaker d acts));
     is =
-        turned.effects ∙ ap (λ es. option_to_list (option_map (entry_of c t (buffer_of call)) turned.effect) ++ es)
-        (effects_append O turned.others old);
-    fresh = λ f is. (sym same_effect ∙ (turned.fresh f is).0, ap (λ (o : Talk). o.effect) own_talk ∙ (turned.fresh f is).1, (turned.fresh f is).2);
-    stays = λ none. ap (λ (o : Talk). o.effect) own_talk ∙ turned.stays none ∙ same_effect;
-    answers = go done answers turned.after;
+        paced.effects ∙ ap (λ es. option_to_list (option_map (entry_of c t (buffer_of call)) paced.effect) ++ es)
+        (effects_append O paced.others old);
+    fresh = λ f is. (sym same_effect ∙ (paced.fresh f is).0, ap (λ (o : Talk). o.effect) own_talk ∙ (paced.fresh f is).1, (paced.fresh f is).2);
+    stays = λ none. ap (λ (o : Talk). o.effect) own_talk ∙ paced.stays none ∙ same_effect;
+    answers = go done answers paced.after;
     apart = apart;
   }
     where

@@ -1,4 +1,4 @@
--- A poll of a call may begin with a turn, and go on with another.
+-- A poll of a call may begin with a pace, and go on with another.
 use Rattle.std.proofs.Common.{◌≡◌, true, false, List, Option, Some, None, refl, ap, sym, ◌∙◌, subst}
 use Rattle.event_log.specs.declared.ids.BufId.{BufId}
 use Rattle.event_log.specs.declared.ids.CpuId.{CpuId}
@@ -21,7 +21,7 @@ use Rattle.layer_traits.specs.LockLaw.{slept_for}
 use Rattle.layer_traits.specs.Places.{home_of}
 use Rattle.thread_blocks.specs.Queues.{same_tid}
 use Rattle.fifo_buffer.specs.Stances.{InCall, Stance, TalkFits, called_at}
-use Rattle.fifo_buffer.specs.Turns.{BufferOutcome, CallsFit, FitsAt, Goes, IsCalling, MayTurn, Midway, doing_at}
+use Rattle.fifo_buffer.specs.Paces.{BufferOutcome, CallsFit, FitsAt, Goes, IsCalling, MayPace, Midway, doing_at}
 
 -- within a call the talk goes on as it is
 pub going_same : (stage : Stage) (talk : Talk) (call : Call) → called_at stage ≡ true → going_at stage talk call ≡ talk
@@ -40,7 +40,7 @@ module _ (O : LockId → Option BufferLock) (past : List BufferSection) (t : Tid
       → InCall O past t call slept waits Acquires 0 None
   begun_fits slept waits stance slept_none waits_none = rw (slept_none, waits_none) (record {
     called = refl;
-    stance = record { grip = stance.grip; line = stance.line; place = λ w. absurd cc };
+    stance = record { grip = stance.grip; line = stance.line; drawn_is = λ w. absurd cc };
     vain = λ w. absurd cc;
     joins = λ w. absurd cc;
     effect_is = refl;
@@ -77,13 +77,13 @@ goes_called O past t k talk own (Some s) goes = midway own.lock.sleep.kept goes.
     midway None now = now.1.called
     midway (Some outcome) now = now.called
 
--- the first turn of a poll
+-- the first pace of a poll
 pub first_may : (homes : List CpuId) (c : CpuId) (O : LockId → Option BufferLock) (past : List BufferSection) (own : Waiting BufferOut) (talks : List Talk)
     (under_way : Option (SchedCall (CvCall BufferEdit))) (calling : Option Tid) (t : Tid) (call : Call) → home_of homes t ≡ Some c
     → CallsFit homes c O past own talks under_way calling → own.lock.sleep.threads.current ≡ Some t
     → (doing_at calling under_way ≡ None → own.lock.sleep.threads.hand ≡ None)
     → MayTalk (talk_of talks t) call → MayGoOn (doing_at calling under_way) (Calling t)
-    → MayTurn O past t call (going (talk_of talks t) call) own under_way
+    → MayPace O past t call (going (talk_of talks t) call) own under_way
     × ((u : Tid) → home_of homes u ≡ Some c → same_tid t u ≡ false → FitsAt O past own talks u)
 first_may homes c O past own talks None None t call home fits runs hand talk_may may =
     let both = going_fits O past t call (talk_of talks t) (slept_for own.lock.slept t) (slept_for own.waits t) (talk_of talks t).call refl
@@ -101,8 +101,8 @@ first_may homes c O past own talks under_way (Some v) t call home fits runs hand
     let same_talk : going (talk_of talks t) call ≡ talk_of talks t = going_same (talk_of talks t).stage (talk_of talks t) call called in
     let calls : Some mine.call ≡ Some call = sym mine.may.called ∙ sym (ap (λ (x : Talk). x.call) same_talk) ∙ talk_may in
     let is_call : mine.call ≡ call = cc in (
-      subst (λ (x : Talk). MayTurn O past t call x own under_way) (sym same_talk)
-          (subst (λ k. MayTurn O past t k (talk_of talks t) own under_way) is_call mine.may),
+      subst (λ (x : Talk). MayPace O past t call x own under_way) (sym same_talk)
+          (subst (λ k. MayPace O past t k (talk_of talks t) own under_way) is_call mine.may),
       mine.others,
     )
   where

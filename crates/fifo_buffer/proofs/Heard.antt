@@ -1,4 +1,4 @@
--- What a turn leaves of the talks; and where a thread that runs stands.
+-- What a pace leaves of the talks; and where a thread that runs stands.
 use Rattle.std.proofs.Common.{◌≡◌, Bool, false, List, Option, Some, None, is_some, slice_set, if◌then◌else◌, refl, ap, ◌∙◌}
 use Rattle.event_log.specs.declared.ids.CpuId.{CpuId}
 use Rattle.event_log.specs.declared.ids.LockId.{LockId}
@@ -16,15 +16,15 @@ use Rattle.layer_traits.specs.CvLaw.{Waiting}
 use Rattle.layer_traits.specs.ListsAgree.{is_at}
 use Rattle.layer_traits.specs.LockLaw.{LocksAgree, lock_kernel}
 use Rattle.layer_traits.specs.Locking.{line_in, lock_after}
-use Rattle.layer_traits.specs.Places.{AreMoves, Stands, Threads, home_of, one_if, place_of}
+use Rattle.layer_traits.specs.Places.{AreMoves, Stands, Threads, home_of, one_if, berth_of}
 use Rattle.layer_traits.specs.QueueBlocks.{homes_in, inner}
 use Rattle.layer_traits.specs.Queues.{buffer_sections, moves_in}
 use Rattle.layer_traits.proofs.CountLemmas.{not_counted}
 use Rattle.layer_traits.proofs.PlaceLemmas.{current_at}
 use Rattle.thread_blocks.specs.Queues.{is_in}
-use Rattle.fifo_buffer.specs.Turns.{BufferEvent, BufferOutcome, heard_if}
+use Rattle.fifo_buffer.specs.Paces.{BufferEvent, BufferOutcome, heard_if}
 
--- what a turn leaves is what its plan makes of the poll's answer
+-- what a pace leaves is what its plan makes of the poll's answer
 pub heard_left : (t : Tid) (call : Call) (talk : Talk) (talks now : List Talk) (stage : Stage) (cv : Waiting BufferOut)
     (answer : Option BufferOutcome) (done : Bool)
     → done ≡ is_some answer → now ≡ slice_set talks t.0 (heard_if talk stage answer)
@@ -43,5 +43,5 @@ module _ (opening : LockId → Option (QueueBlock BufferLock)) (c : CpuId) (past
       → is_in t (line_in line (lock_after (cv_rules buffer_deeds) (inner opening) lock (buffer_sections past))) ≡ false
   runs_awake agree lock line =
       not_counted t (line_in line (lock_after (cv_rules buffer_deeds) (inner opening) lock (buffer_sections past)))
-      (agree lock line t ∙ ap (λ w. one_if (is_at lock line (place_of w)))
+      (agree lock line t ∙ ap (λ w. one_if (is_at lock line (berth_of w)))
       (current_at (homes_in opening) c (moves_in (lock_kernel (cv_rules buffer_deeds) opening) past) own legal stands t runs).1)

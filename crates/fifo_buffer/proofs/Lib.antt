@@ -3,11 +3,11 @@ pub mod OwnSteps
 pub mod Events
 pub mod Callers
 pub mod Polls
-pub mod Turning
+pub mod Pacing
 pub mod Heard
 pub mod Parts
 pub mod Passes
-pub mod TurnTaken
+pub mod PaceTaken
 pub mod Finish
 pub mod First
 pub mod Twice

@@ -33,11 +33,11 @@ use Rattle.layer_traits.specs.declared.locked.Side.{Side}
 use Rattle.layer_traits.specs.declared.locked.Side.TheVariants.{Receivers, Senders}
 use Rattle.layer_traits.specs.declared.talks.Stage.{Stage}
 use Rattle.layer_traits.specs.declared.talks.Stage.TheVariants.{Between, Acquires, Enters, Tries, Waits, AcquiresAgain, Signals, SignalsOwn, Releases}
-use Rattle.layer_traits.specs.BufferBlocks.{BufferState, effect_kind, entered, first_item, is_first, is_turn, line_of}
-use Rattle.layer_traits.specs.BufferBlocks.{may_go, may_join, places_of, put_in, taken_out}
-use Rattle.layer_traits.specs.BufferEffects.{drawn, effect_of, effect_on, is_enter, places_in}
+use Rattle.layer_traits.specs.BufferBlocks.{BufferState, effect_kind, entered, first_item, is_first, is_next, line_of}
+use Rattle.layer_traits.specs.BufferBlocks.{may_go, may_join, drawn_of, put_in, taken_out}
+use Rattle.layer_traits.specs.BufferEffects.{drawn, effect_of, effect_on, is_enter, drawn_in}
 use Rattle.layer_traits.specs.BufferLaw.{IsEffectOf, buffer_of, entry_of, section_at, side_of}
-use Rattle.layer_traits.specs.BufferProtocol.{BufferLock, BufferSection, buffer_at, buffer_rules, has_tried_in_vain, is_turn_at}
+use Rattle.layer_traits.specs.BufferProtocol.{BufferLock, BufferSection, buffer_at, buffer_rules, has_tried_in_vain, is_next_at}
 use Rattle.layer_traits.specs.Conditions.{CvCall}
 use Rattle.layer_traits.specs.Locking.{asked, lock_edited, lock_out, told_asker}
 use Rattle.layer_traits.specs.Places.{count_in, one_if}
@@ -78,10 +78,10 @@ module _ (opening : LockId → Option BufferLock) (past : List BufferSection) (c
       → count_in t (line_of at (lock_edited buffer_rules e lock).above) ≡ one_if (lined' && same_side at side))
       → (lined' ≡ true → position' ≡ drawn opening (Buffer b) side t (section c (Buffer b) e ∷ past))
       → Stance opening (section c (Buffer b) e ∷ past) t b side holds' asks' lined' position'
-  own_stance holds asks lined holds' asks' lined' position position' stance grips lines place = record {
+  own_stance holds asks lined holds' asks' lined' position position' stance grips lines drawn_is = record {
     grip = λ l. grip_at l (same_lock l (Buffer b)) refl;
     line = λ l at. line_there l at (same_lock l (Buffer b)) refl;
-    place = place;
+    drawn_is = drawn_is;
   }
     where
       grip_at : (l : LockId) (v : Bool) → same_lock l (Buffer b) ≡ v
@@ -116,7 +116,7 @@ module _ (opening : LockId → Option BufferLock) (past : List BufferSection) (c
   -- its drawn position stays, where it does not enter
   drawn_own : is_enter side t e ≡ false → drawn opening (Buffer b) side t (section c (Buffer b) e ∷ past) ≡ drawn opening (Buffer b) side t past
   drawn_own none =
-      ap (λ v. if v then places_in side (buffer_at opening past (Buffer b)) else drawn opening (Buffer b) side t past)
+      ap (λ v. if v then drawn_in side (buffer_at opening past (Buffer b)) else drawn opening (Buffer b) side t past)
       (and_right (same_lock (Buffer b) (Buffer b)) (is_enter side t e) none)
 
 -- whoever takes a free lock holds it
@@ -162,7 +162,7 @@ module _ (opening : LockId → Option BufferLock) (past : List BufferSection) (c
       own_stance opening past c t b side (Acquire t) lock is false false lined true false lined position position stance
       (λ grip. take_free t lock.owner lock free grip)
       (λ at now. ap (λ x. count_in t (line_of at x)) (above_asked t lock.owner lock) ∙ now)
-      (λ lines. stance.place lines ∙ sym (drawn_own opening past c t b side (Acquire t) lock is refl))
+      (λ lines. stance.drawn_is lines ∙ sym (drawn_own opening past c t b side (Acquire t) lock is refl))
 
   asked_lock : (lined : Bool) (position : ℕ) → Stance opening past t b side false false lined position
       → Stance opening (section c (Buffer b) (Acquire t) ∷ past) t b side false true lined position
@@ -170,7 +170,7 @@ module _ (opening : LockId → Option BufferLock) (past : List BufferSection) (c
       own_stance opening past c t b side (Acquire t) lock is false false lined false true lined position position stance
       (λ grip. tt)
       (λ at now. ap (λ x. count_in t (line_of at x)) (above_asked t lock.owner lock) ∙ now)
-      (λ lines. stance.place lines ∙ sym (drawn_own opening past c t b side (Acquire t) lock is refl))
+      (λ lines. stance.drawn_is lines ∙ sym (drawn_own opening past c t b side (Acquire t) lock is refl))
 
   -- how often the thread stands in its own line
   in_own_line : (holds asks lined : Bool) (position : ℕ) → Stance opening past t b side holds asks lined position
@@ -181,14 +181,14 @@ module _ (opening : LockId → Option BufferLock) (past : List BufferSection) (c
       ∙ ap (λ v. one_if (lined && v)) (side_self side) ∙ ap one_if (and-true lined)
 
   entered_line : (position : ℕ) → t.0 < THREADS → Stance opening past t b side true false false position
-      → Stance opening (section c (Buffer b) (Inside (Edit (Enter t side))) ∷ past) t b side true false true (places_of side lock.above)
+      → Stance opening (section c (Buffer b) (Inside (Edit (Enter t side))) ∷ past) t b side true false true (drawn_of side lock.above)
   entered_line position small stance =
-      own_stance opening past c t b side (Inside (Edit (Enter t side))) lock is true false false true false true position (places_of side lock.above) stance
+      own_stance opening past c t b side (Inside (Edit (Enter t side))) lock is true false false true false true position (drawn_of side lock.above) stance
       (λ grip. grip)
       (λ at now. ap (λ (v : Bool). count_in t (line_of at (if v then entered side t lock.above else lock.above)))
       (may_enter t (line_of side lock.above) small (in_own_line true false false position stance)) ∙ lines_entered t side at lock.above now)
-      (λ lines. sym (ap (λ (v : Bool). if v then places_in side (buffer_at opening past (Buffer b)) else drawn opening (Buffer b) side t past) test
-      ∙ ap (places_in side) is))
+      (λ lines. sym (ap (λ (v : Bool). if v then drawn_in side (buffer_at opening past (Buffer b)) else drawn opening (Buffer b) side t past) test
+      ∙ ap (drawn_in side) is))
     where
       test : (same_lock (Buffer b) (Buffer b) && is_enter side t (Inside (Edit (Enter t side)))) ≡ true
       test = rw (same_lock_self (Buffer b), enter_own side t) refl
@@ -205,7 +205,7 @@ module _ (opening : LockId → Option BufferLock) (past : List BufferSection) (c
       → Stance opening (section c (Buffer b) (Inside (SignalFront t signalled)) ∷ past) t b side holds false lined position
   same_there holds lined position signalled stance =
       own_stance opening past c t b side (Inside (SignalFront t signalled)) lock is holds false lined holds false lined position position stance
-      (λ grip. go holds grip) (λ at now. now) (λ lines. stance.place lines ∙ sym
+      (λ grip. go holds grip) (λ at now. now) (λ lines. stance.drawn_is lines ∙ sym
       (drawn_own opening past c t b side (Inside (SignalFront t signalled)) lock is refl))
     where
       go : (holds : Bool) → Grip t holds false (Some lock) → Grip t holds false (Some (lock_edited buffer_rules (Inside (SignalFront t signalled)) lock))
@@ -218,66 +218,66 @@ module _ (opening : LockId → Option BufferLock) (past : List BufferSection) (c
   waited_there lined position at stance =
       own_stance opening past c t b side (Release (Wait t at)) lock is true false lined false false lined position position stance
       (λ grip. out_of_rest t lock.sleepers grip.1) (λ at now. now)
-      (λ lines. stance.place lines ∙ sym (drawn_own opening past c t b side (Release (Wait t at)) lock is refl))
+      (λ lines. stance.drawn_is lines ∙ sym (drawn_own opening past c t b side (Release (Wait t at)) lock is refl))
 
   left_there : (lined : Bool) (position : ℕ) → Stance opening past t b side true false lined position
       → Stance opening (section c (Buffer b) (Release (Leave t)) ∷ past) t b side false false lined position
   left_there lined position stance =
       own_stance opening past c t b side (Release (Leave t)) lock is true false lined false false lined position position stance
       (λ grip. out_of_rest t lock.sleepers grip.1) (λ at now. now)
-      (λ lines. stance.place lines ∙ sym (drawn_own opening past c t b side (Release (Leave t)) lock is refl))
+      (λ lines. stance.drawn_is lines ∙ sym (drawn_own opening past c t b side (Release (Leave t)) lock is refl))
 
 -- the stances after a try
 module _ (opening : LockId → Option BufferLock) (past : List BufferSection) (c : CpuId) (t : Tid) (b : BufId)
     (lock : BufferLock) (is : buffer_at opening past (Buffer b) ≡ Some lock) (position : ℕ) where
-  has_put : (m : Message) → is_turn Senders t lock.above ≡ true → Stance opening past t b Senders true false true position
+  has_put : (m : Message) → is_next Senders t lock.above ≡ true → Stance opening past t b Senders true false true position
       → Stance opening (section c (Buffer b) (Inside (Edit (TryPut t m))) ∷ past) t b Senders true false false position
-  has_put m turn stance =
+  has_put m next stance =
       own_stance opening past c t b Senders (Inside (Edit (TryPut t m))) lock is true false true true false false position position stance
       (λ grip. grip)
-      (λ at now. ap (λ (v : Bool). count_in t (line_of at (if v then put_in m lock.above else lock.above))) turn ∙ lines at now) (λ lines. absurd cc)
+      (λ at now. ap (λ (v : Bool). count_in t (line_of at (if v then put_in m lock.above else lock.above))) next ∙ lines at now) (λ lines. absurd cc)
     where
       lines : (at : Side) → count_in t (line_of at lock.above) ≡ one_if (same_side at Senders) → count_in t (line_of at (put_in m lock.above)) ≡ 0
       lines Receivers now = now
-      lines Senders now = gone_from t lock.above.send_line (and_parts (is_first t lock.above.send_line) (may_go Senders lock.above) turn).0 now
+      lines Senders now = gone_from t lock.above.send_line (and_parts (is_first t lock.above.send_line) (may_go Senders lock.above) next).0 now
 
-  has_taken : is_turn Receivers t lock.above ≡ true → Stance opening past t b Receivers true false true position
+  has_taken : is_next Receivers t lock.above ≡ true → Stance opening past t b Receivers true false true position
       → Stance opening (section c (Buffer b) (Inside (Edit (TryTake t))) ∷ past) t b Receivers true false false position
-  has_taken turn stance =
+  has_taken next stance =
       own_stance opening past c t b Receivers (Inside (Edit (TryTake t))) lock is true false true true false false position position stance
       (λ grip. grip)
-      (λ at now. ap (λ (v : Bool). count_in t (line_of at (if v then taken_out lock.above else lock.above))) turn ∙ lines at now) (λ lines. absurd cc)
+      (λ at now. ap (λ (v : Bool). count_in t (line_of at (if v then taken_out lock.above else lock.above))) next ∙ lines at now) (λ lines. absurd cc)
     where
       lines : (at : Side) → count_in t (line_of at lock.above) ≡ one_if (same_side at Receivers) → count_in t (line_of at (taken_out lock.above)) ≡ 0
-      lines Receivers now = gone_from t lock.above.receive_line (and_parts (is_first t lock.above.receive_line) (may_go Receivers lock.above) turn).0 now
+      lines Receivers now = gone_from t lock.above.receive_line (and_parts (is_first t lock.above.receive_line) (may_go Receivers lock.above) next).0 now
       lines Senders now = now
 
-  put_in_vain : (m : Message) → is_turn Senders t lock.above ≡ false → Stance opening past t b Senders true false true position
+  put_in_vain : (m : Message) → is_next Senders t lock.above ≡ false → Stance opening past t b Senders true false true position
       → Stance opening (section c (Buffer b) (Inside (Edit (TryPut t m))) ∷ past) t b Senders true false true position
-  put_in_vain m turn stance =
+  put_in_vain m next stance =
       own_stance opening past c t b Senders (Inside (Edit (TryPut t m))) lock is true false true true false true position position stance
       (λ grip. grip)
-      (λ at now. ap (λ (v : Bool). count_in t (line_of at (if v then put_in m lock.above else lock.above))) turn ∙ now)
-      (λ lines. stance.place lines ∙ sym (drawn_own opening past c t b Senders (Inside (Edit (TryPut t m))) lock is refl))
+      (λ at now. ap (λ (v : Bool). count_in t (line_of at (if v then put_in m lock.above else lock.above))) next ∙ now)
+      (λ lines. stance.drawn_is lines ∙ sym (drawn_own opening past c t b Senders (Inside (Edit (TryPut t m))) lock is refl))
 
-  took_in_vain : is_turn Receivers t lock.above ≡ false → Stance opening past t b Receivers true false true position
+  took_in_vain : is_next Receivers t lock.above ≡ false → Stance opening past t b Receivers true false true position
       → Stance opening (section c (Buffer b) (Inside (Edit (TryTake t))) ∷ past) t b Receivers true false true position
-  took_in_vain turn stance =
+  took_in_vain next stance =
       own_stance opening past c t b Receivers (Inside (Edit (TryTake t))) lock is true false true true false true position position stance
       (λ grip. grip)
-      (λ at now. ap (λ (v : Bool). count_in t (line_of at (if v then taken_out lock.above else lock.above))) turn ∙ now)
-      (λ lines. stance.place lines ∙ sym (drawn_own opening past c t b Receivers (Inside (Edit (TryTake t))) lock is refl))
+      (λ at now. ap (λ (v : Bool). count_in t (line_of at (if v then taken_out lock.above else lock.above))) next ∙ now)
+      (λ lines. stance.drawn_is lines ∙ sym (drawn_own opening past c t b Receivers (Inside (Edit (TryTake t))) lock is refl))
 
-  vain_put : (m : Message) → is_turn Senders t lock.above ≡ false
+  vain_put : (m : Message) → is_next Senders t lock.above ≡ false
       → has_tried_in_vain opening (Buffer b) Senders t (section c (Buffer b) (Inside (Edit (TryPut t m))) ∷ past) ≡ true
-  vain_put m turn =
-      let at : is_turn_at Senders t (buffer_at opening past (Buffer b)) ≡ false = ap (is_turn_at Senders t) is ∙ turn in
+  vain_put m next =
+      let at : is_next_at Senders t (buffer_at opening past (Buffer b)) ≡ false = ap (is_next_at Senders t) is ∙ next in
       rw (same_tid_self t, same_lock_self (Buffer b), at) refl
 
-  vain_take : is_turn Receivers t lock.above ≡ false
+  vain_take : is_next Receivers t lock.above ≡ false
       → has_tried_in_vain opening (Buffer b) Receivers t (section c (Buffer b) (Inside (Edit (TryTake t))) ∷ past) ≡ true
-  vain_take turn =
-      let at : is_turn_at Receivers t (buffer_at opening past (Buffer b)) ≡ false = ap (is_turn_at Receivers t) is ∙ turn in
+  vain_take next =
+      let at : is_next_at Receivers t (buffer_at opening past (Buffer b)) ≡ false = ap (is_next_at Receivers t) is ∙ next in
       rw (same_tid_self t, same_lock_self (Buffer b), at) refl
 
 -- each section of a call, by its stage
@@ -424,14 +424,14 @@ module _ (opening : LockId → Option BufferLock) (past : List BufferSection) (c
       done : (f : Effect) → Some closed ≡ Some f → closed ≡ f
       done f same = cc
 
-  put_step : (b : BufId) (m : Message) (v : Bool) → is_turn Senders t lock.above ≡ v → buffer_at opening past (Buffer b) ≡ Some lock
+  put_step : (b : BufId) (m : Message) (v : Bool) → is_next Senders t lock.above ≡ v → buffer_at opening past (Buffer b) ≡ Some lock
       → InCall opening past t (Send b m) None None Tries position effect
       → Stepped opening past c t (Send b m) Tries position effect
       (Did (answer.Did (if v then told.Done (effect_kind Senders lock.above) lock.above.effects m else told.NotYet)))
-  put_step b m true turn is now = record {
+  put_step b m true next is now = record {
     fits = record {
       called = refl;
-      stance = has_put opening past c t b lock is position m turn now.stance;
+      stance = has_put opening past c t b lock is position m next now.stance;
       vain = λ w. absurd cc;
       joins = λ w. absurd cc;
       effect_is = refl;
@@ -441,9 +441,9 @@ module _ (opening : LockId → Option BufferLock) (past : List BufferSection) (c
     mine = Some (record { kind = effect_kind Senders lock.above; value = m; op = lock.above.effects; pos = position });
     is = ap (λ x. effect_on c b (Inside (Edit (TryPut t m))) (λ side u. drawn opening (Buffer b) side u past) x) is
         ∙ ap (λ (v : Bool). if v then Some (entry_of c t b
-        (record { kind = effect_kind Senders lock.above; value = m; op = lock.above.effects; pos = drawn opening (Buffer b) Senders t past })) else None) turn
+        (record { kind = effect_kind Senders lock.above; value = m; op = lock.above.effects; pos = drawn opening (Buffer b) Senders t past })) else None) next
         ∙ ap (λ p. Some (entry_of c t b (record { kind = effect_kind Senders lock.above; value = m; op = lock.above.effects; pos = p })))
-        (sym (now.stance.place refl));
+        (sym (now.stance.drawn_is refl));
     fresh = λ f same. (
       none_before (Send b m) Tries refl now,
       same,
@@ -455,11 +455,11 @@ module _ (opening : LockId → Option BufferLock) (past : List BufferSection) (c
       done : (f : Effect) → Some (record { kind = effect_kind Senders lock.above; value = m; op = lock.above.effects; pos = position }) ≡ Some f
           → record { kind = effect_kind Senders lock.above; value = m; op = lock.above.effects; pos = position } ≡ f
       done f same = cc
-  put_step b m false turn is now = record {
+  put_step b m false next is now = record {
     fits = record {
       called = refl;
-      stance = put_in_vain opening past c t b lock is position m turn now.stance;
-      vain = λ w. vain_put opening past c t b lock is position m turn;
+      stance = put_in_vain opening past c t b lock is position m next now.stance;
+      vain = λ w. vain_put opening past c t b lock is position m next;
       joins = λ w. tt;
       effect_is = now.effect_is;
       slept_here = tt;
@@ -468,19 +468,19 @@ module _ (opening : LockId → Option BufferLock) (past : List BufferSection) (c
     mine = None;
     is = ap (λ x. effect_on c b (Inside (Edit (TryPut t m))) (λ side u. drawn opening (Buffer b) side u past) x) is
         ∙ ap (λ (v : Bool). if v then Some (entry_of c t b
-        (record { kind = effect_kind Senders lock.above; value = m; op = lock.above.effects; pos = drawn opening (Buffer b) Senders t past })) else None) turn;
+        (record { kind = effect_kind Senders lock.above; value = m; op = lock.above.effects; pos = drawn opening (Buffer b) Senders t past })) else None) next;
     fresh = λ f w. absurd cc;
     stays = λ w. refl;
   }
 
-  take_step : (b : BufId) (v : Bool) → is_turn Receivers t lock.above ≡ v → buffer_at opening past (Buffer b) ≡ Some lock
+  take_step : (b : BufId) (v : Bool) → is_next Receivers t lock.above ≡ v → buffer_at opening past (Buffer b) ≡ Some lock
       → InCall opening past t (Recv b) None None Tries position effect
       → Stepped opening past c t (Recv b) Tries position effect
       (Did (answer.Did (if v then told.Done (effect_kind Receivers lock.above) lock.above.effects (first_item lock.above.items) else told.NotYet)))
-  take_step b true turn is now = record {
+  take_step b true next is now = record {
     fits = record {
       called = refl;
-      stance = has_taken opening past c t b lock is position turn now.stance;
+      stance = has_taken opening past c t b lock is position next now.stance;
       vain = λ w. absurd cc;
       joins = λ w. absurd cc;
       effect_is = refl;
@@ -496,14 +496,14 @@ module _ (opening : LockId → Option BufferLock) (past : List BufferSection) (c
           op = lock.above.effects;
           pos = drawn opening
               (Buffer b) Receivers t past;
-        })) else None) turn
+        })) else None) next
         ∙ ap (λ p. Some (entry_of c t b (record {
           kind = effect_kind Receivers lock.above;
           value = first_item lock.above.items;
           op
               = lock.above.effects;
           pos = p;
-        }))) (sym (now.stance.place refl));
+        }))) (sym (now.stance.drawn_is refl));
     fresh = λ f same. (
       none_before (Recv b) Tries refl now,
       same,
@@ -517,11 +517,11 @@ module _ (opening : LockId → Option BufferLock) (past : List BufferSection) (c
 
       done : (f : Effect) → Some taken ≡ Some f → taken ≡ f
       done f same = cc
-  take_step b false turn is now = record {
+  take_step b false next is now = record {
     fits = record {
       called = refl;
-      stance = took_in_vain opening past c t b lock is position turn now.stance;
-      vain = λ w. vain_take opening past c t b lock is position turn;
+      stance = took_in_vain opening past c t b lock is position next now.stance;
+      vain = λ w. vain_take opening past c t b lock is position next;
       joins = λ w. tt;
       effect_is = now.effect_is;
       slept_here = tt;
@@ -536,15 +536,15 @@ module _ (opening : LockId → Option BufferLock) (past : List BufferSection) (c
           op = lock.above.effects;
           pos = drawn opening
               (Buffer b) Receivers t past;
-        })) else None) turn;
+        })) else None) next;
     fresh = λ f w. absurd cc;
     stays = λ w. refl;
   }
 
   tries_step : (call : Call) → buffer_at opening past (Buffer (buffer_of call)) ≡ Some lock → InCall opening past t call None None Tries position effect
       → Stepped opening past c t call Tries position effect (lock_out buffer_rules (section_at t call Tries) lock)
-  tries_step (Send b m) is now = put_step b m (is_turn Senders t lock.above) refl is now
-  tries_step (Recv b) is now = take_step b (is_turn Receivers t lock.above) refl is now
+  tries_step (Send b m) is now = put_step b m (is_next Senders t lock.above) refl is now
+  tries_step (Recv b) is now = take_step b (is_next Receivers t lock.above) refl is now
   tries_step (Close b) is now = absurd (now.joins refl)
 
   waits_step : (call : Call) → buffer_at opening past (Buffer (buffer_of call)) ≡ Some lock → InCall opening past t call None None Waits position effect
@@ -611,7 +611,7 @@ module _ (opening : LockId → Option BufferLock) (past : List BufferSection) (c
       record {
         fits = record {
           stage_is = refl;
-          stance = record { grip = left.grip; line = left.line; place = λ w. absurd cc };
+          stance = record { grip = left.grip; line = left.line; drawn_is = λ w. absurd cc };
           slept_none = refl;
           waits_none = refl;
         };

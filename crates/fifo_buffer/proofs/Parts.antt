@@ -22,7 +22,7 @@ use Rattle.layer_traits.specs.declared.queues.QueueCall.{QueueCall}
 use Rattle.layer_traits.specs.declared.queues.QueueCall.TheVariants.{Push, TakeAll, OnBuffer}
 use Rattle.layer_traits.specs.declared.scheds.SchedCall.{SchedCall}
 use Rattle.layer_traits.specs.declared.talks.Talk.{Talk}
-use Rattle.layer_traits.specs.BufferBlocks.{effect_kind, first_item, is_turn}
+use Rattle.layer_traits.specs.BufferBlocks.{effect_kind, first_item, is_next}
 use Rattle.layer_traits.specs.BufferEffects.{effect_of, effect_on, effects_in, entry}
 use Rattle.layer_traits.specs.BufferLaw.{MovesGrow, OthersSeen, entry_cpu, heard, talk_of}
 use Rattle.layer_traits.specs.BufferProtocol.{BufferLock, BufferSection, buffer_deeds}
@@ -38,7 +38,7 @@ use Rattle.event_log.proofs.Same.{same_cpu_true}
 use Rattle.event_log.proofs.Foreign.{others_both}
 use Rattle.fifo_buffer.specs.FifoFits.{PartFits}
 use Rattle.fifo_buffer.specs.Stances.{TalkFits}
-use Rattle.fifo_buffer.specs.Turns.{BufferEvent, BufferOutcome, CallsFit, Goes, Kept, Midway}
+use Rattle.fifo_buffer.specs.Paces.{BufferEvent, BufferOutcome, CallsFit, Goes, Kept, Midway}
 use Rattle.fifo_buffer.proofs.Events.{keeps_fits}
 
 -- an effect has its section's CPU
@@ -47,14 +47,14 @@ one_entry : (d cpu : CpuId) (b : BufId) (call : CvCall BufferEdit) (position : S
 one_entry d cpu b call position None other = tt
 one_entry d cpu b (Acquire t) position (Some lock) other = tt
 one_entry d cpu b (Inside (Edit (Enter t side))) position (Some lock) other = tt
-one_entry d cpu b (Inside (Edit (TryPut t m))) position (Some lock) other = go (is_turn Senders t lock.above)
+one_entry d cpu b (Inside (Edit (TryPut t m))) position (Some lock) other = go (is_next Senders t lock.above)
   where
     go : (v : Bool)
         → AreOthers entry_cpu d (option_to_list (if v then Some
         (entry cpu t (effect_kind Senders lock.above) b m lock.above.effects (position Senders t)) else None))
     go true = (other, tt)
     go false = tt
-one_entry d cpu b (Inside (Edit (TryTake t))) position (Some lock) other = go (is_turn Receivers t lock.above)
+one_entry d cpu b (Inside (Edit (TryTake t))) position (Some lock) other = go (is_next Receivers t lock.above)
   where
     go : (v : Bool)
         → AreOthers entry_cpu d (option_to_list (if v then Some
@@ -206,7 +206,7 @@ moves_grown opening ActsFor Acts c mine others old new weaker foreign own is = r
       (moves_append (lock_kernel (cv_rules buffer_deeds) opening) others old);
 }
 
--- the part of another CPU keeps fitting over a turn
+-- the part of another CPU keeps fitting over a pace
 own_others : (c d : CpuId) → d ≢ c → (mine : List BufferEvent) → AllByRecursion (λ (e : BufferEvent). e.cpu ≡ c) mine → AreOthers event_actor d mine
 own_others c d other [] own = tt
 own_others c d other (e ∷ mine) own = (go (same_cpu e.cpu d) refl, own_others c d other mine own.1)

@@ -29,7 +29,7 @@ use Rattle.layer_traits.proofs.CallLemmas.{pass_polled}
 use Rattle.layer_traits.proofs.SleepLemmas.{done_same}
 use Rattle.layer_traits.proofs.Seen.{lawful_rest}
 use Rattle.fifo_buffer.specs.FifoFits.{PartFits}
-use Rattle.fifo_buffer.specs.Turns.{BufferEvent, BufferOutcome, NoSection, doing_at}
+use Rattle.fifo_buffer.specs.Paces.{BufferEvent, BufferOutcome, NoSection, doing_at}
 use Rattle.fifo_buffer.proofs.Parts.{effects_append, effects_others, effects_over, part_on}
 
 -- its event, where it has one, is no section of a buffer

@@ -49,7 +49,7 @@ use Rattle.layer_traits.specs.SleepLaw.{Deed, Does, Sends, Sleeping, Waits as Wa
 use Rattle.layer_traits.proofs.PlaceLemmas.{woken_current}
 use Rattle.thread_blocks.specs.Queues.{same_tid}
 use Rattle.fifo_buffer.specs.Stances.{InCall, IsMark, TalkFits, asks_at, heard_by, slept_by, talk_in, waits_at, waits_by}
-use Rattle.fifo_buffer.specs.Turns.{After, BufferEvent, BufferOutcome, Goes, Kept, MayTurn, Midway, Turned, heard_if, is_plain}
+use Rattle.fifo_buffer.specs.Paces.{After, BufferEvent, BufferOutcome, Goes, Kept, MayPace, Midway, Paced, heard_if, is_plain}
 use Rattle.fifo_buffer.proofs.Apart.{fits_apart}
 use Rattle.fifo_buffer.proofs.Callers.{Caller}
 use Rattle.fifo_buffer.proofs.Events.{caller_is, due_now, keeps_fits, owner_due}
@@ -114,14 +114,14 @@ module _ (opening : LockId → Option (QueueBlock BufferLock)) (c : CpuId) (t : 
       none is = absurd cc
   may_for own (Some s) None None slept_is waits_is goes = goes.is
 
-  pub may_turn : (own : Waiting BufferOut) (under_way : Option (SchedCall (CvCall BufferEdit)))
-      → MayTurn (inner opening) (buffer_sections past) t call talk own under_way
+  pub may_pace : (own : Waiting BufferOut) (under_way : Option (SchedCall (CvCall BufferEdit)))
+      → MayPace (inner opening) (buffer_sections past) t call talk own under_way
       → (u : Tid) → u ≡ t
       → MayWait (slept_for own.waits u) under_way (buffer_of call) (section_at t call talk.stage) u
       (MayGo (slept_for own.lock.slept u) under_way (buffer_of call) (section_at t call talk.stage) u
       (MayLock (cv_rules buffer_deeds) (lock_kernel (cv_rules buffer_deeds) opening) c past own.lock.sleep.threads.hand (buffer_of call)
       (section_at t call talk.stage)))
-  may_turn own under_way may u same = rw same (may_for own under_way (slept_for own.lock.slept t) (slept_for own.waits t) refl refl may.goes)
+  may_pace own under_way may u same = rw same (may_for own under_way (slept_for own.lock.slept t) (slept_for own.waits t) refl refl may.goes)
 
 -- the marks after an answer
 abbrev slept_list : Tid → BufId → List (Option BufId) → QOut (CvOut BufferOut) → List (Option BufId)
@@ -345,9 +345,9 @@ module _ (caller : Caller) (stage : Stage) (position : ℕ) (effect : Option Eff
   abbrev e : CvCall BufferEdit
   e = section_at t call stage
 
-  -- a turn that left this
-  abbrev TurnedTo : List BufferEvent → Waiting BufferOut → Option (SchedCall (CvCall BufferEdit)) → Bool → Talk → Type 0
-  TurnedTo new left under_way done later = Turned (homes_in opening) ActsFor O c t call talk old new own left under_way done later
+  -- a pace that left this
+  abbrev PacedTo : List BufferEvent → Waiting BufferOut → Option (SchedCall (CvCall BufferEdit)) → Bool → Talk → Type 0
+  PacedTo new left under_way done later = Paced (homes_in opening) ActsFor O c t call talk old new own left under_way done later
 
   apart_old : IsLawful (QueueAllowed (lock_kernel (cv_rules buffer_deeds) opening)) (others ++ old)
       → (u : Tid) → home_of (homes_in opening) u ≡ Some c → (of : Option Call) (slept waits : Option BufId) (its : Talk)
@@ -403,9 +403,9 @@ module _ (caller : Caller) (stage : Stage) (position : ℕ) (effect : Option Eff
         subst (λ o. Midway O (buffer_sections (others ++ old)) t call talk o own.lock.sleep.threads.hand) (sym now.1) (kept_later lawful now.0 now.2)
 
     -- nothing of this CPU came
-    still_turn : IsLawful (QueueAllowed (lock_kernel (cv_rules buffer_deeds) opening)) (others ++ old) → Fresh ⊎ Keeping
-        → TurnedTo (others ++ old) own (Some (sched.OnBuffer (buffer_of call) e)) false talk
-    still_turn lawful now = record {
+    still_pace : IsLawful (QueueAllowed (lock_kernel (cv_rules buffer_deeds) opening)) (others ++ old) → Fresh ⊎ Keeping
+        → PacedTo (others ++ old) own (Some (sched.OnBuffer (buffer_of call) e)) false talk
+    still_pace lawful now = record {
       others = others;
       mine = [];
       foreign = foreign;
@@ -432,11 +432,11 @@ module _ (caller : Caller) (stage : Stage) (position : ℕ) (effect : Option Eff
     }
 
     -- the thread that the section woke was sent home
-    sends_turn : (q : CpuId) (u : Tid) → IsLawful (QueueAllowed (lock_kernel (cv_rules buffer_deeds) opening)) (others ++ old) → (now : Keeping)
-        → TurnedTo (event c (queue.Push q u) ∷ (others ++ old))
+    sends_pace : (q : CpuId) (u : Tid) → IsLawful (QueueAllowed (lock_kernel (cv_rules buffer_deeds) opening)) (others ++ old) → (now : Keeping)
+        → PacedTo (event c (queue.Push q u) ∷ (others ++ old))
         (record { lock = record { sleep = record { threads = passed_on own.lock.sleep.threads; kept = None }; slept = own.lock.slept }; waits = own.waits })
         None true (heard talk stage now.0.out)
-    sends_turn q u lawful now =
+    sends_pace q u lawful now =
         let kept = kept_later lawful now.0 now.2 in
         let later = heard talk stage now.0.out in
         record {
@@ -501,7 +501,7 @@ module _ (caller : Caller) (stage : Stage) (position : ℕ) (effect : Option Eff
           → (done.mine ≡ None → later.effect ≡ talk.effect)
           → After O (buffer_sections (event c (queue.OnBuffer (buffer_of call) e) ∷ (others ++ old))) t call talk left under_way ends later
           → (waits_at stage ≡ true → ends ≡ is_some (slept_for own.waits t))
-          → TurnedTo (event c (queue.OnBuffer (buffer_of call) e) ∷ (others ++ old)) left under_way ends later
+          → PacedTo (event c (queue.OnBuffer (buffer_of call) e) ∷ (others ++ old)) left under_way ends later
       to_done left under_way ends later same marks sizes fresh stays after over = record {
         others = others;
         mine = event c (queue.OnBuffer (buffer_of call) e) ∷ [];
@@ -525,11 +525,11 @@ module _ (caller : Caller) (stage : Stage) (position : ℕ) (effect : Option Eff
       }
 
       -- it woke a thread of another CPU, and its caller goes on
-      kept_turn : must_send outcome threads ≡ true
-          → TurnedTo (event c (queue.OnBuffer (buffer_of call) e) ∷ (others ++ old))
+      kept_pace : must_send outcome threads ≡ true
+          → PacedTo (event c (queue.OnBuffer (buffer_of call) e) ∷ (others ++ old))
           (record { lock = record { sleep = record { threads = threads; kept = Some outcome }; slept = own.lock.slept }; waits = own.waits })
           (Some (sched.OnBuffer (buffer_of call) e)) false talk
-      kept_turn sends =
+      kept_pace sends =
           to_done (record { lock = record { sleep = record { threads = threads; kept = Some outcome }; slept = own.lock.slept }; waits = own.waits })
           (Some (sched.OnBuffer (buffer_of call) e)) false talk refl (λ u other. (refl, refl)) (refl, refl)
           (λ f same. absurd (none_some (done.fresh f same).0
@@ -591,7 +591,7 @@ module _ (caller : Caller) (stage : Stage) (position : ℕ) (effect : Option Eff
       }
 
       plain_or_sleeps : must_send outcome threads ≡ false
-          → TurnedTo (event c (queue.OnBuffer (buffer_of call) e) ∷ (others ++ old))
+          → PacedTo (event c (queue.OnBuffer (buffer_of call) e) ∷ (others ++ old))
           left_now None (is_some (if is_plain outcome.out then Some outcome else None))
           (heard_if talk stage (if is_plain outcome.out then Some outcome else None))
       plain_or_sleeps stays_here = go (is_plain outcome.out) refl
@@ -613,7 +613,7 @@ module _ (caller : Caller) (stage : Stage) (position : ℕ) (effect : Option Eff
           fits_now = rw (slept_now, waits_now) done.fits
 
           go : (b : Bool) → is_plain outcome.out ≡ b
-              → TurnedTo (event c (queue.OnBuffer (buffer_of call) e) ∷ (others ++ old))
+              → PacedTo (event c (queue.OnBuffer (buffer_of call) e) ∷ (others ++ old))
               left_now None (is_some (if b then Some outcome else None)) (heard_if talk stage (if b then Some outcome else None))
           go true plain =
               to_done left_now None true (heard talk stage outcome.out) refl marks (marks_sizes t (buffer_of call) own.lock.slept own.waits outcome.out)
@@ -667,16 +667,16 @@ module _ (caller : Caller) (stage : Stage) (position : ℕ) (effect : Option Eff
               none_some : {f : Effect} → effect ≡ None → effect ≡ Some f → ⊥
               none_some is_none is = absurd (cc (is_none, is))
 
-    -- a turn that left what a poll got
-    abbrev TurnedBy : List BufferEvent → Left (Waiting BufferOut) BufferOutcome → Option (SchedCall (CvCall BufferEdit)) → Type 0
-    TurnedBy new got under_way = TurnedTo new got.own under_way (is_some got.answer) (heard_if talk stage got.answer)
+    -- a pace that left what a poll got
+    abbrev PacedBy : List BufferEvent → Left (Waiting BufferOut) BufferOutcome → Option (SchedCall (CvCall BufferEdit)) → Type 0
+    PacedBy new got under_way = PacedTo new got.own under_way (is_some got.answer) (heard_if talk stage got.answer)
 
     abbrev under_left : Left (Sleeping (QOut (CvOut BufferOut))) BufferOutcome → Option (SchedCall (CvCall BufferEdit))
     under_left l = if is_some l.answer then None else Some (sched.OnBuffer (buffer_of call) e)
 
     abbrev DoneAs : BufferOutcome → Type 0
     DoneAs result =
-        TurnedBy (event c (queue.OnBuffer (buffer_of call) e) ∷ (others ++ old))
+        PacedBy (event c (queue.OnBuffer (buffer_of call) e) ∷ (others ++ old))
         (both t (buffer_of call) own.waits own.lock.slept
         (left_with (lock_kernel (cv_rules buffer_deeds) opening) c (buffer_of call) e (Does result) own.lock.sleep))
         (under_left (left_with (lock_kernel (cv_rules buffer_deeds) opening) c (buffer_of call) e (Does result) own.lock.sleep))
@@ -689,15 +689,15 @@ module _ (caller : Caller) (stage : Stage) (position : ℕ) (effect : Option Eff
       abbrev stayed : Left (Sleeping (QOut (CvOut BufferOut))) BufferOutcome
       stayed = record { own = record { threads = threads lawful now lock at; kept = None }; answer = Some (lock_answer (cv_rules buffer_deeds) e lock) }
 
-      done_turn : DoneAs (lock_answer (cv_rules buffer_deeds) e lock)
-      done_turn = go (must_send (lock_answer (cv_rules buffer_deeds) e lock) (threads lawful now lock at)) refl
+      done_pace : DoneAs (lock_answer (cv_rules buffer_deeds) e lock)
+      done_pace = go (must_send (lock_answer (cv_rules buffer_deeds) e lock) (threads lawful now lock at)) refl
         where
           go : (v : Bool) → must_send (lock_answer (cv_rules buffer_deeds) e lock) (threads lawful now lock at) ≡ v
-              → TurnedBy (event c (queue.OnBuffer (buffer_of call) e) ∷ (others ++ old))
+              → PacedBy (event c (queue.OnBuffer (buffer_of call) e) ∷ (others ++ old))
               (both t (buffer_of call) own.waits own.lock.slept (if v then sent else stayed)) (under_left (if v then sent else stayed))
-          go true sends = kept_turn lawful now lock at sends
+          go true sends = kept_pace lawful now lock at sends
           go false stays_here =
-              subst (λ got. TurnedBy (event c (queue.OnBuffer (buffer_of call) e) ∷ (others ++ old)) got None)
+              subst (λ got. PacedBy (event c (queue.OnBuffer (buffer_of call) e) ∷ (others ++ old)) got None)
               (sym (both_left t (buffer_of call) own.waits own.lock.slept stayed.own (lock_out (cv_rules buffer_deeds) e lock)
               (lock_answer (cv_rules buffer_deeds) e lock) refl))
               (plain_or_sleeps lawful now lock at stays_here)
@@ -712,58 +712,58 @@ module _ (caller : Caller) (stage : Stage) (position : ℕ) (effect : Option Eff
         there None at is = absurd cc
         there (Some lock) at is =
             let same : lock_answer (cv_rules buffer_deeds) e lock ≡ outcome = cc in
-            subst DoneAs same (done_turn lawful now lock at)
+            subst DoneAs same (done_pace lawful now lock at)
 
     sends_base : (q : CpuId) (u : Tid) → IsLawful (QueueAllowed (lock_kernel (cv_rules buffer_deeds) opening)) (others ++ old) → Keeping
-        → TurnedBy (event c (queue.Push q u) ∷ (others ++ old))
+        → PacedBy (event c (queue.Push q u) ∷ (others ++ old))
         (both t (buffer_of call) own.waits own.lock.slept
         (record { own = record { threads = passed_on own.lock.sleep.threads; kept = None }; answer = own.lock.sleep.kept }))
         (if is_some own.lock.sleep.kept then None else Some (sched.OnBuffer (buffer_of call) e))
     sends_base q u lawful now =
-        subst (λ o. TurnedBy (event c (queue.Push q u) ∷ (others ++ old)) (both t (buffer_of call) own.waits own.lock.slept
+        subst (λ o. PacedBy (event c (queue.Push q u) ∷ (others ++ old)) (both t (buffer_of call) own.waits own.lock.slept
         (record { own = record { threads = passed_on own.lock.sleep.threads; kept = None }; answer = o }))
         (if is_some o then None else Some (sched.OnBuffer (buffer_of call) e))) (sym now.1)
-        (subst (λ got. TurnedBy (event c (queue.Push q u) ∷ (others ++ old)) got None)
+        (subst (λ got. PacedBy (event c (queue.Push q u) ∷ (others ++ old)) got None)
         (sym (both_left t (buffer_of call) own.waits own.lock.slept (record { threads = passed_on own.lock.sleep.threads; kept = None }) now.0.out now.0 refl))
         (rw (
           now.2.plain,
           (plain_lists t (buffer_of call) own.lock.slept own.waits now.0.out now.2.plain).0,
           (plain_lists t (buffer_of call) own.lock.slept own.waits now.0.out now.2.plain).1,
-        ) (sends_turn q u lawful now)))
+        ) (sends_pace q u lawful now)))
 
     -- the poll of a thread that neither sleeps for the lock nor waits
-    deed_turn : (new : List BufferEvent) (deed : Deed (QOut (CvOut BufferOut))) → IsLawful (QueueAllowed (lock_kernel (cv_rules buffer_deeds) opening)) new
+    deed_pace : (new : List BufferEvent) (deed : Deed (QOut (CvOut BufferOut))) → IsLawful (QueueAllowed (lock_kernel (cv_rules buffer_deeds) opening)) new
         → new ≡ seen_with (lock_kernel (cv_rules buffer_deeds) opening) c (buffer_of call) e deed (others ++ old)
         → MayDo (lock_kernel (cv_rules buffer_deeds) opening) c (buffer_of call) e deed (others ++ old) own.lock.sleep → Fresh ⊎ Keeping
-        → TurnedBy new (both t (buffer_of call) own.waits own.lock.slept
+        → PacedBy new (both t (buffer_of call) own.waits own.lock.slept
         (left_with (lock_kernel (cv_rules buffer_deeds) opening) c (buffer_of call) e deed own.lock.sleep))
         (under_left (left_with (lock_kernel (cv_rules buffer_deeds) opening) c (buffer_of call) e deed own.lock.sleep))
-    deed_turn new WaitsStill lawful is may now =
-        subst (λ log. TurnedBy log (record { own = own; answer = None }) (Some (sched.OnBuffer (buffer_of call) e))) (sym is)
-        (still_turn (subst (IsLawful (QueueAllowed (lock_kernel (cv_rules buffer_deeds) opening))) is lawful) now)
-    deed_turn new (Does outcome) lawful is may (inl now) =
-        subst (λ log. TurnedBy log
+    deed_pace new WaitsStill lawful is may now =
+        subst (λ log. PacedBy log (record { own = own; answer = None }) (Some (sched.OnBuffer (buffer_of call) e))) (sym is)
+        (still_pace (subst (IsLawful (QueueAllowed (lock_kernel (cv_rules buffer_deeds) opening))) is lawful) now)
+    deed_pace new (Does outcome) lawful is may (inl now) =
+        subst (λ log. PacedBy log
         (both t (buffer_of call) own.waits own.lock.slept
         (left_with (lock_kernel (cv_rules buffer_deeds) opening) c (buffer_of call) e (Does outcome) own.lock.sleep))
         (under_left (left_with (lock_kernel (cv_rules buffer_deeds) opening) c (buffer_of call) e (Does outcome) own.lock.sleep))) (sym is)
         (does_base outcome (subst (IsLawful (QueueAllowed (lock_kernel (cv_rules buffer_deeds) opening))) is lawful) now may.1)
-    deed_turn new (Does outcome) lawful is may (inr now) = absurd (none (sym may.0 ∙ now.1))
+    deed_pace new (Does outcome) lawful is may (inr now) = absurd (none (sym may.0 ∙ now.1))
       where
         none : {o : BufferOutcome} → None ≡ Some o → ⊥
         none same = absurd cc
-    deed_turn new (Sends u) lawful is may (inl now) = absurd (none own.lock.sleep.kept now.0 may.0)
+    deed_pace new (Sends u) lawful is may (inl now) = absurd (none own.lock.sleep.kept now.0 may.0)
       where
         none : (o : Option BufferOutcome) → o ≡ None → IsSome o → ⊥
         none o is some = let out : is_some o ≡ false = ap is_some is in absurd (cc (out, some))
-    deed_turn new (Sends u) lawful is may (inr now) =
-        subst (λ log. TurnedBy log
+    deed_pace new (Sends u) lawful is may (inr now) =
+        subst (λ log. PacedBy log
         (both t (buffer_of call) own.waits own.lock.slept
         (record { own = record { threads = passed_on own.lock.sleep.threads; kept = None }; answer = own.lock.sleep.kept }))
         (if is_some own.lock.sleep.kept then None else Some (sched.OnBuffer (buffer_of call) e))) (sym is)
         (sends_base (queue_for (homes_in opening) c u) u (subst (IsLawful (QueueAllowed (lock_kernel (cv_rules buffer_deeds) opening))) is lawful).1 now)
 
     -- the poll of the lock, and of the conditions
-    pub locks_turn : (new : List BufferEvent) (deed : Deed (QOut (CvOut BufferOut))) → IsLawful (QueueAllowed (lock_kernel (cv_rules buffer_deeds) opening)) new
+    pub locks_pace : (new : List BufferEvent) (deed : Deed (QOut (CvOut BufferOut))) → IsLawful (QueueAllowed (lock_kernel (cv_rules buffer_deeds) opening)) new
         → new ≡ seen_with (lock_kernel (cv_rules buffer_deeds) opening) c (buffer_of call) e deed (others ++ old)
         → MayDo (lock_kernel (cv_rules buffer_deeds) opening) c (buffer_of call) e deed (others ++ old) own.lock.sleep
         → (before : Option (SchedCall (CvCall BufferEdit))) → Goes O (buffer_sections old) t call talk own before
@@ -774,12 +774,12 @@ module _ (caller : Caller) (stage : Stage) (position : ℕ) (effect : Option Eff
         → under_way ≡ (if is_some s.answer then None else Some (sched.OnBuffer (buffer_of call) e))
         → l ≡ left_after u (buffer_of call) own.lock.slept s.own s.answer
         → got ≡ left_waiting u (buffer_of call) own.waits l.own l.answer
-        → TurnedBy new got under_way
-    locks_turn new deed lawful is may before goes under_way s l got u is_caller s_is ends l_is got_is =
-        let base = deed_turn new deed lawful is may (view before goes) in
+        → PacedBy new got under_way
+    locks_pace new deed lawful is may before goes under_way s l got u is_caller s_is ends l_is got_is =
+        let base = deed_pace new deed lawful is may (view before goes) in
         let got_both : got ≡ both t (buffer_of call) own.waits own.lock.slept s
         = got_is ∙ ap (λ (x : Left (Locking (CvOut BufferOut)) BufferOutcome). left_waiting u (buffer_of call) own.waits x.own x.answer) l_is
         ∙ ap (λ v. both v (buffer_of call) own.waits own.lock.slept s) is_caller in
-        subst (λ g. TurnedBy new g under_way) (sym got_both)
-        (subst (λ w. TurnedBy new (both t (buffer_of call) own.waits own.lock.slept s) w) (sym ends)
-        (subst (λ x. TurnedBy new (both t (buffer_of call) own.waits own.lock.slept x) (under_left x)) (sym s_is) base))
+        subst (λ g. PacedBy new g under_way) (sym got_both)
+        (subst (λ w. PacedBy new (both t (buffer_of call) own.waits own.lock.slept s) w) (sym ends)
+        (subst (λ x. PacedBy new (both t (buffer_of call) own.waits own.lock.slept x) (under_left x)) (sym s_is) base))

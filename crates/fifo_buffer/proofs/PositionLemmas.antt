@@ -20,8 +20,8 @@ use Rattle.layer_traits.specs.declared.locked.Side.TheVariants.{Receivers, Sende
 use Rattle.layer_traits.specs.declared.queue_edits.QueueBlock.{QueueBlock}
 use Rattle.layer_traits.specs.declared.queues.QueueCall.{QueueCall}
 use Rattle.layer_traits.specs.declared.queues.QueueCall.TheVariants.{Push, TakeAll, OnBuffer}
-use Rattle.layer_traits.specs.BufferBlocks.{BufferState, counted, entered, is_turn, line_of, may_join, places_of, put_in, shut, taken_out}
-use Rattle.layer_traits.specs.BufferEffects.{fresh_lock, places_in}
+use Rattle.layer_traits.specs.BufferBlocks.{BufferState, counted, entered, is_next, line_of, may_join, drawn_of, put_in, shut, taken_out}
+use Rattle.layer_traits.specs.BufferEffects.{fresh_lock, drawn_in}
 use Rattle.layer_traits.specs.BufferProtocol.{BufferLock, BufferSection, IsDue, buffer_at, buffer_deeds, buffer_rules, is_in_line}
 use Rattle.layer_traits.specs.Conditions.{CvCall, cv_rules}
 use Rattle.layer_traits.specs.LockLaw.{lock_kernel}
@@ -35,36 +35,36 @@ use Rattle.fifo_buffer.specs.FifoFits.{BootsSo, caps_in}
 use Rattle.fifo_buffer.specs.OwnedLaws.{found}
 use Rattle.fifo_buffer.specs.Positions.{PositionsAreCounts, enters, entries_of}
 use Rattle.fifo_buffer.specs.Stances.{same_side}
-use Rattle.fifo_buffer.specs.Turns.{BufferEvent}
+use Rattle.fifo_buffer.specs.Paces.{BufferEvent}
 
 -- one more thread entered, or none
 abbrev more : Bool → ℕ → ℕ
 more v n = if v then counted n else n
 
 -- a section counts a thread that enters, which may join: it is one of the machine's and stands in neither line
-asked_same : (side : Side) (t : Tid) (owner : Option Tid) (lock : BufferLock) → places_of side (asked t owner lock).above ≡ places_of side lock.above
+asked_same : (side : Side) (t : Tid) (owner : Option Tid) (lock : BufferLock) → drawn_of side (asked t owner lock).above ≡ drawn_of side lock.above
 asked_same side t None lock = refl
 asked_same side t (Some o) lock = refl
 
-entered_counts : (side at : Side) (t : Tid) (x : BufferState) → places_of side (entered at t x) ≡ more (same_side side at) (places_of side x)
+entered_counts : (side at : Side) (t : Tid) (x : BufferState) → drawn_of side (entered at t x) ≡ more (same_side side at) (drawn_of side x)
 entered_counts Receivers Receivers t x = refl
 entered_counts Receivers Senders t x = refl
 entered_counts Senders Receivers t x = refl
 entered_counts Senders Senders t x = refl
 
-put_same : (side : Side) (m : Message) (x : BufferState) (v : Bool) → places_of side (if v then put_in m x else x) ≡ places_of side x
+put_same : (side : Side) (m : Message) (x : BufferState) (v : Bool) → drawn_of side (if v then put_in m x else x) ≡ drawn_of side x
 put_same Receivers m x true = refl
 put_same Receivers m x false = refl
 put_same Senders m x true = refl
 put_same Senders m x false = refl
 
-taken_same : (side : Side) (x : BufferState) (v : Bool) → places_of side (if v then taken_out x else x) ≡ places_of side x
+taken_same : (side : Side) (x : BufferState) (v : Bool) → drawn_of side (if v then taken_out x else x) ≡ drawn_of side x
 taken_same Receivers x true = refl
 taken_same Receivers x false = refl
 taken_same Senders x true = refl
 taken_same Senders x false = refl
 
-shut_same : (side : Side) (x : BufferState) → places_of side (shut x) ≡ places_of side x
+shut_same : (side : Side) (x : BufferState) → drawn_of side (shut x) ≡ drawn_of side x
 shut_same Receivers x = refl
 shut_same Senders x = refl
 
@@ -73,17 +73,17 @@ joins_now t queue small out = ap (λ v. v && not (is_in t queue)) (lt-ltb t.0 TH
 
 section_counts : (side : Side) (O : LockId → Option BufferLock) (past : List BufferSection) (d : BufId) (call : CvCall BufferEdit) (lock : BufferLock)
     → buffer_at O past (Buffer d) ≡ Some lock → IsDue O past (Buffer d) call → (lock_caller buffer_rules call).0 < THREADS
-    → places_of side (lock_edited buffer_rules call lock).above ≡ more (enters side call) (places_of side lock.above)
+    → drawn_of side (lock_edited buffer_rules call lock).above ≡ more (enters side call) (drawn_of side lock.above)
 section_counts side O past d (Acquire t) lock at due small = asked_same side t lock.owner lock
 section_counts side O past d (Inside (Edit (Enter t to))) lock at due small =
-    ap (λ v. places_of side (if v then entered to t lock.above else lock.above)) (joins_now t (line_of to lock.above) small (out to))
+    ap (λ v. drawn_of side (if v then entered to t lock.above else lock.above)) (joins_now t (line_of to lock.above) small (out to))
     ∙ entered_counts side to t lock.above
   where
     out : (to : Side) → is_in t (line_of to lock.above) ≡ false
     out Receivers = sym (ap (is_in_line Receivers t) at) ∙ due.1
     out Senders = sym (ap (is_in_line Senders t) at) ∙ due.0
-section_counts side O past d (Inside (Edit (TryPut t m))) lock at due small = put_same side m lock.above (is_turn Senders t lock.above)
-section_counts side O past d (Inside (Edit (TryTake t))) lock at due small = taken_same side lock.above (is_turn Receivers t lock.above)
+section_counts side O past d (Inside (Edit (TryPut t m))) lock at due small = put_same side m lock.above (is_next Senders t lock.above)
+section_counts side O past d (Inside (Edit (TryTake t))) lock at due small = taken_same side lock.above (is_next Receivers t lock.above)
 section_counts side O past d (Inside (Edit (Shut t))) lock at due small = shut_same side lock.above
 section_counts side O past d (Inside (SignalFront t to)) lock at due small = refl
 section_counts side O past d (Release leave) lock at due small = refl
@@ -95,15 +95,15 @@ counts_more false a n is = is
 module _ (opening : LockId → Option (QueueBlock BufferLock)) (starts : StartsWell opening) (boots : BootsSo opening) (b : BufId) (side : Side)
     (within : b.0 < length (caps_in opening)) where
   abbrev Counted : List BufferSection → Type 0
-  Counted past = places_in side (buffer_at (inner opening) past (Buffer b)) ≡ entries_of side (Buffer b) past % 2 ^ 64
+  Counted past = drawn_in side (buffer_at (inner opening) past (Buffer b)) ≡ entries_of side (Buffer b) past % 2 ^ 64
 
   -- at the start nobody entered
   none_yet : Counted []
   none_yet =
-      ap (places_in side) (ap (λ locks. locks (Buffer b)) boots
+      ap (drawn_in side) (ap (λ locks. locks (Buffer b)) boots
       ∙ ap (option_map fresh_lock) (slice_get-get_or (caps_in opening) b.0 0 within)) ∙ none side
     where
-      none : (s : Side) → places_in s (Some (fresh_lock (get_or (caps_in opening) b.0 0))) ≡ 0
+      none : (s : Side) → drawn_in s (Some (fresh_lock (get_or (caps_in opening) b.0 0))) ≡ 0
       none Receivers = refl
       none Senders = refl
 
@@ -113,9 +113,9 @@ module _ (opening : LockId → Option (QueueBlock BufferLock)) (starts : StartsW
       let room : length (homes_in opening) ≤ THREADS = starts.room in
       omega (arith, below, room)
 
-  abbrev places_if : List BufferSection → CvCall BufferEdit → Bool → ℕ
-  places_if past call v =
-      places_in side (if v then option_map (lock_edited buffer_rules call) (buffer_at (inner opening) past (Buffer b))
+  abbrev drawn_if : List BufferSection → CvCall BufferEdit → Bool → ℕ
+  drawn_if past call v =
+      drawn_in side (if v then option_map (lock_edited buffer_rules call) (buffer_at (inner opening) past (Buffer b))
       else buffer_at (inner opening) past (Buffer b))
 
   abbrev count_if : List BufferSection → CvCall BufferEdit → Bool → ℕ
@@ -131,13 +131,13 @@ module _ (opening : LockId → Option (QueueBlock BufferLock)) (starts : StartsW
           let lock = found opening boots b within past in
           let here : buffer_at (inner opening) (buffer_sections past) (Buffer d) ≡ Some lock.0
           = ap (buffer_at (inner opening) (buffer_sections past)) (sym (same_lock_true (Buffer b) (Buffer d) is)) ∙ lock.1 in
-          let counts : places_of side lock.0.above ≡ entries_of side (Buffer b) (buffer_sections past) % 2 ^ 64 = sym (ap (places_in side) lock.1) ∙ before in
-          ap (places_if (buffer_sections past) call) is
-          ∙ ap (λ (x : Option BufferLock). places_in side (option_map (lock_edited buffer_rules call) x)) lock.1
+          let counts : drawn_of side lock.0.above ≡ entries_of side (Buffer b) (buffer_sections past) % 2 ^ 64 = sym (ap (drawn_in side) lock.1) ∙ before in
+          ap (drawn_if (buffer_sections past) call) is
+          ∙ ap (λ (x : Option BufferLock). drawn_in side (option_map (lock_edited buffer_rules call) x)) lock.1
           ∙ section_counts side (inner opening) (buffer_sections past) d call lock.0 here due small
-          ∙ counts_more (enters side call) (places_of side lock.0.above) (entries_of side (Buffer b) (buffer_sections past)) counts
+          ∙ counts_more (enters side call) (drawn_of side lock.0.above) (entries_of side (Buffer b) (buffer_sections past)) counts
           ∙ ap (count_if (buffer_sections past) call) (sym is)
-      go false is = ap (places_if (buffer_sections past) call) is ∙ before ∙ ap (count_if (buffer_sections past) call) (sym is)
+      go false is = ap (drawn_if (buffer_sections past) call) is ∙ before ∙ ap (count_if (buffer_sections past) call) (sym is)
 
   counted_all : (past : List BufferEvent) → IsLawful (QueueAllowed (lock_kernel (cv_rules buffer_deeds) opening)) past → Counted (buffer_sections past)
   counted_all [] lawful = none_yet

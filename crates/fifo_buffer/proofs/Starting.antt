@@ -25,7 +25,7 @@ use Rattle.layer_traits.specs.QueueBlocks.{inner}
 use Rattle.layer_traits.specs.Queues.{buffer_sections, moves_in}
 use Rattle.fifo_buffer.specs.FifoFits.{BootsSo, PartFits, caps_in}
 use Rattle.fifo_buffer.specs.Stances.{IsFreeOf, TalkFits, line_at}
-use Rattle.fifo_buffer.specs.Turns.{BufferEvent, FitsAt}
+use Rattle.fifo_buffer.specs.Paces.{BufferEvent, FitsAt}
 
 -- what a list of equal items holds anywhere
 pub same_default : {A : Type 0} (n i : ℕ) (a : A) → slice_index_or (replicate n a) i a ≡ a
@@ -79,7 +79,7 @@ quiet_fits opening boots t slept waits talk slept_none waits_none is =
       stance = record {
         grip = λ lock. subst (λ locks. IsFreeOf t (locks lock)) (sym boots) (free_at t (caps_in opening) lock);
         line = λ lock at. ap (λ locks. count_in t (line_at at (locks lock))) boots ∙ line_none t at (caps_in opening) lock;
-        place = λ w. absurd cc;
+        drawn_is = λ w. absurd cc;
       };
       slept_none = slept_none;
       waits_none = waits_none;

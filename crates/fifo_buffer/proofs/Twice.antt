@@ -1,4 +1,4 @@
--- Two turns in one poll; which thread runs after a poll, and what its CPU is at.
+-- Two paces in one poll; which thread runs after a poll, and what its CPU is at.
 use Rattle.std.proofs.Common.{◌≡◌, ◌≢◌, ◌⊎◌, inl, inr, Bool, true, false, List, length, Option, Some, None, IsSome}
 use Rattle.std.proofs.Common.{is_some, slice_set, if◌then◌else◌, refl, ap, sym, ◌∙◌, subst}
 use Rattle.std.proofs.lemmas.Bool.{eqb-false}
@@ -24,8 +24,8 @@ use Rattle.layer_traits.specs.LockLaw.{is_handed, slept_for}
 use Rattle.layer_traits.specs.Queues.{buffer_sections}
 use Rattle.thread_blocks.specs.Queues.{same_tid}
 use Rattle.fifo_buffer.specs.Stances.{IsMark, TalkFits, asks_at, waits_at}
-use Rattle.fifo_buffer.specs.Turns.{After, Ended, Goes, MayTurn, Sizes, Sleeps, Stays, calling_after, doing_at, is_at_once, reply_at}
-use Rattle.fifo_buffer.proofs.TurnTaken.{TurnTaken}
+use Rattle.fifo_buffer.specs.Paces.{After, Ended, Goes, MayPace, Sizes, Sleeps, Stays, calling_after, doing_at, is_at_once, reply_at}
+use Rattle.fifo_buffer.proofs.PaceTaken.{PaceTaken}
 use Rattle.fifo_buffer.proofs.First.{goes_called, going_same}
 
 pub at_once_why : (stage : Stage) (handed : Bool) → is_at_once stage handed ≡ true → (waits_at stage ≡ true) ⊎ (handed ≡ true)
@@ -72,16 +72,16 @@ other_talk talks now t u x is other = ap (λ l. talk_of l u) is ∙ get_or-set_o
 pub apart_talk : (talks now : List Talk) (t u : Tid) (x : Talk) → now ≡ slice_set talks t.0 x → u.0 ≢ t.0 → talk_of now u ≡ talk_of talks u
 apart_talk talks now t u x is other = ap (λ l. talk_of l u) is ∙ get_or-set_other talks t.0 u.0 x quiet other
 
-module _ (turn : TurnTaken) where
-  open turn use {O, t, call, talk, new, own, left, under_way, done, later, turned}
+module _ (pace : PaceTaken) where
+  open pace use {O, t, call, talk, new, own, left, under_way, done, later, paced}
 
   pub ended_of : done ≡ true → Ended O (buffer_sections new) t talk left under_way later
-  ended_of is = subst (λ d. After O (buffer_sections new) t call talk left under_way d later) is turned.after
+  ended_of is = subst (λ d. After O (buffer_sections new) t call talk left under_way d later) is paced.after
 
   pub sizes_of : (talks now : List Talk) → now ≡ slice_set talks t.0 later → Sizes own talks → Sizes left now
   sizes_of talks now is sizes = record {
-    slept = turned.sizes.0 ∙ sizes.slept;
-    waits = turned.sizes.1 ∙ sizes.waits;
+    slept = paced.sizes.0 ∙ sizes.slept;
+    waits = paced.sizes.1 ∙ sizes.waits;
     talks_are = ap (λ (l : List Talk). length l) is ∙ length-set talks t.0 later ∙ sizes.talks_are;
   }
 
@@ -92,7 +92,7 @@ module _ (turn : TurnTaken) where
     pub later_effect : later.effect ≡ talk.effect
     later_effect = let end = ended_of is_done in ap (λ (x : Talk). x.effect) end.heard_is.1 ∙ (same_call talk talk.stage handed end.heard_is.0 at_once).1
 
-    pub next_may : MayTurn O (buffer_sections new) t call later left under_way
+    pub next_may : MayPace O (buffer_sections new) t call later left under_way
     next_may =
         let end = ended_of is_done in
         record {
@@ -115,13 +115,13 @@ module _ (turn : TurnTaken) where
     why runs is_handed_so = go (at_once_why talk.stage handed at_once)
       where
         go : (waits_at talk.stage ≡ true) ⊎ (handed ≡ true) → (IsSome (slept_for own.waits t)) ⊎ (IsSome (slept_for own.lock.slept t))
-        go (inl waits) = inl (sym (turned.over waits) ∙ is_done)
+        go (inl waits) = inl (sym (paced.over waits) ∙ is_done)
         go (inr is) = inr (sym (ap (is_handed own.lock.slept) runs) ∙ sym is_handed_so ∙ is)
 
-  -- the reply is read off the talk that the turn left
+  -- the reply is read off the talk that the pace left
   pub told_as : (stage : Stage) → stage ≡ talk.stage → (answer : Option Reply) → answer ≡ (if done then reply_at call stage later.effect else None)
       → answer ≡ (if done then replied call talk talk.stage else None)
-  told_as stage is answer told = told ∙ go done turned.after
+  told_as stage is answer told = told ∙ go done paced.after
     where
       go : (d : Bool) → After O (buffer_sections new) t call talk left under_way d later
           → (if d then reply_at call stage later.effect else None) ≡ (if d then replied call talk talk.stage else None)
@@ -133,11 +133,11 @@ module _ (turn : TurnTaken) where
   -- which thread runs, and what the CPU is at
   pub runs_by : (answer : Option Reply) → answer ≡ (if done then replied call talk talk.stage else None)
       → RunsOn t own.lock.sleep.threads left.lock.sleep.threads answer
-  runs_by answer answers = go done answers turned.after
+  runs_by answer answers = go done answers paced.after
     where
       go : (d : Bool) → answer ≡ (if d then replied call talk talk.stage else None) → After O (buffer_sections new) t call talk left under_way d later
           → RunsOn t own.lock.sleep.threads left.lock.sleep.threads answer
-      go true is after = record { current = inl after.current; hand = λ a told. after.hand; ended = turned.ended }
+      go true is after = record { current = inl after.current; hand = λ a told. after.hand; ended = paced.ended }
       go false is after = by_case after.1
         where
           no_answer : (a : Reply) → answer ≡ Some a → ⊥
@@ -145,12 +145,12 @@ module _ (turn : TurnTaken) where
 
           by_case : Sleeps O (buffer_sections new) t call talk left under_way ⊎ Stays O (buffer_sections new) t call talk left under_way
               → RunsOn t own.lock.sleep.threads left.lock.sleep.threads answer
-          by_case (inl sleeps) = record { current = inr (sleeps.current, is); hand = λ a told. absurd (no_answer a told); ended = turned.ended }
-          by_case (inr stays) = record { current = inl stays.current; hand = λ a told. absurd (no_answer a told); ended = turned.ended }
+          by_case (inl sleeps) = record { current = inr (sleeps.current, is); hand = λ a told. absurd (no_answer a told); ended = paced.ended }
+          by_case (inr stays) = record { current = inl stays.current; hand = λ a told. absurd (no_answer a told); ended = paced.ended }
 
   pub doing_by : (answer : Option Reply) → answer ≡ (if done then replied call talk talk.stage else None)
       → doing_at (calling_after t left.lock.sleep.threads.current answer) under_way ≡ still_calling t left.lock.sleep.threads.current answer
-  doing_by answer answers = go done answers turned.after
+  doing_by answer answers = go done answers paced.after
     where
       at_none : (current : Option Tid) (told : Option Reply) → doing_at (calling_after t current told) None ≡ still_calling t current told
       at_none None None = refl
@@ -220,15 +220,15 @@ waits_once Signals handed waits = absurd cc
 waits_once SignalsOwn handed waits = absurd cc
 waits_once Releases handed waits = absurd cc
 
--- where one turn was all, the thread neither slept for the lock nor waited
-pub exit_free : (turn : TurnTaken) (handed : Bool) → MarksOf turn.t turn.talk.stage turn.own
-    → ((turn.done ≡ true) × (is_at_once turn.talk.stage handed ≡ false)) ⊎ (turn.done ≡ false)
-    → turn.own.lock.sleep.threads.current ≡ Some turn.t → handed ≡ is_handed turn.own.lock.slept turn.own.lock.sleep.threads.current
-    → (slept_for turn.own.lock.slept turn.t ≡ None) × (slept_for turn.own.waits turn.t ≡ None)
-exit_free turn handed marks exits runs handed_is =
-    (go_slept (slept_for turn.own.lock.slept turn.t) refl, go_waits (slept_for turn.own.waits turn.t) refl)
+-- where one pace was all, the thread neither slept for the lock nor waited
+pub exit_free : (pace : PaceTaken) (handed : Bool) → MarksOf pace.t pace.talk.stage pace.own
+    → ((pace.done ≡ true) × (is_at_once pace.talk.stage handed ≡ false)) ⊎ (pace.done ≡ false)
+    → pace.own.lock.sleep.threads.current ≡ Some pace.t → handed ≡ is_handed pace.own.lock.slept pace.own.lock.sleep.threads.current
+    → (slept_for pace.own.lock.slept pace.t ≡ None) × (slept_for pace.own.waits pace.t ≡ None)
+exit_free pace handed marks exits runs handed_is =
+    (go_slept (slept_for pace.own.lock.slept pace.t) refl, go_waits (slept_for pace.own.waits pace.t) refl)
   where
-    open turn use {t, talk, own, done, turned}
+    open pace use {t, talk, own, done, paced}
 
     not_both : done ≡ true → is_at_once talk.stage handed ≡ true → ⊥
     not_both is once = by exits
@@ -242,16 +242,16 @@ exit_free turn handed marks exits runs handed_is =
     go_slept (Some at) is =
         let some : is_some (slept_for own.lock.slept t) ≡ true = ap is_some is in
         let handed_now : handed ≡ true = handed_is ∙ ap (is_handed own.lock.slept) runs ∙ some in
-        absurd (not_both (turned.handed some) (asks_once talk.stage handed (marks.0 some) handed_now))
+        absurd (not_both (paced.handed some) (asks_once talk.stage handed (marks.0 some) handed_now))
 
     go_waits : (x : Option BufId) → slept_for own.waits t ≡ x → x ≡ None
     go_waits None is = refl
     go_waits (Some at) is =
         let some : is_some (slept_for own.waits t) ≡ true = ap is_some is in
         let waits = marks.1 some in
-        absurd (not_both (turned.over waits ∙ some) (waits_once talk.stage handed waits))
+        absurd (not_both (paced.over waits ∙ some) (waits_once talk.stage handed waits))
 
--- where another turn follows an Acquire, the thread slept for the lock
+-- where another pace follows an Acquire, the thread slept for the lock
 pub why_slept : (t : Tid) (stage : Stage) (own : Waiting BufferOut) (handed : Bool) → is_at_once stage handed ≡ true → MarksOf t stage own
     → own.lock.sleep.threads.current ≡ Some t → handed ≡ is_handed own.lock.slept own.lock.sleep.threads.current → waits_at stage ≡ false
     → (slept_for own.waits t ≡ None) × (is_some (slept_for own.lock.slept t) ≡ true)

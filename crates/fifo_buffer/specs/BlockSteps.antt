@@ -10,8 +10,8 @@ use Rattle.event_log.specs.Messages.{Message}
 use Rattle.event_log.specs.Runs.{Receives, Sends, group_of}
 use Rattle.layer_traits.specs.declared.locked.Side.{Side}
 use Rattle.layer_traits.specs.declared.locked.Side.TheVariants.{Receivers, Senders}
-use Rattle.layer_traits.specs.BufferBlocks.{BufferState, counted, effect_kind, first_item, is_first, is_turn, items_put, line_of, may_go}
-use Rattle.layer_traits.specs.BufferBlocks.{other_items, places_of, put_in, taken_out}
+use Rattle.layer_traits.specs.BufferBlocks.{BufferState, counted, effect_kind, first_item, is_first, is_next, items_put, line_of, may_go}
+use Rattle.layer_traits.specs.BufferBlocks.{other_items, drawn_of, put_in, taken_out}
 use Rattle.layer_traits.proofs.ItemLemmas.{drop_one}
 use Rattle.thread_blocks.specs.Queues.{rest}
 use Rattle.fifo_buffer.specs.Stances.{same_side}
@@ -31,7 +31,7 @@ pub record Step (side : Side) (kind : Kind) (t : Tid) (value : Message) (x y : B
   pub items : y.items ≡ after_effect kind x.items value
   pub capacity : y.capacity ≡ x.capacity
   pub effects : y.effects ≡ counted x.effects
-  pub places : (at : Side) → places_of at y ≡ places_of at x
+  pub positions : (at : Side) → drawn_of at y ≡ drawn_of at x
   pub closed : y.closed ≡ x.closed
   pub closes : y.closes ≡ x.closes
 
@@ -61,10 +61,10 @@ put_items : (closed : Bool) (items : List Message) (m : Message)
 put_items true items m = refl
 put_items false items m = refl
 
--- a put at its turn is a step of the senders: where the buffer is closed nothing is put
-pub put_step : (t : Tid) (m : Message) (x : BufferState) → is_turn Senders t x ≡ true → Step Senders (effect_kind Senders x) t m x (put_in m x)
-put_step t m x turn =
-    let both = and_parts (is_first t x.send_line) (may_go Senders x) turn in
+-- a put at its pace is a step of the senders: where the buffer is closed nothing is put
+pub put_step : (t : Tid) (m : Message) (x : BufferState) → is_next Senders t x ≡ true → Step Senders (effect_kind Senders x) t m x (put_in m x)
+put_step t m x pace =
+    let both = and_parts (is_first t x.send_line) (may_go Senders x) pace in
     record {
       counts = kind_counts Senders x;
       leads = both.0;
@@ -74,7 +74,7 @@ put_step t m x turn =
       items = put_items x.closed x.items m;
       capacity = refl;
       effects = refl;
-      places = λ at. places at;
+      positions = λ at. positions at;
       closed = refl;
       closes = refl;
     }
@@ -83,9 +83,9 @@ put_step t m x turn =
     elsewhere Receivers other = refl
     elsewhere Senders other = absurd cc
 
-    places : (at : Side) → places_of at (put_in m x) ≡ places_of at x
-    places Receivers = refl
-    places Senders = refl
+    positions : (at : Side) → drawn_of at (put_in m x) ≡ drawn_of at x
+    positions Receivers = refl
+    positions Senders = refl
 
 take_allowed : (closed : Bool) (capacity : ℕ) (items : List Message) → (closed || nat_lt 0 (length items)) ≡ true
     → IsAllowedEffect (if nat_lt 0 (length items) then Recv else RecvClosed) closed capacity items (first_item items)
@@ -97,11 +97,11 @@ take_items : (items : List Message) → other_items items ≡ after_effect (if n
 take_items [] = refl
 take_items (m ∷ items) = rw (some_item m items) (sym (drop_one (m ∷ items)))
 
--- a take at its turn is a step of the receivers: where there is no item the buffer is closed, and nothing is taken
-pub take_step : (t : Tid) (x : BufferState) → is_turn Receivers t x ≡ true
+-- a take at its pace is a step of the receivers: where there is no item the buffer is closed, and nothing is taken
+pub take_step : (t : Tid) (x : BufferState) → is_next Receivers t x ≡ true
     → Step Receivers (effect_kind Receivers x) t (first_item x.items) x (taken_out x)
-take_step t x turn =
-    let both = and_parts (is_first t x.receive_line) (may_go Receivers x) turn in
+take_step t x pace =
+    let both = and_parts (is_first t x.receive_line) (may_go Receivers x) pace in
     record {
       counts = kind_counts Receivers x;
       leads = both.0;
@@ -111,7 +111,7 @@ take_step t x turn =
       items = take_items x.items;
       capacity = refl;
       effects = refl;
-      places = λ at. places at;
+      positions = λ at. positions at;
       closed = refl;
       closes = refl;
     }
@@ -120,6 +120,6 @@ take_step t x turn =
     elsewhere Receivers other = absurd cc
     elsewhere Senders other = refl
 
-    places : (at : Side) → places_of at (taken_out x) ≡ places_of at x
-    places Receivers = refl
-    places Senders = refl
+    positions : (at : Side) → drawn_of at (taken_out x) ≡ drawn_of at x
+    positions Receivers = refl
+    positions Senders = refl

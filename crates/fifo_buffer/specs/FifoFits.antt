@@ -15,7 +15,7 @@ use Rattle.layer_traits.specs.CvLaw.{Waiting}
 use Rattle.layer_traits.specs.QueueBlocks.{homes_in, inner}
 use Rattle.layer_traits.specs.Queues.{buffer_sections}
 use Rattle.layer_traits.specs.Capacities.{caps_from}
-use Rattle.fifo_buffer.specs.Turns.{BufferEvent, CallsFit, Sizes}
+use Rattle.fifo_buffer.specs.Paces.{BufferEvent, CallsFit, Sizes}
 
 -- the capacities of the buffers: a buffer's number is less than 256
 unfoldable pub caps_in : (LockId → Option (QueueBlock BufferLock)) → List ℕ

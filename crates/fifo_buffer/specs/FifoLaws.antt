@@ -23,13 +23,13 @@ use Rattle.layer_traits.specs.IpcLaw.{LinesAgree}
 use Rattle.layer_traits.specs.ListsAgree.{is_at}
 use Rattle.layer_traits.specs.LockLaw.{LocksAgree, lock_kernel}
 use Rattle.layer_traits.specs.Locking.{line_in, lock_after, lock_edited}
-use Rattle.layer_traits.specs.Places.{Asleep, At, count_in, one_if, place_of, where_is}
+use Rattle.layer_traits.specs.Places.{Asleep, At, count_in, one_if, berth_of, where_is}
 use Rattle.layer_traits.specs.QueueBlocks.{homes_in, inner}
 use Rattle.layer_traits.specs.Queues.{QueueAllowed, buffer_sections, moves_in}
-use Rattle.layer_traits.proofs.ListsLemmas.{place_here}
+use Rattle.layer_traits.proofs.ListsLemmas.{berth_here}
 use Rattle.fifo_buffer.specs.FifoFits.{BootsSo, PartFits, caps_in}
 use Rattle.fifo_buffer.specs.Tallies.{effects_lawful}
-use Rattle.fifo_buffer.specs.Turns.{BufferEvent, doing_at}
+use Rattle.fifo_buffer.specs.Paces.{BufferEvent, doing_at}
 
 -- each effect may come after those before it
 pub fifo_lawful : (opening : LockId → Option (QueueBlock BufferLock)) (past : List BufferEvent) → BootsSo opening
@@ -76,8 +76,8 @@ fifo_lines opening past boots agree = record {
         let gone : lock_after (cv_rules buffer_deeds) (inner opening) lock (buffer_sections past) ≡ None
         = was_there (inner opening) (buffer_sections past) lock (ap (λ locks. locks lock) boots ∙ none) in
         let count : 0 ≡ 1
-        = sym (ap (λ x. count_in t (line_in line x)) gone) ∙ agree lock line t ∙ ap (λ w. one_if (is_at lock line (place_of w))) is ∙ ap one_if
-        (place_here lock line) in
+        = sym (ap (λ x. count_in t (line_in line x)) gone) ∙ agree lock line t ∙ ap (λ w. one_if (is_at lock line (berth_of w))) is ∙ ap one_if
+        (berth_here lock line) in
         absurd (omega (arith, count))
 
 -- a CPU that is at nothing has no call under way beneath

@@ -35,8 +35,8 @@ use Rattle.layer_traits.specs.Told.{IsTold}
 use Rattle.layer_traits.proofs.ActedLemmas.{lock_is}
 use Rattle.layer_traits.proofs.OwnedLemmas.{shown_under, told_shown, viewed_shown}
 use Rattle.fifo_buffer.specs.FifoFits.{BootsSo, caps_in}
-use Rattle.fifo_buffer.specs.Tallies.{all_tallied, effect_place}
-use Rattle.fifo_buffer.specs.Turns.{BufferEvent}
+use Rattle.fifo_buffer.specs.Tallies.{all_tallied, effect_position}
+use Rattle.fifo_buffer.specs.Paces.{BufferEvent}
 
 -- the items of a lock's buffer, whether it is closed, its owner, and its waiting lists
 abbrev pub items_in : BufferLock → List Message
@@ -170,7 +170,7 @@ effects_known O (event ∷ past) known = go event.call (effects_known O past kno
     go (OnBuffer d call) rest =
         more (effect_of O (buffer_sections past) (section event.cpu (Buffer d) call)) (effects_in O (buffer_sections past))
         (λ e is. subst (λ (cpu : CpuId). cpu.0 < CPUS)
-        (sym (effect_place event.cpu d call (λ side t. drawn O (Buffer d) side t (buffer_sections past))
+        (sym (effect_position event.cpu d call (λ side t. drawn O (Buffer d) side t (buffer_sections past))
         (buffer_at O (buffer_sections past) (Buffer d)) e is).0)
         known.0)
         rest

@@ -10,7 +10,7 @@ use Rattle.layer_traits.specs.declared.conditions.CvEdit.TheVariants.{Edit, Sign
 use Rattle.layer_traits.specs.declared.locked.QEdit.TheVariants.{Acquire, Inside, Release}
 use Rattle.layer_traits.specs.declared.locked.Side.{Side}
 use Rattle.layer_traits.specs.declared.queue_edits.QueueBlock.{QueueBlock}
-use Rattle.layer_traits.specs.BufferEffects.{places_in}
+use Rattle.layer_traits.specs.BufferEffects.{drawn_in}
 use Rattle.layer_traits.specs.BufferProtocol.{BufferLock, BufferSection, buffer_at, buffer_deeds}
 use Rattle.layer_traits.specs.Conditions.{CvCall, cv_rules}
 use Rattle.layer_traits.specs.LockLaw.{lock_kernel}
@@ -18,7 +18,7 @@ use Rattle.layer_traits.specs.QueueBlocks.{StartsWell, inner}
 use Rattle.layer_traits.specs.Queues.{QueueAllowed, buffer_sections}
 use Rattle.fifo_buffer.specs.FifoFits.{BootsSo, caps_in}
 use Rattle.fifo_buffer.specs.Stances.{same_side}
-use Rattle.fifo_buffer.specs.Turns.{BufferEvent}
+use Rattle.fifo_buffer.specs.Paces.{BufferEvent}
 
 -- whether a call enters this side's line
 abbrev pub enters : Side → CvCall BufferEdit → Bool
@@ -38,5 +38,5 @@ entries_of side lock past = how_many (λ s. same_lock lock s.lock && enters side
 abbrev pub PositionsAreCounts : Type 0
 PositionsAreCounts = (opening : LockId → Option (QueueBlock BufferLock)) (past : List BufferEvent) → StartsWell opening → BootsSo opening
     → IsLawful (QueueAllowed (lock_kernel (cv_rules buffer_deeds) opening)) past → (b : BufId) (side : Side) → b.0 < length (caps_in opening)
-    → places_in side (buffer_at (inner opening) (buffer_sections past) (Buffer b))
+    → drawn_in side (buffer_at (inner opening) (buffer_sections past) (Buffer b))
     ≡ entries_of side (Buffer b) (buffer_sections past) % 2 ^ 64

@@ -140,7 +140,7 @@ module _ (opening : LockId → Option BufferLock) (past : List BufferSection) (t
     pub grip : (lock : LockId) → Grip t (holds && same_lock lock (Buffer b)) (asks && same_lock lock (Buffer b)) (buffer_at opening past lock)
     pub line : (lock : LockId) (at : Side)
         → count_in t (line_at at (buffer_at opening past lock)) ≡ one_if (lined && (same_lock lock (Buffer b) && same_side at side))
-    pub place : lined ≡ true → position ≡ drawn opening (Buffer b) side t past
+    pub drawn_is : lined ≡ true → position ≡ drawn opening (Buffer b) side t past
 
   -- a thread within a call, at a stage, with its position and its effect
   pub record InCall (call : Call) (slept waits : Option BufId) (stage : Stage) (position : ℕ) (effect : Option Effect) : Type 0 where

@@ -29,10 +29,10 @@ use Rattle.layer_traits.specs.declared.locked.Side.TheVariants.{Receivers, Sende
 use Rattle.layer_traits.specs.declared.queue_edits.QueueBlock.{QueueBlock}
 use Rattle.layer_traits.specs.declared.queues.QueueCall.{QueueCall}
 use Rattle.layer_traits.specs.declared.queues.QueueCall.TheVariants.{Push, TakeAll, OnBuffer}
-use Rattle.layer_traits.specs.BufferBlocks.{BufferState, effect_kind, empty_block, entered, first_item, is_first, is_turn}
-use Rattle.layer_traits.specs.BufferBlocks.{line_of, may_join, places_of, put_in, shut, taken_out}
+use Rattle.layer_traits.specs.BufferBlocks.{BufferState, effect_kind, empty_block, entered, first_item, is_first, is_next}
+use Rattle.layer_traits.specs.BufferBlocks.{line_of, may_join, drawn_of, put_in, shut, taken_out}
 use Rattle.layer_traits.specs.BufferEffects.{MayTakeEffect, contents_of, drawn, effect_of, effect_on, effects_in, entry}
-use Rattle.layer_traits.specs.BufferEffects.{fresh_lock, is_enter, opening_locks, places_in}
+use Rattle.layer_traits.specs.BufferEffects.{fresh_lock, is_enter, opening_locks, drawn_in}
 use Rattle.layer_traits.specs.BufferProtocol.{BufferLock, BufferSection, IsDue, buffer_at, buffer_deeds, buffer_rules, is_in_line}
 use Rattle.layer_traits.specs.Conditions.{CvCall, cv_rules}
 use Rattle.layer_traits.specs.LockLaw.{lock_kernel}
@@ -45,7 +45,7 @@ use Rattle.thread_blocks.specs.Queues.{same_tid, is_in, rest}
 use Rattle.thread_blocks.proofs.Members.{same_tid_self, same_tid_true}
 use Rattle.fifo_buffer.specs.BlockSteps.{Step, kind_on, put_step, take_step}
 use Rattle.fifo_buffer.specs.Stances.{same_side}
-use Rattle.fifo_buffer.specs.Turns.{BufferEvent}
+use Rattle.fifo_buffer.specs.Paces.{BufferEvent}
 
 -- the threads of a line have drawn the positions n, n + 1 and so on, modulo 2^64
 abbrev pub IsNumbered : (Tid → ℕ) → ℕ → List Tid → Type 0
@@ -62,7 +62,7 @@ pub record Tally (caps : List ℕ) (b : ℕ) (es : List Entry) (position : Side 
   pub closed : is_closed es b ≡ x.closed
   pub closes : x.closes ≡ count_of_kind es b Close % 2 ^ 64
   pub effects : x.effects ≡ count_of es b % 2 ^ 64
-  pub places : (side : Side) → places_of side x ≡ (count_of_kind es b (kind_on side) + length (line_of side x)) % 2 ^ 64
+  pub positions : (side : Side) → drawn_of side x ≡ (count_of_kind es b (kind_on side) + length (line_of side x)) % 2 ^ 64
   pub numbered : (side : Side) → IsNumbered (position side) (count_of_kind es b (kind_on side)) (line_of side x)
 
 -- numbers along a line
@@ -133,7 +133,7 @@ module _ (caps : List ℕ) (b : ℕ) (es : List Entry) where
     closed = tally.closed;
     closes = tally.closes;
     effects = tally.effects;
-    places = tally.places;
+    positions = tally.positions;
     numbered = λ side. numbered_same (p side) (q side) (count_of_kind es b (kind_on side)) (line_of side x) (same side) (tally.numbered side);
   }
   elsewhere (Some e) apart p q x same tally =
@@ -150,13 +150,13 @@ module _ (caps : List ℕ) (b : ℕ) (es : List Entry) where
         closed = ap (nat_lt 0) (kinds Close) ∙ tally.closed;
         closes = tally.closes ∙ ap (λ n. n % 2 ^ 64) (sym (kinds Close));
         effects = tally.effects ∙ ap (λ n. n % 2 ^ 64) (sym count);
-        places = λ side. tally.places side ∙ ap (λ n. (n + length (line_of side x)) % 2 ^ 64) (sym (kinds (kind_on side)));
+        positions = λ side. tally.positions side ∙ ap (λ n. (n + length (line_of side x)) % 2 ^ 64) (sym (kinds (kind_on side)));
         numbered = λ side. subst (λ n. IsNumbered (q side) n (line_of side x)) (sym (kinds (kind_on side)))
             (numbered_same (p side) (q side) (count_of_kind es b (kind_on side)) (line_of side x) (same side) (tally.numbered side));
       }
 
   -- a thread entered a line in which it did not stand
-  entered_tally : (p q : Side → Tid → ℕ) (x : BufferState) (u : Tid) (side : Side) → is_in u (line_of side x) ≡ false → q side u ≡ places_of side x
+  entered_tally : (p q : Side → Tid → ℕ) (x : BufferState) (u : Tid) (side : Side) → is_in u (line_of side x) ≡ false → q side u ≡ drawn_of side x
       → ((at : Side) (t : Tid) → same_tid u t ≡ false → q at t ≡ p at t) → ((at : Side) → is_in u (line_of at x) ≡ false)
       → Tally caps b es p x → Tally caps b es q (entered side u x)
   entered_tally p q x u Senders out drew others nowhere tally = record {
@@ -167,15 +167,15 @@ module _ (caps : List ℕ) (b : ℕ) (es : List Entry) where
     closed = tally.closed;
     closes = tally.closes;
     effects = tally.effects;
-    places = λ side. places_in_line side;
+    positions = λ side. positions_in_line side;
     numbered = λ side. numbers side;
   }
     where
-      places_in_line : (side : Side)
-          → places_of side (entered Senders u x) ≡ (count_of_kind es b (kind_on side) + length (line_of side (entered Senders u x))) % 2 ^ 64
-      places_in_line Receivers = tally.places Receivers
-      places_in_line Senders =
-          one_more x.sends (count_of_kind es b Send + length x.send_line) (tally.places Senders)
+      positions_in_line : (side : Side)
+          → drawn_of side (entered Senders u x) ≡ (count_of_kind es b (kind_on side) + length (line_of side (entered Senders u x))) % 2 ^ 64
+      positions_in_line Receivers = tally.positions Receivers
+      positions_in_line Senders =
+          one_more x.sends (count_of_kind es b Send + length x.send_line) (tally.positions Senders)
           ∙ ap (λ n. n % 2 ^ 64) (let more = length-append x.send_line (u ∷ []) in omega (arith, more))
 
       numbers : (side : Side) → IsNumbered (q side) (count_of_kind es b (kind_on side)) (line_of side (entered Senders u x))
@@ -185,7 +185,7 @@ module _ (caps : List ℕ) (b : ℕ) (es : List Entry) where
       numbers Senders =
           numbered_behind (q Senders) (count_of_kind es b Send) u x.send_line
           (numbered_apart (p Senders) (q Senders) (count_of_kind es b Send) u x.send_line out (others Senders) (tally.numbered Senders))
-          (drew ∙ tally.places Senders)
+          (drew ∙ tally.positions Senders)
   entered_tally p q x u Receivers out drew others nowhere tally = record {
     known = tally.known;
     wide = tally.wide;
@@ -194,15 +194,15 @@ module _ (caps : List ℕ) (b : ℕ) (es : List Entry) where
     closed = tally.closed;
     closes = tally.closes;
     effects = tally.effects;
-    places = λ side. places_in_line side;
+    positions = λ side. positions_in_line side;
     numbered = λ side. numbers side;
   }
     where
-      places_in_line : (side : Side)
-          → places_of side (entered Receivers u x) ≡ (count_of_kind es b (kind_on side) + length (line_of side (entered Receivers u x))) % 2 ^ 64
-      places_in_line Senders = tally.places Senders
-      places_in_line Receivers =
-          one_more x.receives (count_of_kind es b Recv + length x.receive_line) (tally.places Receivers)
+      positions_in_line : (side : Side)
+          → drawn_of side (entered Receivers u x) ≡ (count_of_kind es b (kind_on side) + length (line_of side (entered Receivers u x))) % 2 ^ 64
+      positions_in_line Senders = tally.positions Senders
+      positions_in_line Receivers =
+          one_more x.receives (count_of_kind es b Recv + length x.receive_line) (tally.positions Receivers)
           ∙ ap (λ n. n % 2 ^ 64) (let more = length-append x.receive_line (u ∷ []) in omega (arith, more))
 
       numbers : (side : Side) → IsNumbered (q side) (count_of_kind es b (kind_on side)) (line_of side (entered Receivers u x))
@@ -211,7 +211,7 @@ module _ (caps : List ℕ) (b : ℕ) (es : List Entry) where
       numbers Receivers =
           numbered_behind (q Receivers) (count_of_kind es b Recv) u x.receive_line
           (numbered_apart (p Receivers) (q Receivers) (count_of_kind es b Recv) u x.receive_line out (others Receivers) (tally.numbered Receivers))
-          (drew ∙ tally.places Receivers)
+          (drew ∙ tally.positions Receivers)
 
   first_number : (p : Tid → ℕ) (n : ℕ) (u : Tid) (queue : List Tid) → is_first u queue ≡ true → IsNumbered p n queue → p u ≡ n % 2 ^ 64
   first_number p n u [] is numbered = absurd cc
@@ -257,7 +257,7 @@ module _ (caps : List ℕ) (b : ℕ) (es : List Entry) where
     closed = ap (nat_lt 0) none_closed ∙ tally.closed ∙ sym step.closed;
     closes = step.closes ∙ tally.closes ∙ ap (λ n. n % 2 ^ 64) (sym none_closed);
     effects = step.effects ∙ one_more x.effects (count_of es b) tally.effects ∙ ap (λ n. n % 2 ^ 64) (sym (counts_here e es b here));
-    places = λ at. step.places at ∙ places_now at (same_side side at) refl;
+    positions = λ at. step.positions at ∙ positions_now at (same_side side at) refl;
     numbered = λ at. numbers at (same_side side at) refl;
   }
     where
@@ -268,17 +268,17 @@ module _ (caps : List ℕ) (b : ℕ) (es : List Entry) where
           → count_of_kind (e ∷ es) b (kind_on at) ≡ (if v then 1 else 0) + count_of_kind es b (kind_on at)
       more at v is = counted_here e es b (kind_on at) kind v here is_kind (side_counted side kind step.counts at ∙ is)
 
-      places_now : (at : Side) (v : Bool) → same_side side at ≡ v
-          → places_of at x ≡ (count_of_kind (e ∷ es) b (kind_on at) + length (line_of at y)) % 2 ^ 64
-      places_now at true is =
+      positions_now : (at : Side) (v : Bool) → same_side side at ≡ v
+          → drawn_of at x ≡ (count_of_kind (e ∷ es) b (kind_on at) + length (line_of at y)) % 2 ^ 64
+      positions_now at true is =
           let less : length (line_of at x) ≡ length (line_of at y) + 1 = subst (λ s. length (line_of s x) ≡ length (line_of s y) + 1) (side_one side at is)
           (rest_length u (line_of side x) step.leads ∙ ap (λ l. length l + 1) (sym step.behind)) in
           let one = more at true is in
-          tally.places at ∙ ap (λ n. n % 2 ^ 64) (omega (arith, less, one))
-      places_now at false is =
+          tally.positions at ∙ ap (λ n. n % 2 ^ 64) (omega (arith, less, one))
+      positions_now at false is =
           let none = more at false is in
           let line = step.others at is in
-          tally.places at ∙ ap (λ n. n % 2 ^ 64) (omega (arith, none)) ∙ ap (λ l. (count_of_kind (e ∷ es) b (kind_on at) + length l) % 2 ^ 64) (sym line)
+          tally.positions at ∙ ap (λ n. n % 2 ^ 64) (omega (arith, none)) ∙ ap (λ l. (count_of_kind (e ∷ es) b (kind_on at) + length l) % 2 ^ 64) (sym line)
 
       numbers : (at : Side) (v : Bool) → same_side side at ≡ v → IsNumbered (q at) (count_of_kind (e ∷ es) b (kind_on at)) (line_of at y)
       numbers at true is =
@@ -307,7 +307,7 @@ module _ (caps : List ℕ) (b : ℕ) (es : List Entry) where
     closed = ap (nat_lt 0) more ∙ lt-ltb 0 (1 + count_of_kind es b Close) (omega arith);
     closes = one_more x.closes (count_of_kind es b Close) tally.closes ∙ ap (λ n. n % 2 ^ 64) (omega (arith, more));
     effects = one_more x.effects (count_of es b) tally.effects ∙ ap (λ n. n % 2 ^ 64) (sym (counts_here e es b here));
-    places = λ side. places_now side;
+    positions = λ side. positions_now side;
     numbered = λ side. numbers side;
   }
     where
@@ -317,9 +317,9 @@ module _ (caps : List ℕ) (b : ℕ) (es : List Entry) where
       none : (side : Side) → count_of_kind (e ∷ es) b (kind_on side) ≡ count_of_kind es b (kind_on side)
       none side = counted_here e es b (kind_on side) Close false here closes (no_side side) ∙ omega arith
 
-      places_now : (side : Side) → places_of side (shut x) ≡ (count_of_kind (e ∷ es) b (kind_on side) + length (line_of side (shut x))) % 2 ^ 64
-      places_now Receivers = tally.places Receivers ∙ ap (λ n. (n + length x.receive_line) % 2 ^ 64) (sym (none Receivers))
-      places_now Senders = tally.places Senders ∙ ap (λ n. (n + length x.send_line) % 2 ^ 64) (sym (none Senders))
+      positions_now : (side : Side) → drawn_of side (shut x) ≡ (count_of_kind (e ∷ es) b (kind_on side) + length (line_of side (shut x))) % 2 ^ 64
+      positions_now Receivers = tally.positions Receivers ∙ ap (λ n. (n + length x.receive_line) % 2 ^ 64) (sym (none Receivers))
+      positions_now Senders = tally.positions Senders ∙ ap (λ n. (n + length x.send_line) % 2 ^ 64) (sym (none Senders))
 
       numbers : (side : Side) → IsNumbered (q side) (count_of_kind (e ∷ es) b (kind_on side)) (line_of side (shut x))
       numbers Receivers =
@@ -353,18 +353,18 @@ module _ (caps : List ℕ) (b : ℕ) (es : List Entry) where
 
   put_here : (cpu : CpuId) (at : BufId) → at.0 ≡ b → (u : Tid) (m : Message) (p q : Side → Tid → ℕ) (lock : BufferLock)
       → ((side : Side) (t : Tid) → q side t ≡ p side t)
-      → Tally caps b es p lock.above → (v : Bool) → is_turn Senders u lock.above ≡ v → StepHere cpu at (Inside (Edit (TryPut u m))) p q lock
-  put_here cpu at here u m p q lock same tally false turn =
+      → Tally caps b es p lock.above → (v : Bool) → is_next Senders u lock.above ≡ v → StepHere cpu at (Inside (Edit (TryPut u m))) p q lock
+  put_here cpu at here u m p q lock same tally false pace =
       nothing_here cpu at (Inside (Edit (TryPut u m))) p q lock
-      (ap (λ (w : Bool). if w then Some (entry cpu u (effect_kind Senders lock.above) at m lock.above.effects (p Senders u)) else None) turn)
-      (sym (ap (λ (w : Bool). if w then put_in m lock.above else lock.above) turn)) same tally
-  put_here cpu at here u m p q lock same tally true turn =
+      (ap (λ (w : Bool). if w then Some (entry cpu u (effect_kind Senders lock.above) at m lock.above.effects (p Senders u)) else None) pace)
+      (sym (ap (λ (w : Bool). if w then put_in m lock.above else lock.above) pace)) same tally
+  put_here cpu at here u m p q lock same tally true pace =
       let it : Entry = entry cpu u (effect_kind Senders lock.above) at m lock.above.effects (p Senders u) in
-      let step = put_step u m lock.above turn in
+      let step = put_step u m lock.above pace in
       let done : effect_on cpu at (Inside (Edit (TryPut u m))) p (Some lock) ≡ Some it
-      = ap (λ (w : Bool). if w then Some (entry cpu u (effect_kind Senders lock.above) at m lock.above.effects (p Senders u)) else None) turn in
+      = ap (λ (w : Bool). if w then Some (entry cpu u (effect_kind Senders lock.above) at m lock.above.effects (p Senders u)) else None) pace in
       let after : put_in m lock.above ≡ (lock_edited buffer_rules (Inside (Edit (TryPut u m))) lock).above
-      = sym (ap (λ (w : Bool). if w then put_in m lock.above else lock.above) turn) in (
+      = sym (ap (λ (w : Bool). if w then put_in m lock.above else lock.above) pace) in (
         λ e is. subst (MayTakeEffect caps es) (one it e (sym done ∙ is))
             (step_may cpu at here Senders (effect_kind Senders lock.above) u m lock.above (put_in m lock.above) step p tally),
         subst (λ o. Tally caps b (option_to_list o ++ es) q (lock_edited buffer_rules (Inside (Edit (TryPut u m))) lock).above) (sym done)
@@ -376,20 +376,20 @@ module _ (caps : List ℕ) (b : ℕ) (es : List Entry) where
       one x y is = cc
 
   take_here : (cpu : CpuId) (at : BufId) → at.0 ≡ b → (u : Tid) (p q : Side → Tid → ℕ) (lock : BufferLock) → ((side : Side) (t : Tid) → q side t ≡ p side t)
-      → Tally caps b es p lock.above → (v : Bool) → is_turn Receivers u lock.above ≡ v → StepHere cpu at (Inside (Edit (TryTake u))) p q lock
-  take_here cpu at here u p q lock same tally false turn =
+      → Tally caps b es p lock.above → (v : Bool) → is_next Receivers u lock.above ≡ v → StepHere cpu at (Inside (Edit (TryTake u))) p q lock
+  take_here cpu at here u p q lock same tally false pace =
       nothing_here cpu at (Inside (Edit (TryTake u))) p q lock
       (ap (λ (w : Bool). if w then Some (entry cpu u (effect_kind Receivers lock.above) at (first_item lock.above.items) lock.above.effects
-      (p Receivers u)) else None) turn)
-      (sym (ap (λ (w : Bool). if w then taken_out lock.above else lock.above) turn)) same tally
-  take_here cpu at here u p q lock same tally true turn =
+      (p Receivers u)) else None) pace)
+      (sym (ap (λ (w : Bool). if w then taken_out lock.above else lock.above) pace)) same tally
+  take_here cpu at here u p q lock same tally true pace =
       let it : Entry = entry cpu u (effect_kind Receivers lock.above) at (first_item lock.above.items) lock.above.effects (p Receivers u) in
-      let step = take_step u lock.above turn in
+      let step = take_step u lock.above pace in
       let done : effect_on cpu at (Inside (Edit (TryTake u))) p (Some lock) ≡ Some it
       = ap (λ (w : Bool). if w then Some (entry cpu u (effect_kind Receivers lock.above) at (first_item lock.above.items) lock.above.effects
-      (p Receivers u)) else None) turn in
+      (p Receivers u)) else None) pace in
       let after : taken_out lock.above ≡ (lock_edited buffer_rules (Inside (Edit (TryTake u))) lock).above
-      = sym (ap (λ (w : Bool). if w then taken_out lock.above else lock.above) turn) in (
+      = sym (ap (λ (w : Bool). if w then taken_out lock.above else lock.above) pace) in (
         λ e is. subst (MayTakeEffect caps es) (one it e (sym done ∙ is))
             (step_may cpu at here Receivers (effect_kind Receivers lock.above) u (first_item lock.above.items) lock.above (taken_out lock.above) step p tally),
         subst (λ o. Tally caps b (option_to_list o ++ es) q (lock_edited buffer_rules (Inside (Edit (TryTake u))) lock).above) (sym done)
@@ -414,7 +414,7 @@ module _ (caps : List ℕ) (b : ℕ) (es : List Entry) where
 
   enter_here : (cpu : CpuId) (at : BufId) (u : Tid) (side : Side) (p q : Side → Tid → ℕ) (lock : BufferLock)
       → ((to : Side) → is_in u (line_of to lock.above) ≡ false)
-      → q side u ≡ places_of side lock.above → ((to : Side) (t : Tid) → same_tid u t ≡ false → q to t ≡ p to t) → Tally caps b es p lock.above
+      → q side u ≡ drawn_of side lock.above → ((to : Side) (t : Tid) → same_tid u t ≡ false → q to t ≡ p to t) → Tally caps b es p lock.above
       → StepHere cpu at (Inside (Edit (Enter u side))) p q lock
   enter_here cpu at u side p q lock nowhere drew others tally = (λ e is. absurd (wrong e is), go (may_join u (line_of side lock.above)))
     where
@@ -431,7 +431,7 @@ module _ (caps : List ℕ) (b : ℕ) (es : List Entry) where
         closed = tally.closed;
         closes = tally.closes;
         effects = tally.effects;
-        places = tally.places;
+        positions = tally.positions;
         numbered = λ to. numbered_apart (p to) (q to) (count_of_kind es b (kind_on to)) u (line_of to lock.above) (nowhere to) (others to) (tally.numbered to);
       }
 
@@ -446,20 +446,20 @@ placed_as cpu d t kind m op pos true e is =
     (sym (ap (λ (y : Entry). y.cpu) one), sym (ap (λ (y : Entry). y.buffer) one))
 placed_as cpu d t kind m op pos false e is = absurd cc
 
-pub effect_place : (cpu : CpuId) (d : BufId) (call : CvCall BufferEdit) (p : Side → Tid → ℕ) (x : Option BufferLock) (e : Entry)
+pub effect_position : (cpu : CpuId) (d : BufId) (call : CvCall BufferEdit) (p : Side → Tid → ℕ) (x : Option BufferLock) (e : Entry)
     → effect_on cpu d call p x ≡ Some e → IsPlaced cpu d e
-effect_place cpu d call p None e is = absurd cc
-effect_place cpu d (Acquire u) p (Some lock) e is = absurd cc
-effect_place cpu d (Inside (Edit (Enter u side))) p (Some lock) e is = absurd cc
-effect_place cpu d (Inside (Edit (TryPut u m))) p (Some lock) e is =
-    placed_as cpu d u (effect_kind Senders lock.above) m lock.above.effects (p Senders u) (is_turn Senders u lock.above) e is
-effect_place cpu d (Inside (Edit (TryTake u))) p (Some lock) e is =
+effect_position cpu d call p None e is = absurd cc
+effect_position cpu d (Acquire u) p (Some lock) e is = absurd cc
+effect_position cpu d (Inside (Edit (Enter u side))) p (Some lock) e is = absurd cc
+effect_position cpu d (Inside (Edit (TryPut u m))) p (Some lock) e is =
+    placed_as cpu d u (effect_kind Senders lock.above) m lock.above.effects (p Senders u) (is_next Senders u lock.above) e is
+effect_position cpu d (Inside (Edit (TryTake u))) p (Some lock) e is =
     placed_as cpu d u (effect_kind Receivers lock.above) (first_item lock.above.items) lock.above.effects (p Receivers u)
-    (is_turn Receivers u lock.above) e is
-effect_place cpu d (Inside (Edit (Shut u))) p (Some lock) e is =
+    (is_next Receivers u lock.above) e is
+effect_position cpu d (Inside (Edit (Shut u))) p (Some lock) e is =
     placed_as cpu d u Close no_message lock.above.effects lock.above.closes true e is
-effect_place cpu d (Inside (SignalFront u side)) p (Some lock) e is = absurd cc
-effect_place cpu d (Release leave) p (Some lock) e is = absurd cc
+effect_position cpu d (Inside (SignalFront u side)) p (Some lock) e is = absurd cc
+effect_position cpu d (Release leave) p (Some lock) e is = absurd cc
 
 enter_other : (u t : Tid) (side to : Side) → same_tid u t ≡ false → is_enter to t (Inside (Edit (Enter u side))) ≡ false
 enter_other u t Receivers Receivers other = other
@@ -483,13 +483,13 @@ module _ (O : LockId → Option BufferLock) (caps : List ℕ) (past : List Buffe
 
   drawn_quiet : (side : Side) (t : Tid) → is_enter side t call ≡ false → After d side t ≡ Before d side t
   drawn_quiet side t none =
-      ap (λ v. if v then places_in side (buffer_at O past (Buffer d)) else Before d side t)
+      ap (λ v. if v then drawn_in side (buffer_at O past (Buffer d)) else Before d side t)
       (and_right (same_lock (Buffer d) (Buffer d)) (is_enter side t call) none)
 
   drawn_enter : (side : Side) (t : Tid) (lock : BufferLock) → buffer_at O past (Buffer d) ≡ Some lock → is_enter side t call ≡ true
-      → After d side t ≡ places_of side lock.above
+      → After d side t ≡ drawn_of side lock.above
   drawn_enter side t lock at enters =
-      ap (λ v. if v then places_in side (buffer_at O past (Buffer d)) else Before d side t) test ∙ ap (places_in side) at
+      ap (λ v. if v then drawn_in side (buffer_at O past (Buffer d)) else Before d side t) test ∙ ap (drawn_in side) at
     where
       test : (same_lock (Buffer d) (Buffer d) && is_enter side t call) ≡ true
       test = rw (same_lock_self (Buffer d), enters) refl
@@ -513,11 +513,11 @@ here_step O caps past cpu d (Inside (Edit (Enter u side))) lock at due tally =
 here_step O caps past cpu d (Inside (Edit (TryPut u m))) lock at due tally =
     put_here caps d.0 (effects_in O past) cpu d refl u m (Before O caps past cpu d (Inside (Edit (TryPut u m))) d)
     (After O caps past cpu d (Inside (Edit (TryPut u m))) d) lock
-    (λ side t. drawn_quiet O caps past cpu d (Inside (Edit (TryPut u m))) side t refl) tally (is_turn Senders u lock.above) refl
+    (λ side t. drawn_quiet O caps past cpu d (Inside (Edit (TryPut u m))) side t refl) tally (is_next Senders u lock.above) refl
 here_step O caps past cpu d (Inside (Edit (TryTake u))) lock at due tally =
     take_here caps d.0 (effects_in O past) cpu d refl u (Before O caps past cpu d (Inside (Edit (TryTake u))) d)
     (After O caps past cpu d (Inside (Edit (TryTake u))) d) lock
-    (λ side t. drawn_quiet O caps past cpu d (Inside (Edit (TryTake u))) side t refl) tally (is_turn Receivers u lock.above) refl
+    (λ side t. drawn_quiet O caps past cpu d (Inside (Edit (TryTake u))) side t refl) tally (is_next Receivers u lock.above) refl
 here_step O caps past cpu d (Inside (Edit (Shut u))) lock at due tally =
     shut_here caps d.0 (effects_in O past) cpu d refl u (Before O caps past cpu d (Inside (Edit (Shut u))) d)
     (After O caps past cpu d (Inside (Edit (Shut u))) d) lock
@@ -581,9 +581,9 @@ section_tallied O caps past cpu d call due tallied b lock at = go (same_lock (Bu
         = sym (ap (λ v. if v then option_map (lock_edited buffer_rules call) (buffer_at O past (Buffer b)) else buffer_at O past (Buffer b)) is) ∙ at in
         elsewhere caps b.0 (effects_in O past) (effect_of O past (section cpu (Buffer d) call))
         (λ e same. ne_eqb e.buffer.0 b.0 (λ one_number. eqb-false b.0 d.0 is
-        (sym one_number ∙ ap (λ (n : BufId). n.0) (effect_place cpu d call _ (buffer_at O past (Buffer d)) e same).1)))
+        (sym one_number ∙ ap (λ (n : BufId). n.0) (effect_position cpu d call _ (buffer_at O past (Buffer d)) e same).1)))
         (λ side t. drawn O (Buffer b) side t past) (λ side t. drawn O (Buffer b) side t (section cpu (Buffer d) call ∷ past)) lock.above
-        (λ side t. ap (λ v. if v && is_enter side t call then places_in side (buffer_at O past (Buffer b)) else drawn O (Buffer b) side t past) is)
+        (λ side t. ap (λ v. if v && is_enter side t call then drawn_in side (buffer_at O past (Buffer b)) else drawn O (Buffer b) side t past) is)
         (tallied b lock was)
 
 -- no messages
@@ -603,13 +603,13 @@ start_tallied caps b (Some n) lock is at p =
       closed = refl;
       closes = refl;
       effects = refl;
-      places = λ side. start_places side;
+      positions = λ side. start_positions side;
       numbered = λ side. start_numbers side;
     })
   where
-    start_places : (side : Side) → places_of side (empty_block n) ≡ (count_of_kind [] b.0 (kind_on side) + length (line_of side (empty_block n))) % 2 ^ 64
-    start_places Receivers = refl
-    start_places Senders = refl
+    start_positions : (side : Side) → drawn_of side (empty_block n) ≡ (count_of_kind [] b.0 (kind_on side) + length (line_of side (empty_block n))) % 2 ^ 64
+    start_positions Receivers = refl
+    start_positions Senders = refl
 
     start_numbers : (side : Side) → IsNumbered (p side) (count_of_kind [] b.0 (kind_on side)) (line_of side (empty_block n))
     start_numbers Receivers = tt

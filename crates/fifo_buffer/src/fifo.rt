@@ -12,7 +12,7 @@ ghost use Rattle.layer_traits.specs.Plans.{Follows, table_of};
 ghost use Rattle.layer_traits.specs.QueueBlocks.{homes_in, inner};
 ghost use Rattle.layer_traits.specs.QueueRules.{queue_rules};
 ghost use Rattle.layer_traits.specs.Queues.{buffer_sections};
-ghost use Rattle.fifo_buffer.specs.Turns.{MayTurn, Sizes, Turned, calling_after, reply_at};
+ghost use Rattle.fifo_buffer.specs.Paces.{MayPace, Sizes, Paced, calling_after, reply_at};
 
 use crate::sections::{answers_at_once, buffer_in, reply, section};
 use crate::talk_table::Talks;
@@ -35,17 +35,17 @@ pub struct Fifo<C> {
 
 impl<C: CvLayer<BufferEdit>> Fifo<C> {
     /// Polls the section of `call` by `t` at this stage, and tells whether it ended.
-    fn turn(&mut self, m: &mut C::Machine, t: Tid, call: &Call, stage: Stage) -> bool
+    fn pace(&mut self, m: &mut C::Machine, t: Tid, call: &Call, stage: Stage) -> bool
         requires known { t.0 < THREADS }
         requires stage { stage ≡ (going (talk_of self.old.talks.talks t) call.now).stage }
         requires fits { C.Fits self.old.lower m.old }
         requires buffer { IsSome (C.opening m.old (Buffer (buffer_of call.now))) }
         requires room { 0 < C.room m.old }
         requires sizes { Sizes (C.own self.old.lower) self.old.talks.talks }
-        requires may { MayTurn (inner (C.opening m.old)) (buffer_sections (C.seen m.old)) t call.now (going (talk_of self.old.talks.talks t) call.now)
+        requires may { MayPace (inner (C.opening m.old)) (buffer_sections (C.seen m.old)) t call.now (going (talk_of self.old.talks.talks t) call.now)
             (C.own self.old.lower)
             (C.under_way self.old.lower) }
-        ensures turned { Turned (homes_in (C.opening m.old)) (λ c. C.ActsFor m.old c) (inner (C.opening m.old)) (C.cpu_of self.old.lower) t call.now
+        ensures paced { Paced (homes_in (C.opening m.old)) (λ c. C.ActsFor m.old c) (inner (C.opening m.old)) (C.cpu_of self.old.lower) t call.now
             (going (talk_of self.old.talks.talks t) call.now) (C.seen m.old) (C.seen m.new) (C.own self.old.lower) (C.own self.new.lower)
             (C.under_way self.new.lower) result
             (talk_of self.new.talks.talks t) }
@@ -78,7 +78,7 @@ impl<C: CvLayer<BufferEdit>> Fifo<C> {
         self.talks.hear(t, call, &answer)
     }
 
-    /// The reply of `call` after a turn at this stage, which ended its section or not; and notes
+    /// The reply of `call` after a pace at this stage, which ended its section or not; and notes
     /// whether the call is still under way.
     fn told(&mut self, t: Tid, call: &Call, stage: Stage, done: bool) -> Option<Reply>
         requires known { t.0 < THREADS }
@@ -114,7 +114,7 @@ impl<C: CvLayer<BufferEdit>> BufferLayer for Fifo<C> {
     ghost use Rattle.layer_traits.specs.Queues.{buffer_sections, moves_in};
     ghost use Rattle.fifo_buffer.specs.FifoFits.{BootsSo, PartFits, caps_in};
     ghost use Rattle.fifo_buffer.specs.FifoLaws.{fifo_lawful, fifo_lines, none_under};
-    ghost use Rattle.fifo_buffer.specs.Turns.{doing_at};
+    ghost use Rattle.fifo_buffer.specs.Paces.{doing_at};
 
     type Machine = C::Machine;
 
@@ -194,10 +194,10 @@ impl<C: CvLayer<BufferEdit>> BufferLayer for Fifo<C> {
     fn poll(&mut self, m: &mut C::Machine, t: Tid, call: &Call) -> Option<Reply> {
         let stage = self.talks.next_stage(t, call);
         let at_once = answers_at_once(stage, self.lower.at_once());
-        let done = self.turn(m, t, call, stage);
+        let done = self.pace(m, t, call, stage);
         if done && at_once {
             let next = self.talks.next_stage(t, call);
-            let last = self.turn(m, t, call, next);
+            let last = self.pace(m, t, call, next);
             return self.told(t, call, next, last);
         }
         self.told(t, call, stage, done)

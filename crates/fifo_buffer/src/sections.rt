@@ -1,8 +1,8 @@
 //! The sections of a message call, stage by stage.
 
 ghost use Rattle.std.specs.Prelude.{◌≡◌};
-ghost use Rattle.layer_traits.specs.BufferLaw.{buffer_of, first_of, going, heard, other_side, placed, reply_by, section_at, side_of, told_by, tried, try_of};
-ghost use Rattle.fifo_buffer.specs.Turns.{is_at_once, reply_at};
+ghost use Rattle.layer_traits.specs.BufferLaw.{buffer_of, first_of, going, heard, other_side, enlisted, reply_by, section_at, side_of, told_by, tried, try_of};
+ghost use Rattle.fifo_buffer.specs.Paces.{is_at_once, reply_at};
 
 use event_log::{BufId, Kind, Msg, Tid};
 use layer_traits::{
@@ -131,7 +131,7 @@ fn told(out: &QOut<CvOut<BufferOut>>) -> BufferOut
 /// buffer was told: its effect.
 #[inline(always)]
 fn hear_entry(talk: &mut Talk, told: BufferOut)
-    ensures { talk.new ≡ placed talk.old told }
+    ensures { talk.new ≡ enlisted talk.old told }
 {
     match told {
         BufferOut::Entered(position) => {

@@ -3,7 +3,7 @@
 ghost use Rattle.std.specs.Prelude.{◌≡◌, ◌<◌, is_some, replicate, slice_set};
 ghost use Rattle.event_log.specs.declared.ids.TheConstants.{THREADS};
 ghost use Rattle.layer_traits.specs.BufferLaw.{going, quiet, talk_of};
-ghost use Rattle.fifo_buffer.specs.Turns.{heard_if};
+ghost use Rattle.fifo_buffer.specs.Paces.{heard_if};
 
 use crate::sections::{begin, hear_section};
 use event_log::{THREADS, Tid};

@@ -17,11 +17,11 @@ use Rattle.layer_traits.specs.declared.moves.Line.TheVariants.{Sleepers, Receive
 use Rattle.layer_traits.specs.IpcLaw.{LinesAgree}
 use Rattle.layer_traits.specs.ListsAgree.{is_at}
 use Rattle.layer_traits.specs.Owned.{IsHeld, line_among}
-use Rattle.layer_traits.specs.Places.{AreMoves, Asleep, At, Hand, Home, Pend, Place, Stands, Step, Threads, Where, count_in, home_of}
-use Rattle.layer_traits.specs.Places.{is_hand, is_here, is_home, is_pend, is_thread, one_if, pending_by, place_of, where_is}
+use Rattle.layer_traits.specs.Places.{AreMoves, Asleep, At, Hand, Home, Pend, Berth, Stands, Step, Threads, Where, count_in, home_of}
+use Rattle.layer_traits.specs.Places.{is_hand, is_here, is_home, is_pend, is_thread, one_if, pending_by, berth_of, where_is}
 use Rattle.layer_traits.specs.Told.{IsTold, Tells, queue_place}
 use Rattle.layer_traits.proofs.CountLemmas.{in_counted, is_cpu_of}
-use Rattle.layer_traits.proofs.ListsLemmas.{at_place, count_none, counted_in, place_here}
+use Rattle.layer_traits.proofs.ListsLemmas.{at_berth, count_none, counted_in, berth_here}
 use Rattle.layer_traits.proofs.PlaceLemmas.{pend_count, pend_home, pend_where}
 use Rattle.thread_blocks.specs.Queues.{is_in}
 use Rattle.ipc_calls.specs.Parts.{IsSilentOf, asleep_at, line_told, pends_told, said}
@@ -66,11 +66,11 @@ among_none t lines none line stands = go (is_in t (lines Sleepers)) (is_in t (li
     go false false false first second third none Receivers stands = absurd (cc (second, stands))
     go false false false first second third none Senders stands = absurd (cc (third, stands))
 
-asleep_is : (w : Where) (place : Place) → place_of w ≡ Some place → w ≡ Asleep place
-asleep_is Home place is = absurd (cc is)
-asleep_is (Hand c) place is = absurd (cc is)
-asleep_is (Pend c) place is = absurd (cc is)
-asleep_is (Asleep at) place is = ap Asleep (same_Some at place is)
+asleep_is : (w : Where) (berth : Berth) → berth_of w ≡ Some berth → w ≡ Asleep berth
+asleep_is Home berth is = absurd (cc is)
+asleep_is (Hand c) berth is = absurd (cc is)
+asleep_is (Pend c) berth is = absurd (cc is)
+asleep_is (Asleep at) berth is = ap Asleep (same_Some at berth is)
 
 -- who sleeps in a line of a buffer stands there
 pub sleeps_there : (b : BufId) (line : Line) → queue_place (Asleep (At (Buffer b) line)) ≡ Some (asleep_at b line)
@@ -95,9 +95,9 @@ module _ {P : Type 0} (Fits : P → Type 0) (cpu_of : P → CpuId) (IsInside : C
     sleeps t line stands =
         let counted : 0 < count_in t (lines b line) = in_counted t (lines b line) stands in
         let once = agree.once b line t within in
-        let at : is_at (Buffer b) line (place_of (where_is homes moves t)) ≡ true = positive (is_at (Buffer b) line (place_of (where_is homes moves t)))
+        let at : is_at (Buffer b) line (berth_of (where_is homes moves t)) ≡ true = positive (is_at (Buffer b) line (berth_of (where_is homes moves t)))
         (subst (λ k. 0 < k) once counted) in
-        asleep_is (where_is homes moves t) (At (Buffer b) line) (at_place (Buffer b) line (place_of (where_is homes moves t)) at)
+        asleep_is (where_is homes moves t) (At (Buffer b) line) (at_berth (Buffer b) line (berth_of (where_is homes moves t)) at)
       where
         positive : (at : Bool) → 0 < one_if at → at ≡ true
         positive true is = refl
@@ -216,8 +216,8 @@ module _ {P : Type 0} (watched : Watched P) (t : Tid) (home : CpuId) (home_is : 
 
   in_line : (b : BufId) (line : Line) → b.0 < n → where_is homes moves t ≡ Asleep (At (Buffer b) line) → is_in t (lines b line) ≡ true
   in_line b line within is =
-      let here : one_if (is_at (Buffer b) line (place_of (where_is homes moves t))) ≡ 1
-      = ap (λ w. one_if (is_at (Buffer b) line (place_of w))) is ∙ ap one_if (place_here (Buffer b) line) in
+      let here : one_if (is_at (Buffer b) line (berth_of (where_is homes moves t))) ≡ 1
+      = ap (λ w. one_if (is_at (Buffer b) line (berth_of w))) is ∙ ap one_if (berth_here (Buffer b) line) in
       let count = agree.once b line t within in
       counted_in t (lines b line) (omega (arith, here, count))
 

@@ -7,7 +7,7 @@ use Rattle.event_log.specs.declared.ids.LockId.{LockId}
 use Rattle.event_log.specs.declared.ids.TheConstants.{CPUS}
 use Rattle.event_log.specs.History.{AreForeign, IsLawful, same_cpu, same_lock}
 use Rattle.event_log.specs.Actions.{Action, Take, Try, Give, Phase, Rests, Waits, Holds, doer, phase}
-use Rattle.event_log.specs.Actions.{takes, gives, place, AreLegal, next_action, action_in}
+use Rattle.event_log.specs.Actions.{takes, gives, spot_of, AreLegal, next_action, action_in}
 use Rattle.event_log.specs.Sections.{Section, section_actor, sections_in, block_after}
 use Rattle.event_log.proofs.Exclusion.{is_at, line_at, phase_own, phase_other}
 use Rattle.event_log.proofs.Foreign.{doer_known}
@@ -67,10 +67,10 @@ module _ {N : Type 0} (cpu : CpuId) (lock : LockId) (name : N) (past : List (Act
 
   pub second_action : AreLegal past → next_action cpu lock name (Take cpu lock ∷ past) ≡ Try cpu lock true
   second_action legal =
-      let placed : place {N = N} cpu (Take cpu lock ∷ past) ≡ gives lock past
-      = ap (λ b. if b then takes lock past else place cpu past) (same_cpu_self cpu) ∙ all_given legal in
+      let placed : spot_of {N = N} cpu (Take cpu lock ∷ past) ≡ gives lock past
+      = ap (λ b. if b then takes lock past else spot_of cpu past) (same_cpu_self cpu) ∙ all_given legal in
       ap (action_in cpu lock name (Take cpu lock ∷ past)) waits
-      ∙ ap (Try cpu lock) (eq-eqb (gives lock past) (place {N = N} cpu (Take cpu lock ∷ past)) (sym placed))
+      ∙ ap (Try cpu lock) (eq-eqb (gives lock past) (spot_of {N = N} cpu (Take cpu lock ∷ past)) (sym placed))
 
   holds : phase cpu (Try cpu lock true ∷ Take cpu lock ∷ past) ≡ Holds lock
   holds = phase_own {N = N} (Try cpu lock true) (Take cpu lock ∷ past)

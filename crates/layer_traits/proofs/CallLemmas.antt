@@ -19,8 +19,8 @@ use Rattle.layer_traits.specs.declared.scheds.SchedAnswer.{SchedAnswer}
 use Rattle.layer_traits.specs.declared.scheds.SchedCall.TheVariants as call
 use Rattle.layer_traits.specs.MoveRules.{WakesSleepers, edit_move, section_moves, slept_at, asleep_after, asleep_by}
 use Rattle.layer_traits.specs.Passes.{PassPolled, pass_after, pass_steps}
-use Rattle.layer_traits.specs.Places.{AreMoves, Asleep, Hand, Home, MayMove, Move, Moved, Pend, Place, Pushed, Step, Still, Threads, Took, Where, home_of}
-use Rattle.layer_traits.specs.Places.{is_asleep, is_cpu, is_place, is_thread, pending_by, place_of, step, stepper, where_after, where_is, where_slept}
+use Rattle.layer_traits.specs.Places.{AreMoves, Asleep, Hand, Home, MayMove, Move, Moved, Pend, Berth, Pushed, Step, Still, Threads, Took, Where, home_of}
+use Rattle.layer_traits.specs.Places.{is_asleep, is_cpu, is_berth, is_thread, pending_by, berth_of, step, stepper, where_after, where_is, where_slept}
 use Rattle.layer_traits.specs.Places.{where_taken, where_woken}
 use Rattle.layer_traits.specs.Plans.{Act, Follows, Left, Now, Plan, Table, raised}
 use Rattle.layer_traits.specs.Queues.{CallAllowed, Kernel, QueueAllowed, buffer_sections, call_move, event, event_actor, moves_in, out_at}
@@ -28,56 +28,56 @@ use Rattle.layer_traits.specs.Scheds.{SchedPolled, events_of, pass_call}
 
 -- Where a thread sleeps needs no home.
 
-taken_place : (d : CpuId) (w : Where) → place_of (where_taken d w) ≡ place_of w
-taken_place d Home = refl
-taken_place d (Hand c) = refl
-taken_place d (Pend c) = go (same_cpu d c)
+taken_berth : (d : CpuId) (w : Where) → berth_of (where_taken d w) ≡ berth_of w
+taken_berth d Home = refl
+taken_berth d (Hand c) = refl
+taken_berth d (Pend c) = go (same_cpu d c)
   where
-    go : (b : Bool) → place_of (if b then Home else Pend c) ≡ None
+    go : (b : Bool) → berth_of (if b then Home else Pend c) ≡ None
     go true = refl
     go false = refl
-taken_place d (Asleep p) = refl
+taken_berth d (Asleep p) = refl
 
-woken_place : (c : CpuId) (home : Option CpuId) → place_of (where_woken c home) ≡ None
-woken_place c home = go (is_cpu c home)
+woken_berth : (c : CpuId) (home : Option CpuId) → berth_of (where_woken c home) ≡ None
+woken_berth c home = go (is_cpu c home)
   where
-    go : (b : Bool) → place_of (if b then Home else Hand c) ≡ None
+    go : (b : Bool) → berth_of (if b then Home else Hand c) ≡ None
     go true = refl
     go false = refl
 
-slept_place : (lock : LockId) (slept : Option Line) (w : Where) (p : Option Place) → place_of w ≡ p
-    → place_of (where_slept lock slept w) ≡ slept_at lock slept p
-slept_place lock None w p is = is
-slept_place lock (Some line) w p is = refl
+slept_berth : (lock : LockId) (slept : Option Line) (w : Where) (p : Option Berth) → berth_of w ≡ p
+    → berth_of (where_slept lock slept w) ≡ slept_at lock slept p
+slept_berth lock None w p is = is
+slept_berth lock (Some line) w p is = refl
 
 module _ (homes : List CpuId) where
-  place_after : (past : List Step) (c : CpuId) (move : Move) (t : Tid) → MayMove homes past c move → place_of (where_is homes past t) ≡ asleep_by past t
-      → place_of (where_after homes c move t (where_is homes past t)) ≡ asleep_after move t (asleep_by past t)
-  place_after past c (Pushed d u) t may is = go (same_tid u t) refl
+  berth_after : (past : List Step) (c : CpuId) (move : Move) (t : Tid) → MayMove homes past c move → berth_of (where_is homes past t) ≡ asleep_by past t
+      → berth_of (where_after homes c move t (where_is homes past t)) ≡ asleep_after move t (asleep_by past t)
+  berth_after past c (Pushed d u) t may is = go (same_tid u t) refl
     where
-      go : (b : Bool) → same_tid u t ≡ b → place_of (if b then Pend d else where_is homes past t) ≡ asleep_by past t
+      go : (b : Bool) → same_tid u t ≡ b → berth_of (if b then Pend d else where_is homes past t) ≡ asleep_by past t
       go false other = is
-      go true same = sym (ap place_of (subst (λ v. where_is homes past v ≡ Hand c) (same_tid_true u t same) may.held)) ∙ is
-  place_after past c (Took d) t may is = taken_place d (where_is homes past t) ∙ is
-  place_after past c (Moved lock caller slept woke) t may is = by_woke (is_thread t woke)
+      go true same = sym (ap berth_of (subst (λ v. where_is homes past v ≡ Hand c) (same_tid_true u t same) may.held)) ∙ is
+  berth_after past c (Took d) t may is = taken_berth d (where_is homes past t) ∙ is
+  berth_after past c (Moved lock caller slept woke) t may is = by_woke (is_thread t woke)
     where
-      by_caller : (b : Bool) → place_of (if b then where_slept lock slept (where_is homes past t) else where_is homes past t)
+      by_caller : (b : Bool) → berth_of (if b then where_slept lock slept (where_is homes past t) else where_is homes past t)
           ≡ (if b then slept_at lock slept (asleep_by past t) else asleep_by past t)
-      by_caller true = slept_place lock slept (where_is homes past t) (asleep_by past t) is
+      by_caller true = slept_berth lock slept (where_is homes past t) (asleep_by past t) is
       by_caller false = is
 
       by_woke : (b : Bool)
-          → place_of (if b then where_woken c (home_of homes t)
+          → berth_of (if b then where_woken c (home_of homes t)
           else (if same_tid caller t then where_slept lock slept (where_is homes past t) else where_is homes past t))
           ≡ (if b then None else (if same_tid caller t then slept_at lock slept (asleep_by past t) else asleep_by past t))
-      by_woke true = woken_place c (home_of homes t)
+      by_woke true = woken_berth c (home_of homes t)
       by_woke false = by_caller (same_tid caller t)
-  place_after past c Still t may is = is
+  berth_after past c Still t may is = is
 
   -- where a thread sleeps by its place is where it sleeps by the moves alone
-  pub asleep_place : (moves : List Step) (t : Tid) → AreMoves homes moves → place_of (where_is homes moves t) ≡ asleep_by moves t
-  asleep_place [] t legal = refl
-  asleep_place (s ∷ past) t legal = place_after past s.cpu s.move t legal.0 (asleep_place past t legal.1)
+  pub asleep_berth : (moves : List Step) (t : Tid) → AreMoves homes moves → berth_of (where_is homes moves t) ≡ asleep_by moves t
+  asleep_berth [] t legal = refl
+  asleep_berth (s ∷ past) t legal = berth_after past s.cpu s.move t legal.0 (asleep_berth past t legal.1)
 
 module _ {E B O : Type 0} (k : Kernel E B O) where
   -- The steps of calls.
@@ -126,7 +126,7 @@ module _ {E B O : Type 0} (k : Kernel E B O) where
         → CallAllowed k past c (OnBuffer b e) → (o : O) → out_at k past b e ≡ Some o → (u : Tid) → k.moves.woke o ≡ Some u
         → is_asleep (where_is k.homes (moves_in k past) u) ≡ true
     sleeps past lawful moves c b e allowed o answers u woke =
-        ap is_place (asleep_place k.homes (moves_in k past) u moves ∙ sym (sections_asleep past u))
+        ap is_berth (asleep_berth k.homes (moves_in k past) u moves ∙ sym (sections_asleep past u))
         ∙ wakes k.opening (buffer_sections past) (record { cpu = c; lock = Buffer b; edit = e }) o u (upper_lawful past lawful) allowed.upper answers woke
 
     -- the steps of allowed calls are moves that may be made

@@ -15,7 +15,7 @@ use Rattle.layer_traits.specs.declared.sleeps.Leave.TheVariants.{Nobody, First, 
 use Rattle.layer_traits.specs.declared.sleeps.Outcome.{Outcome}
 use Rattle.layer_traits.specs.ListsAgree.{same_line, is_at, Agrees}
 use Rattle.layer_traits.specs.MoveRules.{edit_move, section_moves, slept_at, asleep_after, asleep_by}
-use Rattle.layer_traits.specs.Places.{Place, At, Moved, is_thread, is_place, one_if, count_in}
+use Rattle.layer_traits.specs.Places.{Berth, At, Moved, is_thread, is_berth, one_if, count_in}
 use Rattle.layer_traits.specs.Sleeping.{SleepRules, SleepState, joined, line_joined, left, woken, line_of, line_at, answer_above}
 use Rattle.layer_traits.specs.Sleeping.{sleep_edited, sleep_answer, sleep_woke, sleep_rules, sleep_moves, NobodySleeps, IsAwake}
 use Rattle.layer_traits.proofs.CountLemmas.{same_tid_sym, count_append, count_front, one_if_most, in_counted, is_thread_self, not_counted}
@@ -89,20 +89,20 @@ same_line_self Sleepers = refl
 same_line_self Receivers = refl
 same_line_self Senders = refl
 
-pub at_place : (lock : LockId) (line : Line) (p : Option Place) → is_at lock line p ≡ true → p ≡ Some (At lock line)
-at_place lock line None at = absurd cc
-at_place lock line (Some (At other place)) at =
-    let parts = and_parts (same_lock other lock) (same_line place line) at in
-    λ i. Some (At (same_lock_true other lock parts.0 i) (same_line_true place line parts.1 i))
+pub at_berth : (lock : LockId) (line : Line) (p : Option Berth) → is_at lock line p ≡ true → p ≡ Some (At lock line)
+at_berth lock line None at = absurd cc
+at_berth lock line (Some (At other at_line)) at =
+    let parts = and_parts (same_lock other lock) (same_line at_line line) at in
+    λ i. Some (At (same_lock_true other lock parts.0 i) (same_line_true at_line line parts.1 i))
 
-pub place_here : (lock : LockId) (line : Line) → is_at lock line (Some (At lock line)) ≡ true
-place_here lock line = ap (λ b. b && same_line line line) (same_lock_self lock) ∙ same_line_self line
+pub berth_here : (lock : LockId) (line : Line) → is_at lock line (Some (At lock line)) ≡ true
+berth_here lock line = ap (λ b. b && same_line line line) (same_lock_self lock) ∙ same_line_self line
 
 other_line : (lock : LockId) (line other : Line) → same_line line other ≡ false → is_at lock other (Some (At lock line)) ≡ false
 other_line lock line other apart = and_right (same_lock lock lock) (same_line line other) apart
 
-other_lock : (lock at : LockId) (line place : Line) → same_lock at lock ≡ false → is_at lock line (Some (At at place)) ≡ false
-other_lock lock at line place apart = and_left (same_lock at lock) (same_line place line) apart
+other_lock : (lock at : LockId) (line at_line : Line) → same_lock at lock ≡ false → is_at lock line (Some (At at at_line)) ≡ false
+other_lock lock at line at_line apart = and_left (same_lock at lock) (same_line at_line line) apart
 
 -- two locks are apart from either side
 lock_apart : (lock other : LockId) → same_lock lock other ≡ false → same_lock other lock ≡ false
@@ -116,10 +116,10 @@ lock_apart lock other apart = go (same_lock other lock) refl
 
 -- The lists of one lock, and who leaves and joins them.
 
-module _ (lock : LockId) (lines : Line → List Tid) (asleep : Tid → Option Place) (agrees : Agrees lock lines asleep) where
+module _ (lock : LockId) (lines : Line → List Tid) (asleep : Tid → Option Berth) (agrees : Agrees lock lines asleep) where
   -- who stands in a list sleeps there
   pub stands_asleep : (line : Line) (t : Tid) → 0 < count_in t (lines line) → asleep t ≡ Some (At lock line)
-  stands_asleep line t some = at_place lock line (asleep t) (go (is_at lock line (asleep t)) refl)
+  stands_asleep line t some = at_berth lock line (asleep t) (go (is_at lock line (asleep t)) refl)
     where
       go : (b : Bool) → is_at lock line (asleep t) ≡ b → b ≡ true
       go true is = refl
@@ -210,7 +210,7 @@ module _ (lock : LockId) (lines : Line → List Tid) (asleep : Tid → Option Pl
         go true same =
             let out : count_in t (lines line) ≡ 0 = subst (λ v. count_in v (lines line) ≡ 0) (same_tid_true caller t same) (awake_out line caller awake) in
             let once : one_if (same_tid t caller) ≡ 1 = ap one_if (same_tid_sym t caller ∙ same) in
-            let here : one_if (is_at lock line (Some (At lock line))) ≡ 1 = ap one_if (place_here lock line) in
+            let here : one_if (is_at lock line (Some (At lock line))) ≡ 1 = ap one_if (berth_here lock line) in
             omega (arith, out, once, here)
         go false other =
             let none : one_if (same_tid t caller) ≡ 0 = ap one_if (same_tid_sym t caller ∙ other) in
@@ -247,7 +247,7 @@ module _ (lock : LockId) (lines : Line → List Tid) (asleep : Tid → Option Pl
     join_agrees (Some Senders) Receivers t = joined_there Receivers Senders t refl
     join_agrees (Some Senders) Senders t = joined_here Senders t
 
-module _ (lock : LockId) (lines : Line → List Tid) (asleep : Tid → Option Place) (agrees : Agrees lock lines asleep) (leave : Leave) (caller : Tid)
+module _ (lock : LockId) (lines : Line → List Tid) (asleep : Tid → Option Berth) (agrees : Agrees lock lines asleep) (leave : Leave) (caller : Tid)
     (awake : asleep caller ≡ None) (small : caller.0 < THREADS) (joins : Option Line) where
   -- who is woken is not the caller
   both_ways : (t : Tid) (b : Bool) → is_thread t (woken leave (lines Sleepers) (lines Receivers) (lines Senders)) ≡ b
@@ -317,7 +317,7 @@ module _ {E B O : Type 0} (rules : SleepRules E B O) (opening : LockId → Optio
   after lock past = block_after (sleep_edited rules) opening lock past
 
   -- where a thread sleeps after them
-  abbrev asleep : List (Section E) → Tid → Option Place
+  abbrev asleep : List (Section E) → Tid → Option Berth
   asleep past t = asleep_by (section_moves (sleep_rules rules) (sleep_moves rules) opening past) t
 
   edited_agrees : (lock : LockId) (past : List (Section E)) (s : Section E) (state : SleepState B) → IsAwake rules opening past s
@@ -383,14 +383,14 @@ module _ {E B O : Type 0} (rules : SleepRules E B O) (opening : LockId → Optio
   -- whom a section wakes sleeps
   pub section_wakes : (past : List (Section E)) (s : Section E) (outcome : Outcome O) (u : Tid) → IsLawful (IsAwake rules opening) past → NobodySleeps opening
       → option_map (sleep_answer rules s.edit) (block_after (sleep_edited rules) opening s.lock past) ≡ Some outcome → outcome.woke ≡ Some u
-      → is_place (asleep_by (section_moves (sleep_rules rules) (sleep_moves rules) opening past) u) ≡ true
+      → is_berth (asleep_by (section_moves (sleep_rules rules) (sleep_moves rules) opening past) u) ≡ true
   section_wakes past s outcome u lawful nobody answers wakes = go (after s.lock past) (lists_agree past lawful nobody s.lock) answers
     where
       go : (o : Option (SleepState B)) → Agrees s.lock (λ line. line_at line o) (asleep past) → option_map (sleep_answer rules s.edit) o ≡ Some outcome
-          → is_place (asleep past u) ≡ true
+          → is_berth (asleep past u) ≡ true
       go None agrees none = absurd cc
       go (Some state) agrees some =
           let told : sleep_woke rules s.edit state ≡ Some u = ap (λ (o : Option (Outcome O)). woke_in o) some ∙ wakes in
           let stood = woken_asleep s.lock (λ l. line_of l state) (asleep past) agrees (rules.leaves (answer_above rules s.edit state)) u
           (is_thread_self u _ told) in
-          ap is_place stood.1
+          ap is_berth stood.1

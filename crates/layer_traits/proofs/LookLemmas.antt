@@ -4,7 +4,7 @@ use Rattle.event_log.specs.declared.ids.CpuId.{CpuId}
 use Rattle.event_log.specs.declared.ids.LockId.{LockId}
 use Rattle.event_log.specs.Actions.{Action, Try, action_in, renamed}
 use Rattle.event_log.specs.Sections.{block_after, sections_in}
-use Rattle.event_log.proofs.Renaming.{phase_renamed, gives_renamed, place_renamed, others_renamed}
+use Rattle.event_log.proofs.Renaming.{phase_renamed, gives_renamed, spot_renamed, others_renamed}
 use Rattle.layer_traits.proofs.PlanRenaming.{map-append}
 use Rattle.layer_traits.specs.Looks.{Tries}
 use Rattle.layer_traits.specs.Plans.{Table, Left, Act, Follows, at_give}
@@ -35,6 +35,6 @@ tries_renamed name ActsFor cpu old new tries = record {
   lock = tries.lock;
   waits = phase_renamed name cpu tries.past ∙ tries.waits;
   grows = ap (map (renamed name)) tries.grows
-      ∙ (λ i. Try cpu tries.lock (sym (gives_renamed name tries.lock tries.past) i == sym (place_renamed name cpu tries.past) i) ∷ map (renamed name)
+      ∙ (λ i. Try cpu tries.lock (sym (gives_renamed name tries.lock tries.past) i == sym (spot_renamed name cpu tries.past) i) ∷ map (renamed name)
       tries.past);
 }

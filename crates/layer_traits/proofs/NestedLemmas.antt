@@ -30,7 +30,7 @@ use Rattle.layer_traits.specs.QueueRules.{AreProper, IsProper, IsProperCall, Sec
 use Rattle.layer_traits.specs.Queues.{CallAllowed, call_move, IsKnownEvent, Kernel, MayQueue, QueueAllowed}
 use Rattle.layer_traits.specs.Queues.{QueuePolled, StaysCallable, answer_of, buffer_sections}
 use Rattle.layer_traits.specs.Queues.{call_at, edit_of, event, event_actor, event_of, kernel, lock_of, moves_in, out_at}
-use Rattle.layer_traits.specs.Turns.{MayPoll, Polled}
+use Rattle.layer_traits.specs.Polls.{MayPoll, Polled}
 use Rattle.layer_traits.specs.Sleeping.{joined}
 use Rattle.layer_traits.proofs.CallLemmas.{moves_lawful}
 use Rattle.layer_traits.proofs.CountLemmas.{same_cpu_sym}

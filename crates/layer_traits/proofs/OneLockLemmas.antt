@@ -6,7 +6,7 @@ use Rattle.event_log.specs.declared.ids.LockId.{LockId}
 use Rattle.event_log.specs.declared.events.Event.{Event}
 use Rattle.event_log.specs.declared.events.Event.TheVariants.{Draw, Look, Free}
 use Rattle.event_log.specs.declared.ids.TheConstants.{CPUS}
-use Rattle.event_log.specs.Actions.{acts_of, gives, phase, place}
+use Rattle.event_log.specs.Actions.{acts_of, gives, phase, spot_of}
 use Rattle.event_log.specs.History.{same_cpu, same_lock}
 use Rattle.event_log.specs.WordsLog.{IsLegalWords, MayFollow, Outside, Waiting, Inside, actor, left_by, standing, draws, frees, is_free}
 use Rattle.event_log.specs.Sections.{block_after}
@@ -36,7 +36,7 @@ counts_elsewhere Fit (Look cpu at ticket read) log lock other fits = fits
 counts_elsewhere Fit (Free cpu at mark) log lock other fits =
     subst (λ b. Fit (draws lock log) (if b then frees lock log + 1 else frees lock log)) (sym other) fits
 
--- for a CPU that waits, words that tell which place is served tell whether its look hits
+-- for a CPU that waits, words that tell which spot is served tell whether its look hits
 pub serves_exactly : {E : Type 0} (log : List (Event (Mark E))) → IsLegalWords log → (cpu : CpuId) (lock : LockId) (ticket : ℕ)
     → standing cpu log ≡ Waiting lock ticket → (served : Bool)
     → ((spot : ℕ) → frees lock log ≤ spot → spot < frees lock log + CPUS → ticket ≡ spot % 2 ^ 64 → served ≡ (frees lock log == spot))
@@ -45,7 +45,7 @@ serves_exactly log legal cpu lock ticket waiting served tells =
     let acts = legal_acts edit_of log legal in
     let there : is_at lock (phase cpu (acts_of edit_of log)) ≡ true =
     ap (is_at lock) (phase_acts edit_of cpu log ∙ ap phase_of waiting) ∙ same_lock_self lock in
-    let spot = place cpu (acts_of edit_of log) in
+    let spot = spot_of cpu (acts_of edit_of log) in
     let has : ticket ≡ spot % 2 ^ 64 = subst (λ s. TicketOf s spot) waiting (ticket_at edit_of log legal cpu) in
     let count : gives lock (acts_of edit_of log) ≡ frees lock log = gives_acts edit_of lock log in
     let close = near (acts_of edit_of log) acts cpu lock there in

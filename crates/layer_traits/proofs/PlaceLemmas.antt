@@ -12,7 +12,7 @@ use Rattle.thread_blocks.specs.Queues.{same_tid, is_in}
 use Rattle.thread_blocks.proofs.Members.{tid_numbered, same_tid_true}
 use Rattle.layer_traits.specs.declared.moves.Line.{Line}
 use Rattle.layer_traits.specs.Passes.{as_list, or_else, switched, took, passed_on, finished, own_slept, own_woken}
-use Rattle.layer_traits.specs.Places.{home_of, is_cpu, is_thread, Place, At, Where, Home, Hand, Pend, Asleep, Move, Pushed, Took}
+use Rattle.layer_traits.specs.Places.{home_of, is_cpu, is_thread, Berth, At, Where, Home, Hand, Pend, Asleep, Move, Pushed, Took}
 use Rattle.layer_traits.specs.Places.{Moved, Still, Step, step, stepper, where_woken, where_taken, where_slept, where_after}
 use Rattle.layer_traits.specs.Places.{where_is, is_asleep, is_home, is_hand, is_pend, pending_after, pending_by, MayEdit, MayMove}
 use Rattle.layer_traits.specs.Places.{AreMoves, Threads, one_if, count_in, copies, is_here, Stands, homed, at_boot}
@@ -21,7 +21,7 @@ use Rattle.layer_traits.proofs.CountLemmas.{is_thread_self, count_append, count_
 
 -- What a move may do to a place.
 
-asleep_at : (w : Where) → is_asleep w ≡ true → (p : Place) × (w ≡ Asleep p)
+asleep_at : (w : Where) → is_asleep w ≡ true → (p : Berth) × (w ≡ Asleep p)
 asleep_at Home asleep = absurd cc
 asleep_at (Hand c) asleep = absurd cc
 asleep_at (Pend c) asleep = absurd cc
@@ -71,8 +71,8 @@ module _ (homes : List CpuId) where
   -- an edit leaves a thread where it is, wakes it or puts its caller to sleep
   pub view_moved : (past : List Step) (c : CpuId) (lock : LockId) (caller : Tid) (slept : Option Line) (woke : Option Tid) (t : Tid)
       (P : Where → Where → Type 0) → MayMove homes past c (Moved lock caller slept woke) → ((w : Where) → P w w)
-      → ((p : Place) → P (Asleep p) (where_woken c (home_of homes t)))
-      → (home_of homes t ≡ Some c → (p : Place) → P Home (Asleep p))
+      → ((p : Berth) → P (Asleep p) (where_woken c (home_of homes t)))
+      → (home_of homes t ≡ Some c → (p : Berth) → P Home (Asleep p))
       → P (where_is homes past t) (where_after homes c (Moved lock caller slept woke) t (where_is homes past t))
   view_moved past c lock caller slept woke t P may stays wakes sleeps = by_woke woke may.1
     where
@@ -108,8 +108,8 @@ module _ (homes : List CpuId) where
       → MayMove homes past c move → ((w : Where) → P w w)
       → ((home : CpuId) → home_of homes t ≡ Some home → P (Hand c) (Pend home))
       → (where_is homes past t ≡ Pend c → P (Pend c) Home)
-      → ((p : Place) → P (Asleep p) (where_woken c (home_of homes t)))
-      → (home_of homes t ≡ Some c → (p : Place) → P Home (Asleep p))
+      → ((p : Berth) → P (Asleep p) (where_woken c (home_of homes t)))
+      → (home_of homes t ≡ Some c → (p : Berth) → P Home (Asleep p))
       → P (where_is homes past t) (where_after homes c move t (where_is homes past t))
   view_step past c (Pushed d u) t P may stays pushes takes wakes sleeps = go (same_tid u t) refl
     where

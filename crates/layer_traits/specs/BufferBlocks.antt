@@ -37,9 +37,9 @@ line_of Receivers x = x.receive_line
 line_of Senders x = x.send_line
 
 -- how many threads entered it, modulo 2^64: the position of the next one
-abbrev pub places_of : Side → BufferState → ℕ
-places_of Receivers x = x.receives
-places_of Senders x = x.sends
+abbrev pub drawn_of : Side → BufferState → ℕ
+drawn_of Receivers x = x.receives
+drawn_of Senders x = x.sends
 
 -- whether the thread stands first
 abbrev pub is_first : Tid → List Tid → Bool
@@ -63,8 +63,8 @@ effect_kind Receivers x = if nat_lt 0 (length x.items) then Recv else RecvClosed
 effect_kind Senders x = if x.closed then SendClosed else Send
 
 -- whether it is this thread's turn: it stands first in the line of its side, and may go on
-abbrev pub is_turn : Side → Tid → BufferState → Bool
-is_turn side t x = is_first t (line_of side x) && may_go side x
+abbrev pub is_next : Side → Tid → BufferState → Bool
+is_next side t x = is_first t (line_of side x) && may_go side x
 
 -- the front of a side's line, where it may go on
 abbrev pub front_ready : Side → BufferState → Option Tid
@@ -111,15 +111,15 @@ editor (Shut t) = t
 -- the block after an edit: a try whose turn it is not leaves it as it was
 abbrev pub buffer_edited : BufferEdit → BufferState → BufferState
 buffer_edited (Enter t side) x = if may_join t (line_of side x) then entered side t x else x
-buffer_edited (TryPut t m) x = if is_turn Senders t x then put_in m x else x
-buffer_edited (TryTake t) x = if is_turn Receivers t x then taken_out x else x
+buffer_edited (TryPut t m) x = if is_next Senders t x then put_in m x else x
+buffer_edited (TryTake t) x = if is_next Receivers t x then taken_out x else x
 buffer_edited (Shut t) x = shut x
 
 -- the answer of an edit: the position drawn; the effect; that it is not the thread's turn yet; or the numbers of the close
 abbrev pub buffer_answer : BufferEdit → BufferState → BufferOut
-buffer_answer (Enter t side) x = Entered (places_of side x)
-buffer_answer (TryPut t m) x = if is_turn Senders t x then Done (effect_kind Senders x) x.effects m else NotYet
-buffer_answer (TryTake t) x = if is_turn Receivers t x then Done (effect_kind Receivers x) x.effects (first_item x.items) else NotYet
+buffer_answer (Enter t side) x = Entered (drawn_of side x)
+buffer_answer (TryPut t m) x = if is_next Senders t x then Done (effect_kind Senders x) x.effects m else NotYet
+buffer_answer (TryTake t) x = if is_next Receivers t x then Done (effect_kind Receivers x) x.effects (first_item x.items) else NotYet
 buffer_answer (Shut t) x = WasShut x.effects x.closes
 
 -- a buffer at the start

@@ -21,7 +21,7 @@ use Rattle.layer_traits.specs.declared.conditions.CvEdit.TheVariants.{Edit, Sign
 use Rattle.layer_traits.specs.declared.buffer_edits.BufferEdit.{BufferEdit}
 use Rattle.layer_traits.specs.declared.buffer_edits.BufferEdit.TheVariants.{Enter, TryPut, TryTake, Shut}
 use Rattle.layer_traits.specs.Conditions.{CvCall}
-use Rattle.layer_traits.specs.BufferBlocks.{effect_kind, empty_block, first_item, is_turn, places_of}
+use Rattle.layer_traits.specs.BufferBlocks.{effect_kind, empty_block, first_item, is_next, drawn_of}
 use Rattle.layer_traits.specs.BufferProtocol.{BufferLock, BufferSection, buffer_at}
 use Rattle.thread_blocks.specs.Queues.{same_tid}
 
@@ -39,16 +39,16 @@ is_enter side t (Inside (SignalFront u at)) = false
 is_enter side t (Release leave) = false
 
 -- how many threads entered this side's line of a lock's buffer, modulo 2^64
-abbrev pub places_in : Side → Option BufferLock → ℕ
-places_in side None = 0
-places_in side (Some lock) = places_of side lock.above
+abbrev pub drawn_in : Side → Option BufferLock → ℕ
+drawn_in side None = 0
+drawn_in side (Some lock) = drawn_of side lock.above
 
 -- the position that a thread drew last in this side's line: how many had entered before it
 abbrev pub drawn : (LockId → Option BufferLock) → LockId → Side → Tid → List BufferSection → ℕ
 drawn opening lock side t [] = 0
 drawn opening lock side t (s ∷ past) =
     if same_lock lock s.lock && is_enter side t s.edit
-    then places_in side (buffer_at opening past lock)
+    then drawn_in side (buffer_at opening past lock)
     else drawn opening lock side t past
 
 -- an entry
@@ -62,11 +62,11 @@ effect_on cpu b call position None = None
 effect_on cpu b (Acquire t) position (Some lock) = None
 effect_on cpu b (Inside (Edit (Enter t side))) position (Some lock) = None
 effect_on cpu b (Inside (Edit (TryPut t m))) position (Some lock) =
-    if is_turn Senders t lock.above
+    if is_next Senders t lock.above
     then Some (entry cpu t (effect_kind Senders lock.above) b m lock.above.effects (position Senders t))
     else None
 effect_on cpu b (Inside (Edit (TryTake t))) position (Some lock) =
-    if is_turn Receivers t lock.above
+    if is_next Receivers t lock.above
     then Some (entry cpu t (effect_kind Receivers lock.above) b (first_item lock.above.items) lock.above.effects (position Receivers t))
     else None
 effect_on cpu b (Inside (Edit (Shut t))) position (Some lock) = Some (entry cpu t Close b no_message lock.above.effects lock.above.closes)

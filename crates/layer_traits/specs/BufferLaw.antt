@@ -266,11 +266,11 @@ told_by (out.Did cv) = told_in cv
 told_by (out.Released cv) = NotYet
 
 -- the thread has entered its line: it keeps its position, and tries next; or it has closed the buffer, and signals
-abbrev pub placed : Talk → BufferOut → Talk
-placed talk (Entered position) = record { stage = Tries; call = talk.call; position = position; effect = talk.effect }
-placed talk NotYet = talk
-placed talk (Done kind op value) = talk
-placed talk (WasShut op pos) = record {
+abbrev pub enlisted : Talk → BufferOut → Talk
+enlisted talk (Entered position) = record { stage = Tries; call = talk.call; position = position; effect = talk.effect }
+enlisted talk NotYet = talk
+enlisted talk (Done kind op value) = talk
+enlisted talk (WasShut op pos) = record {
   stage = Signals;
   call = talk.call;
   position = talk.position;
@@ -297,7 +297,7 @@ at_stage stage talk = record { stage = stage; call = talk.call; position = talk.
 abbrev pub heard : Talk → Stage → QOut (CvOut BufferOut) → Talk
 heard talk Between out = talk
 heard talk Acquires out = at_stage Enters talk
-heard talk Enters out = placed talk (told_by out)
+heard talk Enters out = enlisted talk (told_by out)
 heard talk Tries out = tried talk (told_by out)
 heard talk Waits out = at_stage AcquiresAgain talk
 heard talk AcquiresAgain out = at_stage Tries talk

@@ -19,7 +19,7 @@ use Rattle.layer_traits.specs.declared.buffer_edits.BufferEdit.TheVariants.{Ente
 use Rattle.layer_traits.specs.declared.buffer_edits.BufferOut.{BufferOut}
 use Rattle.layer_traits.specs.Conditions.{CvCall, Deeds, cv_rules}
 use Rattle.layer_traits.specs.Locking.{LockRules, LockState, IsOwners, lock_after, lock_caller, owner_in}
-use Rattle.layer_traits.specs.BufferBlocks.{BufferState, buffer_answer, buffer_edited, editor, front_ready, is_turn, line_of}
+use Rattle.layer_traits.specs.BufferBlocks.{BufferState, buffer_answer, buffer_edited, editor, front_ready, is_next, line_of}
 use Rattle.thread_blocks.specs.Queues.{same_tid, is_in}
 
 -- a section of a buffer
@@ -53,10 +53,10 @@ abbrev pub is_in_line : Side → Tid → Option BufferLock → Bool
 is_in_line side t None = false
 is_in_line side t (Some lock) = is_in t (line_of side lock.above)
 
--- whether it is its turn there
-abbrev pub is_turn_at : Side → Tid → Option BufferLock → Bool
-is_turn_at side t None = false
-is_turn_at side t (Some lock) = is_turn side t lock.above
+-- whether it is next there
+abbrev pub is_next_at : Side → Tid → Option BufferLock → Bool
+is_next_at side t None = false
+is_next_at side t (Some lock) = is_next side t lock.above
 
 -- whether a call is a try of this side
 abbrev pub is_try : Side → CvCall BufferEdit → Bool
@@ -77,7 +77,7 @@ abbrev pub has_tried_in_vain : (LockId → Option BufferLock) → LockId → Sid
 has_tried_in_vain opening lock side t [] = false
 has_tried_in_vain opening lock side t (s ∷ past) =
     if same_tid (lock_caller buffer_rules s.edit) t
-    then is_try side s.edit && same_lock lock s.lock && not (is_turn_at side t (buffer_at opening past lock))
+    then is_try side s.edit && same_lock lock s.lock && not (is_next_at side t (buffer_at opening past lock))
     else has_tried_in_vain opening lock side t past
 
 -- a call is due: what its caller must have done before

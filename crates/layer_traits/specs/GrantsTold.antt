@@ -1,4 +1,4 @@
--- A words log, told as the log of grant words that says the same: each place, try and give of the one is one of the other.
+-- A words log, told as the log of grant words that says the same: each spot, try and give of the one is one of the other.
 use Rattle.std.proofs.Common.{◌≡◌, ℕ, ◌+◌, ◌%◌, ◌^◌, List, [], ◌∷◌, ◌==◌, if◌then◌else◌, refl, ap, sym, subst, ◌∙◌, Option, Some, None, MatchOption}
 use Rattle.event_log.specs.declared.ids.CpuId.{CpuId}
 use Rattle.event_log.specs.declared.ids.LockId.{LockId}
@@ -7,7 +7,7 @@ use Rattle.event_log.specs.declared.events.Event.{Event}
 use Rattle.event_log.specs.declared.events.Event.TheVariants.{Draw, Look, Free}
 use Rattle.event_log.specs.declared.grants.GrantEvent.{GrantEvent}
 use Rattle.event_log.specs.declared.grants.GrantEvent.TheVariants.{Take, Peek, Give}
-use Rattle.event_log.specs.Actions.{Take as TakePlace, Try as TryEntry, Give as GiveOn, acts_of, takes, gives, place}
+use Rattle.event_log.specs.Actions.{Take as TakeSpot, Try as TryEntry, Give as GiveOn, acts_of, takes, gives, spot_of}
 use Rattle.event_log.specs.Grants.{IsLegalGrants, acts_of_grants, grant_standing, grant_word}
 use Rattle.event_log.specs.History.{IsLawful, same_cpu}
 use Rattle.event_log.specs.Sections.{Section, block_after, sections_in}
@@ -53,10 +53,10 @@ module _ {M : Type 0} where
       tells.legal,
     );
     stands = λ c. ap (λ s. if same_cpu cpu c then Waiting lock ticket else s) (tells.stands c);
-    acts = λ name. ap (λ l. TakePlace cpu lock ∷ l) (tells.acts name);
+    acts = λ name. ap (λ l. TakeSpot cpu lock ∷ l) (tells.acts name);
   }
 
-  -- a peek hits exactly where the look does: both say that the place is served
+  -- a peek hits exactly where the look does: both say that the spot is served
   hits_same : (cpu : CpuId) (lock : LockId) (ticket read : ℕ) (past : List (Event M)) → IsLegalWords (Look cpu lock ticket read ∷ past)
       → (tells : Tells past) → grant_standing cpu (grants_told past) ≡ Waiting lock ticket
       → (grant_word lock (ticket % CPUS) (grants_told past) == (ticket + 1) % 2 ^ 64) ≡ (read == ticket)
@@ -64,7 +64,7 @@ module _ {M : Type 0} where
       let peeks = legal_grants same (Peek cpu lock ticket (grant_word lock (ticket % CPUS) (grants_told past)) ∷ grants_told past)
       ((waits, refl), tells.legal) in
       let looks = legal_acts same (Look cpu lock ticket read ∷ past) legal in
-      peeks.0.1 ∙ (ap (λ l. gives lock l == place cpu l) (tells.acts same) ∙ sym looks.0.1)
+      peeks.0.1 ∙ (ap (λ l. gives lock l == spot_of cpu l) (tells.acts same) ∙ sym looks.0.1)
 
   peek_tells : (cpu : CpuId) (lock : LockId) (ticket read : ℕ) (past : List (Event M)) → IsLegalWords (Look cpu lock ticket read ∷ past) → Tells past
       → Tells (Look cpu lock ticket read ∷ past)

@@ -6,7 +6,7 @@ use Rattle.event_log.specs.declared.ids.LockId.{LockId}
 use Rattle.event_log.specs.declared.ids.LockId.TheVariants.{Pending, Buffer}
 use Rattle.event_log.specs.declared.ids.Tid.{Tid}
 use Rattle.layer_traits.specs.declared.moves.Line.{Line}
-use Rattle.layer_traits.specs.Places.{Asleep, At, Step, count_in, one_if, place_of, where_is}
+use Rattle.layer_traits.specs.Places.{Asleep, At, Step, count_in, one_if, berth_of, where_is}
 use Rattle.layer_traits.specs.ListsAgree.{is_at}
 use Rattle.layer_traits.specs.declared.calls.Call.{Call}
 use Rattle.layer_traits.specs.declared.calls.Reply.{Reply}
@@ -22,7 +22,7 @@ use Rattle.layer_traits.specs.BufferLaw.{BufferPlan, Buffering, buffer_of, fifo_
 -- other list; nobody sleeps but at a buffer
 pub record LinesAgree (buffers : ℕ) (homes : List CpuId) (moves : List Step) (lines : BufId → Line → List Tid) : Type 0 where
   pub once : (b : BufId) (line : Line) (t : Tid) → b.0 < buffers
-      → count_in t (lines b line) ≡ one_if (is_at (Buffer b) line (place_of (where_is homes moves t)))
+      → count_in t (lines b line) ≡ one_if (is_at (Buffer b) line (berth_of (where_is homes moves t)))
   pub known : (t : Tid) (lock : LockId) (line : Line) → where_is homes moves t ≡ Asleep (At lock line)
       → (b : BufId) × (lock ≡ Buffer b) × (b.0 < buffers)
 

@@ -1,7 +1,7 @@
 pub mod Protocol
 pub mod WordsProtocol
 pub mod GrantProtocol
-pub mod Turns
+pub mod Polls
 pub mod OneLock
 pub mod GrantsTold
 pub mod Plans

@@ -9,7 +9,7 @@ use Rattle.layer_traits.specs.declared.moves.Line.{Line}
 use Rattle.layer_traits.specs.declared.moves.Line.TheVariants.{Sleepers, Receivers, Senders}
 use Rattle.layer_traits.specs.declared.queue_edits.QueueBlock.{QueueBlock}
 use Rattle.layer_traits.specs.declared.queues.QueueEvent.{QueueEvent}
-use Rattle.layer_traits.specs.Places.{Place, At, one_if, count_in, place_of, where_is}
+use Rattle.layer_traits.specs.Places.{Berth, At, one_if, count_in, berth_of, where_is}
 use Rattle.layer_traits.specs.QueueBlocks.{inner, homes_in}
 use Rattle.layer_traits.specs.Queues.{buffer_sections, moves_in}
 use Rattle.layer_traits.specs.Sleeping.{SleepRules, SleepState, line_at, sleep_edited}
@@ -27,17 +27,17 @@ same_line Receivers Senders = false
 same_line Senders Sleepers = false
 same_line Senders Receivers = false
 
--- whether this is the place at which a thread sleeps, if it sleeps
-abbrev pub is_at : LockId → Line → Option Place → Bool
+-- whether this is the berth at which a thread sleeps, if it sleeps
+abbrev pub is_at : LockId → Line → Option Berth → Bool
 is_at lock line None = false
 is_at lock line (Some (At other at)) = same_lock other lock && same_line at line
 
--- the lists of one lock agree with the places at which threads sleep
-abbrev pub Agrees : LockId → (Line → List Tid) → (Tid → Option Place) → Type 0
+-- the lists of one lock agree with the berths in which threads sleep
+abbrev pub Agrees : LockId → (Line → List Tid) → (Tid → Option Berth) → Type 0
 Agrees lock lines asleep = (line : Line) (t : Tid) → count_in t (lines line) ≡ one_if (is_at lock line (asleep t))
 
 -- the lists of each lock agree with the places of the threads
 abbrev pub ListsAgree : {E B O : Type 0} → SleepRules E B O → (LockId → Option (QueueBlock (SleepState B))) → List (QueueEvent E) → Type 0
 ListsAgree rules opening seen = (lock : LockId) →
     Agrees lock (λ line. line_at line (block_after (sleep_edited rules) (inner opening) lock (buffer_sections seen)))
-    (λ t. place_of (where_is (homes_in opening) (moves_in (sleep_kernel rules opening) seen) t))
+    (λ t. berth_of (where_is (homes_in opening) (moves_in (sleep_kernel rules opening) seen) t))

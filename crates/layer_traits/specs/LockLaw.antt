@@ -23,7 +23,7 @@ use Rattle.layer_traits.specs.declared.sleeps.Outcome.{Outcome}
 use Rattle.layer_traits.specs.ListsAgree.{is_at}
 use Rattle.layer_traits.specs.Locking.{LockRules, LockState, lock_caller, lock_rules, lock_moves, lock_after, owner_of, IsOwners, line_in}
 use Rattle.layer_traits.specs.MoveRules.{MoveRules}
-use Rattle.layer_traits.specs.Places.{one_if, count_in, place_of, where_is, at_boot}
+use Rattle.layer_traits.specs.Places.{one_if, count_in, berth_of, where_is, at_boot}
 use Rattle.layer_traits.specs.Plans.{Left, Plan, Now, raised}
 use Rattle.layer_traits.specs.Protocol.{section}
 use Rattle.layer_traits.specs.QueueBlocks.{inner, homes_in}
@@ -148,7 +148,7 @@ HasOrAwaits t (Some state) = (state.owner ≡ Some t) ⊎ (is_in t state.sleeper
 abbrev pub LocksAgree : {F R B O : Type 0} → LockRules F R B O → (LockId → Option (QueueBlock (LockState B))) → List (QueueEvent (QEdit F R)) → Type 0
 LocksAgree rules opening seen = (lock : LockId) (line : Line) (t : Tid) →
     count_in t (line_in line (lock_after rules (inner opening) lock (buffer_sections seen)))
-    ≡ one_if (is_at lock line (place_of (where_is (homes_in opening) (moves_in (lock_kernel rules opening) seen) t)))
+    ≡ one_if (is_at lock line (berth_of (where_is (homes_in opening) (moves_in (lock_kernel rules opening) seen) t)))
 
 -- why the poll of a whole machine answers nothing: a woken thread is now to be sent home, or the caller now sleeps for the lock
 abbrev pub MustWait : {O : Type 0} → Tid → BufId → Locking O → Locking O → Type 0

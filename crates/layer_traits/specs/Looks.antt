@@ -3,7 +3,7 @@ use Rattle.std.specs.Prelude.{◌≡◌, List, ◌∷◌, ◌++◌, ◌==◌}
 use Rattle.event_log.specs.declared.ids.CpuId.{CpuId}
 use Rattle.event_log.specs.declared.ids.LockId.{LockId}
 use Rattle.event_log.specs.History.{AreForeign}
-use Rattle.event_log.specs.Actions.{Action, Try, Waits, doer, gives, phase, place}
+use Rattle.event_log.specs.Actions.{Action, Try, Waits, doer, gives, phase, spot_of}
 
 -- foreign actions came first, and then this CPU, which waits at a lock, tried to enter it
 pub record Tries {N : Type 0} (ActsFor : CpuId → Type 0) (cpu : CpuId) (old new : List (Action N)) : Type 0 where
@@ -13,4 +13,4 @@ pub record Tries {N : Type 0} (ActsFor : CpuId → Type 0) (cpu : CpuId) (old ne
   pub joined : past ≡ others ++ old
   pub lock : LockId
   pub waits : phase cpu past ≡ Waits lock
-  pub grows : new ≡ Try cpu lock (gives lock past == place cpu past) ∷ past
+  pub grows : new ≡ Try cpu lock (gives lock past == spot_of cpu past) ∷ past

@@ -23,16 +23,16 @@ abbrev pub is_thread : Tid → Option Tid → Bool
 is_thread t None = false
 is_thread t (Some u) = same_tid u t
 
--- where a sleeping thread stands: in one line of what a lock guards
-pub data Place : Type 0 where
-  At : (lock : LockId) (line : Line) → Place
+-- a berth, where a thread sleeps: one line of what a lock guards
+pub data Berth : Type 0 where
+  At : (lock : LockId) (line : Line) → Berth
 
 -- where a thread stands: with the CPU that is its home, in the hand of a CPU that woke it, in a CPU's pending queue, or asleep
 pub data Where : Type 0 where
   Home : Where
   Hand : (cpu : CpuId) → Where
   Pend : (queue : CpuId) → Where
-  Asleep : (place : Place) → Where
+  Asleep : (berth : Berth) → Where
 
 -- what an event may do to places: push a thread into a pending queue, take all of one, edit what a lock guards, where the caller
 -- may go to sleep in a line and a sleeper may be woken, or nothing
@@ -85,20 +85,20 @@ where_is homes [] t = Home
 where_is homes (s ∷ past) t = where_after homes s.cpu s.move t (where_is homes past t)
 
 -- the line in which a thread sleeps, if it does
-abbrev pub place_of : Where → Option Place
-place_of Home = None
-place_of (Hand c) = None
-place_of (Pend c) = None
-place_of (Asleep p) = Some p
+abbrev pub berth_of : Where → Option Berth
+berth_of Home = None
+berth_of (Hand c) = None
+berth_of (Pend c) = None
+berth_of (Asleep p) = Some p
 
--- whether there is a place
-abbrev pub is_place : Option Place → Bool
-is_place None = false
-is_place (Some p) = true
+-- whether there is a berth
+abbrev pub is_berth : Option Berth → Bool
+is_berth None = false
+is_berth (Some p) = true
 
 -- whether it is asleep
 abbrev pub is_asleep : Where → Bool
-is_asleep w = is_place (place_of w)
+is_asleep w = is_berth (berth_of w)
 
 -- whether it is at home
 abbrev pub is_home : Where → Bool

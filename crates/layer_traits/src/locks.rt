@@ -18,7 +18,7 @@ pub trait LockLayer<E: Edit> {
     ghost use Rattle.event_log.specs.Sections.{Section, section_actor, sections_in};
     ghost use Rattle.layer_traits.specs.Looks.{Tries};
     ghost use Rattle.layer_traits.specs.Protocol.{IsKnown, section};
-    ghost use Rattle.layer_traits.specs.Turns.{MayPoll, Polled};
+    ghost use Rattle.layer_traits.specs.Polls.{MayPoll, Polled};
     ghost use Rattle.layer_traits.specs.Plans.{Follows, IsWhole, table_of, section_plan, answered, is_in_section};
 
     /// What lies beneath.
@@ -115,7 +115,7 @@ pub trait LockLayer<E: Edit> {
             (section_plan lock edit) (acts m.old) (acts m.new) (answered result) };
 
     /// Law: a part that agrees with a machine is of a CPU for which the machine's holder acts.
-    ghost own: { (p : Self) (m : Self.Machine) → Fits p m → ActsFor m (cpu_of p) };
+    ghost own_cpu: { (p : Self) (m : Self.Machine) → Fits p m → ActsFor m (cpu_of p) };
 
     /// Law: each section that was seen keeps the protocol.
     ghost lawful: { (m : Self.Machine) (c : CpuId) → ActsFor m c → IsLawful (E.rules.allowed (opening m)) (seen m) };

@@ -153,7 +153,7 @@ pub trait QueueLayer<E: Moves> {
             (queue_plan call.now) (acts m.old) (acts m.new) (answered result) };
 
     /// Law: a part that agrees with a machine is of a CPU for which the machine's holder acts.
-    ghost own: { (p : Self) (m : Self.Machine) → Fits p m → ActsFor m (cpu_of p) };
+    ghost own_cpu: { (p : Self) (m : Self.Machine) → Fits p m → ActsFor m (cpu_of p) };
 
     /// Law: the machine opened well formed: each queue empty, and each thread's home with its queue.
     ghost opens: { (m : Self.Machine) (c : CpuId) → ActsFor m c → StartsWell (opening m) };

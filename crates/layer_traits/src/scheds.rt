@@ -178,7 +178,7 @@ pub trait SchedLayer<E: Moves> {
             (acts m.old) (acts m.new) (left (threads self.new) result) };
 
     /// Law: a part that agrees with a machine is of a CPU for which the machine's holder acts.
-    ghost own: { (p : Self) (m : Self.Machine) → Fits p m → ActsFor m (cpu_of p) };
+    ghost own_cpu: { (p : Self) (m : Self.Machine) → Fits p m → ActsFor m (cpu_of p) };
 
     /// Law: the machine opened well formed: each queue empty, and each thread's home with its queue.
     ghost opens: { (m : Self.Machine) (c : CpuId) → ActsFor m c → StartsWell (opening m) };

@@ -2,9 +2,9 @@ pub mod TableLemmas
 pub mod KernelLemmas
 pub mod WholeLemmas
 pub mod FifoLemmas
-pub mod LockTurnLemmas
-pub mod CondTurnLemmas
+pub mod LockPaceLemmas
+pub mod CondPaceLemmas
 pub mod OpeningLemmas
 pub mod PlainOpenings
-pub mod QueueTurnLemmas
+pub mod QueuePaceLemmas
 pub mod TextLemmas

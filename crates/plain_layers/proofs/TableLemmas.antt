@@ -1,4 +1,4 @@
--- The list of blocks: the place of a lock in it, what an edit at that place leaves, and that a section keeps the list in agreement.
+-- The list of blocks: the slot of a lock in it, what an edit at that slot leaves, and that a section keeps the list in agreement.
 use Rattle.std.proofs.Common.{◌≡◌, ℕ, zero, suc, ◌+◌, ◌<◌, Bool, true, false, List, [], ◌∷◌, length, get_or, drop, slice_set}
 use Rattle.std.proofs.Common.{if◌then◌else◌, Option, Some, IsSome, option_map, refl, ap, sym, ◌∙◌, subst, arith}
 use Rattle.event_log.specs.declared.ids.CpuId.{CpuId}
@@ -11,8 +11,8 @@ use Rattle.event_log.proofs.ListLemmas.{from_index}
 use Rattle.layer_traits.proofs.Alone.{block_there}
 use Rattle.layer_traits.specs.OneLock.{opened}
 use Rattle.layer_traits.specs.Protocol.{Rules, section}
-use Rattle.layer_traits.specs.Turns.{Answers}
-use Rattle.plain_layers.specs.Tables.{IsPlace, IsTable}
+use Rattle.layer_traits.specs.Polls.{Answers}
+use Rattle.plain_layers.specs.Tables.{IsSlot, IsTable}
 
 -- whether an entry that names the lock names another one too
 names : (lock m l : LockId) → same_lock m lock ≡ true → (b : Bool) → same_lock l lock ≡ b → same_lock m l ≡ b
@@ -25,21 +25,21 @@ names lock m l named false is = go (same_lock m l) refl
 
 module _ {B : Type 0} (lock : LockId) where
   -- the first entry names the lock
-  pub place_here : (blocks : List (LockId × B)) (i : ℕ) (o : LockId × B) → i < length blocks → o ≡ get_or blocks i o → same_lock o.0 lock ≡ true
-      → ((n : ℕ) → IsPlace lock n (drop i blocks) → IsPlace lock (i + n) blocks) → IsPlace lock i blocks
-  place_here blocks i o within is same place =
-      let at : IsPlace lock 0 (drop i blocks) = subst (IsPlace lock 0) (sym (from_index blocks i o within is)) same in
-      let same_place : i + 0 ≡ i = omega arith in
-      subst (λ n. IsPlace lock n blocks) same_place (place 0 at)
+  pub slot_here : (blocks : List (LockId × B)) (i : ℕ) (o : LockId × B) → i < length blocks → o ≡ get_or blocks i o → same_lock o.0 lock ≡ true
+      → ((n : ℕ) → IsSlot lock n (drop i blocks) → IsSlot lock (i + n) blocks) → IsSlot lock i blocks
+  slot_here blocks i o within is same slot =
+      let at : IsSlot lock 0 (drop i blocks) = subst (IsSlot lock 0) (sym (from_index blocks i o within is)) same in
+      let same_slot : i + 0 ≡ i = omega arith in
+      subst (λ n. IsSlot lock n blocks) same_slot (slot 0 at)
 
   -- the first entry names another lock
-  pub place_later : (blocks : List (LockId × B)) (i : ℕ) (o : LockId × B) → i < length blocks → o ≡ get_or blocks i o → same_lock o.0 lock ≡ false
-      → ((n : ℕ) → IsPlace lock n (drop i blocks) → IsPlace lock (i + n) blocks) → (n : ℕ) → IsPlace lock n (drop (i + 1) blocks)
-      → IsPlace lock (i + 1 + n) blocks
-  place_later blocks i o within is other place n at =
-      let here : IsPlace lock (suc n) (drop i blocks) = subst (IsPlace lock (suc n)) (sym (from_index blocks i o within is)) (other, at) in
-      let same_place : i + suc n ≡ i + 1 + n = omega arith in
-      subst (λ n. IsPlace lock n blocks) same_place (place (suc n) here)
+  pub slot_later : (blocks : List (LockId × B)) (i : ℕ) (o : LockId × B) → i < length blocks → o ≡ get_or blocks i o → same_lock o.0 lock ≡ false
+      → ((n : ℕ) → IsSlot lock n (drop i blocks) → IsSlot lock (i + n) blocks) → (n : ℕ) → IsSlot lock n (drop (i + 1) blocks)
+      → IsSlot lock (i + 1 + n) blocks
+  slot_later blocks i o within is other slot n at =
+      let here : IsSlot lock (suc n) (drop i blocks) = subst (IsSlot lock (suc n)) (sym (from_index blocks i o within is)) (other, at) in
+      let same_slot : i + suc n ≡ i + 1 + n = omega arith in
+      subst (λ n. IsSlot lock n blocks) same_slot (slot (suc n) here)
 
   pub there_later : (blocks : List (LockId × B)) (i : ℕ) (o : LockId × B) → i < length blocks → o ≡ get_or blocks i o → same_lock o.0 lock ≡ false
       → IsSome (opened (drop i blocks) lock) → IsSome (opened (drop (i + 1) blocks) lock)
@@ -48,35 +48,35 @@ module _ {B : Type 0} (lock : LockId) where
       ap (λ l. opened l lock) (from_index blocks i o within is) ∙ ap (λ b. if b then Some o.1 else opened (drop (i + 1) blocks) lock) other in
       subst (λ x. IsSome x) skips there
 
-  pub place_within : (n : ℕ) (blocks : List (LockId × B)) → IsPlace lock n blocks → n < length blocks
-  place_within n [] at = absurd at
-  place_within zero (x ∷ rest) at = omega arith
-  place_within (suc n) (x ∷ rest) at = let below = place_within n rest at.1 in omega (arith, below)
+  pub slot_within : (n : ℕ) (blocks : List (LockId × B)) → IsSlot lock n blocks → n < length blocks
+  slot_within n [] at = absurd at
+  slot_within zero (x ∷ rest) at = omega arith
+  slot_within (suc n) (x ∷ rest) at = let below = slot_within n rest at.1 in omega (arith, below)
 
-  -- the entry at the place has the block of the lock
-  pub place_tells : (n : ℕ) (blocks : List (LockId × B)) (o : LockId × B) → IsPlace lock n blocks → o ≡ get_or blocks n o
+  -- the entry at the slot has the block of the lock
+  pub slot_tells : (n : ℕ) (blocks : List (LockId × B)) (o : LockId × B) → IsSlot lock n blocks → o ≡ get_or blocks n o
       → (same_lock o.0 lock ≡ true) × (opened blocks lock ≡ Some o.1)
-  place_tells n [] o at is = absurd at
-  place_tells zero (x ∷ rest) o at is = (
+  slot_tells n [] o at is = absurd at
+  slot_tells zero (x ∷ rest) o at is = (
     ap (λ (p : LockId × B). same_lock p.0 lock) is ∙ at,
     ap (λ b. if b then Some x.1 else opened rest lock) at ∙ ap (λ (p : LockId × B). Some p.1) (sym is),
   )
-  place_tells (suc n) (x ∷ rest) o at is =
-      let tells = place_tells n rest o at.1 is in
+  slot_tells (suc n) (x ∷ rest) o at is =
+      let tells = slot_tells n rest o at.1 is in
       (tells.0, ap (λ b. if b then Some x.1 else opened rest lock) at.0 ∙ tells.1)
 
-  -- with another block at the place the lock has that one, and each other lock the one that it had
-  place_set : (n : ℕ) (blocks : List (LockId × B)) (o : LockId × B) → IsPlace lock n blocks → same_lock o.0 lock ≡ true → (l : LockId)
+  -- with another block at the slot the lock has that one, and each other lock the one that it had
+  slot_set : (n : ℕ) (blocks : List (LockId × B)) (o : LockId × B) → IsSlot lock n blocks → same_lock o.0 lock ≡ true → (l : LockId)
       → opened (slice_set blocks n o) l ≡ (if same_lock l lock then Some o.1 else opened blocks l)
-  place_set n [] o at same l = absurd at
-  place_set zero (x ∷ rest) o at same l = go (same_lock l lock) refl
+  slot_set n [] o at same l = absurd at
+  slot_set zero (x ∷ rest) o at same l = go (same_lock l lock) refl
     where
       go : (b : Bool) → same_lock l lock ≡ b
           → (if same_lock o.0 l then Some o.1 else opened rest l) ≡ (if b then Some o.1 else (if same_lock x.0 l then Some x.1 else opened rest l))
       go true is = ap (λ b. if b then Some o.1 else opened rest l) (names lock o.0 l same true is)
       go false is = ap (λ b. if b then Some o.1 else opened rest l) (names lock o.0 l same false is)
           ∙ sym (ap (λ b. if b then Some x.1 else opened rest l) (names lock x.0 l at false is))
-  place_set (suc n) (x ∷ rest) o at same l = go (place_set n rest o at.1 same l) (same_lock x.0 l) refl
+  slot_set (suc n) (x ∷ rest) o at same l = go (slot_set n rest o at.1 same l) (same_lock x.0 l) refl
     where
       go : opened (slice_set rest n o) l ≡ (if same_lock l lock then Some o.1 else opened rest l) → (b : Bool) → same_lock x.0 l ≡ b
           → (if b then Some x.1 else opened (slice_set rest n o) l)
@@ -85,12 +85,12 @@ module _ {B : Type 0} (lock : LockId) where
       go later false is = later
 
   -- so with the edited block there
-  pub place_edited : (f : B → B) (n : ℕ) (blocks : List (LockId × B)) (o : LockId × B) (block : B) → IsPlace lock n blocks → o ≡ get_or blocks n o
+  pub slot_edited : (f : B → B) (n : ℕ) (blocks : List (LockId × B)) (o : LockId × B) (block : B) → IsSlot lock n blocks → o ≡ get_or blocks n o
       → block ≡ f o.1 → (l : LockId)
       → opened (slice_set blocks n (o.0, block)) l ≡ (if same_lock l lock then option_map f (opened blocks l) else opened blocks l)
-  place_edited f n blocks o block at is edits l =
-      let tells = place_tells n blocks o at is in
-      place_set n blocks (o.0, block) at tells.0 l ∙ go tells.1 (same_lock l lock) refl
+  slot_edited f n blocks o block at is edits l =
+      let tells = slot_tells n blocks o at is in
+      slot_set n blocks (o.0, block) at tells.0 l ∙ go tells.1 (same_lock l lock) refl
     where
       go : opened blocks lock ≡ Some o.1 → (b : Bool) → same_lock l lock ≡ b
           → (if b then Some block else opened blocks l) ≡ (if b then option_map f (opened blocks l) else opened blocks l)

@@ -13,12 +13,12 @@ use Rattle.layer_traits.specs.declared.queue_edits.QueueBlock.{QueueBlock}
 use Rattle.layer_traits.specs.declared.queues.QueueEvent.{QueueEvent}
 use Rattle.layer_traits.specs.IpcLaw.{LinesAgree}
 use Rattle.layer_traits.specs.ListsAgree.{ListsAgree, is_at}
-use Rattle.layer_traits.specs.Places.{Asleep, At, count_in, one_if, place_of, where_is}
+use Rattle.layer_traits.specs.Places.{Asleep, At, count_in, one_if, berth_of, where_is}
 use Rattle.layer_traits.specs.QueueBlocks.{homes_in, inner}
 use Rattle.layer_traits.specs.Queues.{buffer_sections, moves_in}
 use Rattle.layer_traits.specs.Sleeping.{line_at, sleep_edited}
 use Rattle.layer_traits.specs.SleepLaw.{sleep_kernel}
-use Rattle.layer_traits.proofs.ListsLemmas.{place_here}
+use Rattle.layer_traits.proofs.ListsLemmas.{berth_here}
 use Rattle.plain_layers.specs.declared.attempts.Attempt.{Attempt}
 use Rattle.plain_layers.specs.Attempts.{attempts}
 use Rattle.plain_layers.specs.Fifos.{PlainLocked, caps_in, fresh_buffer, fresh_buffers, lines_in, locked_after}
@@ -60,6 +60,6 @@ plain_lines opening past fresh agree = record {
         let gone : locked_after (inner opening) lock (buffer_sections past) ≡ None
         = was_there (inner opening) (buffer_sections past) lock (ap (λ locks. locks lock) fresh ∙ none) in
         let count : 0 ≡ 1
-        = sym (ap (λ x. count_in t (line_at line x)) gone) ∙ agree lock line t ∙ ap (λ w. one_if (is_at lock line (place_of w))) is
-        ∙ ap one_if (place_here lock line) in
+        = sym (ap (λ x. count_in t (line_at line x)) gone) ∙ agree lock line t ∙ ap (λ w. one_if (is_at lock line (berth_of w))) is
+        ∙ ap one_if (berth_here lock line) in
         absurd (omega (arith, count))

@@ -117,7 +117,7 @@ pub record Rests (under : Option (SchedCall Attempt)) (own : Sleeping Tried) (ta
   pub none : under ≡ None
   pub kept : own.kept ≡ None
   pub waits : (t : Tid) → (talk_of talks t).stage ≢ Between → (talk_of talks t).effect ≡ None
-  pub places : length talks ≡ THREADS
+  pub slots : length talks ≡ THREADS
 
 -- what a part has of its own, as the layer's trait shows it
 abbrev pub own_of : Threads → List Talk → Buffering

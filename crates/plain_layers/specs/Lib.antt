@@ -8,6 +8,6 @@ pub mod FifoLaws
 pub mod FifoOwned
 pub mod FifoTallies
 pub mod Naps
-pub mod QueueTurns
-pub mod LockTurns
-pub mod CondTurns
+pub mod QueuePaces
+pub mod LockPaces
+pub mod CondPaces

@@ -1,4 +1,4 @@
--- Naps: a small edit of one buffer's block, in whose only place a thread may sleep. The tests run over it.
+-- Naps: a small edit of one buffer's block, in whose only berth a thread may sleep. The tests run over it.
 use Rattle.std.specs.Prelude.{◌≡◌, Bool, true, false, List, [], ◌∷◌, Option, Some, None, option_map, if◌then◌else◌}
 use Rattle.std.proofs.Common.{ap, sym, ◌∙◌, subst, unwrap_or}
 use Rattle.event_log.specs.declared.ids.LockId.{LockId}
@@ -12,14 +12,14 @@ use Rattle.thread_blocks.proofs.Members.{same_tid_self}
 use Rattle.layer_traits.specs.declared.moves.Line.{Line}
 use Rattle.layer_traits.specs.declared.moves.Line.TheVariants.{Sleepers}
 use Rattle.layer_traits.specs.MoveRules.{MoveRules, WakesSleepers, asleep_after, asleep_by, edit_move, section_moves}
-use Rattle.layer_traits.specs.Places.{At, Place, is_place}
+use Rattle.layer_traits.specs.Places.{At, Berth, is_berth}
 use Rattle.layer_traits.specs.Protocol.{Rules}
 
 -- the lock of buffer 0
 abbrev pub bed : LockId
 bed = Buffer (record { 0 = 0 })
 
--- who wakes empties the place; who sleeps takes it, if it is free
+-- who wakes empties the berth; who sleeps takes it, if it is free
 abbrev pub nap_edited : Bool → Tid → Option Tid → Option Tid
 nap_edited true by block = None
 nap_edited false by None = Some by
@@ -35,7 +35,7 @@ abbrev pub nap_line : Bool → Option Line
 nap_line true = Some Sleepers
 nap_line false = None
 
--- naps at buffer 0 alone, whose place opens free
+-- naps at buffer 0 alone, whose berth opens free
 abbrev pub nap_rules : {E : Type 0} → (E → Bool) → (E → Tid) → Rules E (Option Tid) (Bool × Option Tid)
 nap_rules wakes by = record {
   edited = λ e. nap_edited (wakes e) (by e);
@@ -46,26 +46,26 @@ nap_rules wakes by = record {
 abbrev pub nap_moves : {E : Type 0} → (E → Tid) → MoveRules E (Bool × Option Tid)
 nap_moves by = record { caller = by; slept = λ out. nap_line out.0; woke = λ out. out.1 }
 
--- whoever stands in the place after a nap sleeps
-nap_step : {E : Type 0} (wakes : E → Bool) (by : E → Tid) (e : E) (lock : LockId) (w : Bool) (block : Option (Option Tid)) (p : Option Place) (u : Tid)
-    → option_map (nap_edited w (by e)) block ≡ Some (Some u) → (block ≡ Some (Some u) → is_place p ≡ true)
-    → is_place (asleep_after (edit_move (nap_moves by) lock e (option_map (nap_answer w) block)) u p) ≡ true
+-- whoever stands in the berth after a nap sleeps
+nap_step : {E : Type 0} (wakes : E → Bool) (by : E → Tid) (e : E) (lock : LockId) (w : Bool) (block : Option (Option Tid)) (p : Option Berth) (u : Tid)
+    → option_map (nap_edited w (by e)) block ≡ Some (Some u) → (block ≡ Some (Some u) → is_berth p ≡ true)
+    → is_berth (asleep_after (edit_move (nap_moves by) lock e (option_map (nap_answer w) block)) u p) ≡ true
 nap_step wakes by e lock w None p u now before = absurd cc
 nap_step wakes by e lock true (Some block) p u now before = absurd cc
 nap_step wakes by e lock false (Some None) p u now before =
     let one : by e ≡ u = cc in
     let same : same_tid (by e) u ≡ true = subst (λ v. same_tid (by e) v ≡ true) one (same_tid_self (by e)) in
-    ap (λ b. is_place (if b then Some (At lock Sleepers) else p)) same
+    ap (λ b. is_berth (if b then Some (At lock Sleepers) else p)) same
 nap_step wakes by e lock false (Some (Some v)) p u now before = go (same_tid (by e) u)
   where
-    go : (b : Bool) → is_place (if b then p else p) ≡ true
+    go : (b : Bool) → is_berth (if b then p else p) ≡ true
     go true = before now
     go false = before now
 
 nap_sleeps : {E : Type 0} (wakes : E → Bool) (by : E → Tid) (opening : LockId → Option (Option Tid)) (past : List (Section E))
     → IsLawful ((nap_rules wakes by).allowed opening) past → opening bed ≡ Some None → (u : Tid)
     → block_after (nap_rules wakes by).edited opening bed past ≡ Some (Some u)
-    → is_place (asleep_by (section_moves (nap_rules wakes by) (nap_moves by) opening past) u) ≡ true
+    → is_berth (asleep_by (section_moves (nap_rules wakes by) (nap_moves by) opening past) u) ≡ true
 nap_sleeps wakes by opening [] lawful free u sleeps = absurd cc
 nap_sleeps {E = E} wakes by opening (s ∷ past) lawful free u sleeps = go s.lock (sym lawful.0.0) sleeps (nap_sleeps wakes by opening past lawful.1 free u)
   where
@@ -73,15 +73,15 @@ nap_sleeps {E = E} wakes by opening (s ∷ past) lawful free u sleeps = go s.loc
         → (if same_lock bed lock then option_map (nap_edited (wakes s.edit) (by s.edit)) (block_after (nap_rules wakes by).edited opening bed past)
         else block_after (nap_rules wakes by).edited opening bed past) ≡ Some (Some u)
         → (block_after (nap_rules wakes by).edited opening bed past ≡ Some (Some u)
-        → is_place (asleep_by (section_moves (nap_rules wakes by) (nap_moves by) opening past) u) ≡ true)
-        → is_place (asleep_after
+        → is_berth (asleep_by (section_moves (nap_rules wakes by) (nap_moves by) opening past) u) ≡ true)
+        → is_berth (asleep_after
         (edit_move (nap_moves by) lock s.edit (option_map (nap_answer (wakes s.edit)) (block_after (nap_rules wakes by).edited opening lock past))) u
         (asleep_by (section_moves (nap_rules wakes by) (nap_moves by) opening past) u)) ≡ true
     go lock at now before =
         let here : same_lock bed lock ≡ true = ap (same_lock bed) (sym at) ∙ same_lock_self bed in
         let edited = subst (λ b. (if b then option_map (nap_edited (wakes s.edit) (by s.edit)) (block_after (nap_rules wakes by).edited opening bed past)
         else block_after (nap_rules wakes by).edited opening bed past) ≡ Some (Some u)) here now in
-        subst (λ l. is_place (asleep_after
+        subst (λ l. is_berth (asleep_after
         (edit_move (nap_moves by) l s.edit (option_map (nap_answer (wakes s.edit)) (block_after (nap_rules wakes by).edited opening l past))) u
         (asleep_by (section_moves (nap_rules wakes by) (nap_moves by) opening past) u)) ≡ true) at
         (nap_step wakes by s.edit bed (wakes s.edit) (block_after (nap_rules wakes by).edited opening bed past)

@@ -31,8 +31,8 @@ pub record IsTable {E B O : Type 0} (rules : Rules E B O) (opening : LockId → 
   pub known : IsLawful IsKnown past
   pub blocks : (lock : LockId) → opened list lock ≡ block_after rules.edited opening lock past
 
--- the first entry of the list that names this lock is the one at this place
-abbrev pub IsPlace : {B : Type 0} → LockId → ℕ → List (LockId × B) → Type 0
-IsPlace lock n [] = ⊥
-IsPlace lock zero (o ∷ rest) = same_lock o.0 lock ≡ true
-IsPlace lock (suc n) (o ∷ rest) = (same_lock o.0 lock ≡ false) × IsPlace lock n rest
+-- the first entry of the list that names this lock is the one at this slot
+abbrev pub IsSlot : {B : Type 0} → LockId → ℕ → List (LockId × B) → Type 0
+IsSlot lock n [] = ⊥
+IsSlot lock zero (o ∷ rest) = same_lock o.0 lock ≡ true
+IsSlot lock (suc n) (o ∷ rest) = (same_lock o.0 lock ≡ false) × IsSlot lock n rest

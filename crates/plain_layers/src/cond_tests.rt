@@ -10,11 +10,11 @@ ghost use Rattle.layer_traits.specs.Locking.{AreAtRest};
 ghost use Rattle.layer_traits.specs.QueueBlocks.{homes_in, inner};
 ghost use Rattle.layer_traits.specs.Renaming.{viewed};
 ghost use Rattle.queuing_lock.specs.Nested.{lock_of};
-ghost use Rattle.plain_layers.specs.CondTurns.{HasEnded, WaitsAt};
+ghost use Rattle.plain_layers.specs.CondPaces.{HasEnded, WaitsAt};
 ghost use Rattle.sleep_wakeup.specs.Nested.{state_of};
 
 use crate::PlainSched;
-use crate::cond_turns::{Turn, calls, drains, is_woken, switches, turns};
+use crate::cond_paces::{Pace, calls, drains, is_woken, paces, switches};
 use crate::openings::Opens;
 use condvar::Cond;
 use event_log::{BufId, CPUS, CpuId, NoMemory, THREADS, Tid};
@@ -92,11 +92,11 @@ fn waits_and_frees<G: Guarded, C: OwnedConds<G>>(
 {
     let at = BufId(0);
     let wait = QEdit::Release(CvLeave::Wait(Tid(0), Side::Receivers));
-    let Some(Turn::Answered(first)) = calls::<G, C>(zero, m, at, &QEdit::Acquire(Tid(0)), section)
+    let Some(Pace::Answered(first)) = calls::<G, C>(zero, m, at, &QEdit::Acquire(Tid(0)), section)
     else {
         return false;
     };
-    let Some(Turn::Sleeps) = calls::<G, C>(zero, m, at, &wait, section) else {
+    let Some(Pace::Sleeps) = calls::<G, C>(zero, m, at, &wait, section) else {
         return false;
     };
     if zero.current().is_some() || C::line_in(m, at, Tid(0)) != Some(Line::Receivers) {
@@ -105,7 +105,7 @@ fn waits_and_frees<G: Guarded, C: OwnedConds<G>>(
     if C::owner_in(m, at) != Some(None) {
         return false;
     }
-    let Some(Turn::Answered(second)) = calls::<G, C>(one, m, at, &QEdit::Acquire(Tid(1)), section)
+    let Some(Pace::Answered(second)) = calls::<G, C>(one, m, at, &QEdit::Acquire(Tid(1)), section)
     else {
         return false;
     };
@@ -130,13 +130,13 @@ fn signals_and_leaves<G: Guarded, C: OwnedConds<G>>(
 {
     let at = BufId(0);
     let signal = QEdit::Inside(CvEdit::SignalFront(Tid(1), Side::Receivers));
-    let Some(Turn::GoesOn) = calls::<G, C>(one, m, at, &signal, section) else {
+    let Some(Pace::GoesOn) = calls::<G, C>(one, m, at, &signal, section) else {
         return false;
     };
     if one.hand() != Some(Tid(0)) || C::line_in(m, at, Tid(0)).is_some() {
         return false;
     }
-    let Some(Turn::Answered(signalled)) = turns::<G, C>(one, m, at, &signal, section) else {
+    let Some(Pace::Answered(signalled)) = paces::<G, C>(one, m, at, &signal, section) else {
         return false;
     };
     if signalled.woke != Some(Tid(0)) || one.hand().is_some() {
@@ -145,7 +145,7 @@ fn signals_and_leaves<G: Guarded, C: OwnedConds<G>>(
     let leave = QEdit::Release(CvLeave::Leave(Tid(1)));
     matches!(
         calls::<G, C>(one, m, at, &leave, section),
-        Some(Turn::Answered(_))
+        Some(Pace::Answered(_))
     )
 }
 
@@ -160,7 +160,7 @@ fn is_over<G: Guarded, C: CvLayer<G>>(zero: &mut C, m: &mut C::Machine, section:
         return false;
     }
     match is_woken::<G, C>(zero, m, BufId(0), Tid(0), Side::Receivers) {
-        Some(Turn::Answered(over)) => matches!(over.out, QOut::Released(CvOut::Waited(_))),
+        Some(Pace::Answered(over)) => matches!(over.out, QOut::Released(CvOut::Waited(_))),
         _ => false,
     }
 }
@@ -204,10 +204,10 @@ fn is_told<C: OwnedConds<Reads>>(zero: &mut C, m: &mut C::Machine) -> bool
     if !switches::<Reads, C>(zero, m) || zero.is_ready(Tid(0)) || zero.has_ended(Tid(0)) {
         return false;
     }
-    let Some(Turn::Answered(_)) = calls::<Reads, C>(zero, m, at, &QEdit::Acquire(Tid(0)), 3) else {
+    let Some(Pace::Answered(_)) = calls::<Reads, C>(zero, m, at, &QEdit::Acquire(Tid(0)), 3) else {
         return false;
     };
-    let Some(Turn::Answered(read)) = calls::<Reads, C>(zero, m, at, &reads, 3) else {
+    let Some(Pace::Answered(read)) = calls::<Reads, C>(zero, m, at, &reads, 3) else {
         return false;
     };
     if C::block_in(m, at) != Some(&Tid(0)) || zero.block_here(at).is_some() {
@@ -221,7 +221,7 @@ fn is_told<C: OwnedConds<Reads>>(zero: &mut C, m: &mut C::Machine) -> bool
     {
         return false;
     }
-    let Some(Turn::GoesOn) = calls::<Reads, C>(zero, m, at, &leave, 1) else {
+    let Some(Pace::GoesOn) = calls::<Reads, C>(zero, m, at, &leave, 1) else {
         return false;
     };
     matches!(read.out, QOut::Did(CvOut::Did(Tid(0)))) && zero.is_busy() && zero.look(m)

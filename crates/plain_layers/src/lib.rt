@@ -31,13 +31,13 @@ pub use wholes::whole;
 #[cfg(test)]
 mod attempt_tests;
 #[cfg(test)]
+mod cond_paces;
+#[cfg(test)]
 mod cond_tests;
 #[cfg(test)]
-mod cond_turns;
+mod lock_paces;
 #[cfg(test)]
 mod lock_tests;
-#[cfg(test)]
-mod lock_turns;
 #[cfg(test)]
 mod openings;
 #[cfg(test)]

@@ -6,8 +6,8 @@ ghost use Rattle.event_log.specs.declared.ids.LockId.{LockId};
 ghost use Rattle.event_log.specs.History.{same_lock};
 ghost use Rattle.layer_traits.specs.OneLock.{opened};
 ghost use Rattle.layer_traits.specs.Protocol.{section};
-ghost use Rattle.layer_traits.specs.Turns.{Answers};
-ghost use Rattle.plain_layers.specs.Tables.{IsPlace, IsTable, opening_in, room_in, sections_noted};
+ghost use Rattle.layer_traits.specs.Polls.{Answers};
+ghost use Rattle.plain_layers.specs.Tables.{IsSlot, IsTable, opening_in, room_in, sections_noted};
 
 use event_log::{CpuId, EventLog, LockId, NoMemory};
 use layer_traits::Edit;
@@ -81,8 +81,8 @@ impl<E: Edit> LockTable<E> {
         requires lock { IsSome (opening_in self.now lock) }
         ensures { option_map (λ block. block.now) result ≡ opened self.now.blocks.items lock }
     {
-        let place = place_of(&self.blocks, lock);
-        Some(&self.blocks[place].1)
+        let slot = slot_of(&self.blocks, lock);
+        Some(&self.blocks[slot].1)
     }
 }
 
@@ -93,14 +93,14 @@ fn edit_at<E: Edit>(blocks: &mut Vec<(LockId, E::Block)>, lock: LockId, edit: E)
         ≡ (if same_lock l lock then option_map (E.rules.edited edit) (opened blocks.old.items l) else opened blocks.old.items l) }
     ensures answer { option_map (E.rules.answer edit) (opened blocks.old.items lock) ≡ Some result }
 {
-    let place = place_of(blocks, lock);
-    edit.apply(&mut blocks[place].1)
+    let slot = slot_of(blocks, lock);
+    edit.apply(&mut blocks[slot].1)
 }
 
-/// The place of `lock` in the list: the first entry that names it.
-fn place_of<B>(blocks: &[(LockId, B)], lock: LockId) -> usize
+/// The slot of `lock` in the list: the first entry that names it.
+fn slot_of<B>(blocks: &[(LockId, B)], lock: LockId) -> usize
     requires { IsSome (opened blocks.now lock) }
-    ensures { IsPlace lock result blocks.now }
+    ensures { IsSlot lock result blocks.now }
 {
     for (i, entry) in blocks.iter().enumerate() {
         if entry.0 == lock {

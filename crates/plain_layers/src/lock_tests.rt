@@ -9,11 +9,11 @@ ghost use Rattle.layer_traits.specs.Locking.{AreAtRest};
 ghost use Rattle.layer_traits.specs.QueueBlocks.{homes_in, inner};
 ghost use Rattle.layer_traits.specs.Renaming.{viewed};
 ghost use Rattle.queuing_lock.specs.Nested.{lock_of};
-ghost use Rattle.plain_layers.specs.LockTurns.{HasEnded, SleepsFor};
+ghost use Rattle.plain_layers.specs.LockPaces.{HasEnded, SleepsFor};
 ghost use Rattle.sleep_wakeup.specs.Nested.{state_of};
 
 use crate::PlainSched;
-use crate::lock_turns::{Turn, acquires, drains, is_handed, releases, switches, turns};
+use crate::lock_paces::{Pace, acquires, drains, is_handed, paces, releases, switches};
 use crate::openings::Opens;
 use event_log::{BufId, CPUS, CpuId, NoMemory, THREADS, Tid};
 use layer_traits::{
@@ -107,10 +107,10 @@ fn one_sleeps<F: Locked, Q: OwnedQLocks<F>>(
     ensures sleeper { result ≡ true → SleepsFor F.rules (Q.own one.new) (Q.under_way one.new) (record { 0 = 1 }) (record { 0 = 0 }) }
 {
     let at = BufId(0);
-    let Some(Turn::Answered(acquired)) = acquires::<F, Q>(zero, m, at, Tid(0), section) else {
+    let Some(Pace::Answered(acquired)) = acquires::<F, Q>(zero, m, at, Tid(0), section) else {
         return false;
     };
-    let Some(Turn::Sleeps) = acquires::<F, Q>(one, m, at, Tid(1), section) else {
+    let Some(Pace::Sleeps) = acquires::<F, Q>(one, m, at, Tid(1), section) else {
         return false;
     };
     matches!(acquired.out, QOut::Acquired)
@@ -136,14 +136,14 @@ fn hands_over<F: Locked, Q: OwnedQLocks<F>>(
     ensures others { (p : Q) → Q.cpu_of p ≢ Q.cpu_of zero.old → Q.Fits p m.old → Q.Fits p m.new }
 {
     let at = BufId(0);
-    let Some(Turn::GoesOn) = releases::<F, Q>(zero, m, at, last, section) else {
+    let Some(Pace::GoesOn) = releases::<F, Q>(zero, m, at, last, section) else {
         return false;
     };
     if zero.hand() != Some(Tid(1)) || Q::owner_in(m, at) != Some(Some(Tid(1))) {
         return false;
     }
-    match turns::<F, Q>(zero, m, at, &QEdit::Release(last), section) {
-        Some(Turn::Answered(released)) => released.woke == Some(Tid(1)) && zero.hand().is_none(),
+    match paces::<F, Q>(zero, m, at, &QEdit::Release(last), section) {
+        Some(Pace::Answered(released)) => released.woke == Some(Tid(1)) && zero.hand().is_none(),
         _ => false,
     }
 }
@@ -166,7 +166,7 @@ fn one_is_told<F: Locked, Q: OwnedQLocks<F>>(
         return false;
     }
     match is_handed::<F, Q>(one, m, BufId(0), Tid(1)) {
-        Some(Turn::Answered(handed)) => {
+        Some(Pace::Answered(handed)) => {
             matches!(handed.out, QOut::Acquired) && Q::owner_in(m, BufId(0)) == Some(Some(Tid(1)))
         }
         _ => false,
@@ -202,7 +202,7 @@ fn is_handed_over<F: Locked, Q: OwnedQLocks<F>>(
     if !one_sleeps::<F, Q>(zero, one, m, section) || !hands_over::<F, Q>(zero, m, last, section) {
         return false;
     }
-    let Some(Turn::Sleeps) = acquires::<F, Q>(two, m, BufId(0), Tid(2), section) else {
+    let Some(Pace::Sleeps) = acquires::<F, Q>(two, m, BufId(0), Tid(2), section) else {
         return false;
     };
     one.current().is_none() && one_is_told::<F, Q>(one, m, section)
@@ -221,7 +221,7 @@ fn is_told<Q: OwnedQLocks<Reads>>(zero: &mut Q, m: &mut Q::Machine) -> bool
     if !switches::<Reads, Q>(zero, m) || zero.is_ready(Tid(0)) || zero.has_ended(Tid(0)) {
         return false;
     }
-    let Some(Turn::Answered(_)) = acquires::<Reads, Q>(zero, m, at, Tid(0), 3) else {
+    let Some(Pace::Answered(_)) = acquires::<Reads, Q>(zero, m, at, Tid(0), 3) else {
         return false;
     };
     if Q::block_in(m, at) != Some(&7) || zero.block_here(at).is_some() {
@@ -235,7 +235,7 @@ fn is_told<Q: OwnedQLocks<Reads>>(zero: &mut Q, m: &mut Q::Machine) -> bool
     {
         return false;
     }
-    let Some(Turn::GoesOn) = releases::<Reads, Q>(zero, m, at, Tid(0), 1) else {
+    let Some(Pace::GoesOn) = releases::<Reads, Q>(zero, m, at, Tid(0), 1) else {
         return false;
     };
     zero.is_busy() && zero.look(m)

@@ -62,7 +62,7 @@ impl<E: Edit> LockLayer<E> for PlainLock<E> {
         Some(m.done(self.cpu, lock, edit))
     }
 
-    ghost own = { λ p m fits. fits };
+    ghost own_cpu = { λ p m fits. fits };
 
     ghost lawful = { λ m c acts. acts.1.lawful };
 

@@ -8,7 +8,7 @@ ghost use Rattle.layer_traits.specs.Plans.{IsWhole};
 ghost use Rattle.layer_traits.specs.QueueBlocks.{homes_in, inner};
 ghost use Rattle.layer_traits.specs.Queues.{QueueAllowed, StaysCallable, event, kernel, lock_of};
 ghost use Rattle.plain_layers.specs.Naps.{bed};
-ghost use Rattle.plain_layers.specs.QueueTurns.{cpu_one, cpu_zero};
+ghost use Rattle.plain_layers.specs.QueuePaces.{cpu_one, cpu_zero};
 
 use crate::PlainQueues;
 use crate::kernel::PlainKernel;

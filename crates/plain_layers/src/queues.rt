@@ -61,7 +61,7 @@ impl<E: Moves> QueueLayer<E> for PlainQueues<E> {
         Some(m.done(self.cpu, *call))
     }
 
-    ghost own = { λ p m fits. fits };
+    ghost own_cpu = { λ p m fits. fits };
 
     ghost opens = { λ m c acts. acts.1.starts };
 

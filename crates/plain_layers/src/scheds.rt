@@ -101,7 +101,7 @@ impl<E: Moves> SchedLayer<E> for PlainSched<E> {
         }
     }
 
-    ghost own = { λ p m fits. (fits.0, fits.1) };
+    ghost own_cpu = { λ p m fits. (fits.0, fits.1) };
 
     ghost opens = { λ m c acts. acts.1.starts };
 

@@ -20,7 +20,7 @@ within_or_past : (i n : ℕ) → (i < n) ⊎ (n ≤ i)
 within_or_past i n = grind arith
 
 module _ {K B : Type 0} (cells : List (Option (Cell K B))) (lock : LockId) where
-  -- a lock that has a cell has its place within the table
+  -- a lock that has a cell has its slot within the table
   pub cell_within : IsSome (cell_at cells lock) → lock_number lock < length cells
   cell_within has = elim (within_or_past (lock_number lock) (length cells)) [
     | inl within ↦ within

@@ -14,22 +14,22 @@ use Rattle.layer_traits.specs.OneLock.{HomeFits}
 use Rattle.layer_traits.specs.Protocol.{Rules}
 use Rattle.layer_traits.specs.WordsProtocol.{MayCome}
 use Rattle.plain_machine.specs.declared.cells.Cell.{Cell}
-use Rattle.plain_machine.specs.declared.notes.Act.{Act}
-use Rattle.plain_machine.specs.declared.notes.Act.TheVariants.{Draw, Look, Free}
+use Rattle.plain_machine.specs.declared.notes.Atom.{Atom}
+use Rattle.plain_machine.specs.declared.notes.Atom.TheVariants.{Draw, Look, Free}
 use Rattle.plain_machine.specs.declared.notes.Note.{Note}
 use Rattle.plain_machine.specs.declared.notes.Notes.{Notes}
 use Rattle.plain_machine.specs.Table.{cell_at}
 
 -- the past with the event of what was done at a lock, where these marks, newest first, are not yet told. A draw gives the number of
 -- earlier draws, a look has its CPU's ticket and reads the number of earlier frees, and a free has the newest mark.
-abbrev pub with_event : {M : Type 0} → Act → CpuId → LockId → List M → List (Event M) → List (Event M)
+abbrev pub with_event : {M : Type 0} → Atom → CpuId → LockId → List M → List (Event M) → List (Event M)
 with_event Draw cpu lock marks past = event.Draw cpu lock (draws lock past % 2 ^ 64) ∷ past
 with_event Look cpu lock marks past = event.Look cpu lock (ticket_in (standing cpu past)) (frees lock past % 2 ^ 64) ∷ past
 with_event Free cpu lock [] past = past
 with_event Free cpu lock (mark ∷ marks) past = event.Free cpu lock mark ∷ past
 
 -- the marks that older notes have
-abbrev pub older : {M : Type 0} → Act → List M → List M
+abbrev pub older : {M : Type 0} → Atom → List M → List M
 older Draw marks = marks
 older Look marks = marks
 older Free [] = []
@@ -38,7 +38,7 @@ older Free (mark ∷ marks) = marks
 -- the events that these notes and the marks of their frees tell, all newest first
 abbrev pub told : {M : Type 0} → List Note → List M → List (Event M)
 told [] marks = []
-told (note ∷ notes) marks = with_event note.act note.cpu note.lock marks (told notes (older note.act marks))
+told (note ∷ notes) marks = with_event note.atom note.cpu note.lock marks (told notes (older note.atom marks))
 
 -- the history that a log stores, newest first
 abbrev pub history : {M : Type 0} → Notes M → List (Event M)

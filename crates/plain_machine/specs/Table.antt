@@ -17,7 +17,7 @@ home_in (Some cell) = cell.home
 abbrev pub home_at : {K B : Type 0} → List (Option (Cell K B)) → LockId → Option B
 home_at cells lock = home_in (cell_at cells lock)
 
--- the table with this cell put in the lock's place
+-- the table with this cell put in the lock's slot
 abbrev pub with_cell : {K B : Type 0} → List (Option (Cell K B)) → LockId → Cell K B → List (Option (Cell K B))
 with_cell cells lock cell = slice_set cells (lock_number lock) (Some cell)
 

@@ -6,7 +6,7 @@ ghost use Rattle.event_log.specs.declared.ids.TheConstants.{CPUS};
 ghost use Rattle.layer_traits.specs.OneLock.{AreDistinct};
 ghost use Rattle.plain_machine.specs.Table.{cell_at, with_cell, worded_cell, looked_cell, given_cell, AreFresh};
 
-use crate::turn_words::TurnWords;
+use crate::line_words::LineWords;
 use event_log::{LockId, NoMemory};
 use std::alloc::Global;
 
@@ -19,9 +19,9 @@ pub struct Cell<K, B> {
     pub home: Option<B>,
 }
 
-/// Takes a place in the line of `lock`, and gives its ticket.
+/// Takes a spot in the line of `lock`, and gives its ticket.
 #[inline(always)]
-pub fn take<K: TurnWords, B>(cells: &mut Vec<Option<Cell<K, B>>>, lock: LockId) -> u64
+pub fn take<K: LineWords, B>(cells: &mut Vec<Option<Cell<K, B>>>, lock: LockId) -> u64
     requires { IsSome (cell_at cells.old.items lock) }
     ensures { IfSome (cell_at cells.old.items lock) (λ cell. (words : _)
         × ((taken given : ℕ) → K.Fit taken given cell.words → (result ≡ taken % 2 ^ 64) × K.Fit (taken + 1) given words)
@@ -36,7 +36,7 @@ pub fn take<K: TurnWords, B>(cells: &mut Vec<Option<Cell<K, B>>>, lock: LockId) 
 /// Looks at `lock` with `ticket`, and gives the block, if the ticket is served and the block is
 /// home.
 #[inline(always)]
-pub fn look<K: TurnWords, B>(
+pub fn look<K: LineWords, B>(
     cells: &mut Vec<Option<Cell<K, B>>>,
     lock: LockId,
     ticket: u64,
@@ -60,7 +60,7 @@ pub fn look<K: TurnWords, B>(
 
 /// Gives `lock` on, and `block` is home.
 #[inline(always)]
-pub fn give<K: TurnWords, B: Drop>(cells: &mut Vec<Option<Cell<K, B>>>, lock: LockId, block: B)
+pub fn give<K: LineWords, B: Drop>(cells: &mut Vec<Option<Cell<K, B>>>, lock: LockId, block: B)
     requires { IsSome (cell_at cells.old.items lock) }
     ensures { IfSome (cell_at cells.old.items lock) (λ cell. (words : _)
         × ((taken given : ℕ) → K.Fit taken given cell.words → K.Fit taken (given + 1) words)
@@ -97,7 +97,7 @@ pub fn words<K: Copy, B>(cells: &Vec<Option<Cell<K, B>>>, lock: LockId) -> K
     }
 }
 
-/// How long a table has to be, so that each of these locks has a place in it.
+/// How long a table has to be, so that each of these locks has a slot in it.
 pub fn table_len<B>(blocks: &Vec<(LockId, B)>) -> usize
     ensures { All (λ entry. lock_number entry.0 < result) blocks.now.items }
 {
@@ -111,7 +111,7 @@ pub fn table_len<B>(blocks: &Vec<(LockId, B)>) -> usize
     len
 }
 
-/// A table of `len` places, all empty.
+/// A table of `len` slots, all empty.
 pub fn empty_table<K: Drop, B: Drop>(
     alloc: Global,
     len: usize,
@@ -127,8 +127,8 @@ pub fn empty_table<K: Drop, B: Drop>(
     Ok(cells)
 }
 
-/// Puts a cell with fresh words and this block in the place of `lock`.
-pub fn put<K: TurnWords, B: Drop>(cells: &mut Vec<Option<Cell<K, B>>>, lock: LockId, block: B)
+/// Puts a cell with fresh words and this block in the slot of `lock`.
+pub fn put<K: LineWords, B: Drop>(cells: &mut Vec<Option<Cell<K, B>>>, lock: LockId, block: B)
     requires { lock_number lock < length cells.old.items }
     ensures { (words : _) × K.Fit 0 0 words × (cells.new.items ≡ with_cell cells.old.items lock (given_cell words block)) }
 {
@@ -138,8 +138,8 @@ pub fn put<K: TurnWords, B: Drop>(cells: &mut Vec<Option<Cell<K, B>>>, lock: Loc
     });
 }
 
-/// Puts a cell with fresh words and its block in the place of each lock.
-pub fn fill<K: TurnWords, B: Drop>(cells: &mut Vec<Option<Cell<K, B>>>, blocks: Vec<(LockId, B)>)
+/// Puts a cell with fresh words and its block in the slot of each lock.
+pub fn fill<K: LineWords, B: Drop>(cells: &mut Vec<Option<Cell<K, B>>>, blocks: Vec<(LockId, B)>)
     requires distinct { AreDistinct blocks.items }
     requires within { All (λ entry. lock_number entry.0 < length cells.old.items) blocks.items }
     ensures { AreFresh (K.Fit 0 0) blocks.items cells.new.items }

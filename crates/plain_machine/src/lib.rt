@@ -4,11 +4,11 @@
 #![tactic(auto)]
 
 mod cells;
+mod line_words;
 mod notes;
 mod plain;
 #[cfg(test)]
 mod tests;
-mod turn_words;
 
+pub use line_words::{GrantLockWords, Granting, LineWords, LockWords};
 pub use plain::{GrantPlain, Plain};
-pub use turn_words::{GrantLockWords, Granting, LockWords, TurnWords};

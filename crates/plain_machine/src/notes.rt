@@ -8,7 +8,7 @@ use std::alloc::Global;
 
 /// What a CPU did at a lock.
 #[derive(Clone, Copy)]
-pub enum Act {
+pub enum Atom {
     /// It drew a ticket.
     Draw,
     /// It looked with its ticket.
@@ -26,7 +26,7 @@ pub struct Note {
     /// The lock at which it acted.
     pub lock: LockId,
     /// What it did there.
-    pub act: Act,
+    pub atom: Atom,
 }
 
 /// A log of the events on the words of all locks, with room for a number of events that is fixed
@@ -70,7 +70,7 @@ impl<M> Notes<M> {
         self.put(Note {
             cpu,
             lock,
-            act: Act::Draw,
+            atom: Atom::Draw,
         });
     }
 
@@ -85,7 +85,7 @@ impl<M> Notes<M> {
         self.put(Note {
             cpu,
             lock,
-            act: Act::Look,
+            atom: Atom::Look,
         });
     }
 
@@ -101,7 +101,7 @@ impl<M> Notes<M> {
         self.put(Note {
             cpu,
             lock,
-            act: Act::Free,
+            atom: Atom::Free,
         });
         self.marks.push(mark).unwrap();
     }

@@ -3,8 +3,8 @@
 ghost use Rattle.std.specs.Prelude.{◌≡◌, ℕ, ◌%◌, ◌^◌, ◌<◌, [], IsSome, IsNone, IfSome, IfOk, option_map, ◌↔◌};
 
 use crate::cells::{self, Cell};
+use crate::line_words::{GrantLockWords, Granting, LineWords, LockWords};
 use crate::notes::Notes;
-use crate::turn_words::{GrantLockWords, Granting, LockWords, TurnWords};
 use event_log::{CPUS, CpuId, LockId, NoMemory};
 use layer_traits::{Edit, GrantWords, Mark, OwnedWords, TellsGrants, Words};
 use std::alloc::Global;
@@ -14,7 +14,7 @@ use std::snapshot::Snapshot;
 /// happened to them. It acts for every CPU. No call after [`Plain::open`] takes memory. Its locks
 /// are ticket locks, if no other words are named.
 #[derive(Drop)]
-pub struct Plain<E: Edit, K: TurnWords = LockWords> {
+pub struct Plain<E: Edit, K: LineWords = LockWords> {
     log: Notes<Mark<E>>,
     cells: Vec<Option<Cell<K, E::Block>>>,
     // The blocks that the locks opened with, for clauses alone.
@@ -24,7 +24,7 @@ pub struct Plain<E: Edit, K: TurnWords = LockWords> {
 /// The owned machine whose locks have a grant word for each waiter.
 pub type GrantPlain<E> = Plain<E, Granting>;
 
-impl<E: Edit, K: TurnWords> Plain<E, K> {
+impl<E: Edit, K: LineWords> Plain<E, K> {
     ghost use Rattle.event_log.specs.Sections.{block_after};
     ghost use Rattle.event_log.specs.declared.ids.CpuId.{CpuId};
     ghost use Rattle.event_log.specs.declared.ids.TheConstants.{CPUS};
@@ -107,7 +107,7 @@ impl<E: Edit> Plain<E, Granting> {
     }
 }
 
-impl<E: Edit, K: TurnWords> Words for Plain<E, K> {
+impl<E: Edit, K: LineWords> Words for Plain<E, K> {
     ghost use Rattle.event_log.specs.declared.ids.TheConstants.{CPUS};
     ghost use Rattle.layer_traits.specs.OneLock.{opened};
     ghost use Rattle.plain_machine.specs.Machine.{IsServed, history, room_left};
@@ -153,7 +153,7 @@ impl<E: Edit, K: TurnWords> Words for Plain<E, K> {
     ghost legal = { λ w c acts. acts.1.legal };
 }
 
-impl<E: Edit, K: TurnWords> OwnedWords for Plain<E, K> {
+impl<E: Edit, K: LineWords> OwnedWords for Plain<E, K> {
     ghost use Rattle.event_log.specs.declared.ids.TheConstants.{CPUS};
     ghost use Rattle.layer_traits.specs.OneLock.{AreDistinct, opened};
     ghost use Rattle.plain_machine.specs.HomeLaws.{home_tells};

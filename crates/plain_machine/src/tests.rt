@@ -4,7 +4,7 @@ ghost use Rattle.std.specs.Prelude.{◌≡◌, ◌+◌, ◌%◌, ◌^◌, ◌<�
 ghost use Rattle.event_log.specs.Grants.{grant_standing};
 ghost use Rattle.event_log.specs.WordsLog.{standing, Outside};
 
-use crate::{GrantLockWords, Granting, LockWords, Plain, TurnWords};
+use crate::{GrantLockWords, Granting, LineWords, LockWords, Plain};
 use event_log::{BufId, CPUS, CpuId, LockId, NoMemory};
 use layer_traits::{Edit, GrantWords, Words};
 use std::alloc::Global;
@@ -44,7 +44,7 @@ fn one_block(alloc: Global, lock: LockId, number: u64) -> Result<Vec<(LockId, u6
 }
 
 /// A machine with one lock, whose block is this number.
-fn machine_with<K: TurnWords>(
+fn machine_with<K: LineWords>(
     alloc: Global,
     lock: LockId,
     number: u64,

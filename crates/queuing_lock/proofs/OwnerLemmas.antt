@@ -16,7 +16,7 @@ use Rattle.layer_traits.specs.declared.scheds.SchedCall.TheVariants as call
 use Rattle.layer_traits.specs.Locking.{IsOwners, LockAllowed, LockRules, LockState, line_in, lock_after, lock_caller, owner_in, owner_of}
 use Rattle.layer_traits.specs.LockLaw.{LocksAgree, MayLock, lock_kernel}
 use Rattle.layer_traits.specs.ListsAgree.{is_at}
-use Rattle.layer_traits.specs.Places.{AreMoves, Home, Stands, Threads, home_of, one_if, place_of, where_is}
+use Rattle.layer_traits.specs.Places.{AreMoves, Home, Stands, Threads, home_of, one_if, berth_of, where_is}
 use Rattle.layer_traits.specs.QueueBlocks.{homes_in, inner}
 use Rattle.layer_traits.specs.Queues.{QueueAllowed, buffer_sections, event_actor, moves_in}
 use Rattle.layer_traits.specs.Renaming.{renamed_events, viewed}
@@ -40,7 +40,7 @@ module _ {F R B O : Type 0} (rules : LockRules F R B O) (opening : LockId → Op
       → (lock : LockId) → is_in t (line_in Sleepers (lock_after rules (inner opening) lock (buffer_sections past))) ≡ false
   runs_awake past agree t home lock =
       not_counted t (line_in Sleepers (lock_after rules (inner opening) lock (buffer_sections past)))
-      (agree lock Sleepers t ∙ ap (λ w. one_if (is_at lock Sleepers (place_of w))) home)
+      (agree lock Sleepers t ∙ ap (λ w. one_if (is_at lock Sleepers (berth_of w))) home)
 
   nothing_at : (t : Tid) (o : Option (LockState B)) → owner_in o ≢ Some t → is_in t (line_in Sleepers o) ≡ false → HasNothing rules t o
   nothing_at t None apart missing = tt

@@ -19,7 +19,7 @@ use Rattle.layer_traits.specs.declared.sleeps.Outcome.{Outcome}
 use Rattle.layer_traits.specs.ListsAgree.{ListsAgree, is_at}
 use Rattle.layer_traits.specs.Locking.{LockAllowed, LockRules, LockState, line_in, lock_after}
 use Rattle.layer_traits.specs.LockLaw.{LocksAgree, lock_kernel}
-use Rattle.layer_traits.specs.Places.{AreMoves, Stands, Threads, count_in, one_if, place_of, where_is}
+use Rattle.layer_traits.specs.Places.{AreMoves, Stands, Threads, count_in, one_if, berth_of, where_is}
 use Rattle.layer_traits.specs.Plans.{is_in_section}
 use Rattle.layer_traits.specs.QueueBlocks.{homes_in, inner}
 use Rattle.layer_traits.specs.Queues.{Kernel, QueueAllowed, buffer_sections, moves_in}
@@ -105,7 +105,7 @@ module _ {F R B O : Type 0} (rules : LockRules F R B O) (opening : LockId → Op
       ap (λ o. count_in t (line_in line o)) (lock_is lock past)
       ∙ (ap (count_in t) (line_seen line (block_after (sleep_edited (busy_rules rules)) (inner opening) lock (buffer_sections past)))
       ∙ (lists lock line t
-      ∙ λ i. one_if (is_at lock line (place_of (where_is (sym (homes_viewed lock_of opening) i) (sym (same_moves past) i) t)))))
+      ∙ λ i. one_if (is_at lock line (berth_of (where_is (sym (homes_viewed lock_of opening) i) (sym (same_moves past) i) t)))))
 
 -- a layer with no history beneath has none here
 pub nothing_seen : {F R : Type 0} (past : List (QueueEvent (QLockEdit F R))) → renamed_events edit_in past ≡ [] → past ≡ []

@@ -111,7 +111,7 @@ impl<E: Moves, Q: QueueLayer<E>> SchedLayer<E> for Sched<Q> {
         }
     }
 
-    ghost own = { λ p m fits. subst (λ c. Q.ActsFor m c) fits.1.cpu (Q.own p.lower m fits.0) };
+    ghost own_cpu = { λ p m fits. subst (λ c. Q.ActsFor m c) fits.1.cpu (Q.own_cpu p.lower m fits.0) };
 
     ghost opens = { λ m c acts. Q.opens m c acts };
 

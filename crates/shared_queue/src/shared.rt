@@ -83,7 +83,7 @@ impl<E: Moves, L: LockLayer<QueueEdit<E>>> QueueLayer<E> for SharedQueues<L> {
         self.lower.poll(m, lock, edit)
     }
 
-    ghost own = { λ p m fits. (L.own p.lower m fits.0, fits.1) };
+    ghost own_cpu = { λ p m fits. (L.own_cpu p.lower m fits.0, fits.1) };
 
     ghost opens = { λ m c acts. acts.1 };
 

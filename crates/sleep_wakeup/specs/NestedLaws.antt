@@ -19,7 +19,7 @@ use Rattle.layer_traits.specs.declared.scheds.SchedCall.TheVariants as call
 use Rattle.layer_traits.specs.declared.sleeps.Outcome.{Outcome}
 use Rattle.layer_traits.specs.ListsAgree.{ListsAgree, is_at}
 use Rattle.layer_traits.specs.MoveRules.{WakesSleepers, asleep_by, edit_move, section_moves}
-use Rattle.layer_traits.specs.Places.{AreMoves, Home, Stands, count_in, Threads, home_of, is_place, one_if, place_of, step, where_is}
+use Rattle.layer_traits.specs.Places.{AreMoves, Home, Stands, count_in, Threads, home_of, is_berth, one_if, berth_of, step, where_is}
 use Rattle.layer_traits.specs.Plans.{is_in_section, table_of}
 use Rattle.layer_traits.specs.QueueBlocks.{StartsWell, homes_in, inner}
 use Rattle.layer_traits.specs.Queues.{Kernel, QueueAllowed, buffer_sections, kernel, moves_in}
@@ -27,7 +27,7 @@ use Rattle.layer_traits.specs.Renaming.{renamed_edit, renamed_events, viewed}
 use Rattle.layer_traits.specs.Scheds.{EditStays}
 use Rattle.layer_traits.specs.SleepLaw.{MaySleep, sleep_kernel}
 use Rattle.layer_traits.specs.Sleeping.{IsAwake, NobodySleeps, SleepRules, SleepState, line_at, sleep_answer, sleep_edited, sleep_moves, sleep_rules}
-use Rattle.layer_traits.proofs.CallLemmas.{asleep_place, moves_append, moves_lawful, moves_others, moves_over, sections_asleep, upper_lawful}
+use Rattle.layer_traits.proofs.CallLemmas.{asleep_berth, moves_append, moves_lawful, moves_others, moves_over, sections_asleep, upper_lawful}
 use Rattle.layer_traits.proofs.KernelRenaming.{Wraps, homes_viewed, inner_viewed, lawful_renamed, moves_renamed, sections_renamed, stays_renamed}
 use Rattle.layer_traits.proofs.ListsLemmas.{lists_agree, section_wakes}
 use Rattle.layer_traits.proofs.PlaceLemmas.{current_at, stands_others}
@@ -88,7 +88,7 @@ module _ {E B O : Type 0} (rules : SleepRules E B O) (opening : LockId → Optio
 -- whom an allowed section wakes sleeps
 pub nested_wakes : {E B O : Type 0} (rules : SleepRules E B O) → WakesSleepers (nested_rules rules) (nested_moves rules)
 nested_wakes rules opening past s out u lawful allowed answers wakes =
-    subst (λ moves. is_place (asleep_by moves u) ≡ true) (moves_above rules opening past)
+    subst (λ moves. is_berth (asleep_by moves u) ≡ true) (moves_above rules opening past)
     (section_wakes rules (states opening) (map (renamed_section edit_in) past) (renamed_section edit_in s) out u
     (awake_above rules opening past lawful) allowed.start
     (out_after rules opening past s ∙ answers) wakes)
@@ -147,10 +147,10 @@ module _ {E B O : Type 0} (rules : SleepRules E B O) (opening : LockId → Optio
 
   -- where a thread sleeps by the sections of the layer above is where its place says
   asleep_here : (past : List (QueueEvent (SleepEdit E))) (t : Tid) → IsLawful (QueueAllowed beneath) past
-      → place_of (where_is (homes_in opening) (moves_in beneath past) t)
+      → berth_of (where_is (homes_in opening) (moves_in beneath past) t)
       ≡ asleep_by (section_moves (sleep_rules rules) (sleep_moves rules) (states (inner opening)) (map (renamed_section edit_in) (buffer_sections past))) t
   asleep_here past t lawful =
-      asleep_place (homes_in opening) (moves_in beneath past) t (moves_lawful beneath (nested_wakes rules) past lawful)
+      asleep_berth (homes_in opening) (moves_in beneath past) t (moves_lawful beneath (nested_wakes rules) past lawful)
       ∙ (sym (sections_asleep beneath past t) ∙ ap (λ moves. asleep_by moves t) (sym (moves_above rules (inner opening) (buffer_sections past))))
 
   -- the waiting lists agree with the places
@@ -163,7 +163,7 @@ module _ {E B O : Type 0} (rules : SleepRules E B O) (opening : LockId → Optio
       ∙ (lists_agree rules (states (inner opening)) (map (renamed_section edit_in) (buffer_sections past))
       (awake_above rules (inner opening) (buffer_sections past) (upper_lawful beneath past lawful)) nobody lock line t
       ∙ (ap (λ p. one_if (is_at lock line p)) (sym (asleep_here past t lawful))
-      ∙ λ i. one_if (is_at lock line (place_of (where_is (sym (homes_viewed state_of opening) i) (sym (same_moves past) i) t))))))
+      ∙ λ i. one_if (is_at lock line (berth_of (where_is (sym (homes_viewed state_of opening) i) (sym (same_moves past) i) t))))))
 
   -- A section that may begin here may begin beneath, and stays allowed there.
 
@@ -174,7 +174,7 @@ module _ {E B O : Type 0} (rules : SleepRules E B O) (opening : LockId → Optio
   nested_stays c past own b e starts lawful nobody stands may more others legal = record {
     start = nobody;
     awake = record {
-      awake = sym (asleep_here (more ++ past) (rules.caller e) legal) ∙ ap place_of at.1;
+      awake = sym (asleep_here (more ++ past) (rules.caller e) legal) ∙ ap berth_of at.1;
       small = omega (arith, slice_get_within (homes_in opening) (rules.caller e).0 c at.0, starts.room);
     };
     upper = subst (λ (o : LockId → Option (SleepState B)). rules.allowed o (map (renamed_section edit_in) (buffer_sections (more ++ past)))

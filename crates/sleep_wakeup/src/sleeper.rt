@@ -120,11 +120,11 @@ impl<E: Sleeps, S: SchedLayer<SleepEdit<E>>> SleepLayer<E> for Sleeper<E, S> {
         done(answer)
     }
 
-    ghost own_cpu = { λ p m fits. S.own p.lower m fits.0 };
+    ghost own_cpu = { λ p m fits. S.own_cpu p.lower m fits.0 };
 
     ghost stands = { λ p m fits. nested_stands E.rules (S.opening m) (S.cpu_of p.lower) (S.seen m) (S.threads p.lower) (S.stands p.lower m fits.0) };
 
-    ghost lists = { λ p m fits. nested_lists E.rules (S.opening m) (S.seen m) (S.lawful m (S.cpu_of p.lower) (S.own p.lower m fits.0)) fits.1 };
+    ghost lists = { λ p m fits. nested_lists E.rules (S.opening m) (S.seen m) (S.lawful m (S.cpu_of p.lower) (S.own_cpu p.lower m fits.0)) fits.1 };
 
     ghost opens = { λ m c acts. starts_viewed state_of (S.opening m) (S.opens m c acts) };
 

@@ -1,4 +1,4 @@
--- What one event of a machine is at the line: an action, put after foreign ones, by a CPU whose ticket tells its place.
+-- What one event of a machine is at the line: an action, put after foreign ones, by a CPU whose ticket tells its spot.
 use Rattle.std.proofs.Common.{◌≡◌, ℕ, ◌%◌, ◌^◌, false, List, [], ◌∷◌, ◌++◌, Option, Some, None, MatchOption, map, refl, ap, sym, subst, ◌∙◌, if◌then◌else◌}
 use Rattle.std.proofs.lemmas.List.{map-append}
 use Rattle.event_log.specs.declared.ids.CpuId.{CpuId}
@@ -7,7 +7,7 @@ use Rattle.event_log.specs.declared.events.Event.{Event}
 use Rattle.event_log.specs.declared.events.Event.TheVariants.{Draw}
 use Rattle.event_log.specs.declared.grants.GrantEvent.{GrantEvent}
 use Rattle.event_log.specs.declared.grants.GrantEvent.TheVariants.{Take, Peek, Give}
-use Rattle.event_log.specs.Actions.{Waits, Holds, doer, phase, place, act_of, acts_of}
+use Rattle.event_log.specs.Actions.{Waits, Holds, doer, phase, spot_of, act_of, acts_of}
 use Rattle.event_log.specs.Grants.{IsLegalGrants, grant_actor, grant_standing, act_of_grant, acts_of_grants}
 use Rattle.event_log.specs.History.{Adds, AreOthers, same_cpu}
 use Rattle.event_log.specs.Sections.{block_after, sections_in}
@@ -41,18 +41,18 @@ module _ {E : Type 0} (ActsFor : CpuId → Type 0) (old new : List (Event (Mark 
   pub event_adds : (e : Event (Mark E)) → Adds ActsFor actor e old new → Adds ActsFor doer (act_of edit_of e) (acts_of edit_of old) (acts_of edit_of new)
   event_adds e adds = adds_told (act_of edit_of) actor doer (doer_is edit_of) ActsFor e old new adds
 
-  -- a draw gives the ticket of the place
-  pub draws_place : (cpu : CpuId) (lock : LockId) (ticket : ℕ) → Adds ActsFor actor (Draw cpu lock ticket) old new → IsLegalWords new
-      → ticket ≡ place cpu (acts_of edit_of new) % 2 ^ 64
-  draws_place cpu lock ticket adds legal =
-      subst (λ s. TicketOf s (place cpu (acts_of edit_of new))) (ap (standing cpu) adds.is ∙ standing_own (Draw cpu lock ticket) (adds.others ++ old))
+  -- a draw gives the ticket of the spot
+  pub draws_spot : (cpu : CpuId) (lock : LockId) (ticket : ℕ) → Adds ActsFor actor (Draw cpu lock ticket) old new → IsLegalWords new
+      → ticket ≡ spot_of cpu (acts_of edit_of new) % 2 ^ 64
+  draws_spot cpu lock ticket adds legal =
+      subst (λ s. TicketOf s (spot_of cpu (acts_of edit_of new))) (ap (standing cpu) adds.is ∙ standing_own (Draw cpu lock ticket) (adds.others ++ old))
       (ticket_at edit_of new legal cpu)
 
--- who waits in the line waits with the ticket of its place
+-- who waits in the line waits with the ticket of its spot
 pub waits_by_ticket : {E : Type 0} (log : List (Event (Mark E))) → IsLegalWords log → (cpu : CpuId) (lock : LockId) (ticket : ℕ)
-    → phase cpu (acts_of edit_of log) ≡ Waits lock → ticket ≡ place cpu (acts_of edit_of log) % 2 ^ 64 → standing cpu log ≡ Waiting lock ticket
+    → phase cpu (acts_of edit_of log) ≡ Waits lock → ticket ≡ spot_of cpu (acts_of edit_of log) % 2 ^ 64 → standing cpu log ≡ Waiting lock ticket
 waits_by_ticket log legal cpu lock ticket waits is =
-    waiting_with (standing cpu log) lock (place cpu (acts_of edit_of log)) ticket (sym (phase_acts edit_of cpu log)
+    waiting_with (standing cpu log) lock (spot_of cpu (acts_of edit_of log)) ticket (sym (phase_acts edit_of cpu log)
     ∙ waits) (ticket_at edit_of log legal cpu) is
 
 -- what a look found, in terms of the line
@@ -76,19 +76,19 @@ module _ {E : Type 0} (ActsFor : CpuId → Type 0) (old new : List (GrantEvent (
       → Adds ActsFor doer (act_of_grant edit_of e) (acts_of_grants edit_of old) (acts_of_grants edit_of new)
   grant_adds e adds = adds_told (act_of_grant edit_of) grant_actor doer doer_of_grant ActsFor e old new adds
 
-  -- a Take gives the ticket of the place
-  pub takes_place : (cpu : CpuId) (lock : LockId) (ticket : ℕ) → Adds ActsFor grant_actor (Take cpu lock ticket) old new → IsLegalGrants new
-      → ticket ≡ place cpu (acts_of_grants edit_of new) % 2 ^ 64
-  takes_place cpu lock ticket adds legal =
-      subst (λ s. TicketOf s (place cpu (acts_of_grants edit_of new)))
+  -- a Take gives the ticket of the spot
+  pub takes_spot : (cpu : CpuId) (lock : LockId) (ticket : ℕ) → Adds ActsFor grant_actor (Take cpu lock ticket) old new → IsLegalGrants new
+      → ticket ≡ spot_of cpu (acts_of_grants edit_of new) % 2 ^ 64
+  takes_spot cpu lock ticket adds legal =
+      subst (λ s. TicketOf s (spot_of cpu (acts_of_grants edit_of new)))
       (ap (grant_standing cpu) adds.is ∙ ap (λ b. if b then Waiting lock ticket else grant_standing cpu (adds.others ++ old)) (same_cpu_self cpu))
       (grant_ticket_at edit_of new legal cpu)
 
 pub waits_by_grant : {E : Type 0} (log : List (GrantEvent (Mark E))) → IsLegalGrants log → (cpu : CpuId) (lock : LockId) (ticket : ℕ)
-    → phase cpu (acts_of_grants edit_of log) ≡ Waits lock → ticket ≡ place cpu (acts_of_grants edit_of log) % 2 ^ 64
+    → phase cpu (acts_of_grants edit_of log) ≡ Waits lock → ticket ≡ spot_of cpu (acts_of_grants edit_of log) % 2 ^ 64
     → grant_standing cpu log ≡ Waiting lock ticket
 waits_by_grant log legal cpu lock ticket waits is =
-    waiting_with (grant_standing cpu log) lock (place cpu (acts_of_grants edit_of log)) ticket (sym (phase_grants edit_of cpu log) ∙ waits)
+    waiting_with (grant_standing cpu log) lock (spot_of cpu (acts_of_grants edit_of log)) ticket (sym (phase_grants edit_of cpu log) ∙ waits)
     (grant_ticket_at edit_of log legal cpu) is
 
 -- what a peek found, in terms of the line

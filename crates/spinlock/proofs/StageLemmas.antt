@@ -3,17 +3,17 @@ use Rattle.std.proofs.Common.{◌≡◌, ◌≢◌, ℕ, ◌%◌, ◌^◌, Bool,
 use Rattle.std.proofs.Common.{refl, ap, sym, ◌∙◌, subst, if◌then◌else◌}
 use Rattle.event_log.specs.declared.ids.CpuId.{CpuId}
 use Rattle.event_log.specs.declared.ids.LockId.{LockId}
-use Rattle.event_log.specs.Actions.{Action, Take, Try, Give, Rests, Waits, Holds, AreLegal, action_in, doer, phase, place}
+use Rattle.event_log.specs.Actions.{Action, Take, Try, Give, Rests, Waits, Holds, AreLegal, action_in, doer, phase, spot_of}
 use Rattle.event_log.specs.History.{Adds, Grows, AreOthers, same_cpu, same_lock}
 use Rattle.event_log.specs.Sections.{section_actor, block_after, sections_in}
 use Rattle.event_log.proofs.Exclusion.{one_holds, phase_own}
-use Rattle.event_log.proofs.Foreign.{phase_others, place_others, sections_in-append, others_sections_in}
+use Rattle.event_log.proofs.Foreign.{phase_others, spot_others, sections_in-append, others_sections_in}
 use Rattle.event_log.proofs.Same.{same_cpu_self, same_cpu_true, same_lock_true}
 use Rattle.layer_traits.proofs.Seen.{stays_on}
 use Rattle.layer_traits.specs.Looks.{Tries}
 use Rattle.layer_traits.specs.Plans.{Follows, table_of, at_give, section_plan, answered}
 use Rattle.layer_traits.specs.Protocol.{Rules, StaysAllowed, section}
-use Rattle.layer_traits.specs.Turns.{Polled}
+use Rattle.layer_traits.specs.Polls.{Polled}
 use Rattle.spinlock.specs.declared.stages.TicketStage.{TicketStage}
 use Rattle.spinlock.specs.declared.stages.TicketStage.TheVariants.{Out, Drawn, Held}
 use Rattle.spinlock.specs.Stages.{StageFits, hit_by}
@@ -62,7 +62,7 @@ module _ {E B O : Type 0} (rules : Rules E B O) (opening : LockId → Option B) 
       → StageFits rules opening acts cpu stage → StageFits rules opening (more ++ acts) cpu stage
   stage_stays cpu Out more acts others legal fits = phase_others cpu more acts others ∙ fits
   stage_stays cpu (Drawn lock edit ticket) more acts others legal fits = (
-    (phase_others cpu more acts others ∙ fits.0.0, fits.0.1 ∙ ap (λ n. n % 2 ^ 64) (sym (place_others cpu more acts others))),
+    (phase_others cpu more acts others ∙ fits.0.0, fits.0.1 ∙ ap (λ n. n % 2 ^ 64) (sym (spot_others cpu more acts others))),
     allowed_stays cpu lock edit more acts others fits.1,
     fits.2,
   )
@@ -114,8 +114,8 @@ module _ {E B O : Type 0} (rules : Rules E B O) (step : Stepped E B) where
       subst (λ o. StageFits rules o new q stage) (sym same)
       (subst (λ l. StageFits rules opening l q stage) (sym adds.is) (stage_stays rules opening q stage (a ∷ adds.others) old others (grown a adds) fits))
 
-  -- a CPU that joined the line waits with the ticket of its place
-  pub joined_fits : (lock : LockId) (edit : E) (ticket : ℕ) → Adds ActsFor doer (Take cpu lock) old new → ticket ≡ place cpu new % 2 ^ 64 → ActsFor cpu
+  -- a CPU that joined the line waits with the ticket of its spot
+  pub joined_fits : (lock : LockId) (edit : E) (ticket : ℕ) → Adds ActsFor doer (Take cpu lock) old new → ticket ≡ spot_of cpu new % 2 ^ 64 → ActsFor cpu
       → StaysAllowed (rules.allowed opening) (sections_in old) (section cpu lock edit) → IsSome (opening lock)
       → StageFits rules opening' new cpu (Drawn lock edit ticket)
   joined_fits lock edit ticket adds has acts stays there =
@@ -127,7 +127,7 @@ module _ {E B O : Type 0} (rules : Rules E B O) (step : Stepped E B) where
       )
 
   -- a CPU that tried waits on, or holds the lock with the block
-  pub tried_fits : (lock : LockId) (edit : E) (ticket : ℕ) (hit : Bool) → Adds ActsFor doer (Try cpu lock hit) old new → ticket ≡ place cpu old % 2 ^ 64
+  pub tried_fits : (lock : LockId) (edit : E) (ticket : ℕ) (hit : Bool) → Adds ActsFor doer (Try cpu lock hit) old new → ticket ≡ spot_of cpu old % 2 ^ 64
       → ActsFor cpu → StaysAllowed (rules.allowed opening) (sections_in old) (section cpu lock edit) → IsSome (opening lock) → (found : Option B)
       → MatchOption found (phase cpu new ≡ Waits lock)
       (λ block. (phase cpu new ≡ Holds lock) × (block_after rules.edited opening' lock (sections_in new) ≡ Some block))
@@ -137,7 +137,7 @@ module _ {E B O : Type 0} (rules : Rules E B O) (step : Stepped E B) where
       let still : StaysAllowed (rules.allowed opening) (sections_in new) (section cpu lock edit)
       = subst (λ l. StaysAllowed (rules.allowed opening) (sections_in l) (section cpu lock edit)) (sym adds.is)
       (allowed_stays rules opening cpu lock edit adds.others old (adds.foreign cpu acts) stays) in
-      let spot : place cpu old ≡ place cpu new = sym (ap (place cpu) adds.is ∙ place_others cpu adds.others old (adds.foreign cpu acts)) in
+      let spot : spot_of cpu old ≡ spot_of cpu new = sym (ap (spot_of cpu) adds.is ∙ spot_others cpu adds.others old (adds.foreign cpu acts)) in
       by_find found hits is (has ∙ ap (λ n. n % 2 ^ 64) spot)
       (subst (λ o. StaysAllowed (rules.allowed o) (sections_in new) (section cpu lock edit)) (sym same) still)
       (subst (λ o. IsSome (o lock)) (sym same) there)
@@ -145,7 +145,7 @@ module _ {E B O : Type 0} (rules : Rules E B O) (step : Stepped E B) where
       by_find : (f : Option B)
           → MatchOption f (phase cpu new ≡ Waits lock)
           (λ block. (phase cpu new ≡ Holds lock) × (block_after rules.edited opening' lock (sections_in new) ≡ Some block))
-          → MatchOption f (stage ≡ Drawn lock edit ticket) (λ block. stage ≡ Held lock edit block) → ticket ≡ place cpu new % 2 ^ 64
+          → MatchOption f (stage ≡ Drawn lock edit ticket) (λ block. stage ≡ Held lock edit block) → ticket ≡ spot_of cpu new % 2 ^ 64
           → StaysAllowed (rules.allowed opening') (sections_in new) (section cpu lock edit) → IsSome (opening' lock) → StageFits rules opening' new cpu stage
       by_find None waits at has' still there' = subst (λ s. StageFits rules opening' new cpu s) (sym at) ((waits, has'), still, there')
       by_find (Some block) hit at has' still there' = subst (λ s. StageFits rules opening' new cpu s) (sym at) (hit.0, still, hit.1)

@@ -1,4 +1,4 @@
--- What the two logs of lock words say of the line at a lock: the phases of the CPUs, and the tickets of their places.
+-- What the two logs of lock words say of the line at a lock: the phases of the CPUs, and the tickets of their spots.
 use Rattle.std.proofs.Common.{◌≡◌, ℕ, ◌%◌, ◌^◌, ◌↔◌, List, [], ◌∷◌, Option, Some, None, MatchOption, ap, sym, subst, ◌∙◌, refl}
 use Rattle.event_log.specs.declared.ids.CpuId.{CpuId}
 use Rattle.event_log.specs.declared.ids.LockId.{LockId}
@@ -27,7 +27,7 @@ outside_of Outside rests = refl
 outside_of (Waiting lock ticket) rests = absurd (cc rests)
 outside_of (Inside lock ticket) rests = absurd (cc rests)
 
--- who waits has the ticket of its place
+-- who waits has the ticket of its spot
 pub waiting_with : (s : Standing) (lock : LockId) (spot ticket : ℕ) → phase_of s ≡ Waits lock → TicketOf s spot → ticket ≡ spot % 2 ^ 64
     → s ≡ Waiting lock ticket
 waiting_with Outside lock spot ticket waits has is = absurd (cc waits)

@@ -51,13 +51,13 @@ module _ {E B O : Type 0} (rules : Rules E B O) (opening : LockId → Option B) 
       absurd (cc held)
 
   -- what the machine and the stages tell is the truth
-  pub turn_shows : {P : Type 0} (ActsFor : CpuId → Type 0) (cpu_of : P → CpuId) (stage_of : P → TicketStage E B) (home : Option B)
+  pub spinner_shows : {P : Type 0} (ActsFor : CpuId → Type 0) (cpu_of : P → CpuId) (stage_of : P → TicketStage E B) (home : Option B)
       → AreLegal acts
       → MatchOption home (SomeoneHolds lock acts) (λ block. block_after rules.edited opening lock (sections_in acts) ≡ Some block)
       → IsShown (λ (p : P). ActsFor (cpu_of p) × StageFits rules opening acts (cpu_of p) (stage_of p)) cpu_of
       (λ d. Unit {0} × (is_in_section (phase d acts) ≡ true)) (λ p. held_block lock (stage_of p)) home
       (block_after rules.edited opening lock (sections_in acts))
-  turn_shows {P} ActsFor cpu_of stage_of home legal tells = record {
+  spinner_shows {P} ActsFor cpu_of stage_of home legal tells = record {
     by_machine = by_machine home tells;
     by_part = λ p x fits is. held_is (cpu_of p) (stage_of p) x fits.1 is;
     somewhere = somewhere home tells;

@@ -2,7 +2,7 @@
 use Rattle.std.specs.Prelude.{◌≡◌, ◌%◌, ◌^◌, List, Option, Some, None, IsSome, if◌then◌else◌}
 use Rattle.event_log.specs.declared.ids.CpuId.{CpuId}
 use Rattle.event_log.specs.declared.ids.LockId.{LockId}
-use Rattle.event_log.specs.Actions.{Action, Rests, Waits, Holds, phase, place}
+use Rattle.event_log.specs.Actions.{Action, Rests, Waits, Holds, phase, spot_of}
 use Rattle.event_log.specs.History.{same_lock}
 use Rattle.event_log.specs.Sections.{Section, block_after, sections_in}
 use Rattle.layer_traits.specs.Protocol.{Rules, StaysAllowed, section}
@@ -28,12 +28,12 @@ held_block lock Out = None
 held_block lock (Drawn at edit ticket) = None
 held_block lock (Held at edit block) = if same_lock lock at then Some block else None
 
--- the stage is where the actions leave the CPU: at rest, waiting with the ticket of its place, or with the lock that it holds and the
+-- the stage is where the actions leave the CPU: at rest, waiting with the ticket of its spot, or with the lock that it holds and the
 -- lock's block in its hands; the lock that waits is there, and the section under way stays allowed
 abbrev pub StageFits : {E B O : Type 0} → Rules E B O → (LockId → Option B) → List (Action E) → CpuId → TicketStage E B → Type 0
 StageFits rules opening acts cpu Out = phase cpu acts ≡ Rests
 StageFits rules opening acts cpu (Drawn lock edit ticket) =
-    ((phase cpu acts ≡ Waits lock) × (ticket ≡ place cpu acts % 2 ^ 64))
+    ((phase cpu acts ≡ Waits lock) × (ticket ≡ spot_of cpu acts % 2 ^ 64))
     × StaysAllowed (rules.allowed opening) (sections_in acts) (section cpu lock edit) × IsSome (opening lock)
 StageFits rules opening acts cpu (Held lock edit block) =
     (phase cpu acts ≡ Holds lock)

@@ -5,10 +5,10 @@
 mod lock_line;
 mod owned_lock_line;
 mod sections;
+mod spinner;
 mod stages;
-mod turn;
 
 pub use lock_line::{ByGrant, ByTicket, LockLine};
 pub use owned_lock_line::OwnedLockLine;
 pub use sections::whole;
-pub use turn::{Grant, Ticket, Turn};
+pub use spinner::{Grant, Spinner, Ticket};

@@ -5,20 +5,20 @@ ghost use Rattle.std.specs.Prelude.{◌≡◌, ℕ, ◌+◌, ◌%◌, ◌^◌, �
 use event_log::{CpuId, LockId};
 use layer_traits::{Edit, GrantWords, Words};
 
-/// The way of [`Words`]: a place is a ticket, which is served once `serving` shows it.
+/// The way of [`Words`]: a spot is a ticket, which is served once `serving` shows it.
 pub struct ByTicket;
 
-/// The way of [`GrantWords`]: a place is a ticket, which is served once its own grant word shows
+/// The way of [`GrantWords`]: a spot is a ticket, which is served once its own grant word shows
 /// the ticket plus 1.
 pub struct ByGrant;
 
-/// A machine at whose locks CPUs stand in line: a CPU takes a place, tries to enter, and gives the
+/// A machine at whose locks CPUs stand in line: a CPU takes a spot, tries to enter, and gives the
 /// lock on. `By` is the way in which the machine's words say so; no word is named here. Of a
-/// place the ticket tells the rest modulo 2^64.
+/// spot the ticket tells the rest modulo 2^64.
 pub trait LockLine<By> {
     ghost use Rattle.event_log.specs.declared.ids.CpuId.{CpuId};
     ghost use Rattle.event_log.specs.declared.ids.LockId.{LockId};
-    ghost use Rattle.event_log.specs.Actions.{Action, Take, Try, Give, Rests, Waits, Holds, AreLegal, doer, phase, place};
+    ghost use Rattle.event_log.specs.Actions.{Action, Take, Try, Give, Rests, Waits, Holds, AreLegal, doer, phase, spot_of};
     ghost use Rattle.event_log.specs.History.{Adds, IsLawful};
     ghost use Rattle.event_log.specs.Sections.{block_after, sections_in};
     ghost use Rattle.layer_traits.specs.Protocol.{section, StaysAllowed};
@@ -44,14 +44,14 @@ pub trait LockLine<By> {
     /// No section of this CPU is under way.
     ghost IsOutside: { Self → CpuId → Type 0 };
 
-    /// Takes a place in the line of `lock` for `cpu`, which rests, and gives its ticket.
+    /// Takes a spot in the line of `lock` for `cpu`, which rests, and gives its ticket.
     fn join(&mut self, cpu: CpuId, lock: LockId) -> u64
         requires cpu { ActsFor self.old cpu }
         requires lock { IsSome (opening self.old lock) }
         requires room { 0 < room self.old }
         requires rests { phase cpu (acts self.old) ≡ Rests }
         ensures adds { Adds (ActsFor self.old) doer (Take cpu lock) (acts self.old) (acts self.new) }
-        ensures ticket { result ≡ place cpu (acts self.new) % 2 ^ 64 }
+        ensures ticket { result ≡ spot_of cpu (acts self.new) % 2 ^ 64 }
         ensures opening { opening self.new ≡ opening self.old }
         ensures site { site self.new ≡ site self.old }
         ensures room { room self.old ≤ room self.new + 1 }
@@ -69,7 +69,7 @@ pub trait LockLine<By> {
         requires lock { IsSome (opening self.old lock) }
         requires room { 0 < room self.old }
         requires waits { phase cpu (acts self.old) ≡ Waits lock }
-        requires ticket { ticket ≡ place cpu (acts self.old) % 2 ^ 64 }
+        requires ticket { ticket ≡ spot_of cpu (acts self.old) % 2 ^ 64 }
         ensures adds { (hit : Bool) × Adds (ActsFor self.old) doer (Try cpu lock hit) (acts self.old) (acts self.new) }
         ensures hits { MatchOption result
             (phase cpu (acts self.new) ≡ Waits lock)

@@ -5,7 +5,7 @@ ghost use Rattle.event_log.specs.declared.ids.CpuId.{CpuId};
 ghost use Rattle.event_log.specs.Actions.{Take, Try, Give, Rests, phase, next_action};
 ghost use Rattle.layer_traits.specs.Plans.{table_of, reply};
 ghost use Rattle.layer_traits.specs.Protocol.{section, StaysAllowed};
-ghost use Rattle.layer_traits.specs.Turns.{MayPoll, Answers};
+ghost use Rattle.layer_traits.specs.Polls.{MayPoll, Answers};
 
 use event_log::{CPUS, LockId};
 use layer_traits::{Edit, LockLayer};

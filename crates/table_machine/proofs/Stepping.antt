@@ -14,7 +14,7 @@ use Rattle.event_log.specs.declared.events.Event.{Event}
 use Rattle.event_log.specs.declared.events.Event.TheVariants.{Draw, Look, Free}
 use Rattle.event_log.specs.History.{AreOthers, IsLawful}
 use Rattle.event_log.specs.WordsLog.{IsLegalWords, actor, draws, frees, standing, Outside, Waiting, Inside}
-use Rattle.event_log.specs.Actions.{Holds, acts_of, gives as given_times, phase, place}
+use Rattle.event_log.specs.Actions.{Holds, acts_of, gives as given_times, phase, spot_of}
 use Rattle.event_log.proofs.Exclusion.{is_holding, line_at}
 use Rattle.event_log.proofs.Same.{same_lock_self}
 use Rattle.event_log.proofs.Tickets.{gives_acts, legal_acts, phase_acts, ticket_at}
@@ -257,10 +257,10 @@ module _ (K : WordKind) {E B O : Type 0} (R : Rules E B O) (n : ℕ) (start : Li
   served_ticket log legal cpu lock ticket inside =
       let acts = legal_acts edit_of log legal in
       let holds : phase cpu (acts_of edit_of log) ≡ Holds lock = phase_acts edit_of cpu log ∙ ap phase_of inside in
-      let served : place cpu (acts_of edit_of log) ≡ given_times lock (acts_of edit_of log) =
+      let served : spot_of cpu (acts_of edit_of log) ≡ given_times lock (acts_of edit_of log) =
       (line_at lock (acts_of edit_of log) acts).first cpu (ap (is_holding lock) holds ∙ same_lock_self lock) in
-      let has : ticket ≡ place cpu (acts_of edit_of log) % 2 ^ 64 =
-      subst (λ s. TicketOf s (place cpu (acts_of edit_of log))) inside (ticket_at edit_of log legal cpu) in
+      let has : ticket ≡ spot_of cpu (acts_of edit_of log) % 2 ^ 64 =
+      subst (λ s. TicketOf s (spot_of cpu (acts_of edit_of log))) inside (ticket_at edit_of log legal cpu) in
       has ∙ ap (λ n. n % 2 ^ 64) (served ∙ gives_acts edit_of lock log)
 
   -- a CPU that is inside gives the lock on, by a store or by adding 1, whichever the words want

@@ -15,7 +15,7 @@ pub record WordKind : Type 1 where
   pub gives_at : ℕ → ℕ
   -- what it stores there; None where it adds 1
   pub stores : ℕ → Option ℕ
-  -- after so many places taken, and given on so often, the words are these
+  -- after so many spots taken, and given on so often, the words are these
   pub Fit : ℕ → ℕ → (ℕ → ℕ) → Type 0
 
 -- the words at the start

@@ -1,4 +1,4 @@
-//! The words of one lock in a table, by which CPUs take turns.
+//! The words of one lock in a table, by which CPUs stand in line.
 
 ghost use Rattle.std.specs.Prelude.{◌≡◌};
 
@@ -32,7 +32,7 @@ pub trait TableWords: Drop {
     fn stores(ticket: u64) -> Option<u64>
         ensures { result ≡ kind.stores ticket };
 
-    /// Law: the words tell exactly which place is served.
+    /// Law: the words tell exactly which spot is served.
     ghost lawful: { IsWordKind kind };
 }
 

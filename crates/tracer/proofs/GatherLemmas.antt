@@ -13,12 +13,12 @@ use Rattle.event_log.specs.Traces.{IsInterleaving, HasOpOrderFrom, HasOpOrder}
 use Rattle.tracer.specs.Gather.{traces_in, IsOrder, IsReady, TakesFirstReadyFrom, TakesFirstReady, HasNoOrder, next_entry, IsDue, NoneDueBelow}
 use Rattle.tracer.proofs.OrderLemmas.{at_head, head_at, head_within, count_more_same, count_more_other, CameFirst, may_come_first}
 
--- what a look at a vector's place says of the next entry of its trace
+-- what a look at a vector's slot says of the next entry of its trace
 pub next_here : (vectors : List (Vec Entry Global)) (taken : List ℕ) (k : ℕ) (v : Vec Entry Global) (n : ℕ) (next : Option Entry) → k < length vectors
     → v ≡ get_or vectors k v → n ≡ get_or taken k 0 → next ≡ slice_get v.items n → next_entry (traces_in vectors) taken k ≡ next
-next_here vectors taken k v n next within here place look =
+next_here vectors taken k v n next within here slot look =
     let items : get_or (traces_in vectors) k [] ≡ v.items = get_or-map (λ trace. trace.items) vectors k v [] within ∙ ap (λ trace. trace.items) (sym here) in
-    ap (λ trace. slice_get trace (get_or taken k 0)) items ∙ (ap (slice_get v.items) (sym place) ∙ sym look)
+    ap (λ trace. slice_get trace (get_or taken k 0)) items ∙ (ap (slice_get v.items) (sym slot) ∙ sym look)
 
 -- what is left of each trace, where so many of each are taken
 abbrev pub rests : List (List Entry) → List ℕ → List (List Entry)
@@ -93,7 +93,7 @@ left_of_more traces k e rest at =
     let one : length (get_or traces k []) ≡ length rest + 1 = ap length at ∙ sym (add-one (length rest)) in
     omega (arith, one, sum_by-set length traces k rest [] (head_within traces k e rest at))
 
--- a table of zeros has a zero at each place
+-- a table of zeros has a zero at each slot
 zero_at : (n b : ℕ) → get_or {A = ℕ} (replicate n 0) b 0 ≡ 0
 zero_at zero b = refl
 zero_at (suc n) zero = refl
@@ -101,7 +101,7 @@ zero_at (suc n) (suc b) = zero_at n b
 
 -- what a gathering keeps: its tables, and that the entries taken go on as each order of the rests goes on
 pub record Gathers (traces : List (List Entry)) (total : ℕ) (taken counts : List ℕ) (done : List Entry) : Type 0 where
-  pub places : length taken ≡ length traces
+  pub slots : length taken ≡ length traces
   pub table : length counts ≡ 256
   pub counted : (b : ℕ) → get_or counts b 0 ≡ count_of done b
   pub whole : left_of traces ≡ total
@@ -116,7 +116,7 @@ gathers_none : (traces : List (List Entry)) (n total : ℕ) (taken counts : List
 gathers_none traces n total taken counts size fresh zeros all =
     let whole : rests traces taken ≡ traces = ap (rests traces) fresh ∙ rests_none traces n in
     record {
-      places = ap length fresh ∙ (length-replicate n 0 ∙ size);
+      slots = ap length fresh ∙ (length-replicate n 0 ∙ size);
       table = ap length zeros;
       counted = λ b. ap (λ t. get_or t b 0) zeros ∙ zero_at 256 b;
       whole = sym all;
@@ -179,7 +179,7 @@ some_left_in traces total taken counts done k e g next =
       arith,
       g.whole,
       slice_get_within (get_or traces k []) (get_or taken k 0) e next,
-      get_or-le-sum_by length traces k [] (omega (arith, next_within traces taken k e g.places next, g.places)),
+      get_or-le-sum_by length traces k [] (omega (arith, next_within traces taken k e g.slots next, g.slots)),
     )
 
 -- one entry more
@@ -189,11 +189,11 @@ gathers_more : (traces : List (List Entry)) (total : ℕ) (taken counts : List �
 gathers_more traces total taken counts done k e g small next due below =
     let rest = drop (get_or taken k 0 + 1) (get_or traces k []) in
     let at : get_or (rests traces taken) k [] ≡ e ∷ rest = next_is_head traces taken k e next in
-    let within : k < length taken = next_within traces taken k e g.places next in
+    let within : k < length taken = next_within traces taken k e g.slots next in
     let others : rests traces (set taken k (get_or taken k 0 + 1)) ≡ set (rests traces taken) k rest = rests_more traces taken k e rest within at in
     let ready : e.op ≡ count_of done e.buffer.0 = due ∙ g.counted e.buffer.0 in
     record {
-      places = length-set taken k (get_or taken k 0 + 1) ∙ g.places;
+      slots = length-set taken k (get_or taken k 0 + 1) ∙ g.slots;
       table = length-set counts e.buffer.0 (get_or counts e.buffer.0 0 + 1) ∙ g.table;
       counted = counted_more counts done e g.counted (omega (arith, small, g.table));
       whole = g.whole;
@@ -239,7 +239,7 @@ no_later traces total taken counts done [] g some none keeps ops = some (omega (
 no_later traces total taken counts done (e ∷ es) g some none keeps ops =
     let at : get_or (rests traces taken) keeps.0 [] ≡ e ∷ keeps.1 = at_head (rests traces taken) keeps.0 e keeps.1 keeps.2 in
     let next : next_entry traces taken keeps.0 ≡ Some e = head_is_next traces taken keeps.0 e keeps.1 at in
-    none keeps.0 e (omega (arith, next_within traces taken keeps.0 e g.places next, g.places)) next (ops.0 ∙ sym (g.counted e.buffer.0))
+    none keeps.0 e (omega (arith, next_within traces taken keeps.0 e g.slots next, g.slots)) next (ops.0 ∙ sym (g.counted e.buffer.0))
 
 -- where something is left and no trace is ready, there is no order
 pub gathered_no_order : (traces : List (List Entry)) (total : ℕ) (taken counts : List ℕ) (done : List Entry) → Gathers traces total taken counts done

@@ -60,7 +60,7 @@ pub fn gather(alloc: Global, traces: &[Vec<Entry>]) -> Result<Vec<Entry>, Gather
     let mut counts = [0u64; NAMES];
     while let Some((trace, entry)) = first_ready(traces, &taken, &counts) {
         taken[trace] += 1;
-        counts[place_of(entry.buffer)] += 1;
+        counts[slot_of(entry.buffer)] += 1;
         order.push(entry).unwrap();
     }
     if order.len() == total {
@@ -83,7 +83,7 @@ fn entry_count(traces: &[Vec<Entry>]) -> Option<usize>
 }
 
 /// Where the count of a buffer stands.
-fn place_of(buffer: BufId) -> usize
+fn slot_of(buffer: BufId) -> usize
     ensures is { result ≡ buffer.0 }
     ensures within { result < 256 }
 {
@@ -95,7 +95,7 @@ fn place_of(buffer: BufId) -> usize
 fn is_due(counts: &[u64; NAMES], entry: &Entry) -> bool
     ensures { IsTrue result ↔ IsDue counts.now entry.now }
 {
-    entry.op == counts[place_of(entry.buffer)]
+    entry.op == counts[slot_of(entry.buffer)]
 }
 
 /// The first trace whose next entry has the op number that its buffer waits for, and that entry.

@@ -17,7 +17,7 @@ use Rattle.layer_traits.specs.declared.locked.QEdit.TheVariants.{Acquire, Releas
 use Rattle.layer_traits.specs.declared.conditions.CvLeave.TheVariants.{Wait}
 use Rattle.layer_traits.specs.declared.buffer_edits.BufferEdit.{BufferEdit}
 use Rattle.layer_traits.specs.declared.buffer_edits.BufferOut.{BufferOut}
-use Rattle.layer_traits.specs.declared.talks.Stage.{Stage as TowerStage}
+use Rattle.layer_traits.specs.declared.talks.Stage.{Stage}
 use Rattle.layer_traits.specs.declared.talks.Stage.TheVariants as at
 use Rattle.layer_traits.specs.declared.talks.Talk.{Talk}
 use Rattle.layer_traits.specs.BufferProtocol.{buffer_rules}
@@ -28,7 +28,7 @@ use Rattle.layer_traits.specs.CvLaw.{Waiting, cv_plan, cv_plan_for, left_waiting
 use Rattle.layer_traits.specs.LockLaw.{plan_for, slept_for}
 use Rattle.layer_traits.specs.Locking.{lock_moves}
 use Rattle.layer_traits.specs.Plans.{Plan, raised}
-use Rattle.cpu.specs.Table.Setups.{Setup, Acquires, Enters, Tries, Waits, AcquiresAgain, Signals, SignalsOwn, Releases, Stage}
+use Rattle.cpu.specs.Table.Setups.{Setup, Acquires, Enters, Tries, Waits, AcquiresAgain, Signals, SignalsOwn, Releases, CallStage}
 use Rattle.cpu.specs.Tower.Views.{TowerAnswer, TowerName, TowerOut}
 use Rattle.cpu.specs.Tower.Privates.{guest_at, guests_after, private_after, private_of, thread_from, tid, trace_after}
 use Rattle.cpu.specs.Tower.Composed.{IsLine, IsLined}
@@ -65,9 +65,9 @@ pub fifo_at : (setup : Setup) (c : CpuId) (t : Tid) (call : TowerCall) (own : Bu
 fifo_at setup c t call own talk is = ap (λ x. plan_at setup.homes c t call (going x call).stage (going x call) own) is
 
 -- a line of a begun call
-module _ (site : Site) (effect : Option Effect) (had : HasHad site effect) (stage : TowerStage)
+module _ (site : Site) (effect : Option Effect) (had : HasHad site effect) (stage : Stage)
     (is : talk_of site.talks site.t ≡ talk site effect had stage) where
-  pub going_line : (at : Stage) → thread_from (talk site effect had stage) None None false (e site effect had) (g site effect had)
+  pub going_line : (at : CallStage) → thread_from (talk site effect had stage) None None false (e site effect had) (g site effect had)
       ≡ with_call site effect had (k site effect had at)
       → (plan : BufferPlan Reply)
       → plan_at site.setup.homes site.c site.t site.call (going (talk site effect had stage) site.call).stage (going (talk site effect had stage) site.call)
@@ -86,7 +86,7 @@ module _ (site : Site) where
   abbrev pub SiteLine : Type 0
   SiteLine = LineOf setup c t call (part_at site.runner None None) guests trace
 
-  had_none : (stage : TowerStage) → (going (talk_at caller stage None) call).effect ≡ None → talk_of talks t ≡ talk_at caller stage None → HasHad site None
+  had_none : (stage : Stage) → (going (talk_at caller stage None) call).effect ≡ None → talk_of talks t ≡ talk_at caller stage None → HasHad site None
   had_none stage so is = ap (λ x. (going x call).effect) is ∙ so
 
   pub site_asks : talk_of talks t ≡ talk_at caller at.Acquires None → SiteLine
@@ -128,17 +128,17 @@ module _ (caller : Caller) where
   abbrev was : Buffering
   was = part_at runner None None
 
-  abbrev so : TowerStage → Talk
+  abbrev so : Stage → Talk
   so stage = talk_at caller stage None
 
-  abbrev then_own : List (Option BufId) → List (Option BufId) → TowerStage → Buffering
+  abbrev then_own : List (Option BufId) → List (Option BufId) → Stage → Buffering
   then_own slept2 waits2 stage = own_at (Some t) None ready ended None slept2 waits2 (slice_set talks t.0 (so stage))
 
-  now_talk : (stage : TowerStage) → talk_of (slice_set talks t.0 (so stage)) t ≡ so stage
+  now_talk : (stage : Stage) → talk_of (slice_set talks t.0 (so stage)) t ≡ so stage
   now_talk stage = get_or-set_same talks t.0 (so stage) quiet in_talks
 
   -- the private state is the same
-  same_private : (stage next : TowerStage) (slept2 waits2 : List (Option BufId)) (s w : Option BufId) → talk_of talks t ≡ so stage
+  same_private : (stage next : Stage) (slept2 waits2 : List (Option BufId)) (s w : Option BufId) → talk_of talks t ≡ so stage
       → slept_for slept t ≡ s → slept_for waits t ≡ w
       → ((j : ℕ) → j ≢ t.0 → slept_for slept2 (tid j) ≡ slept_for slept (tid j))
       → ((j : ℕ) → j ≢ t.0 → slept_for waits2 (tid j) ≡ slept_for waits (tid j)) → slept_for slept2 t ≡ None → slept_for waits2 t ≡ None
@@ -152,7 +152,7 @@ module _ (caller : Caller) where
       ∙ sym (private_here runner None None trace (so stage) s w is is_s is_w)))
 
   -- a line of the state to which the poll went on is one of the state from which it came
-  chained_line : (stage next : TowerStage) (own2 : Buffering) → talk_of talks t ≡ so stage → talk_of own2.talks t ≡ so next
+  chained_line : (stage next : Stage) (own2 : Buffering) → talk_of talks t ≡ so stage → talk_of own2.talks t ≡ so next
       → (going (so stage) call).effect ≡ None → (going (so next) call).effect ≡ None
       → private_of own2 guests trace ≡ private_of was guests trace → fifo_plan setup.homes c t call was ≡ fifo_plan setup.homes c t call own2
       → LineOf setup c t call own2 guests trace → LineOf setup c t call was guests trace

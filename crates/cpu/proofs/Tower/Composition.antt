@@ -18,7 +18,7 @@ use Rattle.layer_traits.specs.declared.conditions.CvOut.TheVariants as cv
 use Rattle.layer_traits.specs.declared.buffer_edits.BufferOut.{BufferOut}
 use Rattle.layer_traits.specs.declared.buffer_edits.BufferOut.TheVariants.{Entered, NotYet, Done, WasShut}
 use Rattle.layer_traits.specs.declared.queues.QueueAnswer.TheVariants as told
-use Rattle.layer_traits.specs.declared.talks.Stage.{Stage as TowerStage}
+use Rattle.layer_traits.specs.declared.talks.Stage.{Stage}
 use Rattle.layer_traits.specs.declared.talks.Stage.TheVariants as at
 use Rattle.layer_traits.specs.declared.talks.Talk.{Talk}
 use Rattle.layer_traits.specs.BufferBlocks.{BufferState, buffer_answer}
@@ -61,10 +61,10 @@ wait_out side o = record { out = lock.Released (cv.Waited side); slept = true; w
 -- Before the effect.
 
 module _ (site : Site) (had : HasHad site None) where
-  abbrev pub plan : TowerStage → BufferPlan Reply
+  abbrev pub plan : Stage → BufferPlan Reply
   plan stage = plan_at site.setup.homes site.c site.t site.call stage (talk site None had stage) (own site None had)
 
-  abbrev at_buf : TowerStage → (Buffering → BufferPlan Reply) → Plan TowerName TowerAnswer (Waiting BufferOut) TowerOut → BufferPlan Reply
+  abbrev at_buf : Stage → (Buffering → BufferPlan Reply) → Plan TowerName TowerAnswer (Waiting BufferOut) TowerOut → BufferPlan Reply
   at_buf stage next p = chained next (left_heard site.t site.call (talk site None had stage) site.talks stage) p
 
   -- it asks for the lock
@@ -268,7 +268,7 @@ module _ (site : Site) (had : HasHad site None) where
 -- After the effect.
 
 module _ (site : Site) (f : Effect) (had : HasHad site (Some f)) where
-  abbrev pub plan_to : TowerStage → BufferPlan Reply
+  abbrev pub plan_to : Stage → BufferPlan Reply
   plan_to stage = plan_at site.setup.homes site.c site.t site.call stage (talk site (Some f) had stage) (own site (Some f) had)
 
   signal_by : (v : CvOut BufferOut) (u : Tid) (b : Bool)

@@ -21,7 +21,7 @@ use Rattle.layer_traits.specs.declared.buffer_edits.BufferOut.TheVariants.{NotYe
 use Rattle.layer_traits.specs.declared.queue_edits.QueueBlock.TheVariants as block
 use Rattle.layer_traits.specs.declared.queue_edits.QueueEdit.TheVariants as queue
 use Rattle.layer_traits.specs.declared.queues.QueueAnswer.TheVariants as told
-use Rattle.layer_traits.specs.declared.talks.Stage.{Stage as TowerStage}
+use Rattle.layer_traits.specs.declared.talks.Stage.{Stage}
 use Rattle.layer_traits.specs.declared.talks.Stage.TheVariants as at
 use Rattle.layer_traits.specs.declared.talks.Talk.{Talk}
 use Rattle.layer_traits.specs.BufferBlocks.{BufferState, buffer_answer}
@@ -146,7 +146,7 @@ module _ (site : Site) (effect : Option Effect) (had : HasHad site effect) (othe
       (stand_is hand2 kept2 _ talk2 _ None _ None (get_or-set_same site.talks site.t.0 talk2 quiet site.in_talks) site.is_slept site.is_waits may)
 
   -- it sleeps for the lock
-  pub asleep : (stage : TowerStage) → MayStand stage None None (Some (buffer_of site.call)) None effect → FitsStage stage (Some site.call)
+  pub asleep : (stage : Stage) → MayStand stage None None (Some (buffer_of site.call)) None effect → FitsStage stage (Some site.call)
       → IsPart (own_at None None site.ready site.ended None (slice_set site.slept site.t.0 (Some (buffer_of site.call))) site.waits
       (slice_set site.talks site.t.0 (talk site effect had stage)))
   asleep stage may fit =
@@ -161,7 +161,7 @@ module _ (site : Site) (effect : Option Effect) (had : HasHad site effect) (othe
       (get_or-set_same site.slept site.t.0 (Some (buffer_of site.call)) None site.in_slept) site.is_waits may)
 
   -- it waits
-  pub waiting : (hand2 : Option Tid) (ready2 : List Tid) (stage : TowerStage) → MayStand stage None None None (Some (buffer_of site.call)) effect
+  pub waiting : (hand2 : Option Tid) (ready2 : List Tid) (stage : Stage) → MayStand stage None None None (Some (buffer_of site.call)) effect
       → FitsStage stage (Some site.call)
       → IsPart (own_at None hand2 ready2 site.ended None site.slept (slice_set site.waits site.t.0 (Some (buffer_of site.call)))
       (slice_set site.talks site.t.0 (talk site effect had stage)))
@@ -177,7 +177,7 @@ module _ (site : Site) (effect : Option Effect) (had : HasHad site effect) (othe
       (get_or-set_same site.waits site.t.0 (Some (buffer_of site.call)) None site.in_waits) may)
 
   -- a section of the call
-  pub keeps : (stage : TowerStage) (s : CvCall BufferEdit) (p : BufferPlan Reply) → p ≡ fresh site effect had stage s
+  pub keeps : (stage : Stage) (s : CvCall BufferEdit) (p : BufferPlan Reply) → p ≡ fresh site effect had stage s
       → Stands stage None None None None effect → FitsStage stage (Some site.call)
       → ((x : LockState BufferState) → IsPart (react site effect had stage s (Some (told.Answer (lock_answer buffer_rules s x)))).own)
       → IsKept site.setup site.c p

@@ -19,7 +19,7 @@ use Rattle.layer_traits.specs.declared.buffer_edits.BufferEdit.{BufferEdit}
 use Rattle.layer_traits.specs.declared.buffer_edits.BufferOut.{BufferOut}
 use Rattle.layer_traits.specs.declared.queue_edits.QueueEdit.TheVariants as queue
 use Rattle.layer_traits.specs.declared.queues.QueueAnswer.TheVariants as told
-use Rattle.layer_traits.specs.declared.talks.Stage.{Stage as TowerStage}
+use Rattle.layer_traits.specs.declared.talks.Stage.{Stage}
 use Rattle.layer_traits.specs.declared.talks.Stage.TheVariants as at
 use Rattle.layer_traits.specs.declared.talks.Talk.{Talk}
 use Rattle.layer_traits.specs.BufferLaw.{BufferPlan, Buffering, going, left_heard, other_side, plan_at, quiet, side_of as tower_side, talk_of, fifo_plan}
@@ -53,7 +53,7 @@ use Rattle.cpu.proofs.Tower.Keeping.{own_signals_keeps, releases_keeps}
 module _ (caller : Caller) (others : Rest caller.t caller.slept caller.waits caller.talks) where
   open caller use {setup, c, t, ready, ended, slept, waits as waiting, talks, call, position, in_talks, in_slept, in_waits}
 
-  abbrev here : TowerStage → Option Effect → Talk
+  abbrev here : Stage → Option Effect → Talk
   here stage effect = talk_at caller stage effect
 
   abbrev pieces : Option Tid → Option TowerOut → List (Option BufId) → List (Option BufId) → List Talk → Buffering
@@ -63,31 +63,31 @@ module _ (caller : Caller) (others : Rest caller.t caller.slept caller.waits cal
   Keeps o = IsKept setup c (fifo_plan setup.homes c t call o)
 
   -- where the plan begins or goes on at this stage
-  here_keeps : (hand : Option Tid) (kept : Option TowerOut) (stage : TowerStage) (effect : Option Effect) (p : BufferPlan Reply)
+  here_keeps : (hand : Option Tid) (kept : Option TowerOut) (stage : Stage) (effect : Option Effect) (p : BufferPlan Reply)
       → talk_of talks t ≡ here stage effect
       → plan_at setup.homes c t call (going (here stage effect) call).stage (going (here stage effect) call) (pieces hand kept slept waiting talks) ≡ p
       → IsKept setup c p → Keeps (pieces hand kept slept waiting talks)
   here_keeps hand kept stage effect p is so keep =
       subst (λ x. IsKept setup c x) (sym (fifo_at setup c t call (pieces hand kept slept waiting talks) (here stage effect) is ∙ so)) keep
 
-  had_none : (stage : TowerStage) → (going (here stage None) call).effect ≡ None → talk_of talks t ≡ here stage None → (going (talk_of talks t) call).effect
+  had_none : (stage : Stage) → (going (here stage None) call).effect ≡ None → talk_of talks t ≡ here stage None → (going (talk_of talks t) call).effect
       ≡ None
   had_none stage so is = ap (λ x. (going x call).effect) is ∙ so
 
-  had_some : (stage : TowerStage) (f : Effect) → (going (here stage (Some f)) call).effect ≡ Some f → talk_of talks t ≡ here stage (Some f)
+  had_some : (stage : Stage) (f : Effect) → (going (here stage (Some f)) call).effect ≡ Some f → talk_of talks t ≡ here stage (Some f)
       → (going (talk_of talks t) call).effect ≡ Some f
   had_some stage f so is = ap (λ x. (going x call).effect) is ∙ so
 
   -- the talk that a chain leaves
-  then_talk : (stage : TowerStage) → talk_of (slice_set talks t.0 (here stage None)) t ≡ here stage None
+  then_talk : (stage : Stage) → talk_of (slice_set talks t.0 (here stage None)) t ≡ here stage None
   then_talk stage = get_or-set_same talks t.0 (here stage None) quiet in_talks
 
-  slept_rest : (stage : TowerStage) → Rest t (slice_set slept t.0 None) waiting (slice_set talks t.0 (here stage None))
+  slept_rest : (stage : Stage) → Rest t (slice_set slept t.0 None) waiting (slice_set talks t.0 (here stage None))
   slept_rest stage =
       rest_set t slept waiting (slice_set slept t.0 None) waiting talks (here stage None) others (λ j other. get_or-set_other slept t.0 j None None other)
       (λ j other. refl) (length-set slept t.0 None) refl
 
-  waits_rest : (stage : TowerStage) → Rest t slept (slice_set waiting t.0 None) (slice_set talks t.0 (here stage None))
+  waits_rest : (stage : Stage) → Rest t slept (slice_set waiting t.0 None) (slice_set talks t.0 (here stage None))
   waits_rest stage =
       rest_set t slept waiting slept (slice_set waiting t.0 None) talks (here stage None) others (λ j other. refl)
       (λ j other. get_or-set_other waiting t.0 j None None other) refl (length-set waiting t.0 None)
@@ -128,10 +128,10 @@ module _ (caller : Caller) (others : Rest caller.t caller.slept caller.waits cal
 
   -- a thread in the hand is sent
   module _ (u : Tid) (f : Effect) (s : slept_for slept t ≡ None) (w : slept_for waiting t ≡ None) (known : IsSome (slice_get setup.homes u.0)) where
-    abbrev sending : TowerOut → TowerStage → CvCall BufferEdit → BufferPlan Reply
+    abbrev sending : TowerOut → Stage → CvCall BufferEdit → BufferPlan Reply
     sending out stage e = sends (awake caller s w) u f known out stage e
 
-    send_keeps : (out : TowerOut) (stage : TowerStage) (e : CvCall BufferEdit) (had : HasHad (awake caller s w) (Some f)) (next : Talk) → talk_of talks t
+    send_keeps : (out : TowerOut) (stage : Stage) (e : CvCall BufferEdit) (had : HasHad (awake caller s w) (Some f)) (next : Talk) → talk_of talks t
         ≡ here stage (Some f)
         → plan_at setup.homes c t call (going (here stage (Some f)) call).stage (going (here stage (Some f)) call)
         (pieces (Some u) (Some out) slept waiting talks)
@@ -183,7 +183,7 @@ module _ (caller : Caller) (others : Rest caller.t caller.slept caller.waits cal
         (Release (Leave t)) w s))
         refl refl (inside at.Releases (Some u) (Some (outcome_of (lock.Released cv.Left) u)) None None (Some f) (has_released u f)) (outside (Some f)) tt tt
 
-  pub by_stands : (stage : TowerStage) (hand : Option Tid) (kept : Option TowerOut) (s w : Option BufId) (effect : Option Effect)
+  pub by_stands : (stage : Stage) (hand : Option Tid) (kept : Option TowerOut) (s w : Option BufId) (effect : Option Effect)
       → Stands stage hand kept s w effect → FitsStage stage (Some call)
       → talk_of talks t ≡ here stage effect → slept_for slept t ≡ s → slept_for waiting t ≡ w
       → ((u : Tid) → hand ≡ Some u → IsSome (slice_get setup.homes u.0))

@@ -31,9 +31,9 @@ use Rattle.layer_traits.specs.declared.buffer_edits.BufferOut.TheVariants.{Enter
 use Rattle.layer_traits.specs.declared.queue_edits.QueueBlock.TheVariants as block
 use Rattle.layer_traits.specs.declared.queue_edits.QueueEdit.TheVariants as queue
 use Rattle.layer_traits.specs.declared.queues.QueueAnswer.TheVariants as told
-use Rattle.layer_traits.specs.declared.talks.Stage.{Stage as TowerStage}
+use Rattle.layer_traits.specs.declared.talks.Stage.{Stage}
 use Rattle.layer_traits.specs.declared.talks.Talk.{Talk}
-use Rattle.layer_traits.specs.BufferBlocks.{BufferState, buffer_answer, editor, is_turn}
+use Rattle.layer_traits.specs.BufferBlocks.{BufferState, buffer_answer, editor, is_next}
 use Rattle.layer_traits.specs.BufferProtocol.{buffer_rules}
 use Rattle.layer_traits.specs.BufferLaw.{BufferPlan, Buffering, buffer_of, entry_of, first_of, going, left_heard, other_side, quiet, reply_by, reply_of}
 use Rattle.layer_traits.specs.BufferLaw.{side_of as tower_side}
@@ -48,7 +48,7 @@ use Rattle.layer_traits.specs.SleepLaw.{Sleeping, left_done, sleep_plan}
 use Rattle.layer_traits.specs.Passes.{or_else}
 use Rattle.cpu.specs.Guests.{after_answer}
 use Rattle.cpu.specs.Table.Blocks.{Answer, DidShut, Told, effect_of}
-use Rattle.cpu.specs.Table.Setups.{Enters, Tries, Waits, Signals, SignalsOwn, Returns, Stage, Call, Thread, Private, home_of, program_of, thread_at}
+use Rattle.cpu.specs.Table.Setups.{Enters, Tries, Waits, Signals, SignalsOwn, Returns, CallStage, Call, Thread, Private, home_of, program_of, thread_at}
 use Rattle.cpu.specs.Table.Choice.{after_section, at_buffer, first_section, guest_after, heard, heard_entry, heard_position, heard_try, returned_at}
 use Rattle.cpu.specs.Table.Choice.{section_at}
 use Rattle.cpu.specs.Table.Choice.{settled, slept_if, with_call as call_put, woken}
@@ -115,14 +115,14 @@ pub record Tried (t : Tid) (call : TowerCall) (x : BufferState) : Type 0 where
   pub same : closed ≡ true → message ≡ message_of call None
 
 pub try_answer : (t : Tid) (call : TowerCall) (x : BufferState) → IsLined call → (buffer_answer (try_of t call) x ≡ NotYet) ⊎ Tried t call x
-try_answer t (Send b m) x lined = go (is_turn Senders t x) refl
+try_answer t (Send b m) x lined = go (is_next Senders t x) refl
   where
-    go : (k : Bool) → is_turn Senders t x ≡ k → (buffer_answer (try_of t (Send b m)) x ≡ NotYet) ⊎ Tried t (Send b m) x
+    go : (k : Bool) → is_next Senders t x ≡ k → (buffer_answer (try_of t (Send b m)) x ≡ NotYet) ⊎ Tried t (Send b m) x
     go true may = inr (record { closed = x.closed; op = x.effects; message = m; is = rw may refl; same = λ closed. refl })
     go false not_yet = inl (rw not_yet refl)
-try_answer t (Recv b) x lined = go (is_turn Receivers t x) refl
+try_answer t (Recv b) x lined = go (is_next Receivers t x) refl
   where
-    by_items : (items : List Message) → x.items ≡ items → is_turn Receivers t x ≡ true → Tried t (Recv b) x
+    by_items : (items : List Message) → x.items ≡ items → is_next Receivers t x ≡ true → Tried t (Recv b) x
     by_items [] is may = record { closed = true; op = x.effects; message = no_message; is = rw (may, is) refl; same = λ closed. refl }
     by_items (m ∷ items) is may = record {
       closed = false;
@@ -132,7 +132,7 @@ try_answer t (Recv b) x lined = go (is_turn Receivers t x) refl
       same = λ closed. absurd (cc closed);
     }
 
-    go : (k : Bool) → is_turn Receivers t x ≡ k → (buffer_answer (try_of t (Recv b)) x ≡ NotYet) ⊎ Tried t (Recv b) x
+    go : (k : Bool) → is_next Receivers t x ≡ k → (buffer_answer (try_of t (Recv b)) x ≡ NotYet) ⊎ Tried t (Recv b) x
     go true may = inr (by_items x.items refl may)
     go false not_yet = inl (rw not_yet refl)
 try_answer t (Close b) x lined = absurd lined
@@ -248,14 +248,14 @@ module _ (site : Site) (effect : Option Effect) (is_effect : HasHad site effect)
   abbrev pub buf : BufId
   buf = buffer_of site.call
 
-  abbrev pub talk : TowerStage → Talk
+  abbrev pub talk : Stage → Talk
   talk stage = record { stage = stage; call = Some site.call; position = site.position; effect = effect }
 
-  abbrev pub k : Stage → Call
+  abbrev pub k : CallStage → Call
   k stage = call_from site.call site.position effect stage
 
   -- the table's private state with the call at this stage
-  abbrev pub from : Stage → Private
+  abbrev pub from : CallStage → Private
   from stage = from_t site.setup site.c site.ready threads site.trace site.t g e within (k stage)
 
   abbrev pub after : Left Buffering Reply → Private
@@ -284,7 +284,7 @@ module _ (site : Site) (effect : Option Effect) (is_effect : HasHad site effect)
       (trace_after site.c site.t buf effect talk2.effect site.trace) None None site.is_slept site.is_waits
 
   -- what a poll leaves after which thread t sleeps for the lock, or waits
-  pub sleeps_now : (stage : TowerStage) → after (record {
+  pub sleeps_now : (stage : Stage) → after (record {
     own = own_at None None site.ready site.ended None
         (slice_set site.slept site.t.0 (Some buf)) site.waits (slice_set site.talks site.t.0 (talk stage));
     answer = None;
@@ -301,7 +301,7 @@ module _ (site : Site) (effect : Option Effect) (is_effect : HasHad site effect)
       (λ j other. refl)
       (get_or-set_same site.slept site.t.0 (Some buf) None site.in_slept) site.is_waits
 
-  pub waits_now : (hand2 : Option Tid) (ready2 : List Tid) (stage : TowerStage)
+  pub waits_now : (hand2 : Option Tid) (ready2 : List Tid) (stage : Stage)
       → after (record {
         own = own_at None hand2 ready2 site.ended None site.slept (slice_set site.waits site.t.0 (Some buf))
             (slice_set site.talks site.t.0 (talk stage));
@@ -336,13 +336,13 @@ module _ (site : Site) (effect : Option Effect) (is_effect : HasHad site effect)
       ∙ ap (λ o. raised (λ l. left_waiting ((lock_moves buffer_rules).caller s) buf site.waits l.own l.answer)
       (plan_for (lock_moves buffer_rules) site.setup.homes site.c buf s own.cv.lock o)) n
 
-  abbrev pub fresh : TowerStage → CvCall BufferEdit → BufferPlan Reply
+  abbrev pub fresh : Stage → CvCall BufferEdit → BufferPlan Reply
   fresh stage s = raised (left_heard site.t site.call (talk stage) site.talks stage) (beneath s)
 
-  abbrev pub react : TowerStage → CvCall BufferEdit → Option TowerAnswer → Left Buffering Reply
+  abbrev pub react : Stage → CvCall BufferEdit → Option TowerAnswer → Left Buffering Reply
   react stage s = react_in (fresh stage s)
 
-  pub line : (stage : TowerStage) (s : CvCall BufferEdit) (at : Stage) (plan : BufferPlan Reply) → plan ≡ fresh stage s
+  pub line : (stage : Stage) (s : CvCall BufferEdit) (at : CallStage) (plan : BufferPlan Reply) → plan ≡ fresh stage s
       → section_at site.t (k at) at ≡ name_of (queue.Above s) → after (react stage s None) ≡ from at
       → ((x : LockState BufferState) → HandIsKnown site.setup (react stage s (Some (told.Answer (lock_answer buffer_rules s x)))).own
       → after (react stage s (Some (told.Answer (lock_answer buffer_rules s x))))
@@ -372,7 +372,7 @@ module _ (site : Site) (effect : Option Effect) (is_effect : HasHad site effect)
   waiting l = left_waiting site.t buf site.waits l.own l.answer
 
   -- what the part leaves after a section with this outcome, where the threads are now these
-  abbrev pub lift : TowerStage → TowerOut → Threads → Left Buffering Reply
+  abbrev pub lift : Stage → TowerOut → Threads → Left Buffering Reply
   lift stage outcome own2 = left_heard site.t site.call (talk stage) site.talks stage (waiting (locked (left_done outcome own2)))
 
   -- with a thread woken that is at home here, or is not
@@ -403,7 +403,7 @@ module _ (site : Site) (effect : Option Effect) (is_effect : HasHad site effect)
   abbrev pub putting : Call → Call → List Entry → Thread → Private
   putting now next trace2 x = put site.setup site.c site.ready threads site.trace site.t g e within now next trace2 x
 
-  pub by_table : (stage : Stage) (a : Answer) (next : Call) (trace2 : List Entry)
+  pub by_table : (stage : CallStage) (a : Answer) (next : Call) (trace2 : List Entry)
       → heard site.c (from stage) site.t (k stage) (k stage).stage a.told ≡ putting (k stage) next trace2 (thread_at (from stage) site.t)
       → after_section site.setup site.c (from stage) a
       ≡ settled site.setup (woken site.setup site.c a.woke (slept_if a.slept (stands site.ready None next trace2)))

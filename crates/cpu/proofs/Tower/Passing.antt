@@ -130,7 +130,7 @@ module _ (setup : Setup) (c : CpuId) (guests : List State) (trace : List Entry) 
     pub there_free : thread_at p t ≡ free g
     there_free = thread_here running guests trace t in_guests ∙ thread_free (is_thread t (Some t) && false) g
 
-    -- it passes its turn on: the pending are ready, and behind them the thread
+    -- it yields: the pending are ready, and behind them the thread
     abbrev yields : Option TowerAnswer → Left Buffering (Unit {0})
     yields reply = react_in (fifo_pass_plan setup.homes c pass.YieldNow running) reply
 

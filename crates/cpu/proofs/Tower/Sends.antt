@@ -18,7 +18,7 @@ use Rattle.layer_traits.specs.declared.buffer_edits.BufferEdit.{BufferEdit}
 use Rattle.layer_traits.specs.declared.buffer_edits.BufferOut.{BufferOut}
 use Rattle.layer_traits.specs.declared.queue_edits.QueueEdit.TheVariants as queue
 use Rattle.layer_traits.specs.declared.queues.QueueAnswer.TheVariants as told
-use Rattle.layer_traits.specs.declared.talks.Stage.{Stage as TowerStage}
+use Rattle.layer_traits.specs.declared.talks.Stage.{Stage}
 use Rattle.layer_traits.specs.declared.talks.Stage.TheVariants as at
 use Rattle.layer_traits.specs.declared.talks.Talk.{Talk}
 use Rattle.layer_traits.specs.BufferProtocol.{buffer_rules}
@@ -55,7 +55,7 @@ module _ (site : Site) (u : Tid) (f : Effect) (known : IsSome (slice_get site.se
   abbrev pub own_with : TowerOut → Buffering
   own_with outcome = part_at runner (Some u) (Some outcome)
 
-  abbrev pub here : TowerStage → Talk
+  abbrev pub here : Stage → Talk
   here stage = talk_at site.caller stage (Some f)
 
   abbrev g : State
@@ -83,7 +83,7 @@ module _ (site : Site) (u : Tid) (f : Effect) (known : IsSome (slice_get site.se
       ∙ ap (λ o. raised (λ l. left_waiting ((lock_moves buffer_rules).caller s) (buffer_of call) waits l.own l.answer)
       (plan_for (lock_moves buffer_rules) setup.homes c (buffer_of call) s (own_with outcome).cv.lock o)) n
 
-  abbrev pub sends : TowerOut → TowerStage → CvCall BufferEdit → BufferPlan Reply
+  abbrev pub sends : TowerOut → Stage → CvCall BufferEdit → BufferPlan Reply
   sends outcome stage s = raised (left_heard t call (here stage) talks stage) (beneath outcome s)
 
   abbrev after : TowerOut → Left Buffering Reply → Private
@@ -97,7 +97,7 @@ module _ (site : Site) (u : Tid) (f : Effect) (known : IsSome (slice_get site.se
   guests_by None = sym (set-get_or guests t.0 at_start)
   guests_by (Some reply) = refl
 
-  module _ (outcome : TowerOut) (stage : TowerStage) (is : talk_of talks t ≡ here stage)
+  module _ (outcome : TowerOut) (stage : Stage) (is : talk_of talks t ≡ here stage)
       (had : (going (here stage) call).effect ≡ Some f) where
     abbrev effect_is : (going (talk_of talks t) call).effect ≡ Some f
     effect_is = ap (λ x. (going x call).effect) is ∙ had

@@ -17,7 +17,7 @@ use Rattle.layer_traits.specs.declared.buffer_edits.BufferOut.{BufferOut}
 use Rattle.layer_traits.specs.declared.buffer_edits.BufferOut.TheVariants as out
 use Rattle.layer_traits.specs.declared.queue_edits.QueueBlock.TheVariants as block
 use Rattle.layer_traits.specs.declared.queue_edits.QueueEdit.TheVariants as queue
-use Rattle.layer_traits.specs.BufferBlocks.{BufferState, entered as tower_entered, first_item, is_turn, may_go, may_join, put_in, taken_out}
+use Rattle.layer_traits.specs.BufferBlocks.{BufferState, entered as tower_entered, first_item, is_next, may_go, may_join, put_in, taken_out}
 use Rattle.layer_traits.specs.Conditions.{CvCall, signal_to}
 use Rattle.layer_traits.specs.Locking.{LockState, asked, line_asked, signalled, told_asker, waiting_without}
 use Rattle.cpu.specs.Table.Blocks.{Buffer, OfBuffer, OfPending, Name, AcqQ, Enter, TryPut, TryTake, Shut, WaitOn}
@@ -152,8 +152,8 @@ module _ (state : LockState BufferState) where
   edits_above (Acquire t) = ap OfBuffer (acquired_view t state state.owner refl)
   edits_above (Inside (Edit (edit.Enter t Senders))) = ap OfBuffer (entered_senders (may_join t state.above.send_line) t)
   edits_above (Inside (Edit (edit.Enter t Receivers))) = ap OfBuffer (entered_receivers (may_join t state.above.receive_line) t)
-  edits_above (Inside (Edit (edit.TryPut t m))) = ap OfBuffer (put_view (is_turn Senders t state.above) m)
-  edits_above (Inside (Edit (edit.TryTake t))) = ap OfBuffer (taken_view (is_turn Receivers t state.above))
+  edits_above (Inside (Edit (edit.TryPut t m))) = ap OfBuffer (put_view (is_next Senders t state.above) m)
+  edits_above (Inside (Edit (edit.TryTake t))) = ap OfBuffer (taken_view (is_next Receivers t state.above))
   edits_above (Inside (Edit (edit.Shut t))) = refl
   edits_above (Inside (SignalFront t Receivers)) = λ i. OfBuffer (record (buffer_view state) {
     waiting_receivers = left_in_list state.above.receive_line state.receivers (may_go Receivers state.above) i;
@@ -197,8 +197,8 @@ module _ (state : LockState BufferState) where
   answers_above (Acquire t) = asked_view state.owner
   answers_above (Inside (Edit (edit.Enter t Senders))) = refl
   answers_above (Inside (Edit (edit.Enter t Receivers))) = refl
-  answers_above (Inside (Edit (edit.TryPut t m))) = put_told (is_turn Senders t state.above) state.above.closed m
-  answers_above (Inside (Edit (edit.TryTake t))) = taken_told (is_turn Receivers t state.above) state.above.items
+  answers_above (Inside (Edit (edit.TryPut t m))) = put_told (is_next Senders t state.above) state.above.closed m
+  answers_above (Inside (Edit (edit.TryTake t))) = taken_told (is_next Receivers t state.above) state.above.items
   answers_above (Inside (Edit (edit.Shut t))) = refl
   answers_above (Inside (SignalFront t Receivers)) =
       ap wakes (woke_receiver state.above.receive_line state.receivers state.senders (may_go Receivers state.above))

@@ -1,5 +1,5 @@
 -- One CPU's private state against where its threads are and what they do: whoever is current or ready is at home, the hand holds whom it
--- woke, and each call stands at the stage that its turn says.
+-- woke, and each call stands at the stage that its visit says.
 use Rattle.std.proofs.Common.{◌≡◌, ◌+◌, ◌<◌, Bool, true, false, not, ◌&&◌, [], ◌∷◌, ◌++◌, length, Option}
 use Rattle.std.proofs.Common.{Some, None, is_some, nat_lt, if◌then◌else◌, refl, sym, ap, ◌∙◌, subst, arith}
 use Rattle.std.proofs.lemmas.Bool.{and_parts, and_from, and_left, and_right, false_from_ne_true, ltb-true, eqb-false}
@@ -16,36 +16,36 @@ use Rattle.layer_traits.specs.declared.locked.Side.TheVariants.{Receivers, Sende
 use Rattle.layer_traits.specs.Places.{is_thread, one_if, count_in}
 use Rattle.layer_traits.proofs.CountLemmas.{same_tid_sym, count_append}
 use Rattle.cpu.specs.Table.Blocks.{side_of}
-use Rattle.cpu.specs.Table.Setups.{Setup, Stage, Acquires, Enters, Tries, Waits, AcquiresAgain, Signals, SignalsOwn}
+use Rattle.cpu.specs.Table.Setups.{Setup, CallStage, Acquires, Enters, Tries, Waits, AcquiresAgain, Signals, SignalsOwn}
 use Rattle.cpu.specs.Table.Setups.{Releases, Returns, Call, Thread, Private, new_thread, thread_at, with_thread, home_of}
 use Rattle.cpu.specs.Table.Choice.{slept_if, woken}
 use Rattle.cpu.proofs.Wakeups.Lists.{refuted}
-use Rattle.cpu.proofs.Wakeups.Spots.{Spot, Home, InHand, IsPending, AtLock, AtWait, Doing, GotIt, Trying, Failed, Waiting, Owing, Turn, Outside, In}
-use Rattle.cpu.proofs.Wakeups.Spots.{is_home, is_hand, spot_by, spot_woken, is_local}
+use Rattle.cpu.proofs.Wakeups.Posts.{Post, Home, InHand, IsPending, AtLock, AtWait, Doing, GotIt, Trying, Failed, Waiting, Owing, Visit, Outside, In}
+use Rattle.cpu.proofs.Wakeups.Posts.{is_home, is_hand, post_by, post_woken, is_local}
 
 -- once the other side is signalled, the own side is owed its signal
 abbrev pub owing_own : Side → Doing
 owing_own Senders = Owing false true
 owing_own Receivers = Owing true false
 
--- the turn of a call at each stage
-abbrev pub turn_of_stage : BufId → Side → Stage → Turn
-turn_of_stage b side Acquires = Outside
-turn_of_stage b side Enters = In b GotIt
-turn_of_stage b side Tries = In b (Trying side)
-turn_of_stage b side Waits = In b (Failed side)
-turn_of_stage b side AcquiresAgain = In b (Waiting side)
-turn_of_stage b side Signals = In b (Owing true true)
-turn_of_stage b side SignalsOwn = In b (owing_own side)
-turn_of_stage b side Releases = In b (Owing false false)
-turn_of_stage b side Returns = Outside
+-- the visit of a call at each stage
+abbrev pub visit_of_stage : BufId → Side → CallStage → Visit
+visit_of_stage b side Acquires = Outside
+visit_of_stage b side Enters = In b GotIt
+visit_of_stage b side Tries = In b (Trying side)
+visit_of_stage b side Waits = In b (Failed side)
+visit_of_stage b side AcquiresAgain = In b (Waiting side)
+visit_of_stage b side Signals = In b (Owing true true)
+visit_of_stage b side SignalsOwn = In b (owing_own side)
+visit_of_stage b side Releases = In b (Owing false false)
+visit_of_stage b side Returns = Outside
 
-abbrev pub turn_of_call : Option Call → Turn
-turn_of_call None = Outside
-turn_of_call (Some call) = turn_of_stage call.buffer (side_of call.asks) call.stage
+abbrev pub visit_of_call : Option Call → Visit
+visit_of_call None = Outside
+visit_of_call (Some call) = visit_of_stage call.buffer (side_of call.asks) call.stage
 
 -- a call that has done its last section
-abbrev pub is_last : Stage → Bool
+abbrev pub is_last : CallStage → Bool
 is_last Returns = true
 is_last Acquires = false
 is_last Enters = false
@@ -61,12 +61,12 @@ is_done None = false
 is_done (Some call) = is_last call.stage
 
 -- a thread at home that has not ended runs or is ready, once
-abbrev pub seat : Setup → CpuId → Tid → Spot → Bool → Bool
+abbrev pub seat : Setup → CpuId → Tid → Post → Bool → Bool
 seat setup c u x ended = is_local setup c u && (is_home x && not ended)
 
-pub record Agrees (setup : Setup) (c : CpuId) (p : Private) (T : Tid → Turn) (P : Tid → Spot) : Type 0 where
+pub record Agrees (setup : Setup) (c : CpuId) (p : Private) (T : Tid → Visit) (P : Tid → Post) : Type 0 where
   pub size : length p.threads ≡ length setup.homes
-  pub calls : (u : Tid) → is_local setup c u ≡ true → T u ≡ turn_of_call (thread_at p u).call
+  pub calls : (u : Tid) → is_local setup c u ≡ true → T u ≡ visit_of_call (thread_at p u).call
   pub seats : (u : Tid) → one_if (is_thread u p.current) + count_in u p.ready ≡ one_if (seat setup c u (P u) (thread_at p u).ended)
   pub hands : (u : Tid) → is_thread u p.hand ≡ is_hand c (P u)
   pub ends : (u : Tid) → is_local setup c u ≡ true → (thread_at p u).ended ≡ true → is_home (P u) ≡ true
@@ -111,8 +111,8 @@ same_with p t x known ended = record {
     by_test u false other = ap (λ y. y.ended) (at_other p t u x other)
 
 -- what a thread stands at does not matter where it has a call, nor what the trace is
-pub agrees_same : (setup : Setup) (c : CpuId) (p q : Private) (t : Tid) (T N : Tid → Turn) (P : Tid → Spot) → Agrees setup c p T P → Same p q t
-    → ((u : Tid) → same_tid t u ≡ false → N u ≡ T u) → N t ≡ turn_of_call (thread_at q t).call → Agrees setup c q N P
+pub agrees_same : (setup : Setup) (c : CpuId) (p q : Private) (t : Tid) (T N : Tid → Visit) (P : Tid → Post) → Agrees setup c p T P → Same p q t
+    → ((u : Tid) → same_tid t u ≡ false → N u ≡ T u) → N t ≡ visit_of_call (thread_at q t).call → Agrees setup c q N P
 agrees_same setup c p q t T N P agrees same others mine = record {
   size = same.size ∙ agrees.size;
   calls = λ u local. by_test u local (same_tid t u) refl;
@@ -123,14 +123,14 @@ agrees_same setup c p q t T N P agrees same others mine = record {
   ends = λ u local ended. agrees.ends u local (sym (same.ended u) ∙ ended);
 }
   where
-    by_test : (u : Tid) → is_local setup c u ≡ true → (own : Bool) → same_tid t u ≡ own → N u ≡ turn_of_call (thread_at q u).call
-    by_test u local true is = subst (λ v. N v ≡ turn_of_call (thread_at q v).call) (same_tid_true t u is) mine
-    by_test u local false other = others u other ∙ agrees.calls u local ∙ ap turn_of_call (sym (same.others u other))
+    by_test : (u : Tid) → is_local setup c u ≡ true → (own : Bool) → same_tid t u ≡ own → N u ≡ visit_of_call (thread_at q u).call
+    by_test u local true is = subst (λ v. N v ≡ visit_of_call (thread_at q v).call) (same_tid_true t u is) mine
+    by_test u local false other = others u other ∙ agrees.calls u local ∙ ap visit_of_call (sym (same.others u other))
 
 -- The thread that runs.
 
 -- a seat that is taken is one of a thread at home here that has not ended
-pub seated : (setup : Setup) (c : CpuId) (p : Private) (T : Tid → Turn) (P : Tid → Spot) → Agrees setup c p T P → (t : Tid)
+pub seated : (setup : Setup) (c : CpuId) (p : Private) (T : Tid → Visit) (P : Tid → Post) → Agrees setup c p T P → (t : Tid)
     → 0 < one_if (is_thread t p.current) + count_in t p.ready
     → (is_local setup c t ≡ true) × (is_home (P t) ≡ true) × ((thread_at p t).ended ≡ false) × (one_if (is_thread t p.current) + count_in t p.ready ≡ 1)
 seated setup c p T P agrees t some = by_test (seat setup c t (P t) (thread_at p t).ended) refl
@@ -149,21 +149,21 @@ seated setup c p T P agrees t some = by_test (seat setup c t (P t) (thread_at p 
         let none : one_if (is_thread t p.current) + count_in t p.ready ≡ 0 = agrees.seats t ∙ ap one_if is in
         absurd (omega (arith, some, none))
 
-pub runs : (setup : Setup) (c : CpuId) (p : Private) (T : Tid → Turn) (P : Tid → Spot) → Agrees setup c p T P → (t : Tid) → p.current ≡ Some t
+pub runs : (setup : Setup) (c : CpuId) (p : Private) (T : Tid → Visit) (P : Tid → Post) → Agrees setup c p T P → (t : Tid) → p.current ≡ Some t
     → (is_local setup c t ≡ true) × (is_home (P t) ≡ true) × ((thread_at p t).ended ≡ false) × (count_in t p.ready ≡ 0)
 runs setup c p T P agrees t is =
     let one : one_if (is_thread t p.current) ≡ 1 = ap one_if (ap (is_thread t) is ∙ same_tid_self t) in
     let at = seated setup c p T P agrees t (omega (arith, one)) in
     (at.0, at.1, at.2, omega (arith, one, at.3))
 
-pub home_is : (x : Spot) → is_home x ≡ true → x ≡ Home
+pub home_is : (x : Post) → is_home x ≡ true → x ≡ Home
 home_is Home on = refl
 home_is (InHand c) on = absurd (cc on)
 home_is IsPending on = absurd (cc on)
 home_is (AtLock b) on = absurd (cc on)
 home_is (AtWait b side) on = absurd (cc on)
 
-pub hand_is : (c : CpuId) (x : Spot) → is_hand c x ≡ true → x ≡ InHand c
+pub hand_is : (c : CpuId) (x : Post) → is_hand c x ≡ true → x ≡ InHand c
 hand_is c (InHand d) on = ap InHand (same_cpu_true d c on)
 hand_is c Home on = absurd (cc on)
 hand_is c IsPending on = absurd (cc on)
@@ -173,16 +173,16 @@ hand_is c (AtWait b side) on = absurd (cc on)
 pub known_of : (setup : Setup) (c : CpuId) (t : Tid) → is_local setup c t ≡ true → t.0 < length setup.homes
 known_of setup c t local = ltb-true t.0 (length setup.homes) (and_parts (same_cpu (home_of setup t) c) (nat_lt t.0 (length setup.homes)) local).1
 
-pub within : (setup : Setup) (c : CpuId) (p : Private) (T : Tid → Turn) (P : Tid → Spot) → Agrees setup c p T P
+pub within : (setup : Setup) (c : CpuId) (p : Private) (T : Tid → Visit) (P : Tid → Post) → Agrees setup c p T P
     → (t : Tid) → is_local setup c t ≡ true → t.0 < length p.threads
 within setup c p T P agrees t local = subst (λ n. t.0 < n) (sym agrees.size) (known_of setup c t local)
 
 -- The caller goes to sleep.
 
-seat_off : (setup : Setup) (c : CpuId) (u : Tid) (x : Spot) (ended : Bool) → is_home x ≡ false → one_if (seat setup c u x ended) ≡ 0
+seat_off : (setup : Setup) (c : CpuId) (u : Tid) (x : Post) (ended : Bool) → is_home x ≡ false → one_if (seat setup c u x ended) ≡ 0
 seat_off setup c u x ended off = ap one_if (and_right (is_local setup c u) (is_home x && not ended) (and_left (is_home x) (not ended) off))
 
-pub agrees_slept : (setup : Setup) (c : CpuId) (p : Private) (t : Tid) (T : Tid → Turn) (P N : Tid → Spot) (slept : Bool)
+pub agrees_slept : (setup : Setup) (c : CpuId) (p : Private) (t : Tid) (T : Tid → Visit) (P N : Tid → Post) (slept : Bool)
     → Agrees setup c p T P → p.current ≡ Some t
     → ((u : Tid) → same_tid t u ≡ false → N u ≡ P u) → (slept ≡ false → N t ≡ P t) → (slept ≡ true → (is_home (N t) ≡ false) × (is_hand c (N t) ≡ false))
     → Agrees setup c (slept_if slept p) T N
@@ -234,18 +234,18 @@ agrees_slept setup c p t T P N true agrees runs_now others stays sleeps = record
 
 -- A thread is woken.
 
-pub agrees_woken : (setup : Setup) (c : CpuId) (p : Private) (T : Tid → Turn) (P : Tid → Spot) (woke : Option Tid) → Agrees setup c p T P → p.hand ≡ None
+pub agrees_woken : (setup : Setup) (c : CpuId) (p : Private) (T : Tid → Visit) (P : Tid → Post) (woke : Option Tid) → Agrees setup c p T P → p.hand ≡ None
     → ((s : Tid) → woke ≡ Some s → (is_home (P s) ≡ false) × (nat_lt s.0 (length setup.homes) ≡ true))
-    → Agrees setup c (woken setup c woke p) T (λ u. if is_thread u woke then spot_woken setup c u else P u)
+    → Agrees setup c (woken setup c woke p) T (λ u. if is_thread u woke then post_woken setup c u else P u)
 agrees_woken setup c p T P None agrees empty asleep = agrees
 agrees_woken setup c p T P (Some s) agrees empty asleep = by_home (same_cpu (home_of setup s) c) refl
   where
-    N : Tid → Spot
-    N u = if same_tid s u then spot_woken setup c u else P u
+    N : Tid → Post
+    N u = if same_tid s u then post_woken setup c u else P u
 
     by_home : (here : Bool) → same_cpu (home_of setup s) c ≡ here
         → Agrees setup c (if here then record p { ready = p.ready ++ s ∷ [] } else record p { hand = Some s }) T
-        (λ u. if same_tid s u then spot_woken setup c u else P u)
+        (λ u. if same_tid s u then post_woken setup c u else P u)
     by_home true here = record {
       size = agrees.size;
       calls = agrees.calls;
@@ -256,7 +256,7 @@ agrees_woken setup c p T P (Some s) agrees empty asleep = by_home (same_cpu (hom
       where
         sits : (u : Tid) (mine : Bool) → same_tid s u ≡ mine
             → one_if (is_thread u p.current) + count_in u (p.ready ++ s ∷ [])
-            ≡ one_if (seat setup c u (if mine then spot_woken setup c u else P u) (thread_at p u).ended)
+            ≡ one_if (seat setup c u (if mine then post_woken setup c u else P u) (thread_at p u).ended)
         sits u true is =
             let none : one_if (is_thread s p.current) + count_in s p.ready ≡ 0 =
             agrees.seats s ∙ seat_off setup c s (P s) (thread_at p s).ended (asleep s refl).0 in
@@ -265,10 +265,10 @@ agrees_woken setup c p T P (Some s) agrees empty asleep = by_home (same_cpu (hom
             let one : one_if (same_tid s s) ≡ 1 = ap one_if (same_tid_self s) in
             let more : count_in s (p.ready ++ s ∷ []) ≡ count_in s p.ready + (one_if (same_tid s s) + 0) = count_append s p.ready (s ∷ []) in
             let now : one_if (is_thread s p.current) + count_in s (p.ready ++ s ∷ []) ≡ 1 = omega (arith, none, one, more) in
-            let home : spot_woken setup c s ≡ Home = ap (λ b. spot_by b c) here in
-            let sits_now : one_if (seat setup c s (spot_woken setup c s) (thread_at p s).ended) ≡ 1 =
+            let home : post_woken setup c s ≡ Home = ap (λ b. post_by b c) here in
+            let sits_now : one_if (seat setup c s (post_woken setup c s) (thread_at p s).ended) ≡ 1 =
             (λ i. one_if (is_local setup c s && (is_home (home i) && not (alive i)))) ∙ ap (λ b. one_if (b && true)) local in
-            subst (λ v. one_if (is_thread v p.current) + count_in v (p.ready ++ s ∷ []) ≡ one_if (seat setup c v (spot_woken setup c v) (thread_at p v).ended))
+            subst (λ v. one_if (is_thread v p.current) + count_in v (p.ready ++ s ∷ []) ≡ one_if (seat setup c v (post_woken setup c v) (thread_at p v).ended))
             (same_tid_true s u is) (now ∙ sym sits_now)
         sits u false other =
             let none : one_if (same_tid u s) ≡ 0 = ap one_if (same_tid_sym u s ∙ other) in
@@ -277,14 +277,14 @@ agrees_woken setup c p T P (Some s) agrees empty asleep = by_home (same_cpu (hom
             omega (arith, none, more) in
             now ∙ agrees.seats u
 
-        held : (u : Tid) (mine : Bool) → same_tid s u ≡ mine → is_thread u p.hand ≡ is_hand c (if mine then spot_woken setup c u else P u)
+        held : (u : Tid) (mine : Bool) → same_tid s u ≡ mine → is_thread u p.hand ≡ is_hand c (if mine then post_woken setup c u else P u)
         held u true is =
-            subst (λ v. is_thread v p.hand ≡ is_hand c (spot_woken setup c v)) (same_tid_true s u is)
-            (ap (is_thread s) empty ∙ ap (λ b. is_hand c (spot_by b c)) (sym here))
+            subst (λ v. is_thread v p.hand ≡ is_hand c (post_woken setup c v)) (same_tid_true s u is)
+            (ap (is_thread s) empty ∙ ap (λ b. is_hand c (post_by b c)) (sym here))
         held u false other = agrees.hands u
 
         at_home : (u : Tid) → is_local setup c u ≡ true → (thread_at p u).ended ≡ true → (mine : Bool) → same_tid s u ≡ mine
-            → is_home (if mine then spot_woken setup c u else P u) ≡ true
+            → is_home (if mine then post_woken setup c u else P u) ≡ true
         at_home u local ended true is =
             let same = same_tid_true s u is in
             refuted (asleep s refl).0 (subst (λ v. is_home (P v) ≡ true) (sym same) (agrees.ends u local ended))
@@ -297,25 +297,25 @@ agrees_woken setup c p T P (Some s) agrees empty asleep = by_home (same_cpu (hom
       ends = λ u local ended. at_home u local ended (same_tid s u) refl;
     }
       where
-        in_hand : spot_woken setup c s ≡ InHand c
-        in_hand = ap (λ b. spot_by b c) away
+        in_hand : post_woken setup c s ≡ InHand c
+        in_hand = ap (λ b. post_by b c) away
 
         sits : (u : Tid) (mine : Bool) → same_tid s u ≡ mine
-            → one_if (is_thread u p.current) + count_in u p.ready ≡ one_if (seat setup c u (if mine then spot_woken setup c u else P u) (thread_at p u).ended)
+            → one_if (is_thread u p.current) + count_in u p.ready ≡ one_if (seat setup c u (if mine then post_woken setup c u else P u) (thread_at p u).ended)
         sits u true is =
-            subst (λ v. one_if (is_thread v p.current) + count_in v p.ready ≡ one_if (seat setup c v (spot_woken setup c v) (thread_at p v).ended))
+            subst (λ v. one_if (is_thread v p.current) + count_in v p.ready ≡ one_if (seat setup c v (post_woken setup c v) (thread_at p v).ended))
             (same_tid_true s u is)
             (agrees.seats s ∙ seat_off setup c s (P s) (thread_at p s).ended (asleep s refl).0
-            ∙ sym (seat_off setup c s (spot_woken setup c s) (thread_at p s).ended (ap is_home in_hand)))
+            ∙ sym (seat_off setup c s (post_woken setup c s) (thread_at p s).ended (ap is_home in_hand)))
         sits u false other = agrees.seats u
 
-        held : (u : Tid) (mine : Bool) → same_tid s u ≡ mine → mine ≡ is_hand c (if mine then spot_woken setup c u else P u)
+        held : (u : Tid) (mine : Bool) → same_tid s u ≡ mine → mine ≡ is_hand c (if mine then post_woken setup c u else P u)
         held u true is =
-            subst (λ v. true ≡ is_hand c (spot_woken setup c v)) (same_tid_true s u is) (sym (ap (is_hand c) in_hand ∙ same_cpu_self c))
+            subst (λ v. true ≡ is_hand c (post_woken setup c v)) (same_tid_true s u is) (sym (ap (is_hand c) in_hand ∙ same_cpu_self c))
         held u false other = ap (is_thread u) (sym empty) ∙ agrees.hands u
 
         at_home : (u : Tid) → is_local setup c u ≡ true → (thread_at p u).ended ≡ true → (mine : Bool) → same_tid s u ≡ mine
-            → is_home (if mine then spot_woken setup c u else P u) ≡ true
+            → is_home (if mine then post_woken setup c u else P u) ≡ true
         at_home u local ended true is =
             let same = same_tid_true s u is in
             refuted (asleep s refl).0 (subst (λ v. is_home (P v) ≡ true) (sym same) (agrees.ends u local ended))

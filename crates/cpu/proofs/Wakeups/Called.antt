@@ -24,25 +24,25 @@ use Rattle.cpu.specs.Wakeups.Order.{Progress, Begins, progress, progress_by, pro
 use Rattle.cpu.proofs.Wakeups.Lists.{refuted, none_is_not}
 use Rattle.cpu.proofs.Wakeups.Awake.{IsAwake}
 use Rattle.cpu.proofs.Wakeups.Ordered.{same_buffer, buffer_awake}
-use Rattle.cpu.proofs.Wakeups.Spots.{Spot, Home, InHand, IsPending, AtLock, AtWait, Outside}
-use Rattle.cpu.proofs.Wakeups.Spots.{is_buffer, is_home, is_pending, is_lock, is_wait, is_moved, is_side}
-use Rattle.cpu.proofs.Wakeups.Spots.{caller_in, is_caller, bed, spot_by, spot_woken, spot_moved, spot_drained, spot_pending, spot_buffer, spot}
-use Rattle.cpu.proofs.Wakeups.Spots.{next_turn, turn_moved, turn_buffer, turn, IsCallers, MayComeBy, MayComeTo, MayComeAt, MayCome, marked}
+use Rattle.cpu.proofs.Wakeups.Posts.{Post, Home, InHand, IsPending, AtLock, AtWait, Outside}
+use Rattle.cpu.proofs.Wakeups.Posts.{is_buffer, is_home, is_pending, is_lock, is_wait, is_moved, is_side}
+use Rattle.cpu.proofs.Wakeups.Posts.{caller_in, is_caller, bed, post_by, post_woken, post_moved, post_drained, post_pending, post_buffer, post}
+use Rattle.cpu.proofs.Wakeups.Posts.{next_visit, visit_moved, visit_buffer, visit, IsCallers, MayComeBy, MayComeTo, MayComeAt, MayCome, marked}
 use Rattle.cpu.proofs.Wakeups.Pairs.{Pair, marked_none, grown_list, buffer_true, sleeps_at, woken_sleeps}
 use Rattle.cpu.proofs.Wakeups.Pairs.{woken_no_lock, woken_no_wait, other_pair, thread_some, other_joined}
-use Rattle.cpu.proofs.Wakeups.Owns.{ByCaller, may_edit, own_pair, away, turn_apart, spot_apart}
+use Rattle.cpu.proofs.Wakeups.Owns.{ByCaller, may_edit, own_pair, away, visit_apart, post_apart}
 
 -- what holds after a section log
 pub record Good (setup : Setup) (past : List (Section Name)) : Type 0 where
   pub ordered : IsInOrder setup past
   pub pairs : (b : BufId) (u : Tid) (k : Buffer) → block_of setup (AtBuffer b) past ≡ Some (OfBuffer k)
-      → Pair b u k (progress setup (AtBuffer b) past) (turn setup u past) (spot setup u past)
+      → Pair b u k (progress setup (AtBuffer b) past) (visit setup u past) (post setup u past)
   pub pending : (d : CpuId) (u : Tid) (threads : List Tid) → block_of setup (Pending d) past ≡ Some (OfPending threads)
-      → count_in u threads ≡ one_if (same_cpu (home_of setup u) d && is_pending (spot setup u past))
+      → count_in u threads ≡ one_if (same_cpu (home_of setup u) d && is_pending (post setup u past))
   -- only a number that is a thread's was ever woken
-  pub small : (u : Tid) → is_moved (spot setup u past) ≡ true → nat_lt u.0 THREADS ≡ true
+  pub small : (u : Tid) → is_moved (post setup u past) ≡ true → nat_lt u.0 THREADS ≡ true
   -- whoever is not at home has a home
-  pub known : (u : Tid) → is_home (spot setup u past) ≡ false → nat_lt u.0 (length setup.homes) ≡ true
+  pub known : (u : Tid) → is_home (post setup u past) ≡ false → nat_lt u.0 (length setup.homes) ≡ true
 
 -- A new log.
 
@@ -81,14 +81,14 @@ good_none setup = record {
 -- How a section moves a thread.
 
 -- after a section of CPU c at buffer d a thread was woken there, has gone to sleep there as the section's caller, or is where it was
-pub data Moves (setup : Setup) (c : CpuId) (d : BufId) (u : Tid) (name : Name) (spot now : Spot) : Type 0 where
-  was_woken : nat_lt u.0 THREADS ≡ true → sleeps_at d spot ≡ true → now ≡ spot_woken setup c u → Moves setup c d u name spot now
-  has_slept : spot ≡ Home → is_caller u name ≡ true → now ≡ bed d name → Moves setup c d u name spot now
-  stays : now ≡ spot → Moves setup c d u name spot now
+pub data Moves (setup : Setup) (c : CpuId) (d : BufId) (u : Tid) (name : Name) (post now : Post) : Type 0 where
+  was_woken : nat_lt u.0 THREADS ≡ true → sleeps_at d post ≡ true → now ≡ post_woken setup c u → Moves setup c d u name post now
+  has_slept : post ≡ Home → is_caller u name ≡ true → now ≡ bed d name → Moves setup c d u name post now
+  stays : now ≡ post → Moves setup c d u name post now
 
 -- the caller of a section is at home, and its section is due
 abbrev pub CallersAre : Setup → List (Section Name) → CpuId → BufId → Name → Type 0
-CallersAre setup past c d name = (u : Tid) → caller_in name ≡ Some u → IsCallers setup c d name u (spot setup u past) (turn setup u past)
+CallersAre setup past c d name = (u : Tid) → caller_in name ≡ Some u → IsCallers setup c d name u (post setup u past) (visit setup u past)
 
 pub callers_are : (setup : Setup) (past : List (Section Name)) (c : CpuId) (d : BufId) (name : Name)
     → MayComeBy setup past c d name (caller_in name) → CallersAre setup past c d name
@@ -98,16 +98,16 @@ pub is_the_caller : (u : Tid) (name : Name) → is_caller u name ≡ true → ca
 is_the_caller u name on = thread_some u (caller_in name) on
 
 moves_buffer : (setup : Setup) (past : List (Section Name)) (c : CpuId) (d : BufId) (name : Name) (u : Tid) (k : Buffer) (g : Progress)
-    → CallersAre setup past c d name → Pair d u k g (turn setup u past) (spot setup u past)
-    → Moves setup c d u name (spot setup u past)
-    (spot_moved setup c d u name (answer_of_buffer name k).slept (answer_of_buffer name k).woke (spot setup u past))
+    → CallersAre setup past c d name → Pair d u k g (visit setup u past) (post setup u past)
+    → Moves setup c d u name (post setup u past)
+    (post_moved setup c d u name (answer_of_buffer name k).slept (answer_of_buffer name k).woke (post setup u past))
 moves_buffer setup past c d name u k g callers pair =
     by_test (is_thread u (answer_of_buffer name k).woke) refl (answer_of_buffer name k).slept (is_caller u name) refl
   where
     by_test : (w : Bool) → is_thread u (answer_of_buffer name k).woke ≡ w → (slept : Bool) (mine : Bool) → is_caller u name ≡ mine
-        → Moves setup c d u name (spot setup u past) (if w then spot_woken setup c u else (if slept && mine then bed d name else spot setup u past))
+        → Moves setup c d u name (post setup u past) (if w then post_woken setup c u else (if slept && mine then bed d name else post setup u past))
     by_test true is slept mine own =
-        let at = woken_sleeps d u k g (turn setup u past) (spot setup u past) pair name is in
+        let at = woken_sleeps d u k g (visit setup u past) (post setup u past) pair name is in
         was_woken at.0 at.1 refl
     by_test false is true true own = has_slept (callers u (is_the_caller u name own)).here own refl
     by_test false is true false own = stays refl
@@ -115,7 +115,7 @@ moves_buffer setup past c d name u k g callers pair =
 
 pub moves_at : (setup : Setup) (past : List (Section Name)) → Good setup past → (c : CpuId) (d : BufId) (name : Name) → CallersAre setup past c d name
     → (u : Tid) (o : Option Block) → block_of setup (AtBuffer d) past ≡ o
-    → Moves setup c d u name (spot setup u past) (spot_buffer setup c d u name o (spot setup u past))
+    → Moves setup c d u name (post setup u past) (post_buffer setup c d u name o (post setup u past))
 moves_at setup past good c d name callers u None is = stays refl
 moves_at setup past good c d name callers u (Some (OfPending threads)) is = stays refl
 moves_at setup past good c d name callers u (Some (OfBuffer k)) is =
@@ -124,14 +124,14 @@ moves_at setup past good c d name callers u (Some (OfBuffer k)) is =
 -- What a move keeps.
 
 -- the number of a thread that sleeps elsewhere
-sleeps_no_lock : (b d : BufId) (x : Spot) → is_buffer b d ≡ false → sleeps_at d x ≡ true → is_lock b x ≡ false
+sleeps_no_lock : (b d : BufId) (x : Post) → is_buffer b d ≡ false → sleeps_at d x ≡ true → is_lock b x ≡ false
 sleeps_no_lock b d (AtLock e) off on = subst (λ z. is_buffer b z ≡ false) (buffer_true d e on) off
 sleeps_no_lock b d (AtWait e side) off on = refl
 sleeps_no_lock b d Home off on = refl
 sleeps_no_lock b d (InHand c) off on = refl
 sleeps_no_lock b d IsPending off on = refl
 
-sleeps_no_wait : (b d : BufId) (side : Side) (x : Spot) → is_buffer b d ≡ false → sleeps_at d x ≡ true → is_wait b side x ≡ false
+sleeps_no_wait : (b d : BufId) (side : Side) (x : Post) → is_buffer b d ≡ false → sleeps_at d x ≡ true → is_wait b side x ≡ false
 sleeps_no_wait b d side (AtLock e) off on = refl
 sleeps_no_wait b d side (AtWait e other) off on = and_left (is_buffer b e) (is_side side other) (subst (λ z. is_buffer b z ≡ false) (buffer_true d e on) off)
 sleeps_no_wait b d side Home off on = refl
@@ -154,25 +154,25 @@ pub bed_not_moved : (d : BufId) (name : Name) → is_moved (bed d name) ≡ fals
 bed_not_moved d (WaitOn t side) = refl
 bed_not_moved d name = refl
 
-pub woken_not_pending : (here : Bool) (c : CpuId) → is_pending (spot_by here c) ≡ false
+pub woken_not_pending : (here : Bool) (c : CpuId) → is_pending (post_by here c) ≡ false
 woken_not_pending true c = refl
 woken_not_pending false c = refl
 
-pub sleeps_not_home : (d : BufId) (x : Spot) → sleeps_at d x ≡ true → is_home x ≡ false
+pub sleeps_not_home : (d : BufId) (x : Post) → sleeps_at d x ≡ true → is_home x ≡ false
 sleeps_not_home d (AtLock e) on = refl
 sleeps_not_home d (AtWait e side) on = refl
 sleeps_not_home d Home on = absurd (cc on)
 sleeps_not_home d (InHand c) on = refl
 sleeps_not_home d IsPending on = refl
 
-pub sleeps_not_pending : (d : BufId) (x : Spot) → sleeps_at d x ≡ true → is_pending x ≡ false
+pub sleeps_not_pending : (d : BufId) (x : Post) → sleeps_at d x ≡ true → is_pending x ≡ false
 sleeps_not_pending d (AtLock e) on = refl
 sleeps_not_pending d (AtWait e side) on = refl
 sleeps_not_pending d Home on = refl
 sleeps_not_pending d (InHand c) on = refl
 sleeps_not_pending d IsPending on = absurd (cc on)
 
-module _ (setup : Setup) (c : CpuId) (d : BufId) (u : Tid) (name : Name) (x now : Spot) where
+module _ (setup : Setup) (c : CpuId) (d : BufId) (u : Tid) (name : Name) (x now : Post) where
   no_lock_moves : (b : BufId) → is_buffer b d ≡ false → Moves setup c d u name x now → is_lock b now ≡ is_lock b x
   no_lock_moves b off (was_woken small sleeps is) =
       ap (is_lock b) is ∙ woken_no_lock b (same_cpu (home_of setup u) c) c ∙ sym (sleeps_no_lock b d x off sleeps)
@@ -210,8 +210,8 @@ module _ (setup : Setup) (past : List (Section Name)) (good : Good setup past) (
   edits k block =
       let g = progress setup (AtBuffer d) past in
       let mine = callers t caller in
-      let pair : Pair d t k g (turn setup t past) Home = subst (Pair d t k g (turn setup t past)) mine.here (good.pairs d t k block) in
-      may_edit d name k g (turn setup t past) (subst (λ o. ByCaller o (λ v. Pair d v k g (turn setup t past) Home)) (sym caller) pair) mine.due
+      let pair : Pair d t k g (visit setup t past) Home = subst (Pair d t k g (visit setup t past)) mine.here (good.pairs d t k block) in
+      may_edit d name k g (visit setup t past) (subst (λ o. ByCaller o (λ v. Pair d v k g (visit setup t past) Home)) (sym caller) pair) mine.due
 
   keeps_block : (o : Option Block) → block_of setup (AtBuffer d) past ≡ o → MayEditBlock name o (progress setup (AtBuffer d) past)
   keeps_block None is = tt
@@ -219,50 +219,50 @@ module _ (setup : Setup) (past : List (Section Name)) (good : Good setup past) (
   keeps_block (Some (OfBuffer k)) is = edits k is
 
   edited_pair : (u : Tid) (k : Buffer) → block_of setup (AtBuffer d) past ≡ Some (OfBuffer k) → (mine : Bool) → is_caller u name ≡ mine
-      → Pair d u (edited_buffer name k) (progress_after name k (progress setup (AtBuffer d) past)) (turn_moved d u name k (turn setup u past))
-      (spot_moved setup c d u name (answer_of_buffer name k).slept (answer_of_buffer name k).woke (spot setup u past))
+      → Pair d u (edited_buffer name k) (progress_after name k (progress setup (AtBuffer d) past)) (visit_moved d u name k (visit setup u past))
+      (post_moved setup c d u name (answer_of_buffer name k).slept (answer_of_buffer name k).woke (post setup u past))
   edited_pair u k block true own =
       let is = is_the_caller u name own in
       let mine = callers u is in
       let awake : IsAwake k (progress setup (AtBuffer d) past) = buffer_awake setup past good.ordered d k block in
-      own_pair d u setup c name k (progress setup (AtBuffer d) past) (turn setup u past) (spot setup u past) is mine.here (λ e. (awake.idle e).0)
+      own_pair d u setup c name k (progress setup (AtBuffer d) past) (visit setup u past) (post setup u past) is mine.here (λ e. (awake.idle e).0)
       (edits k block) mine.due (good.pairs d u k block)
   edited_pair u k block false other =
-      other_pair setup c d u name k (progress setup (AtBuffer d) past) (turn setup u past) (spot setup u past) other (edits k block) (good.pairs d u k block)
+      other_pair setup c d u name k (progress setup (AtBuffer d) past) (visit setup u past) (post setup u past) other (edits k block) (good.pairs d u k block)
 
   here_pair : (u : Tid) (k : Buffer) (o : Option Block) → block_of setup (AtBuffer d) past ≡ o → option_map (edited name) o ≡ Some (OfBuffer k)
-      → Pair d u k (progress_by name o (progress setup (AtBuffer d) past)) (turn_buffer d u name o (turn setup u past))
-      (spot_buffer setup c d u name o (spot setup u past))
+      → Pair d u k (progress_by name o (progress setup (AtBuffer d) past)) (visit_buffer d u name o (visit setup u past))
+      (post_buffer setup c d u name o (post setup u past))
   here_pair u k None block is = absurd (cc is)
   here_pair u k (Some (OfPending threads)) block is = absurd (cc is)
   here_pair u k (Some (OfBuffer was)) block is =
-      subst (λ x. Pair d u x (progress_after name was (progress setup (AtBuffer d) past)) (turn_moved d u name was (turn setup u past))
-      (spot_moved setup c d u name (answer_of_buffer name was).slept (answer_of_buffer name was).woke (spot setup u past)))
+      subst (λ x. Pair d u x (progress_after name was (progress setup (AtBuffer d) past)) (visit_moved d u name was (visit setup u past))
+      (post_moved setup c d u name (answer_of_buffer name was).slept (answer_of_buffer name was).woke (post setup u past)))
       (same_buffer (edited_buffer name was) k is) (edited_pair u was block (is_caller u name) refl)
 
-  turn_there : (b : BufId) → is_buffer b d ≡ false → (u : Tid) (k : Buffer) (g : Progress) (x : Spot) (o : Option Block)
-      → Pair b u k g (turn setup u past) x → Pair b u k g (turn_buffer d u name o (turn setup u past)) x
-  turn_there b off u k g x None pair = pair
-  turn_there b off u k g x (Some (OfPending threads)) pair = pair
-  turn_there b off u k g x (Some (OfBuffer was)) pair = by_test (is_caller u name) refl
+  visit_there : (b : BufId) → is_buffer b d ≡ false → (u : Tid) (k : Buffer) (g : Progress) (x : Post) (o : Option Block)
+      → Pair b u k g (visit setup u past) x → Pair b u k g (visit_buffer d u name o (visit setup u past)) x
+  visit_there b off u k g x None pair = pair
+  visit_there b off u k g x (Some (OfPending threads)) pair = pair
+  visit_there b off u k g x (Some (OfBuffer was)) pair = by_test (is_caller u name) refl
     where
-      by_test : (mine : Bool) → is_caller u name ≡ mine → Pair b u k g (if mine then next_turn d name was (turn setup u past) else turn setup u past) x
+      by_test : (mine : Bool) → is_caller u name ≡ mine → Pair b u k g (if mine then next_visit d name was (visit setup u past) else visit setup u past) x
       by_test true own =
-          turn_apart b u k g (turn setup u past) (next_turn d name was (turn setup u past)) x
-          (away b d name was (turn setup u past) off (callers u (is_the_caller u name own)).due) pair
+          visit_apart b u k g (visit setup u past) (next_visit d name was (visit setup u past)) x
+          (away b d name was (visit setup u past) off (callers u (is_the_caller u name own)).due) pair
       by_test false other = pair
 
   there_pair : (b : BufId) → is_buffer b d ≡ false → (u : Tid) (k : Buffer) → block_of setup (AtBuffer b) past ≡ Some (OfBuffer k)
-      → Pair b u k (progress setup (AtBuffer b) past) (turn setup u (record { cpu = c; lock = AtBuffer d; edit = name } ∷ past))
-      (spot setup u (record { cpu = c; lock = AtBuffer d; edit = name } ∷ past))
+      → Pair b u k (progress setup (AtBuffer b) past) (visit setup u (record { cpu = c; lock = AtBuffer d; edit = name } ∷ past))
+      (post setup u (record { cpu = c; lock = AtBuffer d; edit = name } ∷ past))
   there_pair b off u k block =
       let o = block_of setup (AtBuffer d) past in
       let g = progress setup (AtBuffer b) past in
       let moves = moves_at setup past good c d name callers u o refl in
-      let now = spot_buffer setup c d u name o (spot setup u past) in
-      spot_apart b u k g (turn_buffer d u name o (turn setup u past)) (spot setup u past) now
-      (no_lock_moves setup c d u name (spot setup u past) now b off moves) (λ side. no_wait_moves setup c d u name (spot setup u past) now b side off moves)
-      (turn_there b off u k g (spot setup u past) o (good.pairs b u k block))
+      let now = post_buffer setup c d u name o (post setup u past) in
+      post_apart b u k g (visit_buffer d u name o (visit setup u past)) (post setup u past) now
+      (no_lock_moves setup c d u name (post setup u past) now b off moves) (λ side. no_wait_moves setup c d u name (post setup u past) now b side off moves)
+      (visit_there b off u k g (post setup u past) o (good.pairs b u k block))
 
   good_buffer : Good setup (record { cpu = c; lock = AtBuffer d; edit = name } ∷ past)
   good_buffer = record {
@@ -271,12 +271,12 @@ module _ (setup : Setup) (past : List (Section Name)) (good : Good setup past) (
     pending = λ e u threads is.
         good.pending e u threads is
         ∙ ap (λ p. one_if (same_cpu (home_of setup u) e && p))
-        (sym (no_pending_moves setup c d u name (spot setup u past) _ (moves_at setup past good c d name callers u (block_of setup (AtBuffer d) past) refl)));
+        (sym (no_pending_moves setup c d u name (post setup u past) _ (moves_at setup past good c d name callers u (block_of setup (AtBuffer d) past) refl)));
     small = λ u on.
-        small_moves setup c d u name (spot setup u past) _
+        small_moves setup c d u name (post setup u past) _
         (moves_at setup past good c d name callers u (block_of setup (AtBuffer d) past) refl) (good.small u) on;
     known = λ u off.
-        known_moves setup c d u name (spot setup u past) _ (moves_at setup past good c d name callers u (block_of setup (AtBuffer d) past) refl)
+        known_moves setup c d u name (post setup u past) _ (moves_at setup past good c d name callers u (block_of setup (AtBuffer d) past) refl)
         (λ own. (and_parts (same_cpu (home_of setup u) c) (nat_lt u.0 (length setup.homes)) (callers u (is_the_caller u name own)).local).1) (good.known u) off;
   }
     where
@@ -287,46 +287,46 @@ module _ (setup : Setup) (past : List (Section Name)) (good : Good setup past) (
           → (if here then option_map (edited name) (block_of setup (AtBuffer b) past) else block_of setup (AtBuffer b) past) ≡ Some (OfBuffer k)
           → Pair b u k (if here then progress_by name (block_of setup (AtBuffer b) past)
           (progress setup (AtBuffer b) past) else progress setup (AtBuffer b) past)
-          (turn setup u (record { cpu = c; lock = AtBuffer d; edit = name } ∷ past)) (spot setup u (record { cpu = c; lock = AtBuffer d; edit = name } ∷ past))
+          (visit setup u (record { cpu = c; lock = AtBuffer d; edit = name } ∷ past)) (post setup u (record { cpu = c; lock = AtBuffer d; edit = name } ∷ past))
       by_test b u k false off is = there_pair b off u k is
       by_test b u k true same is =
           let P : BufId → Type 0 = λ x. option_map (edited name) (block_of setup (AtBuffer x) past) ≡ Some (OfBuffer k)
           → Pair x u k (progress_by name (block_of setup (AtBuffer x) past) (progress setup (AtBuffer x) past))
-          (turn setup u (record { cpu = c; lock = AtBuffer d; edit = name } ∷ past))
-          (spot setup u (record { cpu = c; lock = AtBuffer d; edit = name } ∷ past)) in
+          (visit setup u (record { cpu = c; lock = AtBuffer d; edit = name } ∷ past))
+          (post setup u (record { cpu = c; lock = AtBuffer d; edit = name } ∷ past)) in
           subst P (sym (buffer_true b d same)) (here_pair u k (block_of setup (AtBuffer d) past) refl) is
 
 -- A section on pending threads.
 
-pub drained_lock : (b : BufId) (x : Spot) → is_lock b (spot_drained x) ≡ is_lock b x
+pub drained_lock : (b : BufId) (x : Post) → is_lock b (post_drained x) ≡ is_lock b x
 drained_lock b Home = refl
 drained_lock b (InHand c) = refl
 drained_lock b IsPending = refl
 drained_lock b (AtLock d) = refl
 drained_lock b (AtWait d side) = refl
 
-pub drained_wait : (b : BufId) (side : Side) (x : Spot) → is_wait b side (spot_drained x) ≡ is_wait b side x
+pub drained_wait : (b : BufId) (side : Side) (x : Post) → is_wait b side (post_drained x) ≡ is_wait b side x
 drained_wait b side Home = refl
 drained_wait b side (InHand c) = refl
 drained_wait b side IsPending = refl
 drained_wait b side (AtLock d) = refl
 drained_wait b side (AtWait d other) = refl
 
-pub drained_pending : (x : Spot) → is_pending (spot_drained x) ≡ false
+pub drained_pending : (x : Post) → is_pending (post_drained x) ≡ false
 drained_pending Home = refl
 drained_pending (InHand c) = refl
 drained_pending IsPending = refl
 drained_pending (AtLock d) = refl
 drained_pending (AtWait d other) = refl
 
-pub drained_moved : (x : Spot) → is_moved (spot_drained x) ≡ true → is_moved x ≡ true
+pub drained_moved : (x : Post) → is_moved (post_drained x) ≡ true → is_moved x ≡ true
 drained_moved Home on = on
 drained_moved (InHand c) on = refl
 drained_moved IsPending on = refl
 drained_moved (AtLock d) on = on
 drained_moved (AtWait d other) on = on
 
-pub drained_home : (x : Spot) → is_home (spot_drained x) ≡ false → is_home x ≡ false
+pub drained_home : (x : Post) → is_home (post_drained x) ≡ false → is_home x ≡ false
 drained_home Home off = off
 drained_home (InHand c) off = refl
 drained_home IsPending off = refl
@@ -343,13 +343,13 @@ same_threads list now is = ap threads_or is
 
 -- the queue of the lock at which the section came, and the queue of another lock
 module _ (setup : Setup) (past : List (Section Name)) (good : Good setup past) (c d : CpuId) where
-  pended_list : (s : Tid) → spot setup s past ≡ InHand c → home_of setup s ≡ d → (u : Tid) (list : List Tid)
+  pended_list : (s : Tid) → post setup s past ≡ InHand c → home_of setup s ≡ d → (u : Tid) (list : List Tid)
       → block_of setup (Pending d) past ≡ Some (OfPending list)
-      → count_in u (joined s list) ≡ one_if (same_cpu (home_of setup u) d && is_pending (if same_tid s u then IsPending else spot setup u past))
+      → count_in u (joined s list) ≡ one_if (same_cpu (home_of setup u) d && is_pending (if same_tid s u then IsPending else post setup u past))
   pended_list s held home u list block = by_test (same_tid s u) refl
     where
       by_test : (mine : Bool) → same_tid s u ≡ mine
-          → count_in u (joined s list) ≡ one_if (same_cpu (home_of setup u) d && is_pending (if mine then IsPending else spot setup u past))
+          → count_in u (joined s list) ≡ one_if (same_cpu (home_of setup u) d && is_pending (if mine then IsPending else post setup u past))
       by_test true same =
           let is : s ≡ u = same_tid_true s u same in
           let none : count_in s list ≡ 0 = good.pending d s list block ∙ ap (λ x. one_if (same_cpu (home_of setup s) d && is_pending x)) held
@@ -360,46 +360,46 @@ module _ (setup : Setup) (past : List (Section Name)) (good : Good setup past) (
           subst (λ v. count_in v (joined s list) ≡ one_if (same_cpu (home_of setup v) d && true)) is (one ∙ counts ∙ sym there)
       by_test false other = other_joined u s list other ∙ good.pending d u list block
 
-  pended_there : (s : Tid) → spot setup s past ≡ InHand c → home_of setup s ≡ d → (u : Tid) (e : CpuId) → same_cpu e d ≡ false
-      → (same_cpu (home_of setup u) e && is_pending (if same_tid s u then IsPending else spot setup u past))
-      ≡ (same_cpu (home_of setup u) e && is_pending (spot setup u past))
+  pended_there : (s : Tid) → post setup s past ≡ InHand c → home_of setup s ≡ d → (u : Tid) (e : CpuId) → same_cpu e d ≡ false
+      → (same_cpu (home_of setup u) e && is_pending (if same_tid s u then IsPending else post setup u past))
+      ≡ (same_cpu (home_of setup u) e && is_pending (post setup u past))
   pended_there s held home u e off = by_test (same_tid s u) refl
     where
       by_test : (mine : Bool) → same_tid s u ≡ mine
-          → (same_cpu (home_of setup u) e && is_pending (if mine then IsPending else spot setup u past))
-          ≡ (same_cpu (home_of setup u) e && is_pending (spot setup u past))
+          → (same_cpu (home_of setup u) e && is_pending (if mine then IsPending else post setup u past))
+          ≡ (same_cpu (home_of setup u) e && is_pending (post setup u past))
       by_test true same =
           let is : s ≡ u = same_tid_true s u same in
           let other : same_cpu (home_of setup u) e ≡ false =
           subst (λ v. same_cpu (home_of setup v) e ≡ false) is (ap (λ h. same_cpu h e) home ∙ (same_cpu_sym d e ∙ off)) in
-          ap (λ b. b && true) other ∙ ap (λ b. b && is_pending (spot setup u past)) (sym other)
+          ap (λ b. b && true) other ∙ ap (λ b. b && is_pending (post setup u past)) (sym other)
       by_test false other = refl
 
   drained_there : (u : Tid) (e : CpuId) → same_cpu e d ≡ false
-      → (same_cpu (home_of setup u) e && is_pending (if same_cpu (home_of setup u) d then spot_drained (spot setup u past) else spot setup u past))
-      ≡ (same_cpu (home_of setup u) e && is_pending (spot setup u past))
+      → (same_cpu (home_of setup u) e && is_pending (if same_cpu (home_of setup u) d then post_drained (post setup u past) else post setup u past))
+      ≡ (same_cpu (home_of setup u) e && is_pending (post setup u past))
   drained_there u e off = by_test (same_cpu (home_of setup u) d) refl
     where
       by_test : (mine : Bool) → same_cpu (home_of setup u) d ≡ mine
-          → (same_cpu (home_of setup u) e && is_pending (if mine then spot_drained (spot setup u past) else spot setup u past))
-          ≡ (same_cpu (home_of setup u) e && is_pending (spot setup u past))
+          → (same_cpu (home_of setup u) e && is_pending (if mine then post_drained (post setup u past) else post setup u past))
+          ≡ (same_cpu (home_of setup u) e && is_pending (post setup u past))
       by_test true same =
           let other : same_cpu (home_of setup u) e ≡ false = ap (λ h. same_cpu h e) (same_cpu_true (home_of setup u) d same) ∙ (same_cpu_sym d e ∙ off) in
-          ap (λ b. b && is_pending (spot_drained (spot setup u past))) other ∙ ap (λ b. b && is_pending (spot setup u past)) (sym other)
+          ap (λ b. b && is_pending (post_drained (post setup u past))) other ∙ ap (λ b. b && is_pending (post setup u past)) (sym other)
       by_test false other = refl
 
   drained_here : (u : Tid)
-      → 0 ≡ one_if (same_cpu (home_of setup u) d && is_pending (if same_cpu (home_of setup u) d then spot_drained (spot setup u past) else spot setup u past))
+      → 0 ≡ one_if (same_cpu (home_of setup u) d && is_pending (if same_cpu (home_of setup u) d then post_drained (post setup u past) else post setup u past))
   drained_here u = by_test (same_cpu (home_of setup u) d)
     where
-      by_test : (mine : Bool) → 0 ≡ one_if (mine && is_pending (if mine then spot_drained (spot setup u past) else spot setup u past))
-      by_test true = ap one_if (sym (drained_pending (spot setup u past)))
+      by_test : (mine : Bool) → 0 ≡ one_if (mine && is_pending (if mine then post_drained (post setup u past) else post setup u past))
+      by_test true = ap one_if (sym (drained_pending (post setup u past)))
       by_test false = refl
 
   -- what a section leaves of the queue at which it came
   here_pending : (name : Name) → MayComeTo setup past c d name → (u : Tid) (now : List Tid) (o : Option Block) → block_of setup (Pending d) past ≡ o
       → option_map (edited name) o ≡ Some (OfPending now)
-      → count_in u now ≡ one_if (same_cpu (home_of setup u) d && is_pending (spot_pending setup d u name (spot setup u past)))
+      → count_in u now ≡ one_if (same_cpu (home_of setup u) d && is_pending (post_pending setup d u name (post setup u past)))
   here_pending name may u now None block is = absurd (cc is)
   here_pending name may u now (Some (OfBuffer k)) block is = absurd (cc is)
   here_pending (Pend s) may u now (Some (OfPending list)) block is =
@@ -408,66 +408,66 @@ module _ (setup : Setup) (past : List (Section Name)) (good : Good setup past) (
   here_pending name may u now (Some (OfPending list)) block is = absurd may
 
   there_pending : (name : Name) → MayComeTo setup past c d name → (u : Tid) (e : CpuId) → same_cpu e d ≡ false
-      → (same_cpu (home_of setup u) e && is_pending (spot_pending setup d u name (spot setup u past)))
-      ≡ (same_cpu (home_of setup u) e && is_pending (spot setup u past))
+      → (same_cpu (home_of setup u) e && is_pending (post_pending setup d u name (post setup u past)))
+      ≡ (same_cpu (home_of setup u) e && is_pending (post setup u past))
   there_pending (Pend s) may u e off = pended_there s may.0 may.1 u e off
   there_pending TakeAll may u e off = drained_there u e off
   there_pending name may u e off = absurd may
 
   -- no section on pending threads touches a buffer
   same_lock_pending : (name : Name) → MayComeTo setup past c d name → (u : Tid) (b : BufId)
-      → is_lock b (spot_pending setup d u name (spot setup u past)) ≡ is_lock b (spot setup u past)
+      → is_lock b (post_pending setup d u name (post setup u past)) ≡ is_lock b (post setup u past)
   same_lock_pending (Pend s) may u b = by_test (same_tid s u) refl
     where
-      by_test : (mine : Bool) → same_tid s u ≡ mine → is_lock b (if mine then IsPending else spot setup u past) ≡ is_lock b (spot setup u past)
-      by_test true same = sym (subst (λ v. is_lock b (spot setup v past) ≡ false) (same_tid_true s u same) (ap (is_lock b) may.0))
+      by_test : (mine : Bool) → same_tid s u ≡ mine → is_lock b (if mine then IsPending else post setup u past) ≡ is_lock b (post setup u past)
+      by_test true same = sym (subst (λ v. is_lock b (post setup v past) ≡ false) (same_tid_true s u same) (ap (is_lock b) may.0))
       by_test false other = refl
   same_lock_pending TakeAll may u b = by_test (same_cpu (home_of setup u) d)
     where
-      by_test : (mine : Bool) → is_lock b (if mine then spot_drained (spot setup u past) else spot setup u past) ≡ is_lock b (spot setup u past)
-      by_test true = drained_lock b (spot setup u past)
+      by_test : (mine : Bool) → is_lock b (if mine then post_drained (post setup u past) else post setup u past) ≡ is_lock b (post setup u past)
+      by_test true = drained_lock b (post setup u past)
       by_test false = refl
   same_lock_pending name may u b = absurd may
 
   same_wait_pending : (name : Name) → MayComeTo setup past c d name → (u : Tid) (b : BufId) (side : Side)
-      → is_wait b side (spot_pending setup d u name (spot setup u past)) ≡ is_wait b side (spot setup u past)
+      → is_wait b side (post_pending setup d u name (post setup u past)) ≡ is_wait b side (post setup u past)
   same_wait_pending (Pend s) may u b side = by_test (same_tid s u) refl
     where
-      by_test : (mine : Bool) → same_tid s u ≡ mine → is_wait b side (if mine then IsPending else spot setup u past) ≡ is_wait b side (spot setup u past)
-      by_test true same = sym (subst (λ v. is_wait b side (spot setup v past) ≡ false) (same_tid_true s u same) (ap (is_wait b side) may.0))
+      by_test : (mine : Bool) → same_tid s u ≡ mine → is_wait b side (if mine then IsPending else post setup u past) ≡ is_wait b side (post setup u past)
+      by_test true same = sym (subst (λ v. is_wait b side (post setup v past) ≡ false) (same_tid_true s u same) (ap (is_wait b side) may.0))
       by_test false other = refl
   same_wait_pending TakeAll may u b side = by_test (same_cpu (home_of setup u) d)
     where
-      by_test : (mine : Bool) → is_wait b side (if mine then spot_drained (spot setup u past) else spot setup u past) ≡ is_wait b side (spot setup u past)
-      by_test true = drained_wait b side (spot setup u past)
+      by_test : (mine : Bool) → is_wait b side (if mine then post_drained (post setup u past) else post setup u past) ≡ is_wait b side (post setup u past)
+      by_test true = drained_wait b side (post setup u past)
       by_test false = refl
   same_wait_pending name may u b side = absurd may
 
   small_pending : (name : Name) → MayComeTo setup past c d name → (u : Tid)
-      → is_moved (spot_pending setup d u name (spot setup u past)) ≡ true → nat_lt u.0 THREADS ≡ true
+      → is_moved (post_pending setup d u name (post setup u past)) ≡ true → nat_lt u.0 THREADS ≡ true
   small_pending (Pend s) may u on = by_test (same_tid s u) refl on
     where
-      by_test : (mine : Bool) → same_tid s u ≡ mine → is_moved (if mine then IsPending else spot setup u past) ≡ true → nat_lt u.0 THREADS ≡ true
+      by_test : (mine : Bool) → same_tid s u ≡ mine → is_moved (if mine then IsPending else post setup u past) ≡ true → nat_lt u.0 THREADS ≡ true
       by_test true same now = subst (λ v. nat_lt v.0 THREADS ≡ true) (same_tid_true s u same) (good.small s (ap is_moved may.0))
       by_test false other now = good.small u now
   small_pending TakeAll may u on = by_test (same_cpu (home_of setup u) d) on
     where
-      by_test : (mine : Bool) → is_moved (if mine then spot_drained (spot setup u past) else spot setup u past) ≡ true → nat_lt u.0 THREADS ≡ true
-      by_test true now = good.small u (drained_moved (spot setup u past) now)
+      by_test : (mine : Bool) → is_moved (if mine then post_drained (post setup u past) else post setup u past) ≡ true → nat_lt u.0 THREADS ≡ true
+      by_test true now = good.small u (drained_moved (post setup u past) now)
       by_test false now = good.small u now
   small_pending name may u on = absurd may
 
-  known_pending : (name : Name) → MayComeTo setup past c d name → (u : Tid) → is_home (spot_pending setup d u name (spot setup u past)) ≡ false
+  known_pending : (name : Name) → MayComeTo setup past c d name → (u : Tid) → is_home (post_pending setup d u name (post setup u past)) ≡ false
       → nat_lt u.0 (length setup.homes) ≡ true
   known_pending (Pend s) may u off = by_test (same_tid s u) refl off
     where
-      by_test : (mine : Bool) → same_tid s u ≡ mine → is_home (if mine then IsPending else spot setup u past) ≡ false → nat_lt u.0 (length setup.homes) ≡ true
+      by_test : (mine : Bool) → same_tid s u ≡ mine → is_home (if mine then IsPending else post setup u past) ≡ false → nat_lt u.0 (length setup.homes) ≡ true
       by_test true same now = subst (λ v. nat_lt v.0 (length setup.homes) ≡ true) (same_tid_true s u same) (good.known s (ap is_home may.0))
       by_test false other now = good.known u now
   known_pending TakeAll may u off = by_test (same_cpu (home_of setup u) d) off
     where
-      by_test : (mine : Bool) → is_home (if mine then spot_drained (spot setup u past) else spot setup u past) ≡ false → nat_lt u.0 (length setup.homes) ≡ true
-      by_test true now = good.known u (drained_home (spot setup u past) now)
+      by_test : (mine : Bool) → is_home (if mine then post_drained (post setup u past) else post setup u past) ≡ false → nat_lt u.0 (length setup.homes) ≡ true
+      by_test true now = good.known u (drained_home (post setup u past) now)
       by_test false now = good.known u now
   known_pending name may u off = absurd may
 
@@ -475,7 +475,7 @@ module _ (setup : Setup) (past : List (Section Name)) (good : Good setup past) (
   good_pending name may = record {
     ordered = (tt, good.ordered);
     pairs = λ b u k is.
-        spot_apart b u k (progress setup (AtBuffer b) past) (turn setup u past) (spot setup u past) (spot_pending setup d u name (spot setup u past))
+        post_apart b u k (progress setup (AtBuffer b) past) (visit setup u past) (post setup u past) (post_pending setup d u name (post setup u past))
         (same_lock_pending name may u b) (same_wait_pending name may u b) (good.pairs b u k is);
     pending = λ e u now is. by_test e u now (same_cpu e d) refl is;
     small = λ u on. small_pending name may u on;
@@ -484,10 +484,10 @@ module _ (setup : Setup) (past : List (Section Name)) (good : Good setup past) (
     where
       by_test : (e : CpuId) (u : Tid) (now : List Tid) (here : Bool) → same_cpu e d ≡ here
           → (if here then option_map (edited name) (block_of setup (Pending e) past) else block_of setup (Pending e) past) ≡ Some (OfPending now)
-          → count_in u now ≡ one_if (same_cpu (home_of setup u) e && is_pending (spot_pending setup d u name (spot setup u past)))
+          → count_in u now ≡ one_if (same_cpu (home_of setup u) e && is_pending (post_pending setup d u name (post setup u past)))
       by_test e u now true same is =
           let P : CpuId → Type 0 = λ x. option_map (edited name) (block_of setup (Pending x) past) ≡ Some (OfPending now)
-          → count_in u now ≡ one_if (same_cpu (home_of setup u) x && is_pending (spot_pending setup d u name (spot setup u past))) in
+          → count_in u now ≡ one_if (same_cpu (home_of setup u) x && is_pending (post_pending setup d u name (post setup u past))) in
           subst P (sym (same_cpu_true e d same)) (here_pending name may u now (block_of setup (Pending d) past) refl) is
       by_test e u now false off is = good.pending e u now is ∙ ap one_if (sym (there_pending name may u e off))
 

@@ -17,17 +17,17 @@ use Rattle.cpu.specs.Table.Setups.{Setup, Acquires, Call, Thread, Private, threa
 use Rattle.cpu.specs.Table.Choice.{Choice, Halts, Alone, Goes, new_call, with_call, with_guest, begins}
 use Rattle.cpu.specs.Table.Choice.{ends, at_instruction, at_call, at_ready, at_current, at_hand, choice}
 use Rattle.cpu.proofs.Wakeups.Lists.{refuted}
-use Rattle.cpu.proofs.Wakeups.Spots.{Spot, Turn, is_home, is_local}
-use Rattle.cpu.proofs.Wakeups.Agreement.{turn_of_call, is_done, seat, Agrees, IsSettled, at_same, at_other, same_with, agrees_same, runs, within}
+use Rattle.cpu.proofs.Wakeups.Posts.{Post, Visit, is_home, is_local}
+use Rattle.cpu.proofs.Wakeups.Agreement.{visit_of_call, is_done, seat, Agrees, IsSettled, at_same, at_other, same_with, agrees_same, runs, within}
 use Rattle.cpu.proofs.Wakeups.Sits.{guest_calls}
 
 -- the state that is chosen agrees
-abbrev pub ChoiceOk : Setup → CpuId → (Tid → Turn) → (Tid → Spot) → Choice → Type 0
+abbrev pub ChoiceOk : Setup → CpuId → (Tid → Visit) → (Tid → Post) → Choice → Type 0
 ChoiceOk setup c T P (Halts reason) = Unit {0}
 ChoiceOk setup c T P (Alone q) = Agrees setup c q T P × IsSettled setup c q
 ChoiceOk setup c T P (Goes q) = Agrees setup c q T P × IsSettled setup c q
 
-module _ (setup : Setup) (c : CpuId) (p : Private) (T : Tid → Turn) (P : Tid → Spot)
+module _ (setup : Setup) (c : CpuId) (p : Private) (T : Tid → Visit) (P : Tid → Post)
     (agrees : Agrees setup c p T P) (settled_before : IsSettled setup c p) where
   switches : (list : List Tid) → p.ready ≡ list → p.current ≡ None → p.hand ≡ None → ChoiceOk setup c T P (at_ready p list)
   switches [] is idle empty = (agrees, settled_before)
@@ -58,7 +58,7 @@ module _ (setup : Setup) (c : CpuId) (p : Private) (T : Tid → Turn) (P : Tid �
     computes guest = (
       agrees_same setup c p (with_guest p t guest) t T T P agrees (same_with p t (record (thread_at p t) { guest = guest }) known refl) (λ u other. refl)
           (agrees.calls t (runs setup c p T P agrees t runs_now).0
-          ∙ ap (λ y. turn_of_call y.call) (sym (at_same p t (record (thread_at p t) { guest = guest }) known))),
+          ∙ ap (λ y. visit_of_call y.call) (sym (at_same p t (record (thread_at p t) { guest = guest }) known))),
       λ u local done. not_done u local (ap is_done (sym (guest_calls p t guest known u)) ∙ done),
     )
 
@@ -66,15 +66,15 @@ module _ (setup : Setup) (c : CpuId) (p : Private) (T : Tid → Turn) (P : Tid �
     calls_now call first = (
       agrees_same setup c p (with_call p t (Some call)) t T T P agrees
           (same_with p t (record (thread_at p t) { call = Some call }) known refl) (λ u other. refl)
-          (agrees.calls t (runs setup c p T P agrees t runs_now).0 ∙ ap turn_of_call outside ∙ sym (now_called ∙ at_start)),
+          (agrees.calls t (runs setup c p T P agrees t runs_now).0 ∙ ap visit_of_call outside ∙ sym (now_called ∙ at_start)),
       λ u local done. by_test u local done (same_tid t u) refl,
     )
       where
-        now_called : turn_of_call (thread_at (with_call p t (Some call)) t).call ≡ turn_of_call (Some call)
-        now_called = ap (λ y. turn_of_call y.call) (at_same p t (record (thread_at p t) { call = Some call }) known)
+        now_called : visit_of_call (thread_at (with_call p t (Some call)) t).call ≡ visit_of_call (Some call)
+        now_called = ap (λ y. visit_of_call y.call) (at_same p t (record (thread_at p t) { call = Some call }) known)
 
-        at_start : turn_of_call (Some call) ≡ turn_of_call None
-        at_start = subst (λ s. turn_of_call (Some (record call { stage = s })) ≡ turn_of_call None) (sym first) refl
+        at_start : visit_of_call (Some call) ≡ visit_of_call None
+        at_start = subst (λ s. visit_of_call (Some (record call { stage = s })) ≡ visit_of_call None) (sym first) refl
 
         by_test : (u : Tid) → is_local setup c u ≡ true → is_done (thread_at (with_call p t (Some call)) u).call ≡ true → (mine : Bool) → same_tid t u ≡ mine
             → (is_some p.hand ≡ true) × (is_thread u p.current ≡ true)
@@ -99,7 +99,7 @@ module _ (setup : Setup) (c : CpuId) (p : Private) (T : Tid → Turn) (P : Tid �
     ended_now = (
       record {
         size = length-set p.threads t.0 x ∙ agrees.size;
-        calls = λ u local. agrees.calls u local ∙ ap turn_of_call (sym (same_call u (same_tid t u) refl));
+        calls = λ u local. agrees.calls u local ∙ ap visit_of_call (sym (same_call u (same_tid t u) refl));
         seats = λ u. sits u (same_tid t u) refl;
         hands = agrees.hands;
         ends = λ u local ended. at_home u local ended (same_tid t u) refl;

@@ -19,7 +19,7 @@ use Rattle.layer_traits.specs.declared.locked.Side.TheVariants.{Receivers, Sende
 use Rattle.layer_traits.specs.Places.{is_thread, count_in}
 use Rattle.cpu.specs.Table.Blocks.{Block, OfBuffer, OfPending, Name, Pend, TakeAll, side_of}
 use Rattle.cpu.specs.Table.Edits.{edited, answer, answer_of_buffer}
-use Rattle.cpu.specs.Table.Setups.{Setup, Stage, Acquires, Enters, Tries, Waits, AcquiresAgain, Signals, SignalsOwn}
+use Rattle.cpu.specs.Table.Setups.{Setup, CallStage, Acquires, Enters, Tries, Waits, AcquiresAgain, Signals, SignalsOwn}
 use Rattle.cpu.specs.Table.Setups.{Releases, Returns, Call, Private, thread_at, home_of, stands_at, opening_buffer}
 use Rattle.cpu.specs.Table.Choice.{Ask, at_pending, at_buffer, section_at, first_section, try_of, first_signal}
 use Rattle.cpu.specs.Table.Choice.{second_signal, asked_by, asked_at, asked_in, asked, with_guest, settled}
@@ -27,13 +27,13 @@ use Rattle.cpu.specs.Table.Choice.{after_call, after_by, after_at, after_in}
 use Rattle.cpu.specs.Table.Steps.{after_reply}
 use Rattle.cpu.specs.Wakeups.Order.{block_of}
 use Rattle.cpu.proofs.Wakeups.Lists.{refuted}
-use Rattle.cpu.proofs.Wakeups.Spots.{Spot, Home, InHand, IsPending, AtLock, AtWait, GotIt, Trying, Owing, In}
-use Rattle.cpu.proofs.Wakeups.Spots.{is_home, is_hand, caller_in, is_caller, spot_by, spot_drained, spot_pending}
-use Rattle.cpu.proofs.Wakeups.Spots.{spot_buffer, spot, next_turn, turn_moved, turn_buffer, turn}
-use Rattle.cpu.proofs.Wakeups.Spots.{IsTurn, is_local, IsCallers, MayComeBy, MayComeTo, MayComeAt, MayCome}
+use Rattle.cpu.proofs.Wakeups.Posts.{Post, Home, InHand, IsPending, AtLock, AtWait, GotIt, Trying, Owing, In}
+use Rattle.cpu.proofs.Wakeups.Posts.{is_home, is_hand, caller_in, is_caller, post_by, post_drained, post_pending}
+use Rattle.cpu.proofs.Wakeups.Posts.{post_buffer, post, next_visit, visit_moved, visit_buffer, visit}
+use Rattle.cpu.proofs.Wakeups.Posts.{IsDue, is_local, IsCallers, MayComeBy, MayComeTo, MayComeAt, MayCome}
 use Rattle.cpu.proofs.Wakeups.Pairs.{sleeps_at, woken_sleeps}
 use Rattle.cpu.proofs.Wakeups.Called.{Good, Moves, was_woken, has_slept, stays, moves_at, CallersAre, callers_are, is_the_caller, sleeps_not_home}
-use Rattle.cpu.proofs.Wakeups.Agreement.{owing_own, turn_of_stage, turn_of_call, is_last, is_done, Agrees, IsSettled, runs, home_is, hand_is, within}
+use Rattle.cpu.proofs.Wakeups.Agreement.{owing_own, visit_of_stage, visit_of_call, is_last, is_done, Agrees, IsSettled, runs, home_is, hand_is, within}
 use Rattle.cpu.proofs.Wakeups.Sits.{IsCalling, section_caller, bed_not_hand, agrees_call, agrees_pended, agrees_drained}
 use Rattle.cpu.proofs.Wakeups.Sits.{agrees_yielded, guest_calls, agrees_foreign, drained_hand}
 
@@ -72,7 +72,7 @@ two_homes setup c e u off local at =
     let here : same_cpu (home_of setup u) c ≡ true = (and_parts (same_cpu (home_of setup u) c) (nat_lt u.0 (length setup.homes)) local).0 in
     refuted off (ap (λ h. same_cpu h c) (sym (same_cpu_true (home_of setup u) e at)) ∙ here)
 
-sleeps_no_hand : (c : CpuId) (d : BufId) (x : Spot) → sleeps_at d x ≡ true → is_hand c x ≡ false
+sleeps_no_hand : (c : CpuId) (d : BufId) (x : Post) → sleeps_at d x ≡ true → is_hand c x ≡ false
 sleeps_no_hand c d (AtLock b) on = refl
 sleeps_no_hand c d (AtWait b side) on = refl
 sleeps_no_hand c d Home on = refl
@@ -80,20 +80,20 @@ sleeps_no_hand c d (InHand e) on = absurd (cc on)
 sleeps_no_hand c d IsPending on = refl
 
 module _ (setup : Setup) (past : List (Section Name)) (good : Good setup past) (c e : CpuId) (off : same_cpu e c ≡ false)
-    (p : Private) (agrees : Agrees setup c p (λ u. turn setup u past) (λ u. spot setup u past)) where
-  homes_moved : (d : BufId) (name : Name) (u : Tid) (x now : Spot) → (is_caller u name ≡ true → same_cpu (home_of setup u) e ≡ true) → is_local setup c u ≡ true
+    (p : Private) (agrees : Agrees setup c p (λ u. visit setup u past) (λ u. post setup u past)) where
+  homes_moved : (d : BufId) (name : Name) (u : Tid) (x now : Post) → (is_caller u name ≡ true → same_cpu (home_of setup u) e ≡ true) → is_local setup c u ≡ true
       → Moves setup e d u name x now → is_home now ≡ is_home x
   homes_moved d name u x now mine local (was_woken small sleeps is) =
       ap is_home is
-      ∙ ap (λ b. is_home (spot_by b e)) (false_from_ne_true (same_cpu (home_of setup u) e) (λ at. two_homes setup c e u off local at))
+      ∙ ap (λ b. is_home (post_by b e)) (false_from_ne_true (same_cpu (home_of setup u) e) (λ at. two_homes setup c e u off local at))
       ∙ sym (sleeps_not_home d x sleeps)
   homes_moved d name u x now mine local (has_slept home own is) = two_homes setup c e u off local (mine own)
   homes_moved d name u x now mine local (stays is) = ap is_home is
 
-  hands_moved : (d : BufId) (name : Name) (u : Tid) (x now : Spot) → Moves setup e d u name x now → is_hand c now ≡ is_hand c x
+  hands_moved : (d : BufId) (name : Name) (u : Tid) (x now : Post) → Moves setup e d u name x now → is_hand c now ≡ is_hand c x
   hands_moved d name u x now (was_woken small sleeps is) = ap (is_hand c) is ∙ not_here (same_cpu (home_of setup u) e) ∙ sym (sleeps_no_hand c d x sleeps)
     where
-      not_here : (b : Bool) → is_hand c (spot_by b e) ≡ false
+      not_here : (b : Bool) → is_hand c (post_by b e) ≡ false
       not_here true = refl
       not_here false = off
   hands_moved d name u x now (has_slept home own is) = ap (is_hand c) is ∙ bed_not_hand c d name ∙ ap (is_hand c) (sym home)
@@ -101,91 +101,91 @@ module _ (setup : Setup) (past : List (Section Name)) (good : Good setup past) (
 
   turns_moved : (d : BufId) (name : Name) (u : Tid) (o : Option Block)
       → (is_caller u name ≡ true → same_cpu (home_of setup u) e ≡ true) → is_local setup c u ≡ true
-      → turn_buffer d u name o (turn setup u past) ≡ turn setup u past
+      → visit_buffer d u name o (visit setup u past) ≡ visit setup u past
   turns_moved d name u None mine local = refl
   turns_moved d name u (Some (OfPending threads)) mine local = refl
   turns_moved d name u (Some (OfBuffer k)) mine local =
-      ap (λ b. if b then next_turn d name k (turn setup u past) else turn setup u past)
+      ap (λ b. if b then next_visit d name k (visit setup u past) else visit setup u past)
       (false_from_ne_true (is_caller u name) (λ own. two_homes setup c e u off local (mine own)))
 
   foreign_buffer : (d : BufId) (name : Name) → CallersAre setup past e d name
-      → Agrees setup c p (λ u. turn setup u (record { cpu = e; lock = AtBuffer d; edit = name } ∷ past))
-      (λ u. spot setup u (record { cpu = e; lock = AtBuffer d; edit = name } ∷ past))
+      → Agrees setup c p (λ u. visit setup u (record { cpu = e; lock = AtBuffer d; edit = name } ∷ past))
+      (λ u. post setup u (record { cpu = e; lock = AtBuffer d; edit = name } ∷ past))
   foreign_buffer d name callers =
-      agrees_foreign setup c p (λ u. turn setup u past) (λ u. turn setup u (record { cpu = e; lock = AtBuffer d; edit = name } ∷ past))
-      (λ u. spot setup u past) (λ u. spot setup u (record { cpu = e; lock = AtBuffer d; edit = name } ∷ past)) agrees
+      agrees_foreign setup c p (λ u. visit setup u past) (λ u. visit setup u (record { cpu = e; lock = AtBuffer d; edit = name } ∷ past))
+      (λ u. post setup u past) (λ u. post setup u (record { cpu = e; lock = AtBuffer d; edit = name } ∷ past)) agrees
       (λ u local. turns_moved d name u (block_of setup (AtBuffer d) past) (mine u) local)
-      (λ u local. homes_moved d name u (spot setup u past) _ (mine u) local
+      (λ u local. homes_moved d name u (post setup u past) _ (mine u) local
       (moves_at setup past good e d name callers u (block_of setup (AtBuffer d) past) refl))
-      (λ u. hands_moved d name u (spot setup u past) _ (moves_at setup past good e d name callers u (block_of setup (AtBuffer d) past) refl))
+      (λ u. hands_moved d name u (post setup u past) _ (moves_at setup past good e d name callers u (block_of setup (AtBuffer d) past) refl))
     where
       mine : (u : Tid) → is_caller u name ≡ true → same_cpu (home_of setup u) e ≡ true
       mine u own = (and_parts (same_cpu (home_of setup u) e) (nat_lt u.0 (length setup.homes)) (callers u (is_the_caller u name own)).local).0
 
   pending_homes : (d : CpuId) (name : Name) → MayComeTo setup past e d name → (u : Tid) → is_local setup c u ≡ true
-      → is_home (spot_pending setup d u name (spot setup u past)) ≡ is_home (spot setup u past)
+      → is_home (post_pending setup d u name (post setup u past)) ≡ is_home (post setup u past)
   pending_homes d (Pend s) may u local = by_test (same_tid s u) refl
     where
-      by_test : (mine : Bool) → same_tid s u ≡ mine → is_home (if mine then IsPending else spot setup u past) ≡ is_home (spot setup u past)
-      by_test true is = subst (λ v. false ≡ is_home (spot setup v past)) (same_tid_true s u is) (sym (ap is_home may.0))
+      by_test : (mine : Bool) → same_tid s u ≡ mine → is_home (if mine then IsPending else post setup u past) ≡ is_home (post setup u past)
+      by_test true is = subst (λ v. false ≡ is_home (post setup v past)) (same_tid_true s u is) (sym (ap is_home may.0))
       by_test false other = refl
   pending_homes d TakeAll may u local =
-      ap (λ b. is_home (if b then spot_drained (spot setup u past) else spot setup u past))
+      ap (λ b. is_home (if b then post_drained (post setup u past) else post setup u past))
       (false_from_ne_true (same_cpu (home_of setup u) d)
       (λ at. two_homes setup c e u off local (subst (λ x. same_cpu (home_of setup u) x ≡ true) (sym may) at)))
   pending_homes d name may u local = absurd may
 
   pending_hands : (d : CpuId) (name : Name) → MayComeTo setup past e d name → (u : Tid)
-      → is_hand c (spot_pending setup d u name (spot setup u past)) ≡ is_hand c (spot setup u past)
+      → is_hand c (post_pending setup d u name (post setup u past)) ≡ is_hand c (post setup u past)
   pending_hands d (Pend s) may u = by_test (same_tid s u) refl
     where
-      by_test : (mine : Bool) → same_tid s u ≡ mine → is_hand c (if mine then IsPending else spot setup u past) ≡ is_hand c (spot setup u past)
-      by_test true is = subst (λ v. false ≡ is_hand c (spot setup v past)) (same_tid_true s u is) (sym (ap (is_hand c) may.0 ∙ off))
+      by_test : (mine : Bool) → same_tid s u ≡ mine → is_hand c (if mine then IsPending else post setup u past) ≡ is_hand c (post setup u past)
+      by_test true is = subst (λ v. false ≡ is_hand c (post setup v past)) (same_tid_true s u is) (sym (ap (is_hand c) may.0 ∙ off))
       by_test false other = refl
   pending_hands d TakeAll may u = by_test (same_cpu (home_of setup u) d)
     where
-      by_test : (mine : Bool) → is_hand c (if mine then spot_drained (spot setup u past) else spot setup u past) ≡ is_hand c (spot setup u past)
-      by_test true = drained_hand c (spot setup u past)
+      by_test : (mine : Bool) → is_hand c (if mine then post_drained (post setup u past) else post setup u past) ≡ is_hand c (post setup u past)
+      by_test true = drained_hand c (post setup u past)
       by_test false = refl
   pending_hands d name may u = absurd may
 
   foreign_at : (lock : LockId) (name : Name) → MayComeAt setup past e lock name
-      → Agrees setup c p (λ u. turn setup u (record { cpu = e; lock = lock; edit = name } ∷ past))
-      (λ u. spot setup u (record { cpu = e; lock = lock; edit = name } ∷ past))
+      → Agrees setup c p (λ u. visit setup u (record { cpu = e; lock = lock; edit = name } ∷ past))
+      (λ u. post setup u (record { cpu = e; lock = lock; edit = name } ∷ past))
   foreign_at (AtBuffer d) name may = foreign_buffer d name (callers_are setup past e d name may)
   foreign_at (Pending d) name may =
-      agrees_foreign setup c p (λ u. turn setup u past) (λ u. turn setup u past) (λ u. spot setup u past)
-      (λ u. spot_pending setup d u name (spot setup u past)) agrees
+      agrees_foreign setup c p (λ u. visit setup u past) (λ u. visit setup u past) (λ u. post setup u past)
+      (λ u. post_pending setup d u name (post setup u past)) agrees
       (λ u local. refl) (λ u local. pending_homes d name may u local) (λ u. pending_hands d name may u)
 
 -- whatever section another CPU ends, this one stays in agreement
 pub foreign_step : (setup : Setup) (past : List (Section Name)) → Good setup past → (c : CpuId) (p : Private) (s : Section Name) → same_cpu s.cpu c ≡ false
-    → MayCome setup past s → Agrees setup c p (λ u. turn setup u past) (λ u. spot setup u past)
-    → Agrees setup c p (λ u. turn setup u (s ∷ past)) (λ u. spot setup u (s ∷ past))
+    → MayCome setup past s → Agrees setup c p (λ u. visit setup u past) (λ u. post setup u past)
+    → Agrees setup c p (λ u. visit setup u (s ∷ past)) (λ u. post setup u (s ∷ past))
 foreign_step setup past good c p s off may agrees = foreign_at setup past good c s.cpu off p agrees s.lock s.edit may
 
 -- The CPU's own section.
 
 -- what is due to a call at each stage
-pub due_at : (t : Tid) (call : Call) (stage : Stage) → is_last stage ≡ false
-    → IsTurn call.buffer (section_at t call stage) (turn_of_stage call.buffer (side_of call.asks) stage)
+pub due_at : (t : Tid) (call : Call) (stage : CallStage) → is_last stage ≡ false
+    → IsDue call.buffer (section_at t call stage) (visit_of_stage call.buffer (side_of call.asks) stage)
 due_at t call stage going = by_stage stage going
   where
-    by_first : (asks : Group) → IsTurn call.buffer (first_section t asks) (In call.buffer GotIt)
+    by_first : (asks : Group) → IsDue call.buffer (first_section t asks) (In call.buffer GotIt)
     by_first Sends = refl
     by_first Receives = refl
     by_first Closes = refl
 
-    by_try : (side : Side) → IsTurn call.buffer (try_of t call side) (In call.buffer (Trying side))
+    by_try : (side : Side) → IsDue call.buffer (try_of t call side) (In call.buffer (Trying side))
     by_try Senders = refl
     by_try Receivers = refl
 
-    by_signal : (side : Side) → IsTurn call.buffer (first_signal t side) (In call.buffer (Owing true true))
-        × IsTurn call.buffer (second_signal t side) (In call.buffer (owing_own side))
+    by_signal : (side : Side) → IsDue call.buffer (first_signal t side) (In call.buffer (Owing true true))
+        × IsDue call.buffer (second_signal t side) (In call.buffer (owing_own side))
     by_signal Senders = (refl, refl)
     by_signal Receivers = (refl, refl)
 
-    by_stage : (stage : Stage) → is_last stage ≡ false → IsTurn call.buffer (section_at t call stage) (turn_of_stage call.buffer (side_of call.asks) stage)
+    by_stage : (stage : CallStage) → is_last stage ≡ false → IsDue call.buffer (section_at t call stage) (visit_of_stage call.buffer (side_of call.asks) stage)
     by_stage Acquires going = tt
     by_stage Enters going = by_first call.asks
     by_stage Tries going = by_try (side_of call.asks)
@@ -200,11 +200,11 @@ due_at t call stage going = by_stage stage going
 pub record GiveOk (setup : Setup) (past : List (Section Name)) (c : CpuId) (p : Private) (lock : LockId) (name : Name) : Type 0 where
   pub may : MayComeAt setup past c lock name
   pub agrees : Agrees setup c (after_reply setup c p (option_map (answer name) (block_of setup lock past)))
-      (λ u. turn setup u (record { cpu = c; lock = lock; edit = name } ∷ past)) (λ u. spot setup u (record { cpu = c; lock = lock; edit = name } ∷ past))
+      (λ u. visit setup u (record { cpu = c; lock = lock; edit = name } ∷ past)) (λ u. post setup u (record { cpu = c; lock = lock; edit = name } ∷ past))
   pub settled : IsSettled setup c (after_reply setup c p (option_map (answer name) (block_of setup lock past)))
 
 module _ (setup : Setup) (past : List (Section Name)) (good : Good setup past) (c : CpuId) (p : Private)
-    (agrees : Agrees setup c p (λ u. turn setup u past) (λ u. spot setup u past)) (settled_before : IsSettled setup c p) where
+    (agrees : Agrees setup c p (λ u. visit setup u past) (λ u. post setup u past)) (settled_before : IsSettled setup c p) where
   give_pend : (s : Tid) → p.hand ≡ Some s → GiveOk setup past c p (Pending (home_of setup s)) (Pend s)
   give_pend s holds =
       let there = pending_there setup (home_of setup s) past in
@@ -212,12 +212,12 @@ module _ (setup : Setup) (past : List (Section Name)) (good : Good setup past) (
       ≡ settled setup (record p { hand = None }) =
       ap (λ o. after_reply setup c p (option_map (answer (Pend s)) o)) there.1
       ∙ ap (λ h. after_in setup c p h (answer (Pend s) (OfPending there.0))) holds in
-      let held = hand_is c (spot setup s past) (sym (agrees.hands s) ∙ ap (is_thread s) holds ∙ same_tid_self s) in
-      let now = agrees_pended setup c p (λ u. turn setup u past) (λ u. spot setup u past) agrees settled_before (home_of setup s) s holds in
+      let held = hand_is c (post setup s past) (sym (agrees.hands s) ∙ ap (is_thread s) holds ∙ same_tid_self s) in
+      let now = agrees_pended setup c p (λ u. visit setup u past) (λ u. post setup u past) agrees settled_before (home_of setup s) s holds in
       record {
         may = (held, refl);
         agrees =
-            subst (λ q. Agrees setup c q (λ u. turn setup u past) (λ u. spot_pending setup (home_of setup s) u (Pend s) (spot setup u past))) (sym is) now.0;
+            subst (λ q. Agrees setup c q (λ u. visit setup u past) (λ u. post_pending setup (home_of setup s) u (Pend s) (post setup u past))) (sym is) now.0;
         settled = subst (IsSettled setup c) (sym is) now.1;
       }
 
@@ -229,11 +229,11 @@ module _ (setup : Setup) (past : List (Section Name)) (good : Good setup past) (
       ap (λ o. after_reply setup c p (option_map (answer TakeAll) o)) there.1
       ∙ ap (λ h. after_in setup c p h (answer TakeAll (OfPending list))) empty
       ∙ ap (λ h. after_at setup c p h (answer TakeAll (OfPending list))) idle in
-      let now = agrees_drained setup c p (λ u. turn setup u past) (λ u. spot setup u past) agrees settled_before list
+      let now = agrees_drained setup c p (λ u. visit setup u past) (λ u. post setup u past) agrees settled_before list
       (λ u. good.pending c u list there.1) good.known in
       record {
         may = refl;
-        agrees = subst (λ q. Agrees setup c q (λ u. turn setup u past) (λ u. spot_pending setup c u TakeAll (spot setup u past))) (sym is) now;
+        agrees = subst (λ q. Agrees setup c q (λ u. visit setup u past) (λ u. post_pending setup c u TakeAll (post setup u past))) (sym is) now;
         settled = subst (IsSettled setup c) (sym is) settled_before;
       }
 
@@ -248,15 +248,15 @@ module _ (setup : Setup) (past : List (Section Name)) (good : Good setup past) (
       ∙ ap (λ h. after_in setup c p h (answer TakeAll (OfPending list))) empty
       ∙ ap (λ h. after_at setup c p h (answer TakeAll (OfPending list))) runs_now
       ∙ ap (λ h. after_by setup c p t h (answer TakeAll (OfPending list))) outside in
-      let drained_now = agrees_drained setup c p (λ u. turn setup u past) (λ u. spot setup u past) agrees settled_before list
+      let drained_now = agrees_drained setup c p (λ u. visit setup u past) (λ u. post setup u past) agrees settled_before list
       (λ u. good.pending c u list there.1) good.known in
-      let now = agrees_yielded setup c (record p { ready = p.ready ++ list }) (λ u. turn setup u past)
-      (λ u. spot_pending setup c u TakeAll (spot setup u past)) drained_now t runs_now guest in
-      let known = within setup c p (λ u. turn setup u past) (λ u. spot setup u past) agrees t
-      (runs setup c p (λ u. turn setup u past) (λ u. spot setup u past) agrees t runs_now).0 in
+      let now = agrees_yielded setup c (record p { ready = p.ready ++ list }) (λ u. visit setup u past)
+      (λ u. post_pending setup c u TakeAll (post setup u past)) drained_now t runs_now guest in
+      let known = within setup c p (λ u. visit setup u past) (λ u. post setup u past) agrees t
+      (runs setup c p (λ u. visit setup u past) (λ u. post setup u past) agrees t runs_now).0 in
       record {
         may = refl;
-        agrees = subst (λ x. Agrees setup c x (λ u. turn setup u past) (λ u. spot_pending setup c u TakeAll (spot setup u past))) (sym is) now;
+        agrees = subst (λ x. Agrees setup c x (λ u. visit setup u past) (λ u. post_pending setup c u TakeAll (post setup u past))) (sym is) now;
         settled = subst (IsSettled setup c) (sym is) (λ u local done.
             refuted (ap is_some empty) (settled_before u local (ap is_done (sym (guest_calls p t guest known u)) ∙ done)).0);
       }
@@ -268,17 +268,17 @@ module _ (setup : Setup) (past : List (Section Name)) (good : Good setup past) (
       name : Name
       name = section_at t call call.stage
 
-      at : (is_local setup c t ≡ true) × (is_home (spot setup t past) ≡ true) × ((thread_at p t).ended ≡ false) × (count_in t p.ready ≡ 0)
-      at = runs setup c p (λ u. turn setup u past) (λ u. spot setup u past) agrees t runs_now
+      at : (is_local setup c t ≡ true) × (is_home (post setup t past) ≡ true) × ((thread_at p t).ended ≡ false) × (count_in t p.ready ≡ 0)
+      at = runs setup c p (λ u. visit setup u past) (λ u. post setup u past) agrees t runs_now
 
       going : is_last call.stage ≡ false
       going = false_from_ne_true (is_last call.stage) (λ on. refuted (ap is_some empty) (settled_before t at.0 (ap is_done is ∙ on)).0)
 
-      callers : IsCallers setup c call.buffer (section_at t call call.stage) t (spot setup t past) (turn setup t past)
+      callers : IsCallers setup c call.buffer (section_at t call call.stage) t (post setup t past) (visit setup t past)
       callers = record {
         local = at.0;
-        here = home_is (spot setup t past) at.1;
-        due = subst (IsTurn call.buffer (section_at t call call.stage)) (sym (agrees.calls t at.0 ∙ ap turn_of_call is)) (due_at t call call.stage going);
+        here = home_is (post setup t past) at.1;
+        due = subst (IsDue call.buffer (section_at t call call.stage)) (sym (agrees.calls t at.0 ∙ ap visit_of_call is)) (due_at t call call.stage going);
       }
 
       may_come : MayComeBy setup past c call.buffer (section_at t call call.stage) (caller_in (section_at t call call.stage))
@@ -289,37 +289,37 @@ module _ (setup : Setup) (past : List (Section Name)) (good : Good setup past) (
       by_block None block = record {
         may = may_come;
         agrees = subst (λ o. Agrees setup c (after_reply setup c p (option_map (answer (section_at t call call.stage)) o))
-            (λ u. turn_buffer call.buffer u (section_at t call call.stage) o (turn setup u past))
-            (λ u. spot_buffer setup c call.buffer u (section_at t call call.stage) o (spot setup u past))) (sym block) agrees;
+            (λ u. visit_buffer call.buffer u (section_at t call call.stage) o (visit setup u past))
+            (λ u. post_buffer setup c call.buffer u (section_at t call call.stage) o (post setup u past))) (sym block) agrees;
         settled = subst (λ o. IsSettled setup c (after_reply setup c p (option_map (answer (section_at t call call.stage)) o))) (sym block) settled_before;
       }
       by_block (Some (OfPending list)) block = absurd (no_pending_at_buffer setup call.buffer past list block)
       by_block (Some (OfBuffer k)) block =
           let asleep : (s : Tid) → (answer_of_buffer (section_at t call call.stage) k).woke ≡ Some s
-          → (is_home (spot setup s past) ≡ false) × (nat_lt s.0 (length setup.homes) ≡ true) =
+          → (is_home (post setup s past) ≡ false) × (nat_lt s.0 (length setup.homes) ≡ true) =
           λ s woke.
           let pair = good.pairs call.buffer s k block in
           let sleeps = (woken_sleeps call.buffer s k _ _ _ pair (section_at t call call.stage) (ap (is_thread s) woke ∙ same_tid_self s)).1 in
-          let off = sleeps_not_home call.buffer (spot setup s past) sleeps in
+          let off = sleeps_not_home call.buffer (post setup s past) sleeps in
           (off, good.known s off) in
-          let calling : IsCalling setup c p (λ u. turn setup u past) (λ u. spot setup u past) t call = record {
+          let calling : IsCalling setup c p (λ u. visit setup u past) (λ u. post setup u past) t call = record {
             agrees = agrees;
             settled_before = settled_before;
             empty = empty;
             runs_now = runs_now;
             is = is;
           } in
-          let now = agrees_call setup c p (λ u. turn setup u past) (λ u. spot setup u past) t call calling k asleep in
+          let now = agrees_call setup c p (λ u. visit setup u past) (λ u. post setup u past) t call calling k asleep in
           let a = answer_of_buffer (section_at t call call.stage) k in
           let gives : after_reply setup c p (option_map (answer (section_at t call call.stage)) (Some (OfBuffer k))) ≡ after_call setup c p t call a =
           ap (λ h. after_in setup c p h a) empty ∙ ap (λ h. after_at setup c p h a) runs_now ∙ ap (λ h. after_by setup c p t h a) is in
           record {
             may = may_come;
             agrees = subst (λ o. Agrees setup c (after_reply setup c p (option_map (answer (section_at t call call.stage)) o))
-                (λ u. turn_buffer call.buffer u (section_at t call call.stage) o (turn setup u past))
-                (λ u. spot_buffer setup c call.buffer u (section_at t call call.stage) o (spot setup u past))) (sym block)
-                (subst (λ q. Agrees setup c q (λ u. turn_moved call.buffer u (section_at t call call.stage) k (turn setup u past))
-                (λ u. spot_buffer setup c call.buffer u (section_at t call call.stage) (Some (OfBuffer k)) (spot setup u past))) (sym gives) now.0);
+                (λ u. visit_buffer call.buffer u (section_at t call call.stage) o (visit setup u past))
+                (λ u. post_buffer setup c call.buffer u (section_at t call call.stage) o (post setup u past))) (sym block)
+                (subst (λ q. Agrees setup c q (λ u. visit_moved call.buffer u (section_at t call call.stage) k (visit setup u past))
+                (λ u. post_buffer setup c call.buffer u (section_at t call call.stage) (Some (OfBuffer k)) (post setup u past))) (sym gives) now.0);
             settled = subst (λ o. IsSettled setup c (after_reply setup c p (option_map (answer (section_at t call call.stage)) o))) (sym block)
                 (subst (IsSettled setup c) (sym gives) now.1);
           }

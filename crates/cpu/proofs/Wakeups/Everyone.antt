@@ -25,8 +25,8 @@ use Rattle.cpu.specs.Wakeups.Order.{block_of}
 use Rattle.cpu.specs.Wakeups.Quiet.{HomesExist}
 use Rattle.cpu.specs.Wakeups.OnePlace.{own_queues, queues_in, all_of, of_cpu, of_pending, of_buffer, everyone, thread_in, thread_of, is_live, StandInOnePlace}
 use Rattle.cpu.proofs.Wakeups.Lists.{refuted}
-use Rattle.cpu.proofs.Wakeups.Spots.{Spot, Home, InHand, IsPending, AtLock, AtWait}
-use Rattle.cpu.proofs.Wakeups.Spots.{is_buffer, is_side, is_home, is_hand, is_pending, is_lock, is_wait, is_local, spot, turn, marked}
+use Rattle.cpu.proofs.Wakeups.Posts.{Post, Home, InHand, IsPending, AtLock, AtWait}
+use Rattle.cpu.proofs.Wakeups.Posts.{is_buffer, is_side, is_home, is_hand, is_pending, is_lock, is_wait, is_local, post, visit, marked}
 use Rattle.cpu.proofs.Wakeups.Pairs.{buffer_self, marked_none}
 use Rattle.cpu.proofs.Wakeups.Called.{Good}
 use Rattle.cpu.proofs.Wakeups.Placed.{IsPlaced, buffer_there}
@@ -51,9 +51,9 @@ module _ (setup : Setup) (s : Whole) (homes : HomesExist setup) (kept : Kept set
   abbrev ended_at : ℕ → Bool
   ended_at i = (thread_in (slice_get s.cpus i) u).ended
 
-  -- What each queue has of the thread, by its spot.
+  -- What each queue has of the thread, by its post.
 
-  at_cpu : (x : Spot) → spot setup u (sections_in s.log) ≡ x → (i : ℕ) → i < setup.cpus
+  at_cpu : (x : Post) → post setup u (sections_in s.log) ≡ x → (i : ℕ) → i < setup.cpus
       → count_in u (of_cpu s i) ≡ one_if (seat setup (cpu_numbered i) u x (ended_at i)) + one_if (is_hand (cpu_numbered i) x)
   at_cpu x is i below = by_cpu (cpu_there setup s kept (cpu_numbered i) below)
     where
@@ -75,14 +75,14 @@ module _ (setup : Setup) (s : Whole) (homes : HomesExist setup) (kept : Kept set
           ∙ ap (λ o. one_if (seat setup (cpu_numbered i) u x (thread_in o u).ended)) (sym cpu.1) in
           omega (arith, list, parts, front, current, hand, seats)
 
-  at_pending : (x : Spot) → spot setup u (sections_in s.log) ≡ x → (i : ℕ)
+  at_pending : (x : Post) → post setup u (sections_in s.log) ≡ x → (i : ℕ)
       → count_in u (of_pending setup s i) ≡ one_if (same_cpu (home_of setup u) (cpu_numbered i) && is_pending x)
   at_pending x is i =
       let there = pending_there setup (cpu_numbered i) (sections_in s.log) in
       ap (λ o. count_in u (queues_in o)) there.1 ∙ good.pending (cpu_numbered i) u there.0 there.1
       ∙ ap (λ y. one_if (same_cpu (home_of setup u) (cpu_numbered i) && is_pending y)) is
 
-  at_buffer : (x : Spot) → spot setup u (sections_in s.log) ≡ x → (i : ℕ) → i < length setup.caps
+  at_buffer : (x : Post) → post setup u (sections_in s.log) ≡ x → (i : ℕ) → i < length setup.caps
       → count_in u (of_buffer setup s i)
       ≡ marked u (is_lock (buffer_numbered i) x) + (marked u (is_wait (buffer_numbered i) Receivers x) + marked u (is_wait (buffer_numbered i) Senders x))
   at_buffer x is i below = by_block (buffer_there setup (buffer_numbered i) (sections_in s.log) below)
@@ -124,11 +124,11 @@ module _ (setup : Setup) (s : Whole) (homes : HomesExist setup) (kept : Kept set
       let buffers = count_all u (of_buffer setup s) (length setup.caps) in
       omega (arith, parts, rest, cpus, pending, buffers)
 
-  no_pending : (x : Spot) → spot setup u (sections_in s.log) ≡ x → is_pending x ≡ false → pending_sum ≡ 0
+  no_pending : (x : Post) → post setup u (sections_in s.log) ≡ x → is_pending x ≡ false → pending_sum ≡ 0
   no_pending x is off =
       total_none _ setup.cpus (λ i below. at_pending x is i ∙ ap one_if (and_right (same_cpu (home_of setup u) (cpu_numbered i)) (is_pending x) off))
 
-  no_buffers : (x : Spot) → spot setup u (sections_in s.log) ≡ x → ((b : BufId) → is_lock b x ≡ false)
+  no_buffers : (x : Post) → post setup u (sections_in s.log) ≡ x → ((b : BufId) → is_lock b x ≡ false)
       → ((b : BufId) (side : Side) → is_wait b side x ≡ false) → buffers_sum ≡ 0
   no_buffers x is no_lock no_wait =
       total_none _ (length setup.caps) (λ i below.
@@ -139,10 +139,10 @@ module _ (setup : Setup) (s : Whole) (homes : HomesExist setup) (kept : Kept set
       omega (arith, here, lock, receivers, senders))
 
   -- no seat where the thread is not at home
-  no_seat : (x : Spot) (i : ℕ) → is_home x ≡ false → one_if (seat setup (cpu_numbered i) u x (ended_at i)) ≡ 0
+  no_seat : (x : Post) (i : ℕ) → is_home x ≡ false → one_if (seat setup (cpu_numbered i) u x (ended_at i)) ≡ 0
   no_seat x i off = ap one_if (and_right (is_local setup (cpu_numbered i) u) (is_home x && not (ended_at i)) (and_left (is_home x) (not (ended_at i)) off))
 
-  no_cpus : (x : Spot) → spot setup u (sections_in s.log) ≡ x → is_home x ≡ false → ((c : CpuId) → is_hand c x ≡ false) → cpus_sum ≡ 0
+  no_cpus : (x : Post) → post setup u (sections_in s.log) ≡ x → is_home x ≡ false → ((c : CpuId) → is_hand c x ≡ false) → cpus_sum ≡ 0
   no_cpus x is away no_hand =
       total_none _ setup.cpus (λ i below.
       let here = at_cpu x is i below in
@@ -153,13 +153,13 @@ module _ (setup : Setup) (s : Whole) (homes : HomesExist setup) (kept : Kept set
   -- A number that is no thread's.
 
   unknown : nat_lt u.0 (length setup.homes) ≡ false → count_in u (everyone setup s) ≡ one_if (is_live setup s u)
-  unknown off = by_spot (spot setup u (sections_in s.log)) refl
+  unknown off = by_post (post setup u (sections_in s.log)) refl
     where
-      away : (x : Spot) → spot setup u (sections_in s.log) ≡ x → is_home x ≡ false → count_in u (everyone setup s) ≡ one_if (is_live setup s u)
+      away : (x : Post) → post setup u (sections_in s.log) ≡ x → is_home x ≡ false → count_in u (everyone setup s) ≡ one_if (is_live setup s u)
       away x is out = refuted off (good.known u (ap is_home is ∙ out))
 
-      by_spot : (x : Spot) → spot setup u (sections_in s.log) ≡ x → count_in u (everyone setup s) ≡ one_if (is_live setup s u)
-      by_spot Home is =
+      by_post : (x : Post) → post setup u (sections_in s.log) ≡ x → count_in u (everyone setup s) ≡ one_if (is_live setup s u)
+      by_post Home is =
           let cpus : cpus_sum ≡ 0 =
           total_none _ setup.cpus (λ i below.
           let here = at_cpu Home is i below in
@@ -171,10 +171,10 @@ module _ (setup : Setup) (s : Whole) (homes : HomesExist setup) (kept : Kept set
           let buffers = no_buffers Home is (λ b. refl) (λ b side. refl) in
           let live : one_if (is_live setup s u) ≡ 0 = ap one_if (and_left (nat_lt u.0 (length setup.homes)) (not (thread_of setup s u).ended) off) in
           omega (arith, sums, cpus, pending, buffers, live)
-      by_spot (InHand c) is = away (InHand c) is refl
-      by_spot IsPending is = away IsPending is refl
-      by_spot (AtLock b) is = away (AtLock b) is refl
-      by_spot (AtWait b side) is = away (AtWait b side) is refl
+      by_post (InHand c) is = away (InHand c) is refl
+      by_post IsPending is = away IsPending is refl
+      by_post (AtLock b) is = away (AtLock b) is refl
+      by_post (AtWait b side) is = away (AtWait b side) is refl
 
   -- A thread.
 
@@ -192,7 +192,7 @@ module _ (setup : Setup) (s : Whole) (homes : HomesExist setup) (kept : Kept set
     other_cpu i off = ne_eqb (home_of setup u).0 i (λ same. off (sym same))
 
     -- away from home a thread has not ended
-    alive : (x : Spot) → spot setup u (sections_in s.log) ≡ x → is_home x ≡ false → one_if (is_live setup s u) ≡ 1
+    alive : (x : Post) → post setup u (sections_in s.log) ≡ x → is_home x ≡ false → one_if (is_live setup s u) ≡ 1
     alive x is out = by_cpu (cpu_there setup s kept (home_of setup u) home_within)
       where
         by_cpu : ((p : Private) × (slice_get s.cpus (home_of setup u).0 ≡ Some p)) → one_if (is_live setup s u) ≡ 1
@@ -205,8 +205,8 @@ module _ (setup : Setup) (s : Whole) (homes : HomesExist setup) (kept : Kept set
             let goes_here : (thread_of setup s u).ended ≡ false = ap (λ o. (thread_in o u).ended) cpu.1 ∙ goes in
             (λ i. one_if (known i && not (goes_here i)))
 
-    by_spot : (x : Spot) → spot setup u (sections_in s.log) ≡ x → count_in u (everyone setup s) ≡ one_if (is_live setup s u)
-    by_spot Home is =
+    by_post : (x : Post) → post setup u (sections_in s.log) ≡ x → count_in u (everyone setup s) ≡ one_if (is_live setup s u)
+    by_post Home is =
         let cpus : cpus_sum ≡ count_in u (of_cpu s (home_of setup u).0) =
         total_at (λ i. count_in u (of_cpu s i)) setup.cpus (home_of setup u).0 home_within (λ i below off.
         let here = at_cpu Home is i below in
@@ -221,8 +221,8 @@ module _ (setup : Setup) (s : Whole) (homes : HomesExist setup) (kept : Kept set
         let pending = no_pending Home is refl in
         let buffers = no_buffers Home is (λ b. refl) (λ b side. refl) in
         omega (arith, sums, cpus, here, seats, pending, buffers)
-    by_spot (InHand e) is =
-        let within : e.0 < setup.cpus = subst (IsPlaced setup (turn setup u (sections_in s.log))) is (kept.placed.spots u) in
+    by_post (InHand e) is =
+        let within : e.0 < setup.cpus = subst (IsPlaced setup (visit setup u (sections_in s.log))) is (kept.placed.posts u) in
         let cpus : cpus_sum ≡ count_in u (of_cpu s e.0) =
         total_at (λ i. count_in u (of_cpu s i)) setup.cpus e.0 within (λ i below off.
         let here = at_cpu (InHand e) is i below in
@@ -236,7 +236,7 @@ module _ (setup : Setup) (s : Whole) (homes : HomesExist setup) (kept : Kept set
         let buffers = no_buffers (InHand e) is (λ b. refl) (λ b side. refl) in
         let live = alive (InHand e) is refl in
         omega (arith, sums, cpus, here, seats, hand, pending, buffers, live)
-    by_spot IsPending is =
+    by_post IsPending is =
         let cpus = no_cpus IsPending is refl (λ c. refl) in
         let pending : pending_sum ≡ count_in u (of_pending setup s (home_of setup u).0) =
         total_at (λ i. count_in u (of_pending setup s i)) setup.cpus (home_of setup u).0 home_within (λ i below off.
@@ -247,8 +247,8 @@ module _ (setup : Setup) (s : Whole) (homes : HomesExist setup) (kept : Kept set
         let buffers = no_buffers IsPending is (λ b. refl) (λ b side. refl) in
         let live = alive IsPending is refl in
         omega (arith, sums, cpus, pending, here, buffers, live)
-    by_spot (AtLock b) is =
-        let within : b.0 < length setup.caps = subst (IsPlaced setup (turn setup u (sections_in s.log))) is (kept.placed.spots u) in
+    by_post (AtLock b) is =
+        let within : b.0 < length setup.caps = subst (IsPlaced setup (visit setup u (sections_in s.log))) is (kept.placed.posts u) in
         let cpus = no_cpus (AtLock b) is refl (λ c. refl) in
         let pending = no_pending (AtLock b) is refl in
         let no_receivers = marked_none u false refl in
@@ -261,9 +261,9 @@ module _ (setup : Setup) (s : Whole) (homes : HomesExist setup) (kept : Kept set
         let lock : marked u (is_buffer b b) ≡ 1 = (λ i. one_if (small i && buffer_self b i)) in
         let live = alive (AtLock b) is refl in
         omega (arith, sums, cpus, pending, buffers, here, lock, no_receivers, live)
-    by_spot (AtWait b side) is =
-        let within : (b.0 < length setup.caps) × (turn setup u (sections_in s.log) ≡ _) =
-        subst (IsPlaced setup (turn setup u (sections_in s.log))) is (kept.placed.spots u) in
+    by_post (AtWait b side) is =
+        let within : (b.0 < length setup.caps) × (visit setup u (sections_in s.log) ≡ _) =
+        subst (IsPlaced setup (visit setup u (sections_in s.log))) is (kept.placed.posts u) in
         let cpus = no_cpus (AtWait b side) is refl (λ c. refl) in
         let pending = no_pending (AtWait b side) is refl in
         let no_lock = marked_none u false refl in
@@ -294,7 +294,7 @@ module _ (setup : Setup) (s : Whole) (homes : HomesExist setup) (kept : Kept set
   one_place = by_known (nat_lt u.0 (length setup.homes)) refl
     where
       by_known : (known : Bool) → nat_lt u.0 (length setup.homes) ≡ known → count_in u (everyone setup s) ≡ one_if (is_live setup s u)
-      by_known true known = by_spot known (spot setup u (sections_in s.log)) refl
+      by_known true known = by_post known (post setup u (sections_in s.log)) refl
       by_known false off = unknown off
 
 pub stand_in_one_place : StandInOnePlace

@@ -14,7 +14,7 @@ use Rattle.layer_traits.specs.declared.steps.Reason.TheVariants.{AllEnded, Trace
 use Rattle.layer_traits.specs.Plans.{is_in_section, reply}
 use Rattle.cpu.specs.Table.Blocks.{Name, Told, Nothing, Position, Done, WasClosed, DidShut, NotYet, Drained, Answer}
 use Rattle.cpu.specs.Table.Edits.{kernel}
-use Rattle.cpu.specs.Table.Setups.{Setup, Stage, Acquires, Enters, Tries, Waits, AcquiresAgain, Signals, SignalsOwn, Releases, Returns}
+use Rattle.cpu.specs.Table.Setups.{Setup, CallStage, Acquires, Enters, Tries, Waits, AcquiresAgain, Signals, SignalsOwn, Releases, Returns}
 use Rattle.cpu.specs.Table.Setups.{Call, Private, thread_at, home_of, at_boot, opening, stands_at, home_threads, open_calls, have_ended}
 use Rattle.cpu.specs.Table.Choice.{asked, Choice, Halts, Alone, Goes, with_call, at_instruction, at_call, at_ready, at_current, at_hand, choice}
 use Rattle.cpu.specs.Table.Choice.{heard, heard_entry, heard_position, heard_shut, slept_if, woken, returned_at, returned_by}
@@ -22,7 +22,7 @@ use Rattle.cpu.specs.Table.Choice.{returned_in, settled, after_by, after_at, aft
 use Rattle.cpu.specs.Table.Steps.{after_reply, acting, chosen, step_in, cpu_step, Whole, cpu_numbered, system_step, IsReached, boots, steps}
 use Rattle.cpu.proofs.Wakeups.Lists.{refuted}
 use Rattle.cpu.proofs.Wakeups.Agreement.{at_same, within, runs}
-use Rattle.cpu.proofs.Wakeups.Spots.{spot, turn}
+use Rattle.cpu.proofs.Wakeups.Posts.{post, visit}
 use Rattle.cpu.proofs.Wakeups.Chosen.{ChoiceOk, choice_ok}
 use Rattle.cpu.proofs.Wakeups.Reaching.{Ok, get_set, get_set_other, boots_at, reached_sound, Sound}
 use Rattle.cpu.proofs.Wakeups.Kept.{NextIs, same, went, next_is}
@@ -40,7 +40,7 @@ module _ (setup : Setup) (c : CpuId) where
   settled_empty p empty None None = empty
   settled_empty p empty None (Some t) = by_call (thread_at p t).call
     where
-      by_stage : (call : Call) (stage : Stage) → (returned_at setup p t call stage).hand ≡ None
+      by_stage : (call : Call) (stage : CallStage) → (returned_at setup p t call stage).hand ≡ None
       by_stage call Returns = empty
       by_stage call stage = empty
 
@@ -62,7 +62,7 @@ module _ (setup : Setup) (c : CpuId) where
   }
 
   heard_some : (p : Private) (t : Tid) (call : Call) → t.0 < length p.threads → (thread_at p t).call ≡ Some call
-      → (stage : Stage) (told : Told) → HeardSome p (heard c p t call stage told) t
+      → (stage : CallStage) (told : Told) → HeardSome p (heard c p t call stage told) t
   heard_some p t call known is Acquires told = called p t _ known
   heard_some p t call known is Enters told = by_asks call.asks told
     where
@@ -212,20 +212,20 @@ module _ (setup : Setup) (c : CpuId) where
   filled_step : (p : Private) (log : List (Action Name)) → Ok setup c p log → IsFilled p → IsFilled (cpu_step setup c p log).next
   filled_step p log ok filled = by_section (is_in_section (phase c log))
     where
-      by_choice : (what : Choice) → ChoiceOk setup c (λ u. turn setup u (sections_in log)) (λ u. spot setup u (sections_in log)) what → FilledChoice what
+      by_choice : (what : Choice) → ChoiceOk setup c (λ u. visit setup u (sections_in log)) (λ u. post setup u (sections_in log)) what → FilledChoice what
           → IsFilled (chosen setup c p what log).next
       by_choice (Halts reason) agrees now = filled
       by_choice (Alone q) agrees now = now
       by_choice (Goes q) agrees now =
-          filled_acting q now (λ t runs_now. within setup c q (λ u. turn setup u (sections_in log)) (λ u. spot setup u (sections_in log)) agrees.0 t
-          (runs setup c q (λ u. turn setup u (sections_in log)) (λ u. spot setup u (sections_in log)) agrees.0 t runs_now).0) log
+          filled_acting q now (λ t runs_now. within setup c q (λ u. visit setup u (sections_in log)) (λ u. post setup u (sections_in log)) agrees.0 t
+          (runs setup c q (λ u. visit setup u (sections_in log)) (λ u. post setup u (sections_in log)) agrees.0 t runs_now).0) log
 
       by_section : (inside : Bool) → IsFilled (step_in setup c p log inside).next
       by_section true =
-          filled_acting p filled (λ t runs_now. within setup c p (λ u. turn setup u (sections_in log)) (λ u. spot setup u (sections_in log)) ok.agrees t
-          (runs setup c p (λ u. turn setup u (sections_in log)) (λ u. spot setup u (sections_in log)) ok.agrees t runs_now).0) log
+          filled_acting p filled (λ t runs_now. within setup c p (λ u. visit setup u (sections_in log)) (λ u. post setup u (sections_in log)) ok.agrees t
+          (runs setup c p (λ u. visit setup u (sections_in log)) (λ u. post setup u (sections_in log)) ok.agrees t runs_now).0) log
       by_section false =
-          by_choice (choice setup c p) (choice_ok setup c p (λ u. turn setup u (sections_in log)) (λ u. spot setup u (sections_in log)) ok.agrees ok.settled)
+          by_choice (choice setup c p) (choice_ok setup c p (λ u. visit setup u (sections_in log)) (λ u. post setup u (sections_in log)) ok.agrees ok.settled)
           (filled_choice p filled)
 
 abbrev pub AllFilled : Whole → Type 0

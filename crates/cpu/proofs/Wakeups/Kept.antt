@@ -16,7 +16,7 @@ use Rattle.cpu.specs.Table.Setups.{Setup, Private, thread_at, at_boot}
 use Rattle.cpu.specs.Table.Choice.{Choice, Halts, Alone, Goes, choice}
 use Rattle.cpu.specs.Table.Steps.{chosen, step_in, cpu_step, Whole, cpu_numbered, boots_from, whole_at_boot}
 use Rattle.cpu.specs.Table.Steps.{whole_after, roomy, answered_by, step_at, system_step, IsReached, boots, steps}
-use Rattle.cpu.proofs.Wakeups.Spots.{spot, turn}
+use Rattle.cpu.proofs.Wakeups.Posts.{post, visit}
 use Rattle.cpu.proofs.Wakeups.Placed.{Placed, placed_none, placed_at}
 use Rattle.cpu.proofs.Wakeups.Agreement.{Agrees, runs, within}
 use Rattle.cpu.proofs.Wakeups.Chosen.{ChoiceOk, choice_ok}
@@ -58,16 +58,16 @@ fine_step : (setup : Setup) (c : CpuId) (p : Private) (log : List (Action Name))
     → AllFine setup p → AllFine setup (cpu_step setup c p log).next
 fine_step setup c p log ok fine = by_section (is_in_section (phase c log))
   where
-    known : (q : Private) → Agrees setup c q (λ u. turn setup u (sections_in log)) (λ u. spot setup u (sections_in log))
+    known : (q : Private) → Agrees setup c q (λ u. visit setup u (sections_in log)) (λ u. post setup u (sections_in log))
         → (t : Tid) → q.current ≡ Some t → t.0 < length q.threads
     known q agrees t runs_now =
-        within setup c q (λ u. turn setup u (sections_in log)) (λ u. spot setup u (sections_in log)) agrees t
-        (runs setup c q (λ u. turn setup u (sections_in log)) (λ u. spot setup u (sections_in log)) agrees t runs_now).0
+        within setup c q (λ u. visit setup u (sections_in log)) (λ u. post setup u (sections_in log)) agrees t
+        (runs setup c q (λ u. visit setup u (sections_in log)) (λ u. post setup u (sections_in log)) agrees t runs_now).0
 
     alive : (t : Tid) → p.current ≡ Some t → (thread_at p t).ended ≡ false
-    alive t runs_now = (runs setup c p (λ u. turn setup u (sections_in log)) (λ u. spot setup u (sections_in log)) ok.agrees t runs_now).2
+    alive t runs_now = (runs setup c p (λ u. visit setup u (sections_in log)) (λ u. post setup u (sections_in log)) ok.agrees t runs_now).2
 
-    by_choice : (what : Choice) → ChoiceOk setup c (λ u. turn setup u (sections_in log)) (λ u. spot setup u (sections_in log)) what → FineChoice setup c what
+    by_choice : (what : Choice) → ChoiceOk setup c (λ u. visit setup u (sections_in log)) (λ u. post setup u (sections_in log)) what → FineChoice setup c what
         → AllFine setup (chosen setup c p what log).next
     by_choice (Halts reason) agrees now = fine
     by_choice (Alone q) agrees now = now
@@ -76,7 +76,7 @@ fine_step setup c p log ok fine = by_section (is_in_section (phase c log))
     by_section : (inside : Bool) → AllFine setup (step_in setup c p log inside).next
     by_section true = fine_acting setup c p fine (known p ok.agrees) log
     by_section false =
-        by_choice (choice setup c p) (choice_ok setup c p (λ u. turn setup u (sections_in log)) (λ u. spot setup u (sections_in log)) ok.agrees ok.settled)
+        by_choice (choice setup c p) (choice_ok setup c p (λ u. visit setup u (sections_in log)) (λ u. post setup u (sections_in log)) ok.agrees ok.settled)
         (fine_choice setup c p fine alive)
 
 pub record Kept (setup : Setup) (s : Whole) : Type 0 where

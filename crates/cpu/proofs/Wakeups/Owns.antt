@@ -24,9 +24,9 @@ use Rattle.cpu.specs.Table.Setups.{Setup}
 use Rattle.cpu.specs.Wakeups.Order.{Progress, Begins, HasEntered, WasRefused, Owes, progress_after}
 use Rattle.cpu.specs.Wakeups.Order.{receivers_signalled, senders_signalled, MayTry, IsOwing, MayEdit}
 use Rattle.cpu.proofs.Wakeups.Lists.{refuted, first_is}
-use Rattle.cpu.proofs.Wakeups.Spots.{Spot, Home, AtLock, AtWait, Doing, GotIt, Trying, Failed, Waiting, Owing, Turn, Outside, In}
-use Rattle.cpu.proofs.Wakeups.Spots.{is_buffer, is_lock, is_wait, names, goes_on, is_inside, starts_here, stands, is_lined, InStep}
-use Rattle.cpu.proofs.Wakeups.Spots.{caller_in, is_caller, bed, spot_woken, spot_slept, spot_moved, acquired_turn, next_turn, turn_moved, IsTurn, marked}
+use Rattle.cpu.proofs.Wakeups.Posts.{Post, Home, AtLock, AtWait, Doing, GotIt, Trying, Failed, Waiting, Owing, Visit, Outside, In}
+use Rattle.cpu.proofs.Wakeups.Posts.{is_buffer, is_lock, is_wait, names, goes_on, is_inside, starts_here, stands, is_lined, InStep}
+use Rattle.cpu.proofs.Wakeups.Posts.{caller_in, is_caller, bed, post_woken, post_slept, post_moved, acquired_visit, next_visit, visit_moved, IsDue, marked}
 use Rattle.cpu.proofs.Wakeups.Pairs.{Pair, marked_none, marked_most, buffer_self, grown_list, first_left, signal_left, front_counted, woken_sleeps}
 
 -- where the section that is due to a thread may come, it is in order
@@ -38,8 +38,8 @@ inside_owns b t k g d doing goes same pair =
     let owner : k.busy ≡ Some t = now.inside (and_from (is_buffer b b) (goes_on (In b doing)) (buffer_self b) goes) refl in
     (owner, (now.owner owner).1)
 
-not_outside : (b : BufId) (t : Tid) (k : Buffer) (g : Progress) (turn : Turn) → goes_on turn ≡ false → Pair b t k g turn Home → k.busy ≢ Some t
-not_outside b t k g turn off pair owner = refuted off (and_parts (names b turn) (goes_on turn) (pair.owner owner).0).1
+not_outside : (b : BufId) (t : Tid) (k : Buffer) (g : Progress) (visit : Visit) → goes_on visit ≡ false → Pair b t k g visit Home → k.busy ≢ Some t
+not_outside b t k g visit off pair owner = refuted off (and_parts (names b visit) (goes_on visit) (pair.owner owner).0).1
 
 -- what the caller of a section bears
 abbrev pub ByCaller : Option Tid → (Tid → Type 0) → Type 0
@@ -49,8 +49,8 @@ ByCaller (Some t) P = P t
 owing_is : (r s : Bool) (g : Progress) → g ≡ Owes r s → IsOwing g
 owing_is r s g is = subst IsOwing (sym is) tt
 
-pub may_edit : (b : BufId) (name : Name) (k : Buffer) (g : Progress) (turn : Turn)
-    → ByCaller (caller_in name) (λ t. Pair b t k g turn Home) → IsTurn b name turn → MayEdit name k g
+pub may_edit : (b : BufId) (name : Name) (k : Buffer) (g : Progress) (visit : Visit)
+    → ByCaller (caller_in name) (λ t. Pair b t k g visit Home) → IsDue b name visit → MayEdit name k g
 may_edit b (AcqQ t) k g Outside pair due = not_outside b t k g Outside refl pair
 may_edit b (AcqQ t) k g (In d (Waiting side)) pair due = not_outside b t k g (In d (Waiting side)) refl pair
 may_edit b (Enter t side) k g (In d GotIt) pair due = inside_owns b t k g d GotIt refl due pair
@@ -65,27 +65,27 @@ may_edit b (SigSend t) k g (In d (Owing r s)) pair due = let owns = inside_owns 
 may_edit b (RelQ t) k g (In d (Owing r s)) pair due =
     let owns = inside_owns b t k g d (Owing r s) refl due.0 pair in
     (owns.0, owns.1 ∙ (λ i. Owes (due.1 i) (due.2 i)))
-may_edit b name k g turn pair due = absurd due
+may_edit b name k g visit pair due = absurd due
 
 -- The caller's own section.
 
 module _ (b : BufId) (u : Tid) where
   -- a thread at home stands in no queue
-  no_sleepers : (k : Buffer) (g : Progress) (turn : Turn) → Pair b u k g turn Home → count_in u k.sleepers ≡ 0
-  no_sleepers k g turn pair = pair.sleepers ∙ marked_none u false refl
+  no_sleepers : (k : Buffer) (g : Progress) (visit : Visit) → Pair b u k g visit Home → count_in u k.sleepers ≡ 0
+  no_sleepers k g visit pair = pair.sleepers ∙ marked_none u false refl
 
-  no_senders : (k : Buffer) (g : Progress) (turn : Turn) → Pair b u k g turn Home → count_in u k.waiting_senders ≡ 0
-  no_senders k g turn pair = pair.senders ∙ marked_none u false refl
+  no_senders : (k : Buffer) (g : Progress) (visit : Visit) → Pair b u k g visit Home → count_in u k.waiting_senders ≡ 0
+  no_senders k g visit pair = pair.senders ∙ marked_none u false refl
 
-  no_receivers : (k : Buffer) (g : Progress) (turn : Turn) → Pair b u k g turn Home → count_in u k.waiting_receivers ≡ 0
-  no_receivers k g turn pair = pair.receivers ∙ marked_none u false refl
+  no_receivers : (k : Buffer) (g : Progress) (visit : Visit) → Pair b u k g visit Home → count_in u k.waiting_receivers ≡ 0
+  no_receivers k g visit pair = pair.receivers ∙ marked_none u false refl
 
   not_first : (list : List Tid) → count_in u list ≡ 0 → is_thread u (first list) ≡ false
   not_first list none = false_from_ne_true (is_thread u (first list)) (λ is. let some = front_counted u list is in absurd (omega (arith, some, none)))
 
-  own_acquire : (k : Buffer) (g : Progress) (o : Option Tid) (turn : Turn) → k.busy ≡ o
-      → (k.busy ≡ None → g ≡ Begins) → IsTurn b (AcqQ u) turn → Pair b u k g turn Home
-      → Pair b u (acquired u o k) g (acquired_turn b turn) (if (answer_of_acquire o).slept then AtLock b else Home)
+  own_acquire : (k : Buffer) (g : Progress) (o : Option Tid) (visit : Visit) → k.busy ≡ o
+      → (k.busy ≡ None → g ≡ Begins) → IsDue b (AcqQ u) visit → Pair b u k g visit Home
+      → Pair b u (acquired u o k) g (acquired_visit b visit) (if (answer_of_acquire o).slept then AtLock b else Home)
   own_acquire k g None Outside is idle due pair = record {
     owner = λ e. (and_from (is_buffer b b) true (buffer_self b) refl, idle is, refl);
     inside = λ ins awake. refl;
@@ -130,7 +130,7 @@ module _ (b : BufId) (u : Tid) where
         send_line = pair.send_line;
         receive_line = pair.receive_line;
       }
-  own_acquire k g o turn is idle due pair = absurd due
+  own_acquire k g o visit is idle due pair = absurd due
 
   -- the pair of a thread that has the lock and goes on, from its places in the two lines
   at_work : (k : Buffer) (g h : Progress) (before doing : Doing) (sends receives : List Tid)
@@ -149,9 +149,9 @@ module _ (b : BufId) (u : Tid) where
     receive_line = in_receives;
   }
 
-  own_items : (k : Buffer) (g : Progress) (turn : Turn) (x : Spot) (items : List Message) (e s r : ℕ) → Pair b u k g turn x
-      → Pair b u (record k { items = items; effects = e; send_positions = s; receive_positions = r }) g turn x
-  own_items k g turn x items e s r pair = record {
+  own_items : (k : Buffer) (g : Progress) (visit : Visit) (x : Post) (items : List Message) (e s r : ℕ) → Pair b u k g visit x
+      → Pair b u (record k { items = items; effects = e; send_positions = s; receive_positions = r }) g visit x
+  own_items k g visit x items e s r pair = record {
     owner = pair.owner;
     inside = pair.inside;
     starts = pair.starts;
@@ -253,17 +253,17 @@ module _ (b : BufId) (u : Tid) where
       }
 
   -- the thread gives the lock back, and is inside no longer
-  own_release : (k : Buffer) (g : Progress) (turn next : Turn) (x : Spot) → Pair b u k g turn Home → is_inside b next ≡ false → is_lock b x ≡ false
+  own_release : (k : Buffer) (g : Progress) (visit next : Visit) (x : Post) → Pair b u k g visit Home → is_inside b next ≡ false → is_lock b x ≡ false
       → count_in u k.send_line ≡ marked u (is_lined b Senders next) → count_in u k.receive_line ≡ marked u (is_lined b Receivers next)
       → (sends receives : List Tid) → count_in u sends ≡ marked u (is_wait b Senders x) → count_in u receives ≡ marked u (is_wait b Receivers x)
       → Pair b u (released (record k { waiting_senders = sends; waiting_receivers = receives })) Begins next x
-  own_release k g turn next x pair outside off in_sends in_receives sends receives now_ws now_wr = record {
-    owner = λ e. refuted (not_first k.sleepers (no_sleepers k g turn pair)) (ap (is_thread u) e ∙ same_tid_self u);
+  own_release k g visit next x pair outside off in_sends in_receives sends receives now_ws now_wr = record {
+    owner = λ e. refuted (not_first k.sleepers (no_sleepers k g visit pair)) (ap (is_thread u) e ∙ same_tid_self u);
     inside = λ ins awake. refuted outside ins;
     starts = λ on. refuted off on;
     sleepers = first_left u k.sleepers (subst (λ n. n ≤ 1) (sym pair.sleepers) (marked_most u false))
-        ∙ ap (λ d. if d then 0 else count_in u k.sleepers) (not_first k.sleepers (no_sleepers k g turn pair))
-        ∙ no_sleepers k g turn pair ∙ sym (marked_none u (is_lock b x) off);
+        ∙ ap (λ d. if d then 0 else count_in u k.sleepers) (not_first k.sleepers (no_sleepers k g visit pair))
+        ∙ no_sleepers k g visit pair ∙ sym (marked_none u (is_lock b x) off);
     senders = now_ws;
     receivers = now_wr;
     send_line = in_sends;
@@ -315,14 +315,14 @@ module _ (b : BufId) (u : Tid) where
       by_test false = none
 
   -- what the thread's own section makes of the pair, where it is due
-  own_at : (name : Name) (k : Buffer) (g : Progress) (turn : Turn) → caller_in name ≡ Some u
-      → (k.busy ≡ None → g ≡ Begins) → MayEdit name k g → IsTurn b name turn
-      → Pair b u k g turn Home
-      → Pair b u (edited_buffer name k) (progress_after name k g) (next_turn b name k turn) (if (answer_of_buffer name k).slept then bed b name else Home)
-  own_at (AcqQ t) k g turn is idle may due pair =
-      subst (λ v. IsTurn b (AcqQ v) turn → Pair b u (acquired v k.busy k) g (acquired_turn b turn)
+  own_at : (name : Name) (k : Buffer) (g : Progress) (visit : Visit) → caller_in name ≡ Some u
+      → (k.busy ≡ None → g ≡ Begins) → MayEdit name k g → IsDue b name visit
+      → Pair b u k g visit Home
+      → Pair b u (edited_buffer name k) (progress_after name k g) (next_visit b name k visit) (if (answer_of_buffer name k).slept then bed b name else Home)
+  own_at (AcqQ t) k g visit is idle may due pair =
+      subst (λ v. IsDue b (AcqQ v) visit → Pair b u (acquired v k.busy k) g (acquired_visit b visit)
       (if (answer_of_acquire k.busy).slept then AtLock b else Home))
-      (same_Some u t (sym is)) (λ own. own_acquire k g k.busy turn refl idle own pair) due
+      (same_Some u t (sym is)) (λ own. own_acquire k g k.busy visit refl idle own pair) due
   own_at (Enter t side) k g (In d GotIt) is idle may due pair =
       let at_b : Pair b u k g (In b GotIt) Home = subst (λ x. Pair b u k g (In x GotIt) Home) due pair in
       let same : u ≡ t = same_Some u t (sym is) in
@@ -365,41 +365,41 @@ module _ (b : BufId) (u : Tid) where
   own_at (RelQ t) k g (In d (Owing r s)) is idle may due pair =
       let at_b : Pair b u k g (In b (Owing r s)) Home = subst (λ x. Pair b u k g (In x (Owing r s)) Home) due.0 pair in
       own_free k g r s at_b
-  own_at name k g turn is idle may due pair = absurd due
+  own_at name k g visit is idle may due pair = absurd due
 
   -- a caller is not woken by its own section
-  not_woken : (name : Name) (k : Buffer) (g : Progress) (turn : Turn) → Pair b u k g turn Home → is_thread u (answer_of_buffer name k).woke ≡ false
-  not_woken name k g turn pair =
-      false_from_ne_true (is_thread u (answer_of_buffer name k).woke) (λ on. absurd (cc (woken_sleeps b u k g turn Home pair name on).1))
+  not_woken : (name : Name) (k : Buffer) (g : Progress) (visit : Visit) → Pair b u k g visit Home → is_thread u (answer_of_buffer name k).woke ≡ false
+  not_woken name k g visit pair =
+      false_from_ne_true (is_thread u (answer_of_buffer name k).woke) (λ on. absurd (cc (woken_sleeps b u k g visit Home pair name on).1))
 
   -- the caller's own section keeps the pair
-  pub own_pair : (setup : Setup) (c : CpuId) (name : Name) (k : Buffer) (g : Progress) (turn : Turn) (spot : Spot) → caller_in name ≡ Some u → spot ≡ Home
-      → (k.busy ≡ None → g ≡ Begins) → MayEdit name k g → IsTurn b name turn → Pair b u k g turn spot
-      → Pair b u (edited_buffer name k) (progress_after name k g) (turn_moved b u name k turn)
-      (spot_moved setup c b u name (answer_of_buffer name k).slept (answer_of_buffer name k).woke spot)
-  own_pair setup c name k g turn spot is here idle may due was =
-      let pair : Pair b u k g turn Home = subst (Pair b u k g turn) here was in
+  pub own_pair : (setup : Setup) (c : CpuId) (name : Name) (k : Buffer) (g : Progress) (visit : Visit) (post : Post) → caller_in name ≡ Some u → post ≡ Home
+      → (k.busy ≡ None → g ≡ Begins) → MayEdit name k g → IsDue b name visit → Pair b u k g visit post
+      → Pair b u (edited_buffer name k) (progress_after name k g) (visit_moved b u name k visit)
+      (post_moved setup c b u name (answer_of_buffer name k).slept (answer_of_buffer name k).woke post)
+  own_pair setup c name k g visit post is here idle may due was =
+      let pair : Pair b u k g visit Home = subst (Pair b u k g visit) here was in
       let calls : is_caller u name ≡ true = ap (is_thread u) is ∙ same_tid_self u in
-      let at_turn : turn_moved b u name k turn ≡ next_turn b name k turn = ap (λ d. if d then next_turn b name k turn else turn) calls in
+      let at_visit : visit_moved b u name k visit ≡ next_visit b name k visit = ap (λ d. if d then next_visit b name k visit else visit) calls in
       let slept = (answer_of_buffer name k).slept in
-      let at_spot : spot_moved setup c b u name slept (answer_of_buffer name k).woke spot ≡ (if slept then bed b name else Home) =
-      ap (λ w. if w then spot_woken setup c u else spot_slept b u name slept spot) (not_woken name k g turn pair)
-      ∙ ap (λ d. if slept && d then bed b name else spot) calls
-      ∙ ap (λ d. if d then bed b name else spot) (and-true slept)
+      let at_post : post_moved setup c b u name slept (answer_of_buffer name k).woke post ≡ (if slept then bed b name else Home) =
+      ap (λ w. if w then post_woken setup c u else post_slept b u name slept post) (not_woken name k g visit pair)
+      ∙ ap (λ d. if slept && d then bed b name else post) calls
+      ∙ ap (λ d. if d then bed b name else post) (and-true slept)
       ∙ ap (λ x. if slept then bed b name else x) here in
-      subst (λ z. Pair b u (edited_buffer name k) (progress_after name k g) z (spot_moved setup c b u name slept (answer_of_buffer name k).woke spot))
-      (sym at_turn)
-      (subst (λ x. Pair b u (edited_buffer name k) (progress_after name k g) (next_turn b name k turn) x)
-      (sym at_spot) (own_at name k g turn is idle may due pair))
+      subst (λ z. Pair b u (edited_buffer name k) (progress_after name k g) z (post_moved setup c b u name slept (answer_of_buffer name k).woke post))
+      (sym at_visit)
+      (subst (λ x. Pair b u (edited_buffer name k) (progress_after name k g) (next_visit b name k visit) x)
+      (sym at_post) (own_at name k g visit is idle may due pair))
 
 -- A section elsewhere: the pair of any thread with another buffer.
 
--- a thread that leaves this buffer alone: its turn is at another one, before and after
-pub record Apart (b : BufId) (turn next : Turn) : Type 0 where
-  pub before : names b turn ≡ false
+-- a thread that leaves this buffer alone: its visit is at another one, before and after
+pub record Apart (b : BufId) (visit next : Visit) : Type 0 where
+  pub before : names b visit ≡ false
   pub after : names b next ≡ false
 
-pub away : (b d : BufId) (name : Name) (k : Buffer) (turn : Turn) → is_buffer b d ≡ false → IsTurn d name turn → Apart b turn (next_turn d name k turn)
+pub away : (b d : BufId) (name : Name) (k : Buffer) (visit : Visit) → is_buffer b d ≡ false → IsDue d name visit → Apart b visit (next_visit d name k visit)
 away b d (AcqQ t) k Outside off due = record { before = refl; after = off }
 away b d (AcqQ t) k (In e (Waiting side)) off due = record { before = subst (λ x. is_buffer b x ≡ false) (sym due) off; after = off }
 away b d (Enter t side) k (In e GotIt) off due = record { before = subst (λ x. is_buffer b x ≡ false) (sym due) off; after = off }
@@ -420,27 +420,27 @@ away b d (SigRecv t) k (In e (Owing r s)) off due =
 away b d (SigSend t) k (In e (Owing r s)) off due =
     record { before = subst (λ x. is_buffer b x ≡ false) (sym due) off; after = subst (λ x. is_buffer b x ≡ false) (sym due) off }
 away b d (RelQ t) k (In e (Owing r s)) off due = record { before = subst (λ x. is_buffer b x ≡ false) (sym due.0) off; after = refl }
-away b d name k turn off due = absurd due
+away b d name k visit off due = absurd due
 
--- the pair of a thread whose turn is elsewhere
-pub turn_apart : (b : BufId) (u : Tid) (k : Buffer) (g : Progress) (turn next : Turn) (spot : Spot)
-    → Apart b turn next → Pair b u k g turn spot → Pair b u k g next spot
-turn_apart b u k g turn next spot apart pair = record {
-  owner = λ e. refuted (ap (λ n. n && goes_on turn) apart.before) (pair.owner e).0;
+-- the pair of a thread whose visit is elsewhere
+pub visit_apart : (b : BufId) (u : Tid) (k : Buffer) (g : Progress) (visit next : Visit) (post : Post)
+    → Apart b visit next → Pair b u k g visit post → Pair b u k g next post
+visit_apart b u k g visit next post apart pair = record {
+  owner = λ e. refuted (ap (λ n. n && goes_on visit) apart.before) (pair.owner e).0;
   inside = λ ins awake. refuted (ap (λ n. n && goes_on next) apart.after) ins;
-  starts = λ on. refuted (ap (λ n. n && starts_here turn) apart.before) (pair.starts on);
+  starts = λ on. refuted (ap (λ n. n && starts_here visit) apart.before) (pair.starts on);
   sleepers = pair.sleepers;
   senders = pair.senders;
   receivers = pair.receivers;
-  send_line = pair.send_line ∙ ap (λ n. marked u (n && stands Senders turn)) apart.before ∙ ap (λ n. marked u (n && stands Senders next)) (sym apart.after);
+  send_line = pair.send_line ∙ ap (λ n. marked u (n && stands Senders visit)) apart.before ∙ ap (λ n. marked u (n && stands Senders next)) (sym apart.after);
   receive_line =
-      pair.receive_line ∙ ap (λ n. marked u (n && stands Receivers turn)) apart.before ∙ ap (λ n. marked u (n && stands Receivers next)) (sym apart.after);
+      pair.receive_line ∙ ap (λ n. marked u (n && stands Receivers visit)) apart.before ∙ ap (λ n. marked u (n && stands Receivers next)) (sym apart.after);
 }
 
--- the pair of a thread whose spot bears the same marks of the buffer
-pub spot_apart : (b : BufId) (u : Tid) (k : Buffer) (g : Progress) (turn : Turn) (spot next : Spot) → is_lock b next ≡ is_lock b spot
-    → ((side : Side) → is_wait b side next ≡ is_wait b side spot) → Pair b u k g turn spot → Pair b u k g turn next
-spot_apart b u k g turn spot next lock wait pair = record {
+-- the pair of a thread whose post bears the same marks of the buffer
+pub post_apart : (b : BufId) (u : Tid) (k : Buffer) (g : Progress) (visit : Visit) (post next : Post) → is_lock b next ≡ is_lock b post
+    → ((side : Side) → is_wait b side next ≡ is_wait b side post) → Pair b u k g visit post → Pair b u k g visit next
+post_apart b u k g visit post next lock wait pair = record {
   owner = λ e. ((pair.owner e).0, (pair.owner e).1, lock ∙ (pair.owner e).2);
   inside = λ ins awake. pair.inside ins (sym lock ∙ awake);
   starts = λ on. pair.starts (sym lock ∙ on);

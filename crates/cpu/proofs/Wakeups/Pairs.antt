@@ -1,5 +1,5 @@
--- One thread and one buffer: that its places at the buffer are those that its spot and its turn say, by count, and that it owns the
--- lock exactly where its turn says. Everything here speaks of plain values; the log comes later.
+-- One thread and one buffer: that its places at the buffer are those that its post and its visit say, by count, and that it owns the
+-- lock exactly where its visit says. Everything here speaks of plain values; the log comes later.
 use Rattle.std.proofs.Common.{◌≡◌, ℕ, ◌+◌, ◌<◌, ◌≤◌, Bool, true, false, not, ◌&&◌, List, [], ◌∷◌, ◌++◌}
 use Rattle.std.proofs.Common.{Option, Some, None, nat_lt, if◌then◌else◌, refl, sym, ap, ◌∙◌, subst, arith}
 use Rattle.std.proofs.lemmas.Bool.{eq-eqb, eqb-true, and_parts, and_right, false_from_ne_true}
@@ -26,22 +26,22 @@ use Rattle.cpu.specs.Table.Edits.{acquired, line_of, entered, put, taken, shut, 
 use Rattle.cpu.specs.Table.Setups.{Setup, home_of}
 use Rattle.cpu.specs.Wakeups.Order.{Progress, Begins, HasEntered, WasRefused, Owes, progress_after, receivers_signalled, senders_signalled, MayEdit}
 use Rattle.cpu.proofs.Wakeups.Lists.{refuted, none_is_not, first_is}
-use Rattle.cpu.proofs.Wakeups.Spots.{Spot, Home, InHand, IsPending, AtLock, AtWait, GotIt, Trying, Failed, Waiting, Owing, Turn, Outside, In}
-use Rattle.cpu.proofs.Wakeups.Spots.{is_buffer, is_side, is_lock, is_wait, is_asleep, is_inside, is_starting, is_lined, InStep}
-use Rattle.cpu.proofs.Wakeups.Spots.{is_caller, bed, spot_by, spot_woken, spot_moved, next_turn, turn_moved, marked}
+use Rattle.cpu.proofs.Wakeups.Posts.{Post, Home, InHand, IsPending, AtLock, AtWait, GotIt, Trying, Failed, Waiting, Owing, Visit, Outside, In}
+use Rattle.cpu.proofs.Wakeups.Posts.{is_buffer, is_side, is_lock, is_wait, is_asleep, is_inside, is_starting, is_lined, InStep}
+use Rattle.cpu.proofs.Wakeups.Posts.{is_caller, bed, post_by, post_woken, post_moved, next_visit, visit_moved, marked}
 
-pub record Pair (b : BufId) (u : Tid) (k : Buffer) (g : Progress) (turn : Turn) (spot : Spot) : Type 0 where
-  -- who owns the lock is inside and awake, and the owner's progress is what its turn says
-  pub owner : k.busy ≡ Some u → (is_inside b turn ≡ true) × InStep turn g × (is_lock b spot ≡ false)
+pub record Pair (b : BufId) (u : Tid) (k : Buffer) (g : Progress) (visit : Visit) (post : Post) : Type 0 where
+  -- who owns the lock is inside and awake, and the owner's progress is what its visit says
+  pub owner : k.busy ≡ Some u → (is_inside b visit ≡ true) × InStep visit g × (is_lock b post ≡ false)
   -- who is inside, and does not sleep at the lock, owns it
-  pub inside : is_inside b turn ≡ true → is_lock b spot ≡ false → k.busy ≡ Some u
+  pub inside : is_inside b visit ≡ true → is_lock b post ≡ false → k.busy ≡ Some u
   -- who sleeps at the lock has just asked for it
-  pub starts : is_lock b spot ≡ true → is_starting b turn ≡ true
-  pub sleepers : count_in u k.sleepers ≡ marked u (is_lock b spot)
-  pub senders : count_in u k.waiting_senders ≡ marked u (is_wait b Senders spot)
-  pub receivers : count_in u k.waiting_receivers ≡ marked u (is_wait b Receivers spot)
-  pub send_line : count_in u k.send_line ≡ marked u (is_lined b Senders turn)
-  pub receive_line : count_in u k.receive_line ≡ marked u (is_lined b Receivers turn)
+  pub starts : is_lock b post ≡ true → is_starting b visit ≡ true
+  pub sleepers : count_in u k.sleepers ≡ marked u (is_lock b post)
+  pub senders : count_in u k.waiting_senders ≡ marked u (is_wait b Senders post)
+  pub receivers : count_in u k.waiting_receivers ≡ marked u (is_wait b Receivers post)
+  pub send_line : count_in u k.send_line ≡ marked u (is_lined b Senders visit)
+  pub receive_line : count_in u k.receive_line ≡ marked u (is_lined b Receivers visit)
 
 -- Marks and counts.
 
@@ -134,7 +134,7 @@ woken_waits u (x ∷ line) list can woke = by_test (is_in x list) refl can woke
     by_test true there false on = absurd (cc on)
     by_test false there c on = absurd (cc on)
 
--- Spots.
+-- Posts.
 
 pub buffer_self : (b : BufId) → is_buffer b b ≡ true
 buffer_self b = eq-eqb b.0 b.0 refl
@@ -143,23 +143,23 @@ pub buffer_true : (b d : BufId) → is_buffer b d ≡ true → b ≡ d
 buffer_true b d same = ap buffer_numbered (eqb-true b.0 d.0 same)
 
 -- a woken thread sleeps nowhere
-pub woken_no_lock : (b : BufId) (here : Bool) (c : CpuId) → is_lock b (spot_by here c) ≡ false
+pub woken_no_lock : (b : BufId) (here : Bool) (c : CpuId) → is_lock b (post_by here c) ≡ false
 woken_no_lock b true c = refl
 woken_no_lock b false c = refl
 
-pub woken_no_wait : (b : BufId) (side : Side) (here : Bool) (c : CpuId) → is_wait b side (spot_by here c) ≡ false
+pub woken_no_wait : (b : BufId) (side : Side) (here : Bool) (c : CpuId) → is_wait b side (post_by here c) ≡ false
 woken_no_wait b side true c = refl
 woken_no_wait b side false c = refl
 
 -- whoever sleeps at the lock waits at no buffer
-lock_no_wait : (b : BufId) (side : Side) (x : Spot) → is_lock b x ≡ true → is_wait b side x ≡ false
+lock_no_wait : (b : BufId) (side : Side) (x : Post) → is_lock b x ≡ true → is_wait b side x ≡ false
 lock_no_wait b side (AtLock d) on = refl
 lock_no_wait b side Home on = refl
 lock_no_wait b side (InHand c) on = refl
 lock_no_wait b side IsPending on = refl
 lock_no_wait b side (AtWait d other) on = absurd (cc on)
 
-wait_no_lock : (b : BufId) (side : Side) (x : Spot) → is_wait b side x ≡ true → is_lock b x ≡ false
+wait_no_lock : (b : BufId) (side : Side) (x : Post) → is_wait b side x ≡ true → is_lock b x ≡ false
 wait_no_lock b side (AtWait d other) on = refl
 wait_no_lock b side Home on = refl
 wait_no_lock b side (InHand c) on = refl
@@ -174,7 +174,7 @@ no_other_side Senders Senders off x on = absurd (cc off)
 no_other_side Receivers Senders off Senders on = absurd (cc on)
 no_other_side Senders Receivers off Receivers on = absurd (cc on)
 
-wait_one_side : (b : BufId) (p q : Side) (x : Spot) → is_side p q ≡ false → is_wait b p x ≡ true → is_wait b q x ≡ false
+wait_one_side : (b : BufId) (p q : Side) (x : Post) → is_side p q ≡ false → is_wait b p x ≡ true → is_wait b q x ≡ false
 wait_one_side b p q (AtWait d other) off on =
     let parts = and_parts (is_buffer b d) (is_side p other) on in
     false_from_ne_true (is_buffer b d && is_side q other) (λ e. refuted (no_other_side p q off other parts.1) (and_parts (is_buffer b d) (is_side q other) e).1)
@@ -183,14 +183,14 @@ wait_one_side b p q (InHand c) off on = refl
 wait_one_side b p q IsPending off on = refl
 wait_one_side b p q (AtLock d) off on = refl
 
-pub lock_asleep : (b : BufId) (x : Spot) → is_lock b x ≡ true → is_asleep x ≡ true
+pub lock_asleep : (b : BufId) (x : Post) → is_lock b x ≡ true → is_asleep x ≡ true
 lock_asleep b (AtLock d) on = refl
 lock_asleep b Home on = absurd (cc on)
 lock_asleep b (InHand c) on = absurd (cc on)
 lock_asleep b IsPending on = absurd (cc on)
 lock_asleep b (AtWait d other) on = absurd (cc on)
 
-pub wait_asleep : (b : BufId) (side : Side) (x : Spot) → is_wait b side x ≡ true → is_asleep x ≡ true
+pub wait_asleep : (b : BufId) (side : Side) (x : Post) → is_wait b side x ≡ true → is_asleep x ≡ true
 wait_asleep b side (AtWait d other) on = refl
 wait_asleep b side Home on = absurd (cc on)
 wait_asleep b side (InHand c) on = absurd (cc on)
@@ -198,28 +198,28 @@ wait_asleep b side IsPending on = absurd (cc on)
 wait_asleep b side (AtLock d) on = absurd (cc on)
 
 -- The thread sleeps at this buffer.
-abbrev pub sleeps_at : BufId → Spot → Bool
+abbrev pub sleeps_at : BufId → Post → Bool
 sleeps_at b (AtLock d) = is_buffer b d
 sleeps_at b (AtWait d side) = is_buffer b d
 sleeps_at b Home = false
 sleeps_at b (InHand c) = false
 sleeps_at b IsPending = false
 
-lock_sleeps : (b : BufId) (x : Spot) → is_lock b x ≡ true → sleeps_at b x ≡ true
+lock_sleeps : (b : BufId) (x : Post) → is_lock b x ≡ true → sleeps_at b x ≡ true
 lock_sleeps b (AtLock d) on = on
 lock_sleeps b Home on = absurd (cc on)
 lock_sleeps b (InHand c) on = absurd (cc on)
 lock_sleeps b IsPending on = absurd (cc on)
 lock_sleeps b (AtWait d other) on = absurd (cc on)
 
-wait_sleeps : (b : BufId) (side : Side) (x : Spot) → is_wait b side x ≡ true → sleeps_at b x ≡ true
+wait_sleeps : (b : BufId) (side : Side) (x : Post) → is_wait b side x ≡ true → sleeps_at b x ≡ true
 wait_sleeps b side (AtWait d other) on = (and_parts (is_buffer b d) (is_side side other) on).0
 wait_sleeps b side Home on = absurd (cc on)
 wait_sleeps b side (InHand c) on = absurd (cc on)
 wait_sleeps b side IsPending on = absurd (cc on)
 wait_sleeps b side (AtLock d) on = absurd (cc on)
 
-pub sleeps_asleep : (b : BufId) (x : Spot) → sleeps_at b x ≡ true → is_asleep x ≡ true
+pub sleeps_asleep : (b : BufId) (x : Post) → sleeps_at b x ≡ true → is_asleep x ≡ true
 sleeps_asleep b (AtLock d) on = refl
 sleeps_asleep b (AtWait d side) on = refl
 sleeps_asleep b Home on = absurd (cc on)
@@ -234,34 +234,34 @@ pub thread_some : (u : Tid) (o : Option Tid) → is_thread u o ≡ true → o �
 thread_some u None is = absurd (cc is)
 thread_some u (Some t) is = ap Some (same_tid_true t u is)
 
-module _ (b : BufId) (u : Tid) (k : Buffer) (g : Progress) (turn : Turn) (spot : Spot) (pair : Pair b u k g turn spot) where
-  pub first_sleeps : is_thread u (first k.sleepers) ≡ true → (nat_lt u.0 THREADS ≡ true) × (is_lock b spot ≡ true)
-  first_sleeps is = marked_some u (is_lock b spot) (subst (λ n. 0 < n) pair.sleepers (front_counted u k.sleepers is))
+module _ (b : BufId) (u : Tid) (k : Buffer) (g : Progress) (visit : Visit) (post : Post) (pair : Pair b u k g visit post) where
+  pub first_sleeps : is_thread u (first k.sleepers) ≡ true → (nat_lt u.0 THREADS ≡ true) × (is_lock b post ≡ true)
+  first_sleeps is = marked_some u (is_lock b post) (subst (λ n. 0 < n) pair.sleepers (front_counted u k.sleepers is))
 
-  pub due_sends : is_thread u (due_sender k) ≡ true → (nat_lt u.0 THREADS ≡ true) × (is_wait b Senders spot ≡ true)
-  due_sends is = marked_some u (is_wait b Senders spot) (subst (λ n. 0 < n) pair.senders (woken_waits u k.send_line k.waiting_senders (can_put k) is))
+  pub due_sends : is_thread u (due_sender k) ≡ true → (nat_lt u.0 THREADS ≡ true) × (is_wait b Senders post ≡ true)
+  due_sends is = marked_some u (is_wait b Senders post) (subst (λ n. 0 < n) pair.senders (woken_waits u k.send_line k.waiting_senders (can_put k) is))
 
-  pub due_receives : is_thread u (due_receiver k) ≡ true → (nat_lt u.0 THREADS ≡ true) × (is_wait b Receivers spot ≡ true)
+  pub due_receives : is_thread u (due_receiver k) ≡ true → (nat_lt u.0 THREADS ≡ true) × (is_wait b Receivers post ≡ true)
   due_receives is =
-      marked_some u (is_wait b Receivers spot) (subst (λ n. 0 < n) pair.receivers (woken_waits u k.receive_line k.waiting_receivers (can_take k) is))
+      marked_some u (is_wait b Receivers post) (subst (λ n. 0 < n) pair.receivers (woken_waits u k.receive_line k.waiting_receivers (can_take k) is))
 
   -- whoever is woken sleeps at the buffer, and its number is a thread's
-  pub woken_sleeps : (name : Name) → is_thread u (answer_of_buffer name k).woke ≡ true → (nat_lt u.0 THREADS ≡ true) × (sleeps_at b spot ≡ true)
+  pub woken_sleeps : (name : Name) → is_thread u (answer_of_buffer name k).woke ≡ true → (nat_lt u.0 THREADS ≡ true) × (sleeps_at b post ≡ true)
   woken_sleeps (AcqQ t) is = refuted (ap (is_thread u) (acquire_wakes_none k.busy)) is
   woken_sleeps (Enter t side) is = absurd (cc is)
   woken_sleeps (TryPut t m) is = absurd (cc is)
   woken_sleeps (TryTake t) is = absurd (cc is)
   woken_sleeps (Shut t) is = absurd (cc is)
-  woken_sleeps (WaitOn t side) is = let at = first_sleeps is in (at.0, lock_sleeps b spot at.1)
-  woken_sleeps (SigRecv t) is = let at = due_receives is in (at.0, wait_sleeps b Receivers spot at.1)
-  woken_sleeps (SigSend t) is = let at = due_sends is in (at.0, wait_sleeps b Senders spot at.1)
-  woken_sleeps (RelQ t) is = let at = first_sleeps is in (at.0, lock_sleeps b spot at.1)
+  woken_sleeps (WaitOn t side) is = let at = first_sleeps is in (at.0, lock_sleeps b post at.1)
+  woken_sleeps (SigRecv t) is = let at = due_receives is in (at.0, wait_sleeps b Receivers post at.1)
+  woken_sleeps (SigSend t) is = let at = due_sends is in (at.0, wait_sleeps b Senders post at.1)
+  woken_sleeps (RelQ t) is = let at = first_sleeps is in (at.0, lock_sleeps b post at.1)
   woken_sleeps (Pend s) is = absurd (cc is)
   woken_sleeps TakeAll is = absurd (cc is)
 
 -- A section of another thread on the buffer.
 
-start_inside : (b : BufId) (turn : Turn) → is_starting b turn ≡ true → (is_inside b turn ≡ true) × InStep turn Begins
+start_inside : (b : BufId) (visit : Visit) → is_starting b visit ≡ true → (is_inside b visit ≡ true) × InStep visit Begins
 start_inside b Outside on = absurd (cc on)
 start_inside b (In d GotIt) on = (on, refl)
 start_inside b (In d (Trying side)) on = (on, tt)
@@ -273,8 +273,8 @@ start_inside b (In d (Owing r s)) on = absurd (cc (and_parts (is_buffer b d) fal
 not_mine : {A : Type 0} (u t : Tid) (o : Option Tid) → o ≡ Some t → same_tid t u ≡ false → o ≡ Some u → A
 not_mine u t o owner other mine = refuted other (subst (λ x. same_tid t x ≡ true) (same_Some t u (sym owner ∙ mine)) (same_tid_self t))
 
-module _ (setup : Setup) (c : CpuId) (b : BufId) (u t : Tid) (other : same_tid t u ≡ false) (turn : Turn) (spot : Spot) where
-  other_acquire : (k : Buffer) (g : Progress) (o : Option Tid) → k.busy ≡ o → Pair b u k g turn spot → Pair b u (acquired t o k) g turn spot
+module _ (setup : Setup) (c : CpuId) (b : BufId) (u t : Tid) (other : same_tid t u ≡ false) (visit : Visit) (post : Post) where
+  other_acquire : (k : Buffer) (g : Progress) (o : Option Tid) → k.busy ≡ o → Pair b u k g visit post → Pair b u (acquired t o k) g visit post
   other_acquire k g None is pair = record {
     owner = λ e. not_mine u t (Some t) refl other e;
     inside = λ ins awake. none_is_not (sym is ∙ pair.inside ins awake);
@@ -297,9 +297,9 @@ module _ (setup : Setup) (c : CpuId) (b : BufId) (u t : Tid) (other : same_tid t
   }
 
   -- the lines and the owner's progress alone are changed
-  with_lines : (k : Buffer) (g h : Progress) → k.busy ≡ Some t → Pair b u k g turn spot
+  with_lines : (k : Buffer) (g h : Progress) → k.busy ≡ Some t → Pair b u k g visit post
       → (sends receives : List Tid) → count_in u sends ≡ count_in u k.send_line → count_in u receives ≡ count_in u k.receive_line
-      → Pair b u (record k { send_line = sends; receive_line = receives }) h turn spot
+      → Pair b u (record k { send_line = sends; receive_line = receives }) h visit post
   with_lines k g h owner pair sends receives same_sends same_receives = record {
     owner = λ e. not_mine u t k.busy owner other e;
     inside = pair.inside;
@@ -312,8 +312,8 @@ module _ (setup : Setup) (c : CpuId) (b : BufId) (u t : Tid) (other : same_tid t
   }
 
   -- nor do the items and the counters matter
-  with_items : (k : Buffer) (g : Progress) (items : List Message) (e s r : ℕ) → Pair b u k g turn spot
-      → Pair b u (record k { items = items; effects = e; send_positions = s; receive_positions = r }) g turn spot
+  with_items : (k : Buffer) (g : Progress) (items : List Message) (e s r : ℕ) → Pair b u k g visit post
+      → Pair b u (record k { items = items; effects = e; send_positions = s; receive_positions = r }) g visit post
   with_items k g items e s r pair = record {
     owner = pair.owner;
     inside = pair.inside;
@@ -325,8 +325,8 @@ module _ (setup : Setup) (c : CpuId) (b : BufId) (u t : Tid) (other : same_tid t
     receive_line = pair.receive_line;
   }
 
-  other_enter : (k : Buffer) (g : Progress) (side : Side) (joins : Bool) → k.busy ≡ Some t → Pair b u k g turn spot
-      → Pair b u (if joins then entered t side k else k) (HasEntered side) turn spot
+  other_enter : (k : Buffer) (g : Progress) (side : Side) (joins : Bool) → k.busy ≡ Some t → Pair b u k g visit post
+      → Pair b u (if joins then entered t side k else k) (HasEntered side) visit post
   other_enter k g Senders true owner pair =
       let grown = with_lines k g (HasEntered Senders) owner pair (k.send_line ++ t ∷ []) k.receive_line (count_behind u t k.send_line other) refl in
       with_items _ (HasEntered Senders) k.items k.effects (entered t Senders k).send_positions k.receive_positions grown
@@ -335,23 +335,23 @@ module _ (setup : Setup) (c : CpuId) (b : BufId) (u t : Tid) (other : same_tid t
       with_items _ (HasEntered Receivers) k.items k.effects k.send_positions (entered t Receivers k).receive_positions grown
   other_enter k g side false owner pair = with_lines k g (HasEntered side) owner pair k.send_line k.receive_line refl refl
 
-  other_put : (k : Buffer) (g : Progress) (m : Message) (may : Bool) → may_put t k ≡ may → k.busy ≡ Some t → Pair b u k g turn spot
-      → Pair b u (if may then put m k else k) (if may then Owes true true else WasRefused Senders) turn spot
+  other_put : (k : Buffer) (g : Progress) (m : Message) (may : Bool) → may_put t k ≡ may → k.busy ≡ Some t → Pair b u k g visit post
+      → Pair b u (if may then put m k else k) (if may then Owes true true else WasRefused Senders) visit post
   other_put k g m true is owner pair =
       let front = (and_parts (is_first t k.send_line) (can_put k) is).0 in
       let left = with_lines k g (Owes true true) owner pair (rest k.send_line) k.receive_line (other_left u t k.send_line front other) refl in
       with_items _ (Owes true true) (put m k).items (put m k).effects k.send_positions k.receive_positions left
   other_put k g m false is owner pair = with_lines k g (WasRefused Senders) owner pair k.send_line k.receive_line refl refl
 
-  other_take : (k : Buffer) (g : Progress) (may : Bool) → may_take t k ≡ may → k.busy ≡ Some t → Pair b u k g turn spot
-      → Pair b u (if may then taken k else k) (if may then Owes true true else WasRefused Receivers) turn spot
+  other_take : (k : Buffer) (g : Progress) (may : Bool) → may_take t k ≡ may → k.busy ≡ Some t → Pair b u k g visit post
+      → Pair b u (if may then taken k else k) (if may then Owes true true else WasRefused Receivers) visit post
   other_take k g true is owner pair =
       let front = (and_parts (is_first t k.receive_line) (can_take k) is).0 in
       let left = with_lines k g (Owes true true) owner pair k.send_line (rest k.receive_line) refl (other_left u t k.receive_line front other) in
       with_items _ (Owes true true) (taken k).items (taken k).effects k.send_positions k.receive_positions left
   other_take k g false is owner pair = with_lines k g (WasRefused Receivers) owner pair k.send_line k.receive_line refl refl
 
-  other_shut : (k : Buffer) (g : Progress) → k.busy ≡ Some t → Pair b u k g turn spot → Pair b u (shut k) (Owes true true) turn spot
+  other_shut : (k : Buffer) (g : Progress) → k.busy ≡ Some t → Pair b u k g visit post → Pair b u (shut k) (Owes true true) visit post
   other_shut k g owner pair = record {
     owner = λ e. not_mine u t k.busy owner other e;
     inside = pair.inside;
@@ -363,25 +363,25 @@ module _ (setup : Setup) (c : CpuId) (b : BufId) (u t : Tid) (other : same_tid t
     receive_line = pair.receive_line;
   }
 
-  other_release : (k : Buffer) (g : Progress) → k.busy ≡ Some t → Pair b u k g turn spot
-      → Pair b u (released k) Begins turn (if is_thread u (first k.sleepers) then spot_woken setup c u else spot)
+  other_release : (k : Buffer) (g : Progress) → k.busy ≡ Some t → Pair b u k g visit post
+      → Pair b u (released k) Begins visit (if is_thread u (first k.sleepers) then post_woken setup c u else post)
   other_release k g owner pair = by_test (is_thread u (first k.sleepers)) refl
     where
       most : count_in u k.sleepers ≤ 1
-      most = subst (λ n. n ≤ 1) (sym pair.sleepers) (marked_most u (is_lock b spot))
+      most = subst (λ n. n ≤ 1) (sym pair.sleepers) (marked_most u (is_lock b post))
 
-      by_test : (w : Bool) → is_thread u (first k.sleepers) ≡ w → Pair b u (released k) Begins turn (if w then spot_woken setup c u else spot)
+      by_test : (w : Bool) → is_thread u (first k.sleepers) ≡ w → Pair b u (released k) Begins visit (if w then post_woken setup c u else post)
       by_test true is =
-          let on = (first_sleeps b u k g turn spot pair is).1 in
+          let on = (first_sleeps b u k g visit post pair is).1 in
           let no_lock = woken_no_lock b (same_cpu (home_of setup u) c) c in
-          let start = start_inside b turn (pair.starts on) in
+          let start = start_inside b visit (pair.starts on) in
           record {
             owner = λ e. (start.0, start.1, no_lock);
             inside = λ ins awake. thread_some u (first k.sleepers) is;
             starts = λ now. refuted no_lock now;
             sleepers = first_left u k.sleepers most ∙ ap (λ x. if x then 0 else count_in u k.sleepers) is ∙ sym (marked_none u _ no_lock);
-            senders = pair.senders ∙ ap (marked u) (lock_no_wait b Senders spot on ∙ sym (woken_no_wait b Senders (same_cpu (home_of setup u) c) c));
-            receivers = pair.receivers ∙ ap (marked u) (lock_no_wait b Receivers spot on ∙ sym (woken_no_wait b Receivers (same_cpu (home_of setup u) c) c));
+            senders = pair.senders ∙ ap (marked u) (lock_no_wait b Senders post on ∙ sym (woken_no_wait b Senders (same_cpu (home_of setup u) c) c));
+            receivers = pair.receivers ∙ ap (marked u) (lock_no_wait b Receivers post on ∙ sym (woken_no_wait b Receivers (same_cpu (home_of setup u) c) c));
             send_line = pair.send_line;
             receive_line = pair.receive_line;
           }
@@ -396,7 +396,7 @@ module _ (setup : Setup) (c : CpuId) (b : BufId) (u t : Tid) (other : same_tid t
         receive_line = pair.receive_line;
       }
 
-  with_waiting : (k : Buffer) (g : Progress) (side : Side) → Pair b u k g turn spot → Pair b u (waiting t side k) g turn spot
+  with_waiting : (k : Buffer) (g : Progress) (side : Side) → Pair b u k g visit post → Pair b u (waiting t side k) g visit post
   with_waiting k g Senders pair = record {
     owner = pair.owner;
     inside = pair.inside;
@@ -418,19 +418,19 @@ module _ (setup : Setup) (c : CpuId) (b : BufId) (u t : Tid) (other : same_tid t
     receive_line = pair.receive_line;
   }
 
-  other_wait : (k : Buffer) (g : Progress) (side : Side) → k.busy ≡ Some t → Pair b u k g turn spot
-      → Pair b u (released (waiting t side k)) Begins turn (if is_thread u (first k.sleepers) then spot_woken setup c u else spot)
+  other_wait : (k : Buffer) (g : Progress) (side : Side) → k.busy ≡ Some t → Pair b u k g visit post
+      → Pair b u (released (waiting t side k)) Begins visit (if is_thread u (first k.sleepers) then post_woken setup c u else post)
   other_wait k g Senders owner pair = other_release (waiting t Senders k) g owner (with_waiting k g Senders pair)
   other_wait k g Receivers owner pair = other_release (waiting t Receivers k) g owner (with_waiting k g Receivers pair)
 
-  other_sig_recv : (k : Buffer) (g h : Progress) → k.busy ≡ Some t → Pair b u k g turn spot
-      → Pair b u (edited_buffer (SigRecv t) k) h turn (if is_thread u (due_receiver k) then spot_woken setup c u else spot)
+  other_sig_recv : (k : Buffer) (g h : Progress) → k.busy ≡ Some t → Pair b u k g visit post
+      → Pair b u (edited_buffer (SigRecv t) k) h visit (if is_thread u (due_receiver k) then post_woken setup c u else post)
   other_sig_recv k g h owner pair = by_test (is_thread u (due_receiver k)) refl
     where
-      by_test : (w : Bool) → is_thread u (due_receiver k) ≡ w → Pair b u (edited_buffer (SigRecv t) k) h turn (if w then spot_woken setup c u else spot)
+      by_test : (w : Bool) → is_thread u (due_receiver k) ≡ w → Pair b u (edited_buffer (SigRecv t) k) h visit (if w then post_woken setup c u else post)
       by_test true is =
-          let on = (due_receives b u k g turn spot pair is).1 in
-          let off = wait_no_lock b Receivers spot on in
+          let on = (due_receives b u k g visit post pair is).1 in
+          let off = wait_no_lock b Receivers post on in
           let no_lock = woken_no_lock b (same_cpu (home_of setup u) c) c in
           record {
             owner = λ e. not_mine u t k.busy owner other e;
@@ -438,7 +438,7 @@ module _ (setup : Setup) (c : CpuId) (b : BufId) (u t : Tid) (other : same_tid t
             starts = λ now. refuted no_lock now;
             sleepers = pair.sleepers ∙ ap (marked u) (off ∙ sym no_lock);
             senders =
-                pair.senders ∙ ap (marked u) (wait_one_side b Receivers Senders spot refl on ∙ sym (woken_no_wait b Senders (same_cpu (home_of setup u) c) c));
+                pair.senders ∙ ap (marked u) (wait_one_side b Receivers Senders post refl on ∙ sym (woken_no_wait b Senders (same_cpu (home_of setup u) c) c));
             receivers = signal_left u (due_receiver k) k.waiting_receivers ∙ ap (λ x. if x then 0 else count_in u k.waiting_receivers) is
                 ∙ sym (marked_none u _ (woken_no_wait b Receivers (same_cpu (home_of setup u) c) c));
             send_line = pair.send_line;
@@ -455,14 +455,14 @@ module _ (setup : Setup) (c : CpuId) (b : BufId) (u t : Tid) (other : same_tid t
         receive_line = pair.receive_line;
       }
 
-  other_sig_send : (k : Buffer) (g h : Progress) → k.busy ≡ Some t → Pair b u k g turn spot
-      → Pair b u (edited_buffer (SigSend t) k) h turn (if is_thread u (due_sender k) then spot_woken setup c u else spot)
+  other_sig_send : (k : Buffer) (g h : Progress) → k.busy ≡ Some t → Pair b u k g visit post
+      → Pair b u (edited_buffer (SigSend t) k) h visit (if is_thread u (due_sender k) then post_woken setup c u else post)
   other_sig_send k g h owner pair = by_test (is_thread u (due_sender k)) refl
     where
-      by_test : (w : Bool) → is_thread u (due_sender k) ≡ w → Pair b u (edited_buffer (SigSend t) k) h turn (if w then spot_woken setup c u else spot)
+      by_test : (w : Bool) → is_thread u (due_sender k) ≡ w → Pair b u (edited_buffer (SigSend t) k) h visit (if w then post_woken setup c u else post)
       by_test true is =
-          let on = (due_sends b u k g turn spot pair is).1 in
-          let off = wait_no_lock b Senders spot on in
+          let on = (due_sends b u k g visit post pair is).1 in
+          let off = wait_no_lock b Senders post on in
           let no_lock = woken_no_lock b (same_cpu (home_of setup u) c) c in
           record {
             owner = λ e. not_mine u t k.busy owner other e;
@@ -471,7 +471,7 @@ module _ (setup : Setup) (c : CpuId) (b : BufId) (u t : Tid) (other : same_tid t
             sleepers = pair.sleepers ∙ ap (marked u) (off ∙ sym no_lock);
             senders = signal_left u (due_sender k) k.waiting_senders ∙ ap (λ x. if x then 0 else count_in u k.waiting_senders) is
                 ∙ sym (marked_none u _ (woken_no_wait b Senders (same_cpu (home_of setup u) c) c));
-            receivers = pair.receivers ∙ ap (marked u) (wait_one_side b Senders Receivers spot refl on
+            receivers = pair.receivers ∙ ap (marked u) (wait_one_side b Senders Receivers post refl on
                 ∙ sym (woken_no_wait b Receivers (same_cpu (home_of setup u) c) c));
             send_line = pair.send_line;
             receive_line = pair.receive_line;
@@ -487,42 +487,43 @@ module _ (setup : Setup) (c : CpuId) (b : BufId) (u t : Tid) (other : same_tid t
         receive_line = pair.receive_line;
       }
 
-by_acquire : (setup : Setup) (c : CpuId) (u : Tid) (o : Option Tid) (x : Spot)
-    → (if is_thread u (answer_of_acquire o).woke then spot_woken setup c u else x) ≡ x
+by_acquire : (setup : Setup) (c : CpuId) (u : Tid) (o : Option Tid) (x : Post)
+    → (if is_thread u (answer_of_acquire o).woke then post_woken setup c u else x) ≡ x
 by_acquire setup c u None x = refl
 by_acquire setup c u (Some owner) x = refl
 
-other_section : (setup : Setup) (c : CpuId) (b : BufId) (u : Tid) (name : Name) (k : Buffer) (g : Progress) (turn : Turn) (spot : Spot)
-    → is_caller u name ≡ false → MayEdit name k g → Pair b u k g turn spot
-    → Pair b u (edited_buffer name k) (progress_after name k g) turn (if is_thread u (answer_of_buffer name k).woke then spot_woken setup c u else spot)
-other_section setup c b u (AcqQ t) k g turn spot other may pair =
-    subst (λ x. Pair b u (acquired t k.busy k) g turn x) (sym (by_acquire setup c u k.busy spot))
-    (other_acquire setup c b u t other turn spot k g k.busy refl pair)
-other_section setup c b u (Enter t side) k g turn spot other may pair =
-    other_enter setup c b u t other turn spot k g side (may_join t (line_of side k)) may.0 pair
-other_section setup c b u (TryPut t m) k g turn spot other may pair = other_put setup c b u t other turn spot k g m (may_put t k) refl may.0 pair
-other_section setup c b u (TryTake t) k g turn spot other may pair = other_take setup c b u t other turn spot k g (may_take t k) refl may.0 pair
-other_section setup c b u (Shut t) k g turn spot other may pair = other_shut setup c b u t other turn spot k g may.0 pair
-other_section setup c b u (WaitOn t side) k g turn spot other may pair = other_wait setup c b u t other turn spot k g side may.0 pair
-other_section setup c b u (SigRecv t) k g turn spot other may pair = other_sig_recv setup c b u t other turn spot k g (receivers_signalled g) may.0 pair
-other_section setup c b u (SigSend t) k g turn spot other may pair = other_sig_send setup c b u t other turn spot k g (senders_signalled g) may.0 pair
-other_section setup c b u (RelQ t) k g turn spot other may pair = other_release setup c b u t other turn spot k g may.0 pair
-other_section setup c b u (Pend s) k g turn spot other may pair = absurd may
-other_section setup c b u TakeAll k g turn spot other may pair = absurd may
+other_section : (setup : Setup) (c : CpuId) (b : BufId) (u : Tid) (name : Name) (k : Buffer) (g : Progress) (visit : Visit) (post : Post)
+    → is_caller u name ≡ false → MayEdit name k g → Pair b u k g visit post
+    → Pair b u (edited_buffer name k) (progress_after name k g) visit (if is_thread u (answer_of_buffer name k).woke then post_woken setup c u else post)
+other_section setup c b u (AcqQ t) k g visit post other may pair =
+    subst (λ x. Pair b u (acquired t k.busy k) g visit x) (sym (by_acquire setup c u k.busy post))
+    (other_acquire setup c b u t other visit post k g k.busy refl pair)
+other_section setup c b u (Enter t side) k g visit post other may pair =
+    other_enter setup c b u t other visit post k g side (may_join t (line_of side k)) may.0 pair
+other_section setup c b u (TryPut t m) k g visit post other may pair = other_put setup c b u t other visit post k g m (may_put t k) refl may.0 pair
+other_section setup c b u (TryTake t) k g visit post other may pair = other_take setup c b u t other visit post k g (may_take t k) refl may.0 pair
+other_section setup c b u (Shut t) k g visit post other may pair = other_shut setup c b u t other visit post k g may.0 pair
+other_section setup c b u (WaitOn t side) k g visit post other may pair = other_wait setup c b u t other visit post k g side may.0 pair
+other_section setup c b u (SigRecv t) k g visit post other may pair = other_sig_recv setup c b u t other visit post k g (receivers_signalled g) may.0 pair
+other_section setup c b u (SigSend t) k g visit post other may pair = other_sig_send setup c b u t other visit post k g (senders_signalled g) may.0 pair
+other_section setup c b u (RelQ t) k g visit post other may pair = other_release setup c b u t other visit post k g may.0 pair
+other_section setup c b u (Pend s) k g visit post other may pair = absurd may
+other_section setup c b u TakeAll k g visit post other may pair = absurd may
 
-spot_of_other : (setup : Setup) (c : CpuId) (b : BufId) (u : Tid) (name : Name) (slept : Bool) (woke : Option Tid) (x : Spot) → is_caller u name ≡ false
-    → spot_moved setup c b u name slept woke x ≡ (if is_thread u woke then spot_woken setup c u else x)
-spot_of_other setup c b u name slept woke x other =
-    ap (λ d. if is_thread u woke then spot_woken setup c u else (if d then bed b name else x)) (and_right slept (is_caller u name) other)
+post_of_other : (setup : Setup) (c : CpuId) (b : BufId) (u : Tid) (name : Name) (slept : Bool) (woke : Option Tid) (x : Post) → is_caller u name ≡ false
+    → post_moved setup c b u name slept woke x ≡ (if is_thread u woke then post_woken setup c u else x)
+post_of_other setup c b u name slept woke x other =
+    ap (λ d. if is_thread u woke then post_woken setup c u else (if d then bed b name else x)) (and_right slept (is_caller u name) other)
 
 -- a section of another thread on the buffer keeps the pair
-pub other_pair : (setup : Setup) (c : CpuId) (b : BufId) (u : Tid) (name : Name) (k : Buffer) (g : Progress) (turn : Turn) (spot : Spot)
-    → is_caller u name ≡ false → MayEdit name k g → Pair b u k g turn spot
-    → Pair b u (edited_buffer name k) (progress_after name k g) (turn_moved b u name k turn)
-    (spot_moved setup c b u name (answer_of_buffer name k).slept (answer_of_buffer name k).woke spot)
-other_pair setup c b u name k g turn spot other may pair =
-    let at_spot = spot_of_other setup c b u name (answer_of_buffer name k).slept (answer_of_buffer name k).woke spot other in
-    let at_turn : turn_moved b u name k turn ≡ turn = ap (λ d. if d then next_turn b name k turn else turn) other in
+pub other_pair : (setup : Setup) (c : CpuId) (b : BufId) (u : Tid) (name : Name) (k : Buffer) (g : Progress) (visit : Visit) (post : Post)
+    → is_caller u name ≡ false → MayEdit name k g → Pair b u k g visit post
+    → Pair b u (edited_buffer name k) (progress_after name k g) (visit_moved b u name k visit)
+    (post_moved setup c b u name (answer_of_buffer name k).slept (answer_of_buffer name k).woke post)
+other_pair setup c b u name k g visit post other may pair =
+    let at_post = post_of_other setup c b u name (answer_of_buffer name k).slept (answer_of_buffer name k).woke post other in
+    let at_visit : visit_moved b u name k visit ≡ visit = ap (λ d. if d then next_visit b name k visit else visit) other in
     subst (λ z. Pair b u (edited_buffer name k) (progress_after name k g) z
-    (spot_moved setup c b u name (answer_of_buffer name k).slept (answer_of_buffer name k).woke spot)) (sym at_turn)
-    (subst (λ x. Pair b u (edited_buffer name k) (progress_after name k g) turn x) (sym at_spot) (other_section setup c b u name k g turn spot other may pair))
+    (post_moved setup c b u name (answer_of_buffer name k).slept (answer_of_buffer name k).woke post)) (sym at_visit)
+    (subst (λ x. Pair b u (edited_buffer name k) (progress_after name k g) visit x)
+    (sym at_post) (other_section setup c b u name k g visit post other may pair))

@@ -17,27 +17,27 @@ use Rattle.cpu.specs.Table.Blocks.{Buffer, Block, OfBuffer, OfPending, Name, Acq
 use Rattle.cpu.specs.Table.Edits.{edited, answer_of_buffer}
 use Rattle.cpu.specs.Table.Setups.{Setup, home_of, opening_buffer}
 use Rattle.cpu.specs.Wakeups.Order.{block_of}
-use Rattle.cpu.proofs.Wakeups.Spots.{Spot, Home, InHand, IsPending, AtLock, AtWait, Waiting, Turn, Outside, In}
-use Rattle.cpu.proofs.Wakeups.Spots.{is_caller, bed, spot_by, spot_woken, spot_drained, spot_pending, spot_buffer, spot, next_turn, turn_buffer, turn}
-use Rattle.cpu.proofs.Wakeups.Spots.{MayComeTo, MayComeAt}
+use Rattle.cpu.proofs.Wakeups.Posts.{Post, Home, InHand, IsPending, AtLock, AtWait, Waiting, Visit, Outside, In}
+use Rattle.cpu.proofs.Wakeups.Posts.{is_caller, bed, post_by, post_woken, post_drained, post_pending, post_buffer, post, next_visit, visit_buffer, visit}
+use Rattle.cpu.proofs.Wakeups.Posts.{MayComeTo, MayComeAt}
 use Rattle.cpu.proofs.Wakeups.Called.{CallersAre, callers_are, is_the_caller}
 
--- what a spot says of the machine and of the turn
-abbrev pub IsPlaced : Setup → Turn → Spot → Type 0
-IsPlaced setup turn Home = Unit {0}
-IsPlaced setup turn (InHand c) = c.0 < setup.cpus
-IsPlaced setup turn IsPending = Unit {0}
-IsPlaced setup turn (AtLock b) = b.0 < length setup.caps
-IsPlaced setup turn (AtWait b side) = (b.0 < length setup.caps) × (turn ≡ In b (Waiting side))
+-- what a post says of the machine and of the visit
+abbrev pub IsPlaced : Setup → Visit → Post → Type 0
+IsPlaced setup visit Home = Unit {0}
+IsPlaced setup visit (InHand c) = c.0 < setup.cpus
+IsPlaced setup visit IsPending = Unit {0}
+IsPlaced setup visit (AtLock b) = b.0 < length setup.caps
+IsPlaced setup visit (AtWait b side) = (b.0 < length setup.caps) × (visit ≡ In b (Waiting side))
 
 -- who is inside a call has a home
-abbrev pub HasHome : Setup → Tid → Turn → Type 0
+abbrev pub HasHome : Setup → Tid → Visit → Type 0
 HasHome setup u Outside = Unit {0}
 HasHome setup u (In b doing) = nat_lt u.0 (length setup.homes) ≡ true
 
 pub record Placed (setup : Setup) (past : List (Section Name)) : Type 0 where
-  pub spots : (u : Tid) → IsPlaced setup (turn setup u past) (spot setup u past)
-  pub callers : (u : Tid) → HasHome setup u (turn setup u past)
+  pub posts : (u : Tid) → IsPlaced setup (visit setup u past) (post setup u past)
+  pub callers : (u : Tid) → HasHome setup u (visit setup u past)
 
 -- a buffer's block is there only for a buffer of the machine
 pub buffer_within : (setup : Setup) (b : BufId) (past : List (Section Name)) (k : Buffer)
@@ -72,26 +72,26 @@ buffer_there setup b (s ∷ past) within = by_test (same_lock (AtBuffer b) s.loc
     by_test true o before = (_, ap (option_map (edited s.edit)) before.1)
     by_test false o before = before
 
-placed_by : (setup : Setup) (turn : Turn) (here : Bool) (c : CpuId) → c.0 < setup.cpus → IsPlaced setup turn (spot_by here c)
-placed_by setup turn true c within = tt
-placed_by setup turn false c within = within
+placed_by : (setup : Setup) (visit : Visit) (here : Bool) (c : CpuId) → c.0 < setup.cpus → IsPlaced setup visit (post_by here c)
+placed_by setup visit true c within = tt
+placed_by setup visit false c within = within
 
 -- only those that ask for the lock or wait are put to sleep
-placed_bed : (setup : Setup) (d : BufId) (name : Name) (k : Buffer) (turn : Turn) → d.0 < length setup.caps
-    → IsPlaced setup (next_turn d name k turn) (bed d name)
-placed_bed setup d (AcqQ t) k turn within = within
-placed_bed setup d (Enter t side) k turn within = within
-placed_bed setup d (TryPut t m) k turn within = within
-placed_bed setup d (TryTake t) k turn within = within
-placed_bed setup d (Shut t) k turn within = within
-placed_bed setup d (WaitOn t side) k turn within = (within, refl)
-placed_bed setup d (SigRecv t) k turn within = within
-placed_bed setup d (SigSend t) k turn within = within
-placed_bed setup d (RelQ t) k turn within = within
-placed_bed setup d (Pend s) k turn within = within
-placed_bed setup d TakeAll k turn within = within
+placed_bed : (setup : Setup) (d : BufId) (name : Name) (k : Buffer) (visit : Visit) → d.0 < length setup.caps
+    → IsPlaced setup (next_visit d name k visit) (bed d name)
+placed_bed setup d (AcqQ t) k visit within = within
+placed_bed setup d (Enter t side) k visit within = within
+placed_bed setup d (TryPut t m) k visit within = within
+placed_bed setup d (TryTake t) k visit within = within
+placed_bed setup d (Shut t) k visit within = within
+placed_bed setup d (WaitOn t side) k visit within = (within, refl)
+placed_bed setup d (SigRecv t) k visit within = within
+placed_bed setup d (SigSend t) k visit within = within
+placed_bed setup d (RelQ t) k visit within = within
+placed_bed setup d (Pend s) k visit within = within
+placed_bed setup d TakeAll k visit within = within
 
-has_home : (setup : Setup) (u : Tid) (turn : Turn) → nat_lt u.0 (length setup.homes) ≡ true → HasHome setup u turn
+has_home : (setup : Setup) (u : Tid) (visit : Visit) → nat_lt u.0 (length setup.homes) ≡ true → HasHome setup u visit
 has_home setup u Outside known = tt
 has_home setup u (In b doing) known = known
 
@@ -100,60 +100,60 @@ module _ (setup : Setup) (past : List (Section Name)) (placed : Placed setup pas
   known_caller : (u : Tid) → is_caller u name ≡ true → nat_lt u.0 (length setup.homes) ≡ true
   known_caller u own = (and_parts (same_cpu (home_of setup u) c) (nat_lt u.0 (length setup.homes)) (callers u (is_the_caller u name own)).local).1
 
-  spots_buffer : (u : Tid) (o : Option Block) → block_of setup (AtBuffer d) past ≡ o
-      → IsPlaced setup (turn_buffer d u name o (turn setup u past)) (spot_buffer setup c d u name o (spot setup u past))
-  spots_buffer u None is = placed.spots u
-  spots_buffer u (Some (OfPending threads)) is = placed.spots u
-  spots_buffer u (Some (OfBuffer k)) is = by_test (is_thread u (answer_of_buffer name k).woke) (answer_of_buffer name k).slept (is_caller u name) refl
+  posts_buffer : (u : Tid) (o : Option Block) → block_of setup (AtBuffer d) past ≡ o
+      → IsPlaced setup (visit_buffer d u name o (visit setup u past)) (post_buffer setup c d u name o (post setup u past))
+  posts_buffer u None is = placed.posts u
+  posts_buffer u (Some (OfPending threads)) is = placed.posts u
+  posts_buffer u (Some (OfBuffer k)) is = by_test (is_thread u (answer_of_buffer name k).woke) (answer_of_buffer name k).slept (is_caller u name) refl
     where
       by_test : (w slept mine : Bool) → is_caller u name ≡ mine
-          → IsPlaced setup (if mine then next_turn d name k (turn setup u past) else turn setup u past)
-          (if w then spot_woken setup c u else (if slept && mine then bed d name else spot setup u past))
+          → IsPlaced setup (if mine then next_visit d name k (visit setup u past) else visit setup u past)
+          (if w then post_woken setup c u else (if slept && mine then bed d name else post setup u past))
       by_test true slept mine own = placed_by setup _ (same_cpu (home_of setup u) c) c within
-      by_test false true true own = placed_bed setup d name k (turn setup u past) (buffer_within setup d past k is)
+      by_test false true true own = placed_bed setup d name k (visit setup u past) (buffer_within setup d past k is)
       by_test false false true own =
-          subst (IsPlaced setup (next_turn d name k (turn setup u past))) (sym (callers u (is_the_caller u name own)).here) tt
-      by_test false true false own = placed.spots u
-      by_test false false false own = placed.spots u
+          subst (IsPlaced setup (next_visit d name k (visit setup u past))) (sym (callers u (is_the_caller u name own)).here) tt
+      by_test false true false own = placed.posts u
+      by_test false false false own = placed.posts u
 
-  callers_buffer : (u : Tid) (o : Option Block) → HasHome setup u (turn_buffer d u name o (turn setup u past))
+  callers_buffer : (u : Tid) (o : Option Block) → HasHome setup u (visit_buffer d u name o (visit setup u past))
   callers_buffer u None = placed.callers u
   callers_buffer u (Some (OfPending threads)) = placed.callers u
   callers_buffer u (Some (OfBuffer k)) = by_test (is_caller u name) refl
     where
-      by_test : (mine : Bool) → is_caller u name ≡ mine → HasHome setup u (if mine then next_turn d name k (turn setup u past) else turn setup u past)
-      by_test true own = has_home setup u (next_turn d name k (turn setup u past)) (known_caller u own)
+      by_test : (mine : Bool) → is_caller u name ≡ mine → HasHome setup u (if mine then next_visit d name k (visit setup u past) else visit setup u past)
+      by_test true own = has_home setup u (next_visit d name k (visit setup u past)) (known_caller u own)
       by_test false own = placed.callers u
 
 module _ (setup : Setup) (past : List (Section Name)) (placed : Placed setup past) (c d : CpuId) where
-  placed_drained : (turn : Turn) (x : Spot) → IsPlaced setup turn x → IsPlaced setup turn (spot_drained x)
-  placed_drained turn Home at = tt
-  placed_drained turn (InHand e) at = at
-  placed_drained turn IsPending at = tt
-  placed_drained turn (AtLock b) at = at
-  placed_drained turn (AtWait b side) at = at
+  placed_drained : (visit : Visit) (x : Post) → IsPlaced setup visit x → IsPlaced setup visit (post_drained x)
+  placed_drained visit Home at = tt
+  placed_drained visit (InHand e) at = at
+  placed_drained visit IsPending at = tt
+  placed_drained visit (AtLock b) at = at
+  placed_drained visit (AtWait b side) at = at
 
-  spots_pending : (name : Name) → MayComeTo setup past c d name → (u : Tid)
-      → IsPlaced setup (turn setup u past) (spot_pending setup d u name (spot setup u past))
-  spots_pending (Pend s) may u = by_test (same_tid s u)
+  posts_pending : (name : Name) → MayComeTo setup past c d name → (u : Tid)
+      → IsPlaced setup (visit setup u past) (post_pending setup d u name (post setup u past))
+  posts_pending (Pend s) may u = by_test (same_tid s u)
     where
-      by_test : (mine : Bool) → IsPlaced setup (turn setup u past) (if mine then IsPending else spot setup u past)
+      by_test : (mine : Bool) → IsPlaced setup (visit setup u past) (if mine then IsPending else post setup u past)
       by_test true = tt
-      by_test false = placed.spots u
-  spots_pending TakeAll may u = by_test (same_cpu (home_of setup u) d)
+      by_test false = placed.posts u
+  posts_pending TakeAll may u = by_test (same_cpu (home_of setup u) d)
     where
-      by_test : (mine : Bool) → IsPlaced setup (turn setup u past) (if mine then spot_drained (spot setup u past) else spot setup u past)
-      by_test true = placed_drained (turn setup u past) (spot setup u past) (placed.spots u)
-      by_test false = placed.spots u
-  spots_pending name may u = absurd may
+      by_test : (mine : Bool) → IsPlaced setup (visit setup u past) (if mine then post_drained (post setup u past) else post setup u past)
+      by_test true = placed_drained (visit setup u past) (post setup u past) (placed.posts u)
+      by_test false = placed.posts u
+  posts_pending name may u = absurd may
 
 pub placed_none : (setup : Setup) → Placed setup []
-placed_none setup = record { spots = λ u. tt; callers = λ u. tt }
+placed_none setup = record { posts = λ u. tt; callers = λ u. tt }
 
 module _ (setup : Setup) (past : List (Section Name)) (placed : Placed setup past) (c : CpuId) (within : c.0 < setup.cpus) (name : Name) where
   pub placed_at : (lock : LockId) → MayComeAt setup past c lock name → Placed setup (record { cpu = c; lock = lock; edit = name } ∷ past)
-  placed_at (Pending d) may = record { spots = λ u. spots_pending setup past placed c d name may u; callers = placed.callers }
+  placed_at (Pending d) may = record { posts = λ u. posts_pending setup past placed c d name may u; callers = placed.callers }
   placed_at (AtBuffer d) may = record {
-    spots = λ u. spots_buffer setup past placed c within d name (callers_are setup past c d name may) u (block_of setup (AtBuffer d) past) refl;
+    posts = λ u. posts_buffer setup past placed c within d name (callers_are setup past c d name may) u (block_of setup (AtBuffer d) past) refl;
     callers = λ u. callers_buffer setup past placed c within d name (callers_are setup past c d name may) u (block_of setup (AtBuffer d) past);
   }

@@ -9,7 +9,7 @@ use Rattle.event_log.specs.declared.ids.Tid.{Tid}
 use Rattle.event_log.specs.declared.ids.LockId.{LockId}
 use Rattle.event_log.specs.History.{same_cpu, IsLawful}
 use Rattle.event_log.specs.Sections.{sections_in}
-use Rattle.event_log.specs.Actions.{Action, Take, Try, Give, Phase, Rests, Waits as WaitsAt, Holds, phase, doer, place, gives, action_in}
+use Rattle.event_log.specs.Actions.{Action, Take, Try, Give, Phase, Rests, Waits as WaitsAt, Holds, phase, doer, spot_of, gives, action_in}
 use Rattle.event_log.proofs.Same.{same_cpu_true}
 use Rattle.event_log.proofs.Exclusion.{phase_own, phase_other}
 use Rattle.layer_traits.specs.declared.steps.Step.{Step}
@@ -28,9 +28,9 @@ use Rattle.cpu.specs.Wakeups.Order.{block_of}
 use Rattle.cpu.specs.Wakeups.Lost.{SystemsKeepOrder, SystemsLoseNoWakeUp, FreeLocksHaveNoSleepers}
 use Rattle.cpu.proofs.Wakeups.Lists.{refuted}
 use Rattle.cpu.proofs.Wakeups.Ordered.{buffer_awake, order_loses_no_wake_up}
-use Rattle.cpu.proofs.Wakeups.Spots.{Home, is_local, spot, turn, MayComeAt}
+use Rattle.cpu.proofs.Wakeups.Posts.{Home, is_local, post, visit, MayComeAt}
 use Rattle.cpu.proofs.Wakeups.Called.{Good, good_none, good_step}
-use Rattle.cpu.proofs.Wakeups.Agreement.{turn_of_call, is_done, seat, Agrees, IsSettled}
+use Rattle.cpu.proofs.Wakeups.Agreement.{visit_of_call, is_done, seat, Agrees, IsSettled}
 use Rattle.cpu.proofs.Wakeups.CpuStep.{foreign_step, give_ok}
 use Rattle.cpu.proofs.Wakeups.Chosen.{ChoiceOk, choice_ok}
 
@@ -60,7 +60,7 @@ lock_in (Holds lock) = Some lock
 
 -- a CPU agrees with the log, and stands at the lock of the section that is asked of it
 pub record Ok (setup : Setup) (c : CpuId) (p : Private) (log : List (Action Name)) : Type 0 where
-  pub agrees : Agrees setup c p (λ u. turn setup u (sections_in log)) (λ u. spot setup u (sections_in log))
+  pub agrees : Agrees setup c p (λ u. visit setup u (sections_in log)) (λ u. post setup u (sections_in log))
   pub settled : IsSettled setup c p
   pub under : (lock : LockId) → lock_in (phase c log) ≡ Some lock → lock ≡ (asked setup c p).lock
 
@@ -111,7 +111,8 @@ module _ (setup : Setup) (c : CpuId) (log : List (Action Name)) (fair : IsFairLo
     ok = record {
       agrees = ok.agrees;
       settled = ok.settled;
-      under = λ lock at. by_hit (gives there log == place c log) lock (sym (ap lock_in (phase_own (Try c there (gives there log == place c log)) log)) ∙ at);
+      under = λ lock at.
+          by_hit (gives there log == spot_of c log) lock (sym (ap lock_in (phase_own (Try c there (gives there log == spot_of c log)) log)) ∙ at);
     };
     does = (refl, tt);
   }
@@ -146,7 +147,7 @@ module _ (setup : Setup) (c : CpuId) (log : List (Action Name)) (fair : IsFairLo
   step_ok p ok = by_section (is_in_section (phase c log)) refl
     where
       by_choice : is_in_section (phase c log) ≡ false → (what : Choice)
-          → ChoiceOk setup c (λ u. turn setup u (sections_in log)) (λ u. spot setup u (sections_in log)) what
+          → ChoiceOk setup c (λ u. visit setup u (sections_in log)) (λ u. post setup u (sections_in log)) what
           → StepOk setup c log (chosen setup c p what log)
       by_choice rests (Halts reason) chosen_ok = record { fair = fair; ok = ok; does = tt }
       by_choice rests (Alone q) chosen_ok = record {
@@ -160,7 +161,8 @@ module _ (setup : Setup) (c : CpuId) (log : List (Action Name)) (fair : IsFairLo
       by_section : (inside : Bool) → is_in_section (phase c log) ≡ inside → StepOk setup c log (step_in setup c p log inside)
       by_section true is = acted_ok p ok (phase c log) refl
       by_section false is =
-          by_choice is (choice setup c p) (choice_ok setup c p (λ u. turn setup u (sections_in log)) (λ u. spot setup u (sections_in log)) ok.agrees ok.settled)
+          by_choice is (choice setup c p)
+          (choice_ok setup c p (λ u. visit setup u (sections_in log)) (λ u. post setup u (sections_in log)) ok.agrees ok.settled)
 
 -- an action of another CPU
 pub ok_beside : (setup : Setup) (e : CpuId) (p : Private) (log : List (Action Name)) (a : Action Name)
@@ -248,7 +250,7 @@ pub ok_at_boot : (setup : Setup) (c : CpuId) → Ok setup c (at_boot setup c) []
 ok_at_boot setup c = record {
   agrees = record {
     size = length-map setup.homes (λ home. new_thread);
-    calls = λ u local. ap (λ y. turn_of_call y.call) (sym (all_new setup.homes u.0));
+    calls = λ u local. ap (λ y. visit_of_call y.call) (sym (all_new setup.homes u.0));
     seats = λ u.
         let is = homed_at c setup.homes 0 u.0 u (omega arith) in
         let now : one_if (is_thread u None) + count_in u (home_threads setup c) ≡ count_in u (home_threads setup c) = omega arith in

@@ -37,7 +37,7 @@ use Rattle.cpu.specs.Wakeups.Alone.{steps_to_move, steps_to_return}
 use Rattle.cpu.proofs.Wakeups.Lists.{refuted}
 use Rattle.cpu.proofs.Wakeups.Ordered.{buffer_awake, putting, taking}
 use Rattle.cpu.proofs.Wakeups.Awake.{IsCalm, Fits, IsAwake}
-use Rattle.cpu.proofs.Wakeups.Spots.{is_local, spot, turn}
+use Rattle.cpu.proofs.Wakeups.Posts.{is_local, post, visit}
 use Rattle.cpu.proofs.Wakeups.Agreement.{Agrees, runs, known_of, within}
 use Rattle.cpu.proofs.Wakeups.Reaching.{reached_sound, systems_keep_order, free_locks_have_no_sleepers}
 use Rattle.cpu.proofs.Wakeups.Filled.{reached_filled}
@@ -47,17 +47,17 @@ use Rattle.cpu.proofs.Wakeups.Returning.{Gets, Returned, acquires, enters_send, 
 
 module _ (setup : Setup) (room : ℕ) (s : Whole) (c : CpuId) (p : Private) (t : Tid) (few : AreFew setup)
     (reached : IsReached setup room s) (ready : IsReady setup c s p t) where
-  agrees : Agrees setup c p (λ u. turn setup u (sections_in s.log)) (λ u. spot setup u (sections_in s.log))
+  agrees : Agrees setup c p (λ u. visit setup u (sections_in s.log)) (λ u. post setup u (sections_in s.log))
   agrees = ((reached_sound setup room s reached).cpus c p ready.here).agrees
 
   local : is_local setup c t ≡ true
-  local = (runs setup c p (λ u. turn setup u (sections_in s.log)) (λ u. spot setup u (sections_in s.log)) agrees t ready.runs).0
+  local = (runs setup c p (λ u. visit setup u (sections_in s.log)) (λ u. post setup u (sections_in s.log)) agrees t ready.runs).0
 
   small : t.0 < THREADS
   small = let known = known_of setup c t local in let most = few in omega (arith, known, most)
 
   known : t.0 < length p.threads
-  known = within setup c p (λ u. turn setup u (sections_in s.log)) (λ u. spot setup u (sections_in s.log)) agrees t local
+  known = within setup c p (λ u. visit setup u (sections_in s.log)) (λ u. post setup u (sections_in s.log)) agrees t local
 
   empty : p.hand ≡ None
   empty = by_hand p.hand refl

@@ -18,7 +18,7 @@ use Rattle.layer_traits.specs.declared.steps.Reason.TheVariants.{AllEnded, Trace
 use Rattle.layer_traits.specs.Plans.{reply}
 use Rattle.cpu.specs.Table.Blocks.{Name, Told, Nothing, Position, Done, WasClosed, DidShut, NotYet, Drained, Answer}
 use Rattle.cpu.specs.Table.Edits.{kernel}
-use Rattle.cpu.specs.Table.Setups.{Setup, Stage, Acquires, Enters, Tries, Waits, AcquiresAgain, Signals, SignalsOwn}
+use Rattle.cpu.specs.Table.Setups.{Setup, CallStage, Acquires, Enters, Tries, Waits, AcquiresAgain, Signals, SignalsOwn}
 use Rattle.cpu.specs.Table.Setups.{Releases, Returns, Call, Thread, Private, new_thread, thread_at, with_thread, program_of}
 use Rattle.cpu.specs.Table.Setups.{stands_at, at_boot, home_of, home_threads, open_calls, have_ended, opening}
 use Rattle.cpu.specs.Table.Choice.{asked, Choice, Halts, Alone, Goes, new_call, with_call, with_guest}
@@ -30,7 +30,7 @@ use Rattle.cpu.specs.Wakeups.Quiet.{IsNextEffect}
 use Rattle.cpu.proofs.Wakeups.Lists.{refuted}
 use Rattle.cpu.proofs.Wakeups.Agreement.{at_same, at_other}
 
-abbrev pub is_before : Stage → Bool
+abbrev pub is_before : CallStage → Bool
 is_before Acquires = true
 is_before Enters = true
 is_before Tries = true
@@ -48,21 +48,21 @@ HasLine Receives = Unit {0}
 HasLine Closes = ⊥
 
 -- only a call that has a line tries and waits
-abbrev pub FitsStage : Group → Stage → Type 0
-FitsStage asks Tries = HasLine asks
-FitsStage asks Waits = HasLine asks
-FitsStage asks AcquiresAgain = HasLine asks
-FitsStage asks Acquires = Unit {0}
-FitsStage asks Enters = Unit {0}
-FitsStage asks Signals = Unit {0}
-FitsStage asks SignalsOwn = Unit {0}
-FitsStage asks Releases = Unit {0}
-FitsStage asks Returns = Unit {0}
+abbrev pub FitsGroup : Group → CallStage → Type 0
+FitsGroup asks Tries = HasLine asks
+FitsGroup asks Waits = HasLine asks
+FitsGroup asks AcquiresAgain = HasLine asks
+FitsGroup asks Acquires = Unit {0}
+FitsGroup asks Enters = Unit {0}
+FitsGroup asks Signals = Unit {0}
+FitsGroup asks SignalsOwn = Unit {0}
+FitsGroup asks Releases = Unit {0}
+FitsGroup asks Returns = Unit {0}
 
 -- what a call says before its effect
 abbrev pub SaysCall : List Instruction → State → Call → Type 0
 SaysCall program guest call = is_before call.stage ≡ true
-    → (call.effect ≡ None) × IsNextEffect (next_of program guest) guest call.asks call.buffer call.message × FitsStage call.asks call.stage
+    → (call.effect ≡ None) × IsNextEffect (next_of program guest) guest call.asks call.buffer call.message × FitsGroup call.asks call.stage
 
 abbrev pub Says : List Instruction → State → Option Call → Type 0
 Says program guest None = Unit {0}
@@ -103,7 +103,7 @@ module _ (setup : Setup) (c : CpuId) where
       })
 
   fine_heard : (p : Private) (t : Tid) (call : Call) → t.0 < length p.threads → AllFine setup p
-      → (thread_at p t).call ≡ Some call → (stage : Stage) → call.stage ≡ stage → (told : Told)
+      → (thread_at p t).call ≡ Some call → (stage : CallStage) → call.stage ≡ stage → (told : Told)
       → AllFine setup (heard c p t call stage told)
   fine_heard p t call known fine is Acquires at told =
       fine_call p t call (record call { stage = Enters }) known fine is (λ says e. let said = says (ap is_before at) in (said.0, said.1, tt))
@@ -139,15 +139,15 @@ module _ (setup : Setup) (c : CpuId) where
   fine_heard p t call known fine is Tries at (WasClosed op) =
       fine_call p t call (record call { closed = true; effect = Some op; stage = Signals }) known fine is (λ says e. absurd (cc e))
   fine_heard p t call known fine is Tries at NotYet = fine_call p t call (record call { stage = Waits }) known fine is
-      (λ says e. let said = says (ap is_before at) in (said.0, said.1, subst (FitsStage call.asks) at said.2))
+      (λ says e. let said = says (ap is_before at) in (said.0, said.1, subst (FitsGroup call.asks) at said.2))
   fine_heard p t call known fine is Tries at Nothing = fine
   fine_heard p t call known fine is Tries at (Position pos) = fine
   fine_heard p t call known fine is Tries at (DidShut op pos) = fine
   fine_heard p t call known fine is Tries at (Drained threads) = fine
   fine_heard p t call known fine is Waits at told = fine_call p t call (record call { stage = AcquiresAgain }) known fine is
-      (λ says e. let said = says (ap is_before at) in (said.0, said.1, subst (FitsStage call.asks) at said.2))
+      (λ says e. let said = says (ap is_before at) in (said.0, said.1, subst (FitsGroup call.asks) at said.2))
   fine_heard p t call known fine is AcquiresAgain at told = fine_call p t call (record call { stage = Tries }) known fine is
-      (λ says e. let said = says (ap is_before at) in (said.0, said.1, subst (FitsStage call.asks) at said.2))
+      (λ says e. let said = says (ap is_before at) in (said.0, said.1, subst (FitsGroup call.asks) at said.2))
   fine_heard p t call known fine is Signals at told = fine_call p t call (record call { stage = SignalsOwn }) known fine is (λ says e. absurd (cc e))
   fine_heard p t call known fine is SignalsOwn at told = fine_call p t call (record call { stage = Releases }) known fine is (λ says e. absurd (cc e))
   fine_heard p t call known fine is Releases at told = fine_call p t call (record call { stage = Returns }) known fine is (λ says e. absurd (cc e))
@@ -176,7 +176,7 @@ module _ (setup : Setup) (c : CpuId) where
   fine_settled : (p : Private) → AllFine setup p → AllFine setup (settled setup p)
   fine_settled p fine = by_hand p.hand p.current
     where
-      by_stage : (t : Tid) (call : Call) (stage : Stage) → AllFine setup (returned_at setup p t call stage)
+      by_stage : (t : Tid) (call : Call) (stage : CallStage) → AllFine setup (returned_at setup p t call stage)
       by_stage t call Returns =
           fine_set p t
           (record (thread_at p t) { guest = guest_after call.asks call.closed (stands_at setup p t) call.message (thread_at p t).guest; call = None }) fine
@@ -223,7 +223,7 @@ module _ (setup : Setup) (c : CpuId) where
 
   module _ (p : Private) (fine : AllFine setup p) (alive : (t : Tid) → p.current ≡ Some t → (thread_at p t).ended ≡ false) where
     fine_begins : (t : Tid) → p.current ≡ Some t → (call : Call) → call.effect ≡ None
-        → IsNextEffect (stands_at setup p t) (thread_at p t).guest call.asks call.buffer call.message → FitsStage call.asks call.stage
+        → IsNextEffect (stands_at setup p t) (thread_at p t).guest call.asks call.buffer call.message → FitsGroup call.asks call.stage
         → FineChoice (begins setup c p t call)
     fine_begins t runs_now call new next fits = by_test ((length p.trace + open_calls p (home_threads setup c)) == setup.trace_room)
       where

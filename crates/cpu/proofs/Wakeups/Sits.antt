@@ -18,16 +18,16 @@ use Rattle.layer_traits.specs.Places.{is_thread, one_if, count_in}
 use Rattle.layer_traits.proofs.CountLemmas.{same_tid_sym, count_append}
 use Rattle.cpu.specs.Table.Blocks.{Buffer, Name, TryPut, TryTake, WaitOn, Pend, TakeAll, side_of, Told, Done, WasClosed, NotYet, Answer}
 use Rattle.cpu.specs.Table.Edits.{may_put, may_take, told_put, told_take, answer_of_buffer, drawn_position}
-use Rattle.cpu.specs.Table.Setups.{Setup, Stage, Acquires, Enters, Tries, Waits, AcquiresAgain, Signals, SignalsOwn}
+use Rattle.cpu.specs.Table.Setups.{Setup, CallStage, Acquires, Enters, Tries, Waits, AcquiresAgain, Signals, SignalsOwn}
 use Rattle.cpu.specs.Table.Setups.{Releases, Returns, Call, Thread, Private, thread_at, with_thread, home_of, stands_at}
 use Rattle.cpu.specs.Table.Choice.{section_at, first_section, try_of, first_signal, second_signal, with_call}
 use Rattle.cpu.specs.Table.Choice.{with_guest, goes_to, heard, heard_entry, heard_try, entry_of}
 use Rattle.cpu.specs.Table.Choice.{slept_if, woken, returned_at, returned_by, returned_in, settled, guest_after, after_call}
 use Rattle.cpu.proofs.Wakeups.Lists.{refuted}
-use Rattle.cpu.proofs.Wakeups.Spots.{Spot, Home, InHand, IsPending, AtLock, AtWait, GotIt, Trying, Failed, Owing, Turn, Outside, In}
-use Rattle.cpu.proofs.Wakeups.Spots.{is_home, is_hand, is_pending, caller_in, is_caller, bed, spot_slept}
-use Rattle.cpu.proofs.Wakeups.Spots.{spot_moved, spot_drained, spot_pending, next_turn, turn_moved, is_local}
-use Rattle.cpu.proofs.Wakeups.Agreement.{owing_own, turn_of_stage, turn_of_call, is_last, is_done, seat, Agrees, IsSettled, at_same}
+use Rattle.cpu.proofs.Wakeups.Posts.{Post, Home, InHand, IsPending, AtLock, AtWait, GotIt, Trying, Failed, Owing, Visit, Outside, In}
+use Rattle.cpu.proofs.Wakeups.Posts.{is_home, is_hand, is_pending, caller_in, is_caller, bed, post_slept}
+use Rattle.cpu.proofs.Wakeups.Posts.{post_moved, post_drained, post_pending, next_visit, visit_moved, is_local}
+use Rattle.cpu.proofs.Wakeups.Agreement.{owing_own, visit_of_stage, visit_of_call, is_last, is_done, seat, Agrees, IsSettled, at_same}
 use Rattle.cpu.proofs.Wakeups.Agreement.{at_other, Same, same_with, agrees_same, runs, within, agrees_slept, agrees_woken}
 
 -- A call returns once the hand is empty.
@@ -37,7 +37,7 @@ abbrev pub DoneRuns : Setup → CpuId → Private → Type 0
 DoneRuns setup c p = (u : Tid) → is_local setup c u ≡ true → is_done (thread_at p u).call ≡ true → is_thread u p.current ≡ true
 
 module _ (setup : Setup) (c : CpuId) where
-  settled_in : (p : Private) (T : Tid → Turn) (P : Tid → Spot) → Agrees setup c p T P → DoneRuns setup c p
+  settled_in : (p : Private) (T : Tid → Visit) (P : Tid → Post) → Agrees setup c p T P → DoneRuns setup c p
       → (hand current : Option Tid) → p.hand ≡ hand → p.current ≡ current
       → Agrees setup c (returned_in setup p hand current) T P × IsSettled setup c (returned_in setup p hand current)
   settled_in p T P agrees done (Some s) current holds runs_now = (agrees, λ u local is. (ap is_some holds, done u local is))
@@ -50,7 +50,7 @@ module _ (setup : Setup) (c : CpuId) where
       not_yet : is_done (thread_at p t).call ≡ false → IsSettled setup c p
       not_yet off u local is = refuted off (subst (λ v. is_done (thread_at p v).call ≡ true) (sym (same_tid_true t u (others_done u local is))) is)
 
-      by_stage : (call : Call) → (thread_at p t).call ≡ Some call → (stage : Stage) → call.stage ≡ stage
+      by_stage : (call : Call) → (thread_at p t).call ≡ Some call → (stage : CallStage) → call.stage ≡ stage
           → Agrees setup c (returned_at setup p t call stage) T P × IsSettled setup c (returned_at setup p t call stage)
       by_stage call is Returns at =
           let local = (runs setup c p T P agrees t runs_now).0 in
@@ -59,8 +59,8 @@ module _ (setup : Setup) (c : CpuId) where
           record (thread_at p t) { guest = guest_after call.asks call.closed (stands_at setup p t) call.message (thread_at p t).guest; call = None } in
           let same : Same p (with_thread p t x) t = same_with p t x known refl in
           let none : (thread_at (with_thread p t x) t).call ≡ None = ap (λ y. y.call) (at_same p t x known) in
-          let turn_now : T t ≡ Outside = agrees.calls t local ∙ ap turn_of_call is ∙ ap (turn_of_stage call.buffer (side_of call.asks)) at in (
-            agrees_same setup c p (with_thread p t x) t T T P agrees same (λ u other. refl) (turn_now ∙ ap turn_of_call (sym none)),
+          let visit_now : T t ≡ Outside = agrees.calls t local ∙ ap visit_of_call is ∙ ap (visit_of_stage call.buffer (side_of call.asks)) at in (
+            agrees_same setup c p (with_thread p t x) t T T P agrees same (λ u other. refl) (visit_now ∙ ap visit_of_call (sym none)),
             λ u mine done_now. returned_done u mine done_now (same_tid t u) refl x same none,
           )
         where
@@ -89,13 +89,13 @@ module _ (setup : Setup) (c : CpuId) where
       by_call None is = (agrees, not_yet (ap is_done is))
       by_call (Some call) is = by_stage call is call.stage refl
 
-  pub agrees_settled : (p : Private) (T : Tid → Turn) (P : Tid → Spot) → Agrees setup c p T P → DoneRuns setup c p
+  pub agrees_settled : (p : Private) (T : Tid → Visit) (P : Tid → Post) → Agrees setup c p T P → DoneRuns setup c p
       → Agrees setup c (settled setup p) T P × IsSettled setup c (settled setup p)
   agrees_settled p T P agrees done = settled_in p T P agrees done p.hand p.current refl refl
 
 -- The stage of a call, and what its section tells.
 
-pub section_caller : (t : Tid) (call : Call) (stage : Stage) → caller_in (section_at t call stage) ≡ Some t
+pub section_caller : (t : Tid) (call : Call) (stage : CallStage) → caller_in (section_at t call stage) ≡ Some t
 section_caller t call stage = by_asks call.asks stage
   where
     by_side : (side : Side) → (caller_in (try_of t call side) ≡ Some t) × (caller_in (first_signal t side) ≡ Some t)
@@ -108,7 +108,7 @@ section_caller t call stage = by_asks call.asks stage
     by_first Receives = refl
     by_first Closes = refl
 
-    by_asks : (asks : Group) (stage : Stage) → caller_in (section_at t call stage) ≡ Some t
+    by_asks : (asks : Group) (stage : CallStage) → caller_in (section_at t call stage) ≡ Some t
     by_asks asks Acquires = refl
     by_asks asks Enters = by_first call.asks
     by_asks asks Tries = (by_side (side_of call.asks)).0
@@ -120,7 +120,7 @@ section_caller t call stage = by_asks call.asks stage
     by_asks asks Returns = refl
 
 -- whether the section is the last of its call
-abbrev pub is_release : Stage → Bool
+abbrev pub is_release : CallStage → Bool
 is_release Releases = true
 is_release Acquires = false
 is_release Enters = false
@@ -131,21 +131,21 @@ is_release Signals = false
 is_release SignalsOwn = false
 is_release Returns = false
 
--- the state after a section was heard: all but the call is as it was, and the call stands where its next turn says
-pub record Heard (p q : Private) (t : Tid) (next : Turn) (ends : Bool) : Type 0 where
+-- the state after a section was heard: all but the call is as it was, and the call stands where its next visit says
+pub record Heard (p q : Private) (t : Tid) (next : Visit) (ends : Bool) : Type 0 where
   pub same : Same p q t
-  pub call : turn_of_call (thread_at q t).call ≡ next
+  pub call : visit_of_call (thread_at q t).call ≡ next
   pub last : is_done (thread_at q t).call ≡ ends
 
 module _ (p : Private) (t : Tid) (known : t.0 < length p.threads) where
-  heard_call : (call : Call) → Heard p (with_call p t (Some call)) t (turn_of_call (Some call)) (is_last call.stage)
+  heard_call : (call : Call) → Heard p (with_call p t (Some call)) t (visit_of_call (Some call)) (is_last call.stage)
   heard_call call = record {
     same = same_with p t (record (thread_at p t) { call = Some call }) known refl;
-    call = ap (λ y. turn_of_call y.call) (at_same p t (record (thread_at p t) { call = Some call }) known);
+    call = ap (λ y. visit_of_call y.call) (at_same p t (record (thread_at p t) { call = Some call }) known);
     last = ap (λ y. is_done y.call) (at_same p t (record (thread_at p t) { call = Some call }) known);
   }
 
-  heard_traced : (q : Private) (next : Turn) (ends : Bool) (trace : List Entry) → Heard p q t next ends → Heard p (record q { trace = trace }) t next ends
+  heard_traced : (q : Private) (next : Visit) (ends : Bool) (trace : List Entry) → Heard p q t next ends → Heard p (record q { trace = trace }) t next ends
   heard_traced q next ends trace was = record {
     same = record {
       current = was.same.current;
@@ -162,7 +162,7 @@ module _ (p : Private) (t : Tid) (known : t.0 < length p.threads) where
   module _ (c : CpuId) (call : Call) (k : Buffer) where
     at_entry : (asks : Group) → call.asks ≡ asks
         → Heard p (heard_entry c p t call asks (answer_of_buffer (first_section t asks) k).told) t
-        (next_turn call.buffer (first_section t asks) k (In call.buffer GotIt)) false
+        (next_visit call.buffer (first_section t asks) k (In call.buffer GotIt)) false
     at_entry Sends is =
         let now : Call = record call { position = drawn_position Senders k; stage = Tries } in
         subst (λ a. Heard p (with_call p t (Some now)) t (In call.buffer (Trying (side_of a))) false) is (heard_call now)
@@ -200,7 +200,7 @@ module _ (p : Private) (t : Tid) (known : t.0 < length p.threads) where
 
     at_tries : (asks : Group) → call.asks ≡ asks
         → Heard p (heard_try c p t call (answer_of_buffer (try_of t call (side_of asks)) k).told) t
-        (next_turn call.buffer (try_of t call (side_of asks)) k (In call.buffer (Trying (side_of asks)))) false
+        (next_visit call.buffer (try_of t call (side_of asks)) k (In call.buffer (Trying (side_of asks)))) false
     at_tries Sends is =
         subst (λ a. Heard p (heard_try c p t call (answer_of_buffer (TryPut t call.message) k).told) t
         (if may_put t k then In call.buffer (Owing true true) else In call.buffer (Failed (side_of a))) false) is
@@ -214,32 +214,32 @@ module _ (p : Private) (t : Tid) (known : t.0 < length p.threads) where
         (if may_put t k then In call.buffer (Owing true true) else In call.buffer (Failed (side_of a))) false) is
         (at_try (may_put t k) (told_put k.closed k.effects call.message) (at_put k.closed k.effects call.message))
 
-    signal_turn : (side : Side) → next_turn call.buffer (first_signal t side) k (In call.buffer (Owing true true)) ≡ In call.buffer (owing_own side)
-    signal_turn Senders = refl
-    signal_turn Receivers = refl
+    signal_visit : (side : Side) → next_visit call.buffer (first_signal t side) k (In call.buffer (Owing true true)) ≡ In call.buffer (owing_own side)
+    signal_visit Senders = refl
+    signal_visit Receivers = refl
 
-    own_turn : (side : Side) → next_turn call.buffer (second_signal t side) k (In call.buffer (owing_own side)) ≡ In call.buffer (Owing false false)
-    own_turn Senders = refl
-    own_turn Receivers = refl
+    own_visit : (side : Side) → next_visit call.buffer (second_signal t side) k (In call.buffer (owing_own side)) ≡ In call.buffer (Owing false false)
+    own_visit Senders = refl
+    own_visit Receivers = refl
 
     -- what a call hears at each stage
-    pub heard_at : (stage : Stage) → is_last stage ≡ false
+    pub heard_at : (stage : CallStage) → is_last stage ≡ false
         → Heard p (heard c p t call stage (answer_of_buffer (section_at t call stage) k).told) t
-        (next_turn call.buffer (section_at t call stage) k (turn_of_stage call.buffer (side_of call.asks) stage)) (is_release stage)
+        (next_visit call.buffer (section_at t call stage) k (visit_of_stage call.buffer (side_of call.asks) stage)) (is_release stage)
     heard_at Acquires going = heard_call (record call { stage = Enters })
     heard_at Enters going = at_entry call.asks refl
     heard_at Tries going = at_tries call.asks refl
     heard_at Waits going = heard_call (record call { stage = AcquiresAgain })
     heard_at AcquiresAgain going = heard_call (record call { stage = Tries })
     heard_at Signals going =
-        subst (λ z. Heard p (goes_to p t call SignalsOwn) t z false) (sym (signal_turn (side_of call.asks))) (heard_call (record call { stage = SignalsOwn }))
+        subst (λ z. Heard p (goes_to p t call SignalsOwn) t z false) (sym (signal_visit (side_of call.asks))) (heard_call (record call { stage = SignalsOwn }))
     heard_at SignalsOwn going =
-        subst (λ z. Heard p (goes_to p t call Releases) t z false) (sym (own_turn (side_of call.asks))) (heard_call (record call { stage = Releases }))
+        subst (λ z. Heard p (goes_to p t call Releases) t z false) (sym (own_visit (side_of call.asks))) (heard_call (record call { stage = Releases }))
     heard_at Releases going = heard_call (record call { stage = Returns })
     heard_at Returns going = absurd (cc going)
 
 -- the section after which a call is done puts nobody to sleep
-pub release_awake : (t : Tid) (call : Call) (k : Buffer) (stage : Stage) → is_release stage ≡ true
+pub release_awake : (t : Tid) (call : Call) (k : Buffer) (stage : CallStage) → is_release stage ≡ true
     → (answer_of_buffer (section_at t call stage) k).slept ≡ false
 release_awake t call k Releases on = refl
 release_awake t call k Acquires on = absurd (cc on)
@@ -286,14 +286,14 @@ woken_current setup c (Some s) p = by_test (same_cpu (home_of setup s) c)
     by_test false = refl
 
 -- in a private state that agrees, the hand is empty and thread t runs within this call
-pub record IsCalling (setup : Setup) (c : CpuId) (p : Private) (T : Tid → Turn) (P : Tid → Spot) (t : Tid) (call : Call) : Type 0 where
+pub record IsCalling (setup : Setup) (c : CpuId) (p : Private) (T : Tid → Visit) (P : Tid → Post) (t : Tid) (call : Call) : Type 0 where
   pub agrees : Agrees setup c p T P
   pub settled_before : IsSettled setup c p
   pub empty : p.hand ≡ None
   pub runs_now : p.current ≡ Some t
   pub is : (thread_at p t).call ≡ Some call
 
-module _ (setup : Setup) (c : CpuId) (p : Private) (T : Tid → Turn) (P : Tid → Spot) (t : Tid) (call : Call)
+module _ (setup : Setup) (c : CpuId) (p : Private) (T : Tid → Visit) (P : Tid → Post) (t : Tid) (call : Call)
     (calling : IsCalling setup c p T P t call) where
   open calling use {agrees, settled_before, empty, runs_now, is}
 
@@ -311,19 +311,19 @@ module _ (setup : Setup) (c : CpuId) (p : Private) (T : Tid → Turn) (P : Tid �
     abbrev a : Answer
     a = answer_of_buffer (section_at t call call.stage) k
 
-    abbrev N : Tid → Turn
-    N u = turn_moved call.buffer u name k (T u)
+    abbrev N : Tid → Visit
+    N u = visit_moved call.buffer u name k (T u)
 
-    abbrev bedded : Tid → Spot
-    bedded u = spot_slept call.buffer u name a.slept (P u)
+    abbrev bedded : Tid → Post
+    bedded u = post_slept call.buffer u name a.slept (P u)
 
-    abbrev now : Tid → Spot
-    now u = spot_moved setup c call.buffer u name a.slept a.woke (P u)
+    abbrev now : Tid → Post
+    now u = post_moved setup c call.buffer u name a.slept a.woke (P u)
 
     abbrev heard_now : Private
     heard_now = heard c p t call call.stage a.told
 
-    heard_is : Heard p heard_now t (next_turn call.buffer name k (turn_of_stage call.buffer (side_of call.asks) call.stage)) (is_release call.stage)
+    heard_is : Heard p heard_now t (next_visit call.buffer name k (visit_of_stage call.buffer (side_of call.asks) call.stage)) (is_release call.stage)
     heard_is = heard_at p t (within setup c p T P agrees t local_now) c call k call.stage going
 
     mine : is_caller t name ≡ true
@@ -332,16 +332,16 @@ module _ (setup : Setup) (c : CpuId) (p : Private) (T : Tid → Turn) (P : Tid �
     others : (u : Tid) → same_tid t u ≡ false → is_caller u name ≡ false
     others u other = ap (is_thread u) (section_caller t call call.stage) ∙ other
 
-    turn_now : N t ≡ turn_of_call (thread_at heard_now t).call
-    turn_now =
-        ap (λ d. if d then next_turn call.buffer name k (T t) else T t) mine
-        ∙ ap (next_turn call.buffer name k) (agrees.calls t local_now ∙ ap turn_of_call is)
+    visit_now : N t ≡ visit_of_call (thread_at heard_now t).call
+    visit_now =
+        ap (λ d. if d then next_visit call.buffer name k (T t) else T t) mine
+        ∙ ap (next_visit call.buffer name k) (agrees.calls t local_now ∙ ap visit_of_call is)
         ∙ sym heard_is.call
 
     agrees_heard : Agrees setup c heard_now N P
     agrees_heard =
         agrees_same setup c p heard_now t T N P agrees heard_is.same
-        (λ u other. ap (λ d. if d then next_turn call.buffer name k (T u) else T u) (others u other)) turn_now
+        (λ u other. ap (λ d. if d then next_visit call.buffer name k (T u) else T u) (others u other)) visit_now
 
     runs_heard : heard_now.current ≡ Some t
     runs_heard = heard_is.same.current ∙ runs_now
@@ -388,35 +388,35 @@ module _ (setup : Setup) (c : CpuId) (p : Private) (T : Tid → Turn) (P : Tid �
 
 -- A section on pending threads.
 
-pub hand_not_home : (c : CpuId) (x : Spot) → is_hand c x ≡ true → is_home x ≡ false
+pub hand_not_home : (c : CpuId) (x : Post) → is_hand c x ≡ true → is_home x ≡ false
 hand_not_home c (InHand d) on = refl
 hand_not_home c Home on = absurd (cc on)
 hand_not_home c IsPending on = refl
 hand_not_home c (AtLock b) on = refl
 hand_not_home c (AtWait b side) on = refl
 
-pub drained_hand : (c : CpuId) (x : Spot) → is_hand c (spot_drained x) ≡ is_hand c x
+pub drained_hand : (c : CpuId) (x : Post) → is_hand c (post_drained x) ≡ is_hand c x
 drained_hand c Home = refl
 drained_hand c (InHand d) = refl
 drained_hand c IsPending = refl
 drained_hand c (AtLock b) = refl
 drained_hand c (AtWait b side) = refl
 
-drained_stays_home : (x : Spot) → is_home x ≡ true → is_home (spot_drained x) ≡ true
+drained_stays_home : (x : Post) → is_home x ≡ true → is_home (post_drained x) ≡ true
 drained_stays_home Home on = refl
 drained_stays_home (InHand d) on = absurd (cc on)
 drained_stays_home IsPending on = refl
 drained_stays_home (AtLock b) on = absurd (cc on)
 drained_stays_home (AtWait b side) on = absurd (cc on)
 
-module _ (setup : Setup) (c : CpuId) (p : Private) (T : Tid → Turn) (P : Tid → Spot)
+module _ (setup : Setup) (c : CpuId) (p : Private) (T : Tid → Visit) (P : Tid → Post)
     (agrees : Agrees setup c p T P) (settled_before : IsSettled setup c p) where
   -- the thread in the hand is put among the pending
   pub agrees_pended : (d : CpuId) (s : Tid) → p.hand ≡ Some s
-      → Agrees setup c (settled setup (record p { hand = None })) T (λ u. spot_pending setup d u (Pend s) (P u))
+      → Agrees setup c (settled setup (record p { hand = None })) T (λ u. post_pending setup d u (Pend s) (P u))
       × IsSettled setup c (settled setup (record p { hand = None }))
   agrees_pended d s holds =
-      agrees_settled setup c (record p { hand = None }) T (λ u. spot_pending setup d u (Pend s) (P u)) emptied (λ u local done. (settled_before u local done).1)
+      agrees_settled setup c (record p { hand = None }) T (λ u. post_pending setup d u (Pend s) (P u)) emptied (λ u local done. (settled_before u local done).1)
     where
       held : is_hand c (P s) ≡ true
       held = sym (agrees.hands s) ∙ ap (is_thread s) holds ∙ same_tid_self s
@@ -438,7 +438,7 @@ module _ (setup : Setup) (c : CpuId) (p : Private) (T : Tid → Turn) (P : Tid �
           refuted (subst (λ v. is_home (P v) ≡ false) (same_tid_true s u is) (hand_not_home c (P s) held)) (agrees.ends u local ended)
       at_home u local ended false other = agrees.ends u local ended
 
-      emptied : Agrees setup c (record p { hand = None }) T (λ u. spot_pending setup d u (Pend s) (P u))
+      emptied : Agrees setup c (record p { hand = None }) T (λ u. post_pending setup d u (Pend s) (P u))
       emptied = record {
         size = agrees.size;
         calls = agrees.calls;
@@ -450,7 +450,7 @@ module _ (setup : Setup) (c : CpuId) (p : Private) (T : Tid → Turn) (P : Tid �
   -- those that were pending are ready
   pub agrees_drained : (list : List Tid) → ((u : Tid) → count_in u list ≡ one_if (same_cpu (home_of setup u) c && is_pending (P u)))
       → ((u : Tid) → is_home (P u) ≡ false → nat_lt u.0 (length setup.homes) ≡ true)
-      → Agrees setup c (record p { ready = p.ready ++ list }) T (λ u. spot_pending setup c u TakeAll (P u))
+      → Agrees setup c (record p { ready = p.ready ++ list }) T (λ u. post_pending setup c u TakeAll (P u))
   agrees_drained list counts known = record {
     size = agrees.size;
     calls = agrees.calls;
@@ -459,19 +459,19 @@ module _ (setup : Setup) (c : CpuId) (p : Private) (T : Tid → Turn) (P : Tid �
     ends = λ u local ended. at_home u (same_cpu (home_of setup u) c) (agrees.ends u local ended);
   }
     where
-      unmoved : (u : Tid) → same_cpu (home_of setup u) c ≡ true → (x : Spot) → P u ≡ x → is_pending x ≡ false → spot_drained x ≡ x
-          → one_if (is_thread u p.current) + count_in u (p.ready ++ list) ≡ one_if (seat setup c u (spot_drained (P u)) (thread_at p u).ended)
+      unmoved : (u : Tid) → same_cpu (home_of setup u) c ≡ true → (x : Post) → P u ≡ x → is_pending x ≡ false → post_drained x ≡ x
+          → one_if (is_thread u p.current) + count_in u (p.ready ++ list) ≡ one_if (seat setup c u (post_drained (P u)) (thread_at p u).ended)
       unmoved u here x at off still =
           let none : count_in u list ≡ 0 = counts u ∙ (λ i. one_if (here i && is_pending (at i))) ∙ ap one_if off in
           let more : count_in u (p.ready ++ list) ≡ count_in u p.ready + count_in u list = count_append u p.ready list in
           let now : one_if (is_thread u p.current) + count_in u (p.ready ++ list) ≡ one_if (is_thread u p.current) + count_in u p.ready =
           omega (arith, none, more) in
-          let same : P u ≡ spot_drained (P u) = at ∙ sym still ∙ ap spot_drained (sym at) in
+          let same : P u ≡ post_drained (P u) = at ∙ sym still ∙ ap post_drained (sym at) in
           now ∙ agrees.seats u ∙ ap (λ y. one_if (seat setup c u y (thread_at p u).ended)) same
 
-      sits : (u : Tid) (here : Bool) → same_cpu (home_of setup u) c ≡ here → (x : Spot) → P u ≡ x
+      sits : (u : Tid) (here : Bool) → same_cpu (home_of setup u) c ≡ here → (x : Post) → P u ≡ x
           → one_if (is_thread u p.current) + count_in u (p.ready ++ list)
-          ≡ one_if (seat setup c u (if here then spot_drained (P u) else P u) (thread_at p u).ended)
+          ≡ one_if (seat setup c u (if here then post_drained (P u) else P u) (thread_at p u).ended)
       sits u false away x at =
           let none : count_in u list ≡ 0 = counts u ∙ ap (λ b. one_if (b && is_pending (P u))) away in
           let more : count_in u (p.ready ++ list) ≡ count_in u p.ready + count_in u list = count_append u p.ready list in
@@ -487,22 +487,22 @@ module _ (setup : Setup) (c : CpuId) (p : Private) (T : Tid → Turn) (P : Tid �
           let now : one_if (is_thread u p.current) + count_in u (p.ready ++ list) ≡ 1 = omega (arith, one, more, none) in
           let local : is_local setup c u ≡ true = and_from (same_cpu (home_of setup u) c) (nat_lt u.0 (length setup.homes)) here (known u (ap is_home at)) in
           let alive : (thread_at p u).ended ≡ false = false_from_ne_true (thread_at p u).ended (λ e. refuted (ap is_home at) (agrees.ends u local e)) in
-          now ∙ sym ((λ i. one_if (local i && (is_home (spot_drained (at i)) && not (alive i)))))
+          now ∙ sym ((λ i. one_if (local i && (is_home (post_drained (at i)) && not (alive i)))))
       sits u true here Home at = unmoved u here Home at refl refl
       sits u true here (InHand e) at = unmoved u here (InHand e) at refl refl
       sits u true here (AtLock b) at = unmoved u here (AtLock b) at refl refl
       sits u true here (AtWait b side) at = unmoved u here (AtWait b side) at refl refl
 
-      held : (u : Tid) (here : Bool) → is_hand c (P u) ≡ is_hand c (if here then spot_drained (P u) else P u)
+      held : (u : Tid) (here : Bool) → is_hand c (P u) ≡ is_hand c (if here then post_drained (P u) else P u)
       held u true = sym (drained_hand c (P u))
       held u false = refl
 
-      at_home : (u : Tid) (here : Bool) → is_home (P u) ≡ true → is_home (if here then spot_drained (P u) else P u) ≡ true
+      at_home : (u : Tid) (here : Bool) → is_home (P u) ≡ true → is_home (if here then post_drained (P u) else P u) ≡ true
       at_home u true on = drained_stays_home (P u) on
       at_home u false on = on
 
 -- the current thread yields: it stands behind those that are ready, and nobody runs
-pub agrees_yielded : (setup : Setup) (c : CpuId) (p : Private) (T : Tid → Turn) (P : Tid → Spot)
+pub agrees_yielded : (setup : Setup) (c : CpuId) (p : Private) (T : Tid → Visit) (P : Tid → Post)
     → Agrees setup c p T P → (t : Tid) → p.current ≡ Some t → (guest : State)
     → Agrees setup c (record (with_guest p t guest) { current = None; ready = p.ready ++ t ∷ [] }) T P
 agrees_yielded setup c p T P agrees t runs_now guest = record {
@@ -527,7 +527,7 @@ agrees_yielded setup c p T P agrees t runs_now guest = record {
     moved =
         agrees_same setup c p (with_guest p t guest) t T T P agrees (same_with p t (record (thread_at p t) { guest = guest }) known refl) (λ u other. refl)
         (agrees.calls t (runs setup c p T P agrees t runs_now).0
-        ∙ ap (λ y. turn_of_call y.call) (sym (at_same p t (record (thread_at p t) { guest = guest }) known)))
+        ∙ ap (λ y. visit_of_call y.call) (sym (at_same p t (record (thread_at p t) { guest = guest }) known)))
 
 -- what a thread stands at does not matter
 pub guest_calls : (p : Private) (t : Tid) (guest : State) → t.0 < length p.threads → (u : Tid)
@@ -542,12 +542,12 @@ guest_calls p t guest known u = by_test (same_tid t u) refl
 
 -- A section of another CPU.
 
-pub agrees_foreign : (setup : Setup) (c : CpuId) (p : Private) (T N : Tid → Turn) (P M : Tid → Spot) → Agrees setup c p T P
+pub agrees_foreign : (setup : Setup) (c : CpuId) (p : Private) (T N : Tid → Visit) (P M : Tid → Post) → Agrees setup c p T P
     → ((u : Tid) → is_local setup c u ≡ true → N u ≡ T u) → ((u : Tid) → is_local setup c u ≡ true → is_home (M u) ≡ is_home (P u))
     → ((u : Tid) → is_hand c (M u) ≡ is_hand c (P u)) → Agrees setup c p N M
-agrees_foreign setup c p T N P M agrees turns homes in_hands = record {
+agrees_foreign setup c p T N P M agrees visits homes in_hands = record {
   size = agrees.size;
-  calls = λ u local. turns u local ∙ agrees.calls u local;
+  calls = λ u local. visits u local ∙ agrees.calls u local;
   seats = λ u. agrees.seats u ∙ by_test u (is_local setup c u) refl;
   hands = λ u. agrees.hands u ∙ sym (in_hands u);
   ends = λ u local ended. homes u local ∙ agrees.ends u local ended;

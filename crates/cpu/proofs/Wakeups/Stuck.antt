@@ -26,7 +26,7 @@ use Rattle.layer_traits.specs.Places.{is_thread, one_if, count_in}
 use Rattle.layer_traits.proofs.ListsLemmas.{counted_in}
 use Rattle.cpu.specs.Table.Blocks.{Buffer, OfBuffer, side_of}
 use Rattle.cpu.specs.Table.Edits.{line_of}
-use Rattle.cpu.specs.Table.Setups.{Setup, Stage, Acquires, Enters, Tries, Waits, AcquiresAgain, Signals}
+use Rattle.cpu.specs.Table.Setups.{Setup, CallStage, Acquires, Enters, Tries, Waits, AcquiresAgain, Signals}
 use Rattle.cpu.specs.Table.Setups.{SignalsOwn, Releases, Returns, Call, Private, thread_at, home_of, stands_at}
 use Rattle.cpu.specs.Table.Choice.{at_hand}
 use Rattle.cpu.specs.Table.Steps.{Whole, block_at, halted_by, halted_at}
@@ -35,19 +35,19 @@ use Rattle.cpu.specs.Wakeups.Lost.{Allows, NoWakeUpIsLost}
 use Rattle.cpu.specs.Wakeups.Quiet.{HomesExist, IsQuietBy, IsQuiet, IsNextEffect, IsStuckCall, IsLive, IsStuck, QuietIsStuck}
 use Rattle.cpu.proofs.Wakeups.Lists.{refuted}
 use Rattle.cpu.proofs.Wakeups.Ordered.{buffer_awake, calm_loses_nothing}
-use Rattle.cpu.proofs.Wakeups.Spots.{Spot, Home, InHand, IsPending, AtLock, AtWait, Waiting, Turn, Outside, In}
-use Rattle.cpu.proofs.Wakeups.Spots.{is_buffer, is_side, is_home, is_hand, is_pending, is_lock, is_wait, names}
-use Rattle.cpu.proofs.Wakeups.Spots.{goes_on, starts_here, stands, is_lined, is_local, spot, turn, marked}
+use Rattle.cpu.proofs.Wakeups.Posts.{Post, Home, InHand, IsPending, AtLock, AtWait, Waiting, Visit, Outside, In}
+use Rattle.cpu.proofs.Wakeups.Posts.{is_buffer, is_side, is_home, is_hand, is_pending, is_lock, is_wait, names}
+use Rattle.cpu.proofs.Wakeups.Posts.{goes_on, starts_here, stands, is_lined, is_local, post, visit, marked}
 use Rattle.cpu.proofs.Wakeups.Pairs.{Pair, buffer_self, buffer_true, marked_some, front_counted}
 use Rattle.cpu.proofs.Wakeups.Called.{Good}
 use Rattle.cpu.proofs.Wakeups.Placed.{IsPlaced, HasHome, buffer_there}
-use Rattle.cpu.proofs.Wakeups.Agreement.{owing_own, turn_of_stage, turn_of_call, seat, Agrees}
-use Rattle.cpu.proofs.Wakeups.Says.{is_before, HasLine, FitsStage, Says}
+use Rattle.cpu.proofs.Wakeups.Agreement.{owing_own, visit_of_stage, visit_of_call, seat, Agrees}
+use Rattle.cpu.proofs.Wakeups.Says.{is_before, HasLine, FitsGroup, Says}
 use Rattle.cpu.proofs.Wakeups.Reaching.{fair_good}
 use Rattle.cpu.proofs.Wakeups.Kept.{Kept, reached_kept, cpu_there}
 
--- a spot of a thread that sleeps
-pub data Asleep (x : Spot) : Type 0 where
+-- a post of a thread that sleeps
+pub data Asleep (x : Post) : Type 0 where
   at_lock : (b : BufId) → x ≡ AtLock b → Asleep x
   at_wait : (b : BufId) (side : Side) → x ≡ AtWait b side → Asleep x
 
@@ -57,15 +57,15 @@ abbrev waiting_of : Side → Buffer → List Tid
 waiting_of Senders k = k.waiting_senders
 waiting_of Receivers k = k.waiting_receivers
 
-line_count : (b : BufId) (u : Tid) (k : Buffer) (g : Progress) (turn : Turn) (x : Spot) → Pair b u k g turn x
-    → (side : Side) → count_in u (line_of side k) ≡ marked u (is_lined b side turn)
-line_count b u k g turn x pair Senders = pair.send_line
-line_count b u k g turn x pair Receivers = pair.receive_line
+line_count : (b : BufId) (u : Tid) (k : Buffer) (g : Progress) (visit : Visit) (x : Post) → Pair b u k g visit x
+    → (side : Side) → count_in u (line_of side k) ≡ marked u (is_lined b side visit)
+line_count b u k g visit x pair Senders = pair.send_line
+line_count b u k g visit x pair Receivers = pair.receive_line
 
-wait_count : (b : BufId) (u : Tid) (k : Buffer) (g : Progress) (turn : Turn) (x : Spot) → Pair b u k g turn x
+wait_count : (b : BufId) (u : Tid) (k : Buffer) (g : Progress) (visit : Visit) (x : Post) → Pair b u k g visit x
     → (side : Side) → count_in u (waiting_of side k) ≡ marked u (is_wait b side x)
-wait_count b u k g turn x pair Senders = pair.senders
-wait_count b u k g turn x pair Receivers = pair.receivers
+wait_count b u k g visit x pair Senders = pair.senders
+wait_count b u k g visit x pair Receivers = pair.receivers
 
 lost_on : (k : Buffer) → NoWakeUpIsLost k → k.busy ≡ None → (asks : Group) → HasLine asks → (t : Tid) (m : Message)
     → first (line_of (side_of asks) k) ≡ Some t
@@ -98,16 +98,16 @@ side_true Senders Senders on = refl
 side_true Receivers Senders on = absurd (cc on)
 side_true Senders Receivers on = absurd (cc on)
 
--- what a waiting turn is of
-abbrev buffer_or : BufId → Turn → BufId
+-- what a waiting visit is of
+abbrev buffer_or : BufId → Visit → BufId
 buffer_or b Outside = b
 buffer_or b (In d doing) = d
 
-abbrev side_or : Side → Turn → Side
+abbrev side_or : Side → Visit → Side
 side_or side (In d (Waiting other)) = other
 side_or side other = side
 
-abbrev is_waiting : Turn → Bool
+abbrev is_waiting : Visit → Bool
 is_waiting (In d (Waiting other)) = true
 is_waiting other = false
 
@@ -115,12 +115,12 @@ owing_waits_not : (b : BufId) (side : Side) → is_waiting (In b (owing_own side
 owing_waits_not b Senders = refl
 owing_waits_not b Receivers = refl
 
--- the call whose turn is a wait has to ask for the lock again
-waits_again : (call : Call) (b : BufId) (side : Side) → turn_of_call (Some call) ≡ In b (Waiting side)
+-- the call whose visit is a wait has to ask for the lock again
+waits_again : (call : Call) (b : BufId) (side : Side) → visit_of_call (Some call) ≡ In b (Waiting side)
     → (is_before call.stage ≡ true) × (call.buffer ≡ b) × (side_of call.asks ≡ side) × (call.stage ≡ AcquiresAgain)
 waits_again call b side is = by_stage call.stage refl is
   where
-    by_stage : (stage : Stage) → call.stage ≡ stage → turn_of_stage call.buffer (side_of call.asks) stage ≡ In b (Waiting side)
+    by_stage : (stage : CallStage) → call.stage ≡ stage → visit_of_stage call.buffer (side_of call.asks) stage ≡ In b (Waiting side)
         → (is_before call.stage ≡ true) × (call.buffer ≡ b) × (side_of call.asks ≡ side) × (call.stage ≡ AcquiresAgain)
     by_stage AcquiresAgain at now = (ap is_before at, ap (buffer_or b) now, ap (side_or side) now, at)
     by_stage Acquires at now = absurd (cc now)
@@ -145,11 +145,11 @@ same_effect (Jnz r i) s a x b d m n one other = absurd one
 same_effect YieldLine s a x b d m n one other = absurd one
 same_effect Exit s a x b d m n one other = absurd one
 
-inside_known : (setup : Setup) (u : Tid) (b : BufId) (turn : Turn) → names b turn ≡ true → HasHome setup u turn → nat_lt u.0 (length setup.homes) ≡ true
+inside_known : (setup : Setup) (u : Tid) (b : BufId) (visit : Visit) → names b visit ≡ true → HasHome setup u visit → nat_lt u.0 (length setup.homes) ≡ true
 inside_known setup u b Outside on home = absurd (cc on)
 inside_known setup u b (In d doing) on home = home
 
-same_named : (b d : BufId) (turn : Turn) → names b turn ≡ true → names d turn ≡ true → b ≡ d
+same_named : (b d : BufId) (visit : Visit) → names b visit ≡ true → names d visit ≡ true → b ≡ d
 same_named b d Outside on other = absurd (cc on)
 same_named b d (In e doing) on other = buffer_true b e on ∙ sym (buffer_true d e other)
 
@@ -165,7 +165,7 @@ module _ (setup : Setup) (s : Whole) (homes : HomesExist setup) (kept : Kept set
   small u known = let few = homes.0 in lt-ltb u.0 THREADS (omega (arith, known, few))
 
   agrees : (c : CpuId) (p : Private) → slice_get s.cpus c.0 ≡ Some p
-      → Agrees setup c p (λ u. turn setup u (sections_in s.log)) (λ u. spot setup u (sections_in s.log))
+      → Agrees setup c p (λ u. visit setup u (sections_in s.log)) (λ u. post setup u (sections_in s.log))
   agrees c p here = (kept.sound.cpus c p here).agrees
 
   -- a quiet CPU's hand is empty
@@ -184,46 +184,46 @@ module _ (setup : Setup) (s : Whole) (homes : HomesExist setup) (kept : Kept set
       by_reason (Some reason) is at = by_hand reason p.hand refl is
 
   -- a live thread sleeps
-  asleep : (p : Private) (u : Tid) → IsLive setup s p u → Asleep (spot setup u (sections_in s.log))
-  asleep p u live = by_spot (spot setup u (sections_in s.log)) refl
+  asleep : (p : Private) (u : Tid) → IsLive setup s p u → Asleep (post setup u (sections_in s.log))
+  asleep p u live = by_post (post setup u (sections_in s.log)) refl
     where
       c : CpuId
       c = home_of setup u
 
-      by_reason : spot setup u (sections_in s.log) ≡ Home → (r : Option Reason)
-          → IsQuietBy setup (home_of setup u) p r → Asleep (spot setup u (sections_in s.log))
+      by_reason : post setup u (sections_in s.log) ≡ Home → (r : Option Reason)
+          → IsQuietBy setup (home_of setup u) p r → Asleep (post setup u (sections_in s.log))
       by_reason at (Some reason) ended = refuted live.alive (ended u refl live.known)
       by_reason at None idle =
-          let one : one_if (seat setup (home_of setup u) u (spot setup u (sections_in s.log)) (thread_at p u).ended) ≡ 1 =
+          let one : one_if (seat setup (home_of setup u) u (post setup u (sections_in s.log)) (thread_at p u).ended) ≡ 1 =
           (λ i. one_if (local u live.known i && (is_home (at i) && not (live.alive i)))) in
           let none : one_if (is_thread u p.current) + count_in u p.ready ≡ 0 = (λ i. one_if (is_thread u (idle.0 i)) + count_in u (idle.1 i)) in
           let sits = (agrees (home_of setup u) p live.here).seats u in
           absurd (omega (arith, one, none, sits))
 
-      by_spot : (x : Spot) → spot setup u (sections_in s.log) ≡ x → Asleep (spot setup u (sections_in s.log))
-      by_spot (AtLock b) at = at_lock b at
-      by_spot (AtWait b side) at = at_wait b side at
-      by_spot Home at = by_reason at (halted_at setup (home_of setup u) p) (quiet.cpus (home_of setup u) p live.here)
-      by_spot (InHand e) at =
-          let known : e.0 < setup.cpus = subst (IsPlaced setup (turn setup u (sections_in s.log))) at (kept.placed.spots u) in
+      by_post : (x : Post) → post setup u (sections_in s.log) ≡ x → Asleep (post setup u (sections_in s.log))
+      by_post (AtLock b) at = at_lock b at
+      by_post (AtWait b side) at = at_wait b side at
+      by_post Home at = by_reason at (halted_at setup (home_of setup u) p) (quiet.cpus (home_of setup u) p live.here)
+      by_post (InHand e) at =
+          let known : e.0 < setup.cpus = subst (IsPlaced setup (visit setup u (sections_in s.log))) at (kept.placed.posts u) in
           let cpu = cpu_there setup s kept e known in
           let held : is_thread u cpu.0.hand ≡ true = (agrees e cpu.0 cpu.1).hands u ∙ ap (is_hand e) at ∙ same_cpu_self e in
           refuted (ap (is_thread u) (empty e cpu.0 cpu.1)) held
-      by_spot IsPending at =
+      by_post IsPending at =
           let none = good.pending (home_of setup u) u [] (quiet.pending (home_of setup u) (homes.1 u live.known)) in
-          let one : one_if (same_cpu (home_of setup u) (home_of setup u) && is_pending (spot setup u (sections_in s.log))) ≡ 1 =
+          let one : one_if (same_cpu (home_of setup u) (home_of setup u) && is_pending (post setup u (sections_in s.log))) ≡ 1 =
           (λ i. one_if (same_cpu_self (home_of setup u) i && is_pending (at i))) in
           absurd (omega (arith, none, one))
 
-  -- whoever has a turn at a buffer is live
-  live_at : (u : Tid) (b : BufId) → names b (turn setup u (sections_in s.log)) ≡ true → (p : Private) × IsLive setup s p u
+  -- whoever has a visit at a buffer is live
+  live_at : (u : Tid) (b : BufId) → names b (visit setup u (sections_in s.log)) ≡ true → (p : Private) × IsLive setup s p u
   live_at u b on =
-      let known = ltb-true u.0 (length setup.homes) (inside_known setup u b (turn setup u (sections_in s.log)) on (kept.placed.callers u)) in
+      let known = ltb-true u.0 (length setup.homes) (inside_known setup u b (visit setup u (sections_in s.log)) on (kept.placed.callers u)) in
       let cpu = cpu_there setup s kept (home_of setup u) (homes.1 u known) in
       let alive : (thread_at cpu.0 u).ended ≡ false =
       false_from_ne_true (thread_at cpu.0 u).ended (λ ended.
-      let out : turn setup u (sections_in s.log) ≡ Outside =
-      (agrees (home_of setup u) cpu.0 cpu.1).calls u (local u known) ∙ ap turn_of_call ((kept.fine (home_of setup u) cpu.0 cpu.1 u).quits ended) in
+      let out : visit setup u (sections_in s.log) ≡ Outside =
+      (agrees (home_of setup u) cpu.0 cpu.1).calls u (local u known) ∙ ap visit_of_call ((kept.fine (home_of setup u) cpu.0 cpu.1 u).quits ended) in
       refuted (ap (names b) out) on) in
       (cpu.0, record { known = known; here = cpu.1; alive = alive })
 
@@ -235,51 +235,51 @@ module _ (setup : Setup) (s : Whole) (homes : HomesExist setup) (kept : Kept set
       by_owner None is = refl
       by_owner (Some t) is = by_sleep (asleep live.0 t live.1)
         where
-          T : Turn
-          T = turn setup t (sections_in s.log)
+          T : Visit
+          T = visit setup t (sections_in s.log)
 
-          pair : Pair b t k (progress setup (AtBuffer b) (sections_in s.log)) (turn setup t (sections_in s.log)) (spot setup t (sections_in s.log))
+          pair : Pair b t k (progress setup (AtBuffer b) (sections_in s.log)) (visit setup t (sections_in s.log)) (post setup t (sections_in s.log))
           pair = good.pairs b t k block
 
-          inside : (names b (turn setup t (sections_in s.log)) ≡ true) × (goes_on (turn setup t (sections_in s.log)) ≡ true)
-          inside = and_parts (names b (turn setup t (sections_in s.log))) (goes_on (turn setup t (sections_in s.log))) (pair.owner is).0
+          inside : (names b (visit setup t (sections_in s.log)) ≡ true) × (goes_on (visit setup t (sections_in s.log)) ≡ true)
+          inside = and_parts (names b (visit setup t (sections_in s.log))) (goes_on (visit setup t (sections_in s.log))) (pair.owner is).0
 
           live : (p : Private) × IsLive setup s p t
           live = live_at t b inside.0
 
-          by_sleep : Asleep (spot setup t (sections_in s.log)) → Some t ≡ None
+          by_sleep : Asleep (post setup t (sections_in s.log)) → Some t ≡ None
           by_sleep (at_wait d side at) =
-              let placed : (d.0 < length setup.caps) × (turn setup t (sections_in s.log) ≡ In d (Waiting side)) =
-              subst (IsPlaced setup (turn setup t (sections_in s.log))) at (kept.placed.spots t) in
+              let placed : (d.0 < length setup.caps) × (visit setup t (sections_in s.log) ≡ In d (Waiting side)) =
+              subst (IsPlaced setup (visit setup t (sections_in s.log))) at (kept.placed.posts t) in
               refuted (ap goes_on placed.1) inside.1
           by_sleep (at_lock d at) =
-              let within : d.0 < length setup.caps = subst (IsPlaced setup (turn setup t (sections_in s.log))) at (kept.placed.spots t) in
+              let within : d.0 < length setup.caps = subst (IsPlaced setup (visit setup t (sections_in s.log))) at (kept.placed.posts t) in
               let there = buffer_there setup d (sections_in s.log) within in
               let starts = (good.pairs d t there.0 there.1).starts (ap (is_lock d) at ∙ buffer_self d) in
-              let named = (and_parts (names d (turn setup t (sections_in s.log))) (starts_here (turn setup t (sections_in s.log))) starts).0 in
-              let same : b ≡ d = same_named b d (turn setup t (sections_in s.log)) inside.0 named in
-              refuted (pair.owner is).2 (subst (λ x. is_lock x (spot setup t (sections_in s.log)) ≡ true) (sym same) (ap (is_lock d) at ∙ buffer_self d))
+              let named = (and_parts (names d (visit setup t (sections_in s.log))) (starts_here (visit setup t (sections_in s.log))) starts).0 in
+              let same : b ≡ d = same_named b d (visit setup t (sections_in s.log)) inside.0 named in
+              refuted (pair.owner is).2 (subst (λ x. is_lock x (post setup t (sections_in s.log)) ≡ true) (sym same) (ap (is_lock d) at ∙ buffer_self d))
 
   no_sleepers : (b : BufId) (k : Buffer) → block_at setup (AtBuffer b) s.log ≡ Some (OfBuffer k) → k.sleepers ≡ []
   no_sleepers b k block = ((buffer_awake setup (sections_in s.log) good.ordered b k block).idle (unowned b k block)).1
 
   -- so a live thread waits at its wait
   waits : (p : Private) (u : Tid) → IsLive setup s p u
-      → (b : BufId) × (side : Side) × (spot setup u (sections_in s.log) ≡ AtWait b side) × (turn setup u (sections_in s.log) ≡ In b (Waiting side))
+      → (b : BufId) × (side : Side) × (post setup u (sections_in s.log) ≡ AtWait b side) × (visit setup u (sections_in s.log) ≡ In b (Waiting side))
   waits p u live = by_sleep (asleep p u live)
     where
-      by_sleep : Asleep (spot setup u (sections_in s.log))
-          → (b : BufId) × (side : Side) × (spot setup u (sections_in s.log) ≡ AtWait b side) × (turn setup u (sections_in s.log) ≡ In b (Waiting side))
+      by_sleep : Asleep (post setup u (sections_in s.log))
+          → (b : BufId) × (side : Side) × (post setup u (sections_in s.log) ≡ AtWait b side) × (visit setup u (sections_in s.log) ≡ In b (Waiting side))
       by_sleep (at_wait b side at) =
-          let placed : (b.0 < length setup.caps) × (turn setup u (sections_in s.log) ≡ In b (Waiting side)) =
-          subst (IsPlaced setup (turn setup u (sections_in s.log))) at (kept.placed.spots u) in
+          let placed : (b.0 < length setup.caps) × (visit setup u (sections_in s.log) ≡ In b (Waiting side)) =
+          subst (IsPlaced setup (visit setup u (sections_in s.log))) at (kept.placed.posts u) in
           (b, side, at, placed.1)
       by_sleep (at_lock b at) =
-          let within : b.0 < length setup.caps = subst (IsPlaced setup (turn setup u (sections_in s.log))) at (kept.placed.spots u) in
+          let within : b.0 < length setup.caps = subst (IsPlaced setup (visit setup u (sections_in s.log))) at (kept.placed.posts u) in
           let there = buffer_there setup b (sections_in s.log) within in
           let counts = (good.pairs b u there.0 there.1).sleepers in
           let none : count_in u there.0.sleepers ≡ 0 = ap (count_in u) (no_sleepers b there.0 there.1) in
-          let one : marked u (is_lock b (spot setup u (sections_in s.log))) ≡ 1 =
+          let one : marked u (is_lock b (post setup u (sections_in s.log))) ≡ 1 =
           (λ i. one_if (small u live.known i && is_lock b (at i))) ∙ ap one_if (buffer_self b) in
           absurd (omega (arith, counts, none, one))
 
@@ -287,18 +287,18 @@ module _ (setup : Setup) (s : Whole) (homes : HomesExist setup) (kept : Kept set
   stuck_call : (p : Private) (u : Tid) → IsLive setup s p u → (call : Call) × ((thread_at p u).call ≡ Some call) × IsStuckCall setup s p u call
   stuck_call p u live = by_call (thread_at p u).call refl
     where
-      wait : (b : BufId) × (side : Side) × (spot setup u (sections_in s.log) ≡ AtWait b side) × (turn setup u (sections_in s.log) ≡ In b (Waiting side))
+      wait : (b : BufId) × (side : Side) × (post setup u (sections_in s.log) ≡ AtWait b side) × (visit setup u (sections_in s.log) ≡ In b (Waiting side))
       wait = waits p u live
 
-      turned : turn setup u (sections_in s.log) ≡ turn_of_call (thread_at p u).call
+      turned : visit setup u (sections_in s.log) ≡ visit_of_call (thread_at p u).call
       turned = (agrees (home_of setup u) p live.here).calls u (local u live.known)
 
       by_call : (o : Option Call) → (thread_at p u).call ≡ o → (call : Call) × ((thread_at p u).call ≡ Some call) × IsStuckCall setup s p u call
-      by_call None is = absurd (cc (sym wait.3 ∙ turned ∙ ap turn_of_call is))
+      by_call None is = absurd (cc (sym wait.3 ∙ turned ∙ ap visit_of_call is))
       by_call (Some call) is =
-          let again = waits_again call wait.0 wait.1 (sym (ap turn_of_call is) ∙ sym turned ∙ wait.3) in
+          let again = waits_again call wait.0 wait.1 (sym (ap visit_of_call is) ∙ sym turned ∙ wait.3) in
           let says = subst (Says _ (thread_at p u).guest) is (kept.fine (home_of setup u) p live.here u).says again.0 in
-          let line : HasLine call.asks = subst (FitsStage call.asks) again.3 says.2 in (
+          let line : HasLine call.asks = subst (FitsGroup call.asks) again.3 says.2 in (
             call,
             is,
             record {
@@ -314,9 +314,9 @@ module _ (setup : Setup) (s : Whole) (homes : HomesExist setup) (kept : Kept set
               → (k : Buffer) (m : Message) (e : Kind) → group_of e ≡ call.asks
               → block_at setup (AtBuffer call.buffer) s.log ≡ Some (OfBuffer k) → Allows k e m → ⊥
           refused call line same_buffer same_side k m e asks block allowed =
-              let mine : turn setup u (sections_in s.log) ≡ In call.buffer (Waiting (side_of call.asks)) =
+              let mine : visit setup u (sections_in s.log) ≡ In call.buffer (Waiting (side_of call.asks)) =
               wait.3 ∙ (λ i. In (sym same_buffer i) (Waiting (sym same_side i))) in
-              let one : marked u (is_lined call.buffer (side_of call.asks) (turn setup u (sections_in s.log))) ≡ 1 =
+              let one : marked u (is_lined call.buffer (side_of call.asks) (visit setup u (sections_in s.log))) ≡ 1 =
               (λ i. one_if (small u live.known i && is_lined call.buffer (side_of call.asks) (mine i)))
               ∙ (λ i. one_if (buffer_self call.buffer i && side_self (side_of call.asks) i)) in
               let counts = line_count call.buffer u k _ _ _ (good.pairs call.buffer u k block) (side_of call.asks) in
@@ -329,17 +329,17 @@ module _ (setup : Setup) (s : Whole) (homes : HomesExist setup) (kept : Kept set
               first_waits call line k m e asks block allowed t front =
                   let pair = good.pairs call.buffer t k block in
                   let some = front_counted t (line_of (side_of call.asks) k) (ap (is_thread t) front ∙ same_tid_self t) in
-                  let lined = (marked_some t (is_lined call.buffer (side_of call.asks) (turn setup t (sections_in s.log)))
+                  let lined = (marked_some t (is_lined call.buffer (side_of call.asks) (visit setup t (sections_in s.log)))
                   (subst (λ n. 0 < n) (line_count call.buffer t k _ _ _ pair (side_of call.asks)) some)).1 in
                   let parts =
-                  and_parts (names call.buffer (turn setup t (sections_in s.log))) (stands (side_of call.asks) (turn setup t (sections_in s.log))) lined in
+                  and_parts (names call.buffer (visit setup t (sections_in s.log))) (stands (side_of call.asks) (visit setup t (sections_in s.log))) lined in
                   let other = live_at t call.buffer parts.0 in
                   let at = waits other.0 t other.1 in
-                  let there : is_wait call.buffer (side_of call.asks) (spot setup t (sections_in s.log)) ≡ true =
+                  let there : is_wait call.buffer (side_of call.asks) (post setup t (sections_in s.log)) ≡ true =
                   ap (is_wait call.buffer (side_of call.asks)) at.2
                   ∙ and_from (is_buffer call.buffer at.0) (is_side (side_of call.asks) at.1)
                   (sym (ap (names call.buffer) at.3) ∙ parts.0) (sym (ap (stands (side_of call.asks)) at.3) ∙ parts.1) in
-                  let one : marked t (is_wait call.buffer (side_of call.asks) (spot setup t (sections_in s.log))) ≡ 1 =
+                  let one : marked t (is_wait call.buffer (side_of call.asks) (post setup t (sections_in s.log))) ≡ 1 =
                   (λ i. one_if (small t other.1.known i && there i)) in
                   let counts = wait_count call.buffer t k _ _ _ pair (side_of call.asks) in
                   let stands_there = counted_in t (waiting_of (side_of call.asks) k) (omega (arith, one, counts)) in

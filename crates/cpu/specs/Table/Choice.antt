@@ -18,7 +18,7 @@ use Rattle.guest.specs.declared.instructions.Instruction.TheVariants.{Set, Add, 
 use Rattle.guest.specs.State.{State, message_from, after_local, after_send, after_recv, after_close, after_closed, after_yield}
 use Rattle.cpu.specs.Table.Blocks.{Name, AcqQ, Enter, TryPut, TryTake, Shut, WaitOn, SigRecv, SigSend, RelQ, Pend, TakeAll, side_of, effect_of}
 use Rattle.cpu.specs.Table.Blocks.{Told, Position, Done, WasClosed, DidShut, NotYet, Drained, Answer}
-use Rattle.cpu.specs.Table.Setups.{Setup, Stage, Acquires, Enters, Tries, Waits, AcquiresAgain, Signals, SignalsOwn, Releases, Returns, Call, Private}
+use Rattle.cpu.specs.Table.Setups.{Setup, CallStage, Acquires, Enters, Tries, Waits, AcquiresAgain, Signals, SignalsOwn, Releases, Returns, Call, Private}
 use Rattle.cpu.specs.Table.Setups.{thread_at, with_thread, home_of, stands_at, home_threads, open_calls, have_ended}
 
 -- The section that is asked.
@@ -55,7 +55,7 @@ first_section t Receives = Enter t Receivers
 first_section t Closes = Shut t
 
 -- the section of a call at each stage; at Returns none is due
-abbrev pub section_at : Tid → Call → Stage → Name
+abbrev pub section_at : Tid → Call → CallStage → Name
 section_at t call Acquires = AcqQ t
 section_at t call Enters = first_section t call.asks
 section_at t call Tries = try_of t call (side_of call.asks)
@@ -155,7 +155,7 @@ abbrev pub entry_of : CpuId → Tid → Call → ℕ → Message → Entry
 entry_of c t call op m = record { cpu = c; thread = t; kind = effect_of call.asks call.closed; buffer = call.buffer; value = m; op = op; pos = call.position }
 
 -- the call goes on to this stage
-abbrev pub goes_to : Private → Tid → Call → Stage → Private
+abbrev pub goes_to : Private → Tid → Call → CallStage → Private
 goes_to p t call stage = with_call p t (Some (record call { stage = stage }))
 
 -- the call has its effect, and its entry is written
@@ -187,7 +187,7 @@ heard_try c p t call NotYet = goes_to p t call Waits
 heard_try c p t call _ = p
 
 -- what the section of a stage told
-abbrev pub heard : CpuId → Private → Tid → Call → Stage → Told → Private
+abbrev pub heard : CpuId → Private → Tid → Call → CallStage → Told → Private
 heard c p t call Acquires told = goes_to p t call Enters
 heard c p t call Enters told = heard_entry c p t call call.asks told
 heard c p t call Tries told = heard_try c p t call told
@@ -223,7 +223,7 @@ abbrev pub returned : Setup → Private → Tid → Call → Private
 returned setup p t call =
     with_thread p t (record (thread_at p t) { guest = guest_after call.asks call.closed (stands_at setup p t) call.message (thread_at p t).guest; call = None })
 
-abbrev pub returned_at : Setup → Private → Tid → Call → Stage → Private
+abbrev pub returned_at : Setup → Private → Tid → Call → CallStage → Private
 returned_at setup p t call Returns = returned setup p t call
 returned_at setup p t call _ = p
 

@@ -24,16 +24,16 @@ pub record Setup : Type 0 where
 
 -- where a call stands: the section that is due to it. One that has been woken asks for the lock again; one at Returns has done its last
 -- section and returns once the thread that this woke is put among its home's pending threads.
-pub data Stage : Type 0 where
-  Acquires : Stage
-  Enters : Stage
-  Tries : Stage
-  Waits : Stage
-  AcquiresAgain : Stage
-  Signals : Stage
-  SignalsOwn : Stage
-  Releases : Stage
-  Returns : Stage
+pub data CallStage : Type 0 where
+  Acquires : CallStage
+  Enters : CallStage
+  Tries : CallStage
+  Waits : CallStage
+  AcquiresAgain : CallStage
+  Signals : CallStage
+  SignalsOwn : CallStage
+  Releases : CallStage
+  Returns : CallStage
 
 -- a call under way: what it asks of which buffer, its message (what it sends, or has received), its position in its line (of a close:
 -- among the closes), the number of its effect once it has come, whether it then found the buffer closed, and its stage
@@ -44,7 +44,7 @@ pub record Call : Type 0 where
   pub position : ℕ
   pub effect : Option ℕ
   pub closed : Bool
-  pub stage : Stage
+  pub stage : CallStage
 
 -- a thread: its line and registers, its call under way, and whether it has ended
 pub record Thread : Type 0 where

@@ -17,7 +17,7 @@ use Rattle.layer_traits.specs.declared.calls.Effect.{Effect}
 use Rattle.layer_traits.specs.declared.calls.Reply.{Reply}
 use Rattle.layer_traits.specs.declared.passes.Pass.{Pass}
 use Rattle.layer_traits.specs.declared.passes.Pass.TheVariants as pass
-use Rattle.layer_traits.specs.declared.talks.Stage.{Stage as TowerStage}
+use Rattle.layer_traits.specs.declared.talks.Stage.{Stage}
 use Rattle.layer_traits.specs.declared.talks.Stage.TheVariants as tower
 use Rattle.layer_traits.specs.declared.talks.Talk.{Talk}
 use Rattle.layer_traits.specs.LockLaw.{slept_for}
@@ -25,11 +25,11 @@ use Rattle.layer_traits.specs.Places.{Threads, is_thread}
 use Rattle.layer_traits.specs.Plans.{Left}
 use Rattle.layer_traits.specs.BufferLaw.{Buffering, begun_at, buffer_of, entry_of, going, talk_of}
 use Rattle.cpu.specs.Guests.{after_answer}
-use Rattle.cpu.specs.Table.Setups.{Setup, Stage, Acquires, Enters, Tries, Waits, AcquiresAgain, Signals}
+use Rattle.cpu.specs.Table.Setups.{Setup, CallStage, Acquires, Enters, Tries, Waits, AcquiresAgain, Signals}
 use Rattle.cpu.specs.Table.Setups.{SignalsOwn, Releases, Returns, Call, Thread, Private, program_of}
 
 -- the stage of a call: one whose caller slept for the lock, or waited, has done that section
-abbrev pub stage_of : TowerStage → (slept waits : Option BufId) → Stage
+abbrev pub stage_of : Stage → (slept waits : Option BufId) → CallStage
 stage_of tower.Between slept waits = Acquires
 stage_of tower.Acquires None waits = Acquires
 stage_of tower.Acquires (Some b) waits = Enters
@@ -44,7 +44,7 @@ stage_of tower.SignalsOwn slept waits = SignalsOwn
 stage_of tower.Releases slept waits = Releases
 
 -- the stage of a call whose section is done and answers once the thread that it woke has left the hand
-abbrev pub kept_stage : TowerStage → Stage
+abbrev pub kept_stage : Stage → CallStage
 kept_stage tower.Between = Acquires
 kept_stage tower.Acquires = Acquires
 kept_stage tower.Enters = Enters
@@ -94,7 +94,7 @@ asks_in (asks.Send b m) = Sends
 asks_in (asks.Recv b) = Receives
 asks_in (asks.Close b) = Closes
 
-abbrev pub call_from : TowerCall → ℕ → Option Effect → Stage → Call
+abbrev pub call_from : TowerCall → ℕ → Option Effect → CallStage → Call
 call_from call position effect stage = record {
   asks = asks_in call;
   buffer = buffer_of call;
@@ -105,7 +105,7 @@ call_from call position effect stage = record {
   stage = stage;
 }
 
-abbrev pub stage_from : TowerStage → (slept waits : Option BufId) → (kept : Bool) → Stage
+abbrev pub stage_from : Stage → (slept waits : Option BufId) → (kept : Bool) → CallStage
 stage_from stage slept waits true = kept_stage stage
 stage_from stage slept waits false = stage_of stage slept waits
 

@@ -37,15 +37,15 @@ sender_sends m =
 abbrev pub receiver_signals_senders : List (Section Name)
 receiver_signals_senders = by 0 (RelQ (thread 0)) ∷ by 0 (SigSend (thread 0)) ∷ by 0 (TryTake (thread 0)) ∷ by 0 (AcqQ (thread 0)) ∷ []
 
-abbrev pub in_turn : List (Section Name) → List (Section Name) → List (Section Name)
-in_turn [] past = past
-in_turn (s ∷ later) past = s ∷ in_turn later past
+abbrev pub in_visit : List (Section Name) → List (Section Name) → List (Section Name)
+in_visit [] past = past
+in_visit (s ∷ later) past = s ∷ in_visit later past
 
 -- two receivers wait, two messages are sent, and the first receiver, the only one that was woken, takes one of them
 abbrev pub one_signal_log : List (Section Name)
 one_signal_log =
-    in_turn receiver_signals_senders
-    (in_turn (sender_sends (8 ∷ [])) (in_turn (sender_sends (7 ∷ [])) (in_turn (receiver_waits 1) (receiver_waits 0))))
+    in_visit receiver_signals_senders
+    (in_visit (sender_sends (8 ∷ [])) (in_visit (sender_sends (7 ∷ [])) (in_visit (receiver_waits 1) (receiver_waits 0))))
 
 -- then a message is left, nobody owns the lock, and the second receiver, the first of its line, sleeps beside it
 abbrev pub OneSignalLosesAWakeUp : Type 0
@@ -62,7 +62,7 @@ receiver_signals_nobody = by 0 (RelQ (thread 0)) ∷ by 0 (TryTake (thread 0)) �
 
 -- two receivers wait, the buffer is closed, and the first receiver, the only one that was woken, answers that
 abbrev pub silent_log : List (Section Name)
-silent_log = in_turn receiver_signals_nobody (in_turn closer_closes (in_turn (receiver_waits 1) (receiver_waits 0)))
+silent_log = in_visit receiver_signals_nobody (in_visit closer_closes (in_visit (receiver_waits 1) (receiver_waits 0)))
 
 -- then nobody owns the lock, and the second receiver, the first of its line, sleeps beside a closed buffer
 abbrev pub SilentAnswerLosesAWakeUp : Type 0

@@ -9,7 +9,7 @@ returns-then-is_some-clause-made g c =
     let L = g.L.LockLayer in
     let polled = c.poll.ensures.seen in
     let answers : is_some c.poll.result ≡ true = cc in
-    let theirs = polled.foreign (L.cpu_of c.loop.part) (g.met.L.LockLayer.own c.loop.part c.loop.machine c.loop.invariant.fits) in
+    let theirs = polled.foreign (L.cpu_of c.loop.part) (g.met.L.LockLayer.own_cpu c.loop.part c.loop.machine c.loop.invariant.fits) in
     let more = poll_answers (section (L.cpu_of c.loop.part) c.args.lock (record {})) polled.others (L.seen c.loop.machine) (L.seen c.poll.new.m)
     (is_some c.poll.result) polled.is theirs answers in
     subst (λ cpu. made cpu c.args.lock (L.seen c.poll.new.m) ≡ made cpu c.args.lock (L.seen c.loop.machine) + 1) c.loop.invariant.cpu more
@@ -20,7 +20,7 @@ loop-preserved g c =
     let L = g.L.LockLayer in
     let polled = c.poll.ensures.seen in
     let waits : is_some c.poll.result ≡ false = cc in
-    let theirs = polled.foreign (L.cpu_of c.loop.part) (g.met.L.LockLayer.own c.loop.part c.loop.machine c.loop.invariant.fits) in
+    let theirs = polled.foreign (L.cpu_of c.loop.part) (g.met.L.LockLayer.own_cpu c.loop.part c.loop.machine c.loop.invariant.fits) in
     let same = poll_waits (section (L.cpu_of c.loop.part) c.args.lock (record {})) polled.others (L.seen c.loop.machine) (L.seen c.poll.new.m)
     (is_some c.poll.result) polled.is theirs waits in
     record {

@@ -1,4 +1,4 @@
-use Rattle.plain_layers.proofs.CondTurnLemmas.{fresh_ended}
+use Rattle.plain_layers.proofs.CondPaceLemmas.{fresh_ended}
 use Rattle.std.proofs.Common.{[], ◌∷◌}
 use Rattle.plain_layers.proofs.cond_tests.part.Goals as goal
 

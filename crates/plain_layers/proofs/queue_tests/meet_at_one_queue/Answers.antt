@@ -7,8 +7,8 @@ use Rattle.layer_traits.specs.QueueBlocks.{homes_in, inner}
 use Rattle.layer_traits.specs.Queues.{event}
 use Rattle.plain_layers.specs.declared.sched_tests.Nap.{Nap}
 use Rattle.plain_layers.specs.Naps.{bed, nap_moves, nap_rules}
-use Rattle.plain_layers.specs.QueueTurns.{buffer_zero, cpu_one, cpu_zero, thread_one, thread_zero}
-use Rattle.plain_layers.proofs.QueueTurnLemmas.{Meeting, after_sleep, after_wake, callable_at, may_push, may_sleep, may_wake}
+use Rattle.plain_layers.specs.QueuePaces.{buffer_zero, cpu_one, cpu_zero, thread_one, thread_zero}
+use Rattle.plain_layers.proofs.QueuePaceLemmas.{Meeting, after_sleep, after_wake, callable_at, may_push, may_sleep, may_wake}
 use Rattle.plain_layers.proofs.queue_tests.meet_at_one_queue.Goals as goal
 
 abbrev wakes : Nap → Bool

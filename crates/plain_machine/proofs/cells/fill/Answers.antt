@@ -9,7 +9,7 @@ use Rattle.plain_machine.proofs.cells.fill.Goals as goal
 pub loop-lock-preserved : goal.loop-lock-preserved
 loop-lock-preserved g c =
     let so_far = c.loop-lock.invariant in
-    let IsNew = g.K.TurnWords.Fit 0 0 in
+    let IsNew = g.K.LineWords.Fit 0 0 in
     let o : LockId × g.row.B.Denot = (c.in-Some.lock, c.in-Some.block) in
     let rest = c.next.new.self.rest.items in
     let cells = c.loop-lock.cells.items in

@@ -12,7 +12,7 @@ returns-clause-acts g c =
     let said = c.poll.ensures in
     (acts_alone (L.ActsFor m) (table_of g.E.Edit.rules) (L.opening m) cpu c.args.lock c.args.edit answered (L.acts m) (L.acts n) (answered c.poll.result)
     c.requires.all
-    (g.met.L.LockLayer.legal n cpu (said.acts cpu (g.met.L.LockLayer.own c.args.part.now m c.requires.fits))) (said.follows c.requires.stepwise)).0
+    (g.met.L.LockLayer.legal n cpu (said.acts cpu (g.met.L.LockLayer.own_cpu c.args.part.now m c.requires.fits))) (said.follows c.requires.stepwise)).0
 
 pub returns-clause-answer : goal.returns-clause-answer
 returns-clause-answer g c =
@@ -23,4 +23,4 @@ returns-clause-answer g c =
     let said = c.poll.ensures in
     ap (λ left. left.answer) (acts_alone (L.ActsFor m) (table_of g.E.Edit.rules) (L.opening m) cpu c.args.lock c.args.edit answered (L.acts m) (L.acts n)
     (answered c.poll.result) c.requires.all
-    (g.met.L.LockLayer.legal n cpu (said.acts cpu (g.met.L.LockLayer.own c.args.part.now m c.requires.fits))) (said.follows c.requires.stepwise)).1
+    (g.met.L.LockLayer.legal n cpu (said.acts cpu (g.met.L.LockLayer.own_cpu c.args.part.now m c.requires.fits))) (said.follows c.requires.stepwise)).1

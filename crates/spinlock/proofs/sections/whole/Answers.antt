@@ -17,7 +17,7 @@ unwrap-requires g c =
     let did = three_polls (table_of rules) c.args.lock c.args.edit (L.opening m) (L.opening one.new.m) (L.opening two.new.m) cpu (L.cpu_of one.new.part)
     (L.cpu_of two.new.part)
     (L.acts m) (L.acts one.new.m) (L.acts two.new.m) (L.acts three.new.m) three.result c.requires.rests
-    (g.met.L.LockLayer.legal m cpu (g.met.L.LockLayer.own part m c.requires.fits))
+    (g.met.L.LockLayer.legal m cpu (g.met.L.LockLayer.own_cpu part m c.requires.fits))
     one.ensures.cpu two.ensures.cpu one.ensures.opening two.ensures.opening one.ensures.acts two.ensures.acts three.ensures.acts three.ensures.answer in
     subst (λ o. IsSome o) (sym did.answers)
     (answer_there (rules.answer c.args.edit) (block_after rules.edited (L.opening m) c.args.lock (sections_in (L.acts m)))

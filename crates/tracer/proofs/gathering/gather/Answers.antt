@@ -25,7 +25,7 @@ first c = subst (λ taken. NoneDueBelow (traces_in c.args.traces.now) taken c.lo
 
 within : (c : In-Some-first_ready) → c.in-Some-first_ready.trace < length c.loop-trace.taken.items
 within c = next_within (traces_in c.args.traces.now) c.loop-trace.taken.items c.in-Some-first_ready.trace c.in-Some-first_ready.entry
-    c.loop-trace.invariant.0.places (found c)
+    c.loop-trace.invariant.0.slots (found c)
 
 some : (c : In-Some-first_ready) → length c.loop-trace.order.items < c.in-Some.total
 some c = some_left (traces_in c.args.traces.now) c.in-Some.total c.loop-trace.taken.items c.loop-trace.counts c.loop-trace.order.items
@@ -62,9 +62,9 @@ loop-trace-preserved c =
     let here = (goal.at.loop-trace-preserved c).In-Some-first_ready in (
       gathers_next (traces_in c.args.traces.now) c.in-Some.total c.loop-trace.taken.items c.loop-trace.counts c.loop-trace.order.items
           c.in-Some-first_ready.trace c.in-Some-first_ready.entry
-          c.index_mut.result.now c.place_of.result c.push.new.self.items
-          c.loop-trace.invariant.0 c.place_of.ensures.within (found here) c.in-Some-first_ready.ensures.due (first here)
-          (was here c.index_mut.result.now c.index_mut.ensures.value) c.place_of.ensures.is (rw c.unwrap.ensures at c.push.ensures.items),
+          c.index_mut.result.now c.slot_of.result c.push.new.self.items
+          c.loop-trace.invariant.0 c.slot_of.ensures.within (found here) c.in-Some-first_ready.ensures.due (first here)
+          (was here c.index_mut.result.now c.index_mut.ensures.value) c.slot_of.ensures.is (rw c.unwrap.ensures at c.push.ensures.items),
       omega (arith, c.loop-trace.invariant.1, c.push.ensures.capacity),
     )
 

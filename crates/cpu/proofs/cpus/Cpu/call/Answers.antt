@@ -10,7 +10,7 @@ use Rattle.cpu.proofs.Steps.{PolledCpu, noted_call, poll_buffer, poll_number, po
 use Rattle.layer_traits.specs.QueueBlocks.{homes_in}
 use Rattle.cpu.proofs.TableCalls.{ToldPoll, call_steps, call_tabled, hand_kept}
 use Rattle.cpu.proofs.CpuStates.{valid_cpu}
-use Rattle.cpu.proofs.Layered.{acts_for, laws_of, layered, runs_home, told_cpu, told_turn}
+use Rattle.cpu.proofs.Layered.{acts_for, laws_of, layered, runs_home, told_cpu, told_outset}
 use Rattle.cpu.proofs.cpus.Cpu.call.Given.{Over}
 use Rattle.cpu.proofs.cpus.Cpu.call.Goals as goal
 
@@ -158,9 +158,9 @@ pub returns-clause-table : goal.returns-clause-table
 returns-clause-table g c = λ step.
     let cpu = layered (laws_of g.met.I.IpcLayer) c.args.m.now c.args.self.now c.requires.fits c.requires.number c.requires.is c.requires.table in
     rw (c.poll-answer.ensures.homes, c.poll-answer.ensures.caps, c.poll-answer.ensures.opening)
-    (call_tabled (told_cpu cpu step) _ _ (told_turn cpu step) c.args.thread c.args.call c.requires.chosen c.requires.live (told_poll g c step))
+    (call_tabled (told_cpu cpu step) _ _ (told_outset cpu step) c.args.thread c.args.call c.requires.chosen c.requires.live (told_poll g c step))
 
 pub returns-clause-steps : goal.returns-clause-steps
 returns-clause-steps g c = λ step.
     let cpu = layered (laws_of g.met.I.IpcLayer) c.args.m.now c.args.self.now c.requires.fits c.requires.number c.requires.is c.requires.table in
-    call_steps (told_cpu cpu step) _ _ (told_turn cpu step) c.args.thread c.args.call c.requires.chosen c.requires.live (told_poll g c step)
+    call_steps (told_cpu cpu step) _ _ (told_outset cpu step) c.args.thread c.args.call c.requires.chosen c.requires.live (told_poll g c step)

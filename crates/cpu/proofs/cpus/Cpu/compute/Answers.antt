@@ -7,7 +7,7 @@ use Rattle.layer_traits.specs.declared.steps.Step.TheVariants.{Stepped}
 use Rattle.cpu.specs.Tables.{IsTabled, WentByTable}
 use Rattle.cpu.proofs.TableCalls.{computed_steps, computed_tabled}
 use Rattle.cpu.proofs.CpuStates.{valid_cpu}
-use Rattle.cpu.proofs.Layered.{laws_of, layered, told_cpu, told_turn, left_alone}
+use Rattle.cpu.proofs.Layered.{laws_of, layered, told_cpu, told_outset, left_alone}
 use Rattle.cpu.proofs.cpus.Cpu.compute.Goals as goal
 
 pub returns-clause-is : goal.returns-clause-is
@@ -42,4 +42,4 @@ returns-clause-steps g c = λ step.
     let cpu = layered (laws_of g.met.I.IpcLayer) m p c.requires.fits c.requires.number c.requires.is c.requires.table in
     subst (λ (l : List (Option Guest)). WentByTable (λ d. I.ActsFor m d) (I.homes_of m) (I.caps m) p.number p.limit (I.own p.part) (I.own p.part)
     p.guests.items l p.trace.items p.trace.items (I.acts m) (I.acts m) Stepped) (sym c.note_compute.ensures)
-    (computed_steps (told_cpu cpu step) _ _ (told_turn cpu step) c.args.thread c.requires.chosen c.requires.live)
+    (computed_steps (told_cpu cpu step) _ _ (told_outset cpu step) c.args.thread c.requires.chosen c.requires.live)

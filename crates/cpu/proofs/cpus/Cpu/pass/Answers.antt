@@ -10,7 +10,7 @@ use Rattle.layer_traits.specs.QueueBlocks.{homes_in}
 use Rattle.layer_traits.specs.BufferLaw.{MovesGrow}
 use Rattle.cpu.proofs.TableCalls.{ToldPass, hand_kept, passed_steps, passed_tabled}
 use Rattle.cpu.proofs.CpuStates.{valid_cpu}
-use Rattle.cpu.proofs.Layered.{acts_for, laws_of, layered, runs_home, told_cpu, told_turn}
+use Rattle.cpu.proofs.Layered.{acts_for, laws_of, layered, runs_home, told_cpu, told_outset}
 use Rattle.cpu.proofs.cpus.Cpu.pass.Given.{Over}
 use Rattle.cpu.proofs.cpus.Cpu.pass.Goals as goal
 
@@ -146,14 +146,14 @@ returns-then-is_some-clause-table g c = λ step.
     let p = c.args.self.now in
     let cpu = layered (laws_of g.met.I.IpcLayer) m p c.requires.fits c.requires.number c.requires.is c.requires.table in
     rw (c.pass-done.ensures.homes, c.pass-done.ensures.caps, c.pass-done.ensures.opening)
-    (passed_tabled (told_cpu cpu step) _ _ (told_turn cpu step) c.args.pass c.requires.chosen c.requires.live (done_told g c step))
+    (passed_tabled (told_cpu cpu step) _ _ (told_outset cpu step) c.args.pass c.requires.chosen c.requires.live (done_told g c step))
 
 pub returns-then-is_some-clause-steps : goal.returns-then-is_some-clause-steps
 returns-then-is_some-clause-steps g c = λ step.
     let m = c.args.m.now in
     let p = c.args.self.now in
     let cpu = layered (laws_of g.met.I.IpcLayer) m p c.requires.fits c.requires.number c.requires.is c.requires.table in
-    passed_steps (told_cpu cpu step) _ _ (told_turn cpu step) c.args.pass c.requires.chosen c.requires.live (done_told g c step)
+    passed_steps (told_cpu cpu step) _ _ (told_outset cpu step) c.args.pass c.requires.chosen c.requires.live (done_told g c step)
 
 -- and what one leaves that did not
 abbrev wait_told : (g : Over) (c : goal.Else-is_some g) (step : g.I.IpcLayer.IsStepwise)
@@ -193,11 +193,11 @@ returns-else-is_some-clause-table g c = λ step.
     let p = c.args.self.now in
     let cpu = layered (laws_of g.met.I.IpcLayer) m p c.requires.fits c.requires.number c.requires.is c.requires.table in
     rw (c.pass-done.ensures.homes, c.pass-done.ensures.caps, c.pass-done.ensures.opening)
-    (passed_tabled (told_cpu cpu step) _ _ (told_turn cpu step) c.args.pass c.requires.chosen c.requires.live (wait_told g c step))
+    (passed_tabled (told_cpu cpu step) _ _ (told_outset cpu step) c.args.pass c.requires.chosen c.requires.live (wait_told g c step))
 
 pub returns-else-is_some-clause-steps : goal.returns-else-is_some-clause-steps
 returns-else-is_some-clause-steps g c = λ step.
     let m = c.args.m.now in
     let p = c.args.self.now in
     let cpu = layered (laws_of g.met.I.IpcLayer) m p c.requires.fits c.requires.number c.requires.is c.requires.table in
-    passed_steps (told_cpu cpu step) _ _ (told_turn cpu step) c.args.pass c.requires.chosen c.requires.live (wait_told g c step)
+    passed_steps (told_cpu cpu step) _ _ (told_outset cpu step) c.args.pass c.requires.chosen c.requires.live (wait_told g c step)

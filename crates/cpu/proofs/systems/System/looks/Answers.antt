@@ -9,7 +9,7 @@ use Rattle.cpu.specs.declared.cpus.Cpu.{Cpu}
 use Rattle.cpu.specs.Table.Steps.{cpu_step}
 use Rattle.cpu.specs.Tower.Composed.{named}
 use Rattle.cpu.specs.Sound.{IsReachedByTable}
-use Rattle.cpu.proofs.Sounding.{Turn, new_of, old_of, reached_on, same_plan, went_so}
+use Rattle.cpu.proofs.Sounding.{Change, new_of, old_of, reached_on, same_plan, went_so}
 use Rattle.cpu.proofs.TableSystems.{shown_step}
 use Rattle.cpu.specs.Claims.{Shown}
 use Rattle.cpu.specs.Systems.{reason_of}
@@ -79,7 +79,7 @@ invariant_of-self-2 g c =
     subst (λ (j : ℕ). slice_get (map shown items) j ≡ Some (shown x)) c.from.ensures (shows_at shown items k x at) in
     let within : c.args.cpu.0 < length (map shown items) = slice_get_within (map shown items) c.args.cpu.0 (shown x) there in
     let told = told_by I g.I.Owned.owner in
-    let turn : Turn (Cpu g.row.I.Denot g.row.I-Machine.Denot) = record {
+    let one : Change (Cpu g.row.I.Denot g.row.I-Machine.Denot) = record {
       shown = shown;
       before = told m;
       after = told c.look.new.m;
@@ -93,10 +93,10 @@ invariant_of-self-2 g c =
       at = at;
       same = c.from.ensures;
     } in
-    let reached : I.IsStepwise → IsReachedByTable (new_of turn) = λ step.
+    let reached : I.IsStepwise → IsReachedByTable (new_of one) = λ step.
     let legal = g.met.I.IpcLayer.legal c.look.new.m (I.cpu_of y.part) (g.met.I.IpcLayer.own_cpu y.part c.look.new.m e.fits) in
-    reached_on c.args.cpu (old_of turn) (new_of turn) Stepped within (same_plan turn left.caps left.homes left.programs left.limit)
-    (went_so turn (λ d. I.ActsFor m d) (λ setup of.
+    reached_on c.args.cpu (old_of one) (new_of one) Stepped within (same_plan one left.caps left.homes left.programs left.limit)
+    (went_so one (λ d. I.ActsFor m d) (λ setup of.
     subst (λ (d : CpuId). IsStep (λ a. I.ActsFor m a) (cpu_step setup d) (shown x).private (shown y).private (named (I.acts m)) (named (I.acts
     c.look.new.m)) Stepped) number
     (e.steps step (search rules) setup of)) is.acts_for legal c.if-self.false) (is.sound.1 step) in

@@ -1,7 +1,7 @@
 use Rattle.std.proofs.Common.{◌++◌, is_some}
 use Rattle.layer_traits.specs.QueueBlocks.{homes_in}
 use Rattle.layer_traits.specs.SleepLaw.{done_if}
-use Rattle.fifo_buffer.specs.Turns.{BufferOutcome}
+use Rattle.fifo_buffer.specs.Paces.{BufferOutcome}
 use Rattle.fifo_buffer.proofs.Passes.{lawful_before, part_passed, pass_done, pass_events, pass_grown, pass_moved, pass_seen, passed_own}
 use Rattle.fifo_buffer.proofs.fifo.FifoBufferLayer.pass.Goals as goal
 

@@ -13,36 +13,36 @@ use Rattle.layer_traits.specs.QueueBlocks.{homes_in, inner}
 use Rattle.layer_traits.specs.Queues.{buffer_sections}
 use Rattle.thread_blocks.specs.Queues.{same_tid}
 use Rattle.fifo_buffer.specs.Stances.{called_at}
-use Rattle.fifo_buffer.specs.Turns.{MayTurn, Turned, is_at_once}
+use Rattle.fifo_buffer.specs.Paces.{MayPace, Paced, is_at_once}
 use Rattle.fifo_buffer.proofs.Chains.{follows_for, one_follows, two_follows}
 use Rattle.fifo_buffer.proofs.Finish.{called_by, finish, others_after}
 use Rattle.fifo_buffer.proofs.First.{first_may, goes_called}
 use Rattle.fifo_buffer.proofs.Heard.{runs_home}
 use Rattle.fifo_buffer.specs.OwnedLaws.{block_there}
 use Rattle.fifo_buffer.proofs.Parts.{moves_grown, other_part}
-use Rattle.fifo_buffer.proofs.TurnTaken.{taken}
+use Rattle.fifo_buffer.proofs.PaceTaken.{taken}
 use Rattle.fifo_buffer.proofs.Twice.{apart_talk, ended_of, next_going, told_as, exit_free, marks_of, doing_by}
 use Rattle.fifo_buffer.proofs.Twice.{later_call, later_effect, next_may, other_talk, runs_by, sizes_of, why, why_slept}
 use Rattle.fifo_buffer.proofs.fifo.FifoBufferLayer.poll.Goals as goal
 
 pub returns-clause-acts : goal.returns-clause-acts
 returns-clause-acts g c d both =
-    (c.turn-done.ensures.acts d both.0, rw c.turn-done.ensures.opening both.1)
+    (c.pace-done.ensures.acts d both.0, rw c.pace-done.ensures.opening both.1)
 
 pub returns-then-at_once-clause-acts : goal.returns-then-at_once-clause-acts
 returns-then-at_once-clause-acts g c d both =
-    (c.turn-last.ensures.acts d (c.turn-done.ensures.acts d both.0), rw (c.turn-last.ensures.opening, c.turn-done.ensures.opening) both.1)
+    (c.pace-last.ensures.acts d (c.pace-done.ensures.acts d both.0), rw (c.pace-last.ensures.opening, c.pace-done.ensures.opening) both.1)
 
-pub turn-done-requires-clause-buffer : goal.turn-done-requires-clause-buffer
-turn-done-requires-clause-buffer g c =
+pub pace-done-requires-clause-buffer : goal.pace-done-requires-clause-buffer
+pace-done-requires-clause-buffer g c =
     block_there (g.C.CvLayer.opening c.args.m.now) c.requires.fits.1.boots (buffer_of c.args.call.now) c.requires.buffer
 
-pub turn-last-requires-clause-buffer : goal.turn-last-requires-clause-buffer
-turn-last-requires-clause-buffer g c =
-    rw c.turn-done.ensures.opening (block_there (g.C.CvLayer.opening c.args.m.now) c.requires.fits.1.boots (buffer_of c.args.call.now) c.requires.buffer)
+pub pace-last-requires-clause-buffer : goal.pace-last-requires-clause-buffer
+pace-last-requires-clause-buffer g c =
+    rw c.pace-done.ensures.opening (block_there (g.C.CvLayer.opening c.args.m.now) c.requires.fits.1.boots (buffer_of c.args.call.now) c.requires.buffer)
 
-pub turn-done-requires-clause-may : goal.turn-done-requires-clause-may
-turn-done-requires-clause-may g c =
+pub pace-done-requires-clause-may : goal.pace-done-requires-clause-may
+pace-done-requires-clause-may g c =
     let C = g.C.CvLayer in
     let law = g.met.C.CvLayer in
     let m = c.args.m.now in
@@ -62,8 +62,8 @@ turn-done-requires-clause-may g c =
     let may = first.0 in
     may
 
-pub turn-last-requires-clause-may : goal.turn-last-requires-clause-may
-turn-last-requires-clause-may g c =
+pub pace-last-requires-clause-may : goal.pace-last-requires-clause-may
+pace-last-requires-clause-may g c =
     let C = g.C.CvLayer in
     let law = g.met.C.CvLayer in
     let m = c.args.m.now in
@@ -81,34 +81,34 @@ turn-last-requires-clause-may g c =
     let first = first_may homes cpu O (buffer_sections (C.seen m)) own talks (C.under_way p.lower) p.calling t call home c.requires.fits.1.calls
     c.requires.runs c.requires.hand c.requires.same c.requires.goes_on in
     let may = first.0 in
-    let one = c.turn-done in
+    let one = c.pace-done in
     let m1 = one.new.m in
     let own1 = C.own one.new.self.lower in
     let under1 = C.under_way one.new.self.lower in
     let talks1 = one.new.self.talks.talks in
     let later1 = talk_of talks1 t in
-    let turn1 = taken one.ensures.turned in
+    let pace1 = taken one.ensures.paced in
     let at_once = (ap (λ (s : Stage). is_at_once s c.at_once.result) (sym c.next_stage-stage.ensures) ∙ sym c.answers_at_once-at_once.ensures)
     ∙ c.if-at_once.true in
-    let next_is : going later1 call ≡ later1 = next_going turn1 c.at_once.result c.if-done.true at_once may.called in
+    let next_is : going later1 call ≡ later1 = next_going pace1 c.at_once.result c.if-done.true at_once may.called in
     rw one.ensures.opening
-    (subst (λ (x : Talk). MayTurn O (buffer_sections (C.seen m1)) t call x own1 under1) (sym next_is)
-    (next_may turn1 c.at_once.result c.if-done.true at_once may.called))
+    (subst (λ (x : Talk). MayPace O (buffer_sections (C.seen m1)) t call x own1 under1) (sym next_is)
+    (next_may pace1 c.at_once.result c.if-done.true at_once may.called))
 
 pub returns-clause-runs : goal.returns-clause-runs
 returns-clause-runs g c =
-    let one = c.turn-done in
-    let turn1 = taken one.ensures.turned in
-    rw c.told-2.ensures.lower (runs_by turn1 c.told-2.result
-    (told_as turn1 c.next_stage-stage.result c.next_stage-stage.ensures c.told-2.result c.told-2.ensures.answer))
+    let one = c.pace-done in
+    let pace1 = taken one.ensures.paced in
+    rw c.told-2.ensures.lower (runs_by pace1 c.told-2.result
+    (told_as pace1 c.next_stage-stage.result c.next_stage-stage.ensures c.told-2.result c.told-2.ensures.answer))
 
 pub returns-clause-doing : goal.returns-clause-doing
 returns-clause-doing g c =
-    let one = c.turn-done in
-    let turn1 = taken one.ensures.turned in
+    let one = c.pace-done in
+    let pace1 = taken one.ensures.paced in
     rw (c.told-2.ensures.calling, c.told-2.ensures.lower)
-    (doing_by turn1 c.told-2.result
-    (told_as turn1 c.next_stage-stage.result c.next_stage-stage.ensures c.told-2.result c.told-2.ensures.answer))
+    (doing_by pace1 c.told-2.result
+    (told_as pace1 c.next_stage-stage.result c.next_stage-stage.ensures c.told-2.result c.told-2.ensures.answer))
 
 pub returns-clause-moves : goal.returns-clause-moves
 returns-clause-moves g c =
@@ -116,12 +116,12 @@ returns-clause-moves g c =
     let m = c.args.m.now in
     let p = c.args.self.now in
     let cpu = C.cpu_of p.lower in
-    let one = c.turn-done in
+    let one = c.pace-done in
     let m1 = one.new.m in
     let Acts0 : CpuId → Type 0 = λ d. C.ActsFor m d in
-    let turned1 = one.ensures.turned in
-    rw one.ensures.opening (moves_grown (C.opening m) Acts0 _ cpu turned1.mine turned1.others (C.seen m) (C.seen m1)
-    (λ d both. both.0) turned1.foreign turned1.own_events turned1.is)
+    let paced1 = one.ensures.paced in
+    rw one.ensures.opening (moves_grown (C.opening m) Acts0 _ cpu paced1.mine paced1.others (C.seen m) (C.seen m1)
+    (λ d both. both.0) paced1.foreign paced1.own_events paced1.is)
 
 pub returns-clause-fits : goal.returns-clause-fits
 returns-clause-fits g c =
@@ -142,22 +142,22 @@ returns-clause-fits g c =
     let first = first_may homes cpu O (buffer_sections (C.seen m)) own talks (C.under_way p.lower) p.calling t call home c.requires.fits.1.calls
     c.requires.runs c.requires.hand c.requires.same c.requires.goes_on in
     let may = first.0 in
-    let one = c.turn-done in
+    let one = c.pace-done in
     let talks1 = one.new.self.talks.talks in
     let later1 = talk_of talks1 t in
-    let turn1 = taken one.ensures.turned in
+    let pace1 = taken one.ensures.paced in
     let same1 : (u : Tid) → same_tid t u ≡ false → talk_of talks1 u ≡ talk_of talks u = λ u other. other_talk talks talks1 t u later1 one.ensures.talks other in
-    let sizes1 = sizes_of turn1 talks talks1 one.ensures.talks c.requires.fits.1.sizes in
-    let others1 = others_after turn1 home may.called talks talks1 refl same1 first.1 in (
+    let sizes1 = sizes_of pace1 talks talks1 one.ensures.talks c.requires.fits.1.sizes in
+    let others1 = others_after pace1 home may.called talks talks1 refl same1 first.1 in (
       rw c.told-2.ensures.lower one.ensures.fits,
       rw (c.told-2.ensures.lower, c.told-2.ensures.talks, c.told-2.ensures.calling, one.ensures.opening, one.ensures.cpu)
           (record {
             boots = c.requires.fits.1.boots;
             sizes = sizes1;
             calls =
-                finish turn1 home may.called talks
+                finish pace1 home may.called talks
                 talks1 refl same1 first.1
-                c.told-2.result (told_as turn1
+                c.told-2.result (told_as pace1
                 c.next_stage-stage.result c.next_stage-stage.ensures c.told-2.result c.told-2.ensures.answer);
           }),
     )
@@ -182,17 +182,17 @@ returns-clause-called g c =
     c.requires.runs c.requires.hand c.requires.same c.requires.goes_on in
     let talk = going (talk_of talks t) call in
     let may = first.0 in
-    let one = c.turn-done in
+    let one = c.pace-done in
     let talks1 = one.new.self.talks.talks in
     let later1 = talk_of talks1 t in
-    let turn1 = taken one.ensures.turned in
+    let pace1 = taken one.ensures.paced in
     let same1 : (u : Tid) → same_tid t u ≡ false → talk_of talks1 u ≡ talk_of talks u = λ u other. other_talk talks talks1 t u later1 one.ensures.talks other in
     rw (one.ensures.opening, c.told-2.ensures.talks)
-    (called_by turn1 home may.called talks talks1 refl
+    (called_by pace1 home may.called talks talks1 refl
     same1 _ (λ d both. both.0) talks
     refl (λ u other. apart_talk talks talks1 t u later1 one.ensures.talks other)
     (goes_called O (buffer_sections (C.seen m)) t call talk own (C.under_way p.lower) may.goes) c.told-2.result
-    (told_as turn1 c.next_stage-stage.result c.next_stage-stage.ensures c.told-2.result c.told-2.ensures.answer))
+    (told_as pace1 c.next_stage-stage.result c.next_stage-stage.ensures c.told-2.result c.told-2.ensures.answer))
 
 pub returns-clause-others : goal.returns-clause-others
 returns-clause-others g c q other fits =
@@ -202,14 +202,14 @@ returns-clause-others g c q other fits =
     let p = c.args.self.now in
     let cpu = C.cpu_of p.lower in
     let acts = law.own_cpu p.lower m c.requires.fits.0 in
-    let one = c.turn-done in
+    let one = c.pace-done in
     let m1 = one.new.m in
-    let turned1 = one.ensures.turned in
+    let paced1 = one.ensures.paced in
     let lawful = rw one.ensures.opening at (law.lawful m1 cpu (one.ensures.acts cpu acts)) in (
       one.ensures.others q.lower other fits.0,
       rw one.ensures.opening
-          (other_part (C.opening m) cpu (C.cpu_of q.lower) other turned1.mine turned1.others (C.seen m) (C.seen m1) turned1.own_events
-          (turned1.foreign (C.cpu_of q.lower) (law.own_cpu q.lower m fits.0)) turned1.is lawful (C.own q.lower) q.talks.talks
+          (other_part (C.opening m) cpu (C.cpu_of q.lower) other paced1.mine paced1.others (C.seen m) (C.seen m1) paced1.own_events
+          (paced1.foreign (C.cpu_of q.lower) (law.own_cpu q.lower m fits.0)) paced1.is lawful (C.own q.lower) q.talks.talks
           (C.under_way q.lower) q.calling fits.1),
     )
 
@@ -232,37 +232,37 @@ returns-then-at_once-clause-room g c =
     let first = first_may homes cpu O (buffer_sections (C.seen m)) own talks (C.under_way p.lower) p.calling t call home c.requires.fits.1.calls
     c.requires.runs c.requires.hand c.requires.same c.requires.goes_on in
     let may = first.0 in
-    let one = c.turn-done in
+    let one = c.pace-done in
     let m1 = one.new.m in
-    let turn1 = taken one.ensures.turned in
+    let pace1 = taken one.ensures.paced in
     let at_once = (ap (λ (s : Stage). is_at_once s c.at_once.result) (sym c.next_stage-stage.ensures) ∙ sym c.answers_at_once-at_once.ensures)
     ∙ c.if-at_once.true in
-    let two = c.turn-last in
+    let two = c.pace-last in
     let m2 = two.new.m in
-    let sm : m1 ≡ m = elim (why turn1 c.at_once.result c.if-done.true at_once may.called c.requires.runs c.at_once.ensures)
+    let sm : m1 ≡ m = elim (why pace1 c.at_once.result c.if-done.true at_once may.called c.requires.runs c.at_once.ensures)
     [ inl some ↦ one.ensures.woken some | inr some ↦ one.ensures.handed some ] in
     subst (λ x. C.room x ≤ C.room m2 + 1) sm two.ensures.room
 
 pub returns-then-at_once-clause-runs : goal.returns-then-at_once-clause-runs
 returns-then-at_once-clause-runs g c =
-    let one = c.turn-done in
-    let turned1 = one.ensures.turned in
-    let two = c.turn-last in
-    let turned2 = rw (one.ensures.opening, one.ensures.cpu) at two.ensures.turned in
-    let turn2 = taken turned2 in
-    let run = runs_by turn2 c.told.result
-    (told_as turn2 c.next_stage-next.result c.next_stage-next.ensures c.told.result c.told.ensures.answer) in
-    rw c.told.ensures.lower (record { current = run.current; hand = run.hand; ended = run.ended ∙ turned1.ended })
+    let one = c.pace-done in
+    let paced1 = one.ensures.paced in
+    let two = c.pace-last in
+    let paced2 = rw (one.ensures.opening, one.ensures.cpu) at two.ensures.paced in
+    let pace2 = taken paced2 in
+    let run = runs_by pace2 c.told.result
+    (told_as pace2 c.next_stage-next.result c.next_stage-next.ensures c.told.result c.told.ensures.answer) in
+    rw c.told.ensures.lower (record { current = run.current; hand = run.hand; ended = run.ended ∙ paced1.ended })
 
 pub returns-then-at_once-clause-doing : goal.returns-then-at_once-clause-doing
 returns-then-at_once-clause-doing g c =
-    let one = c.turn-done in
-    let two = c.turn-last in
-    let turned2 = rw (one.ensures.opening, one.ensures.cpu) at two.ensures.turned in
-    let turn2 = taken turned2 in
+    let one = c.pace-done in
+    let two = c.pace-last in
+    let paced2 = rw (one.ensures.opening, one.ensures.cpu) at two.ensures.paced in
+    let pace2 = taken paced2 in
     rw (c.told.ensures.calling, c.told.ensures.lower)
-    (doing_by turn2 c.told.result
-    (told_as turn2 c.next_stage-next.result c.next_stage-next.ensures c.told.result c.told.ensures.answer))
+    (doing_by pace2 c.told.result
+    (told_as pace2 c.next_stage-next.result c.next_stage-next.ensures c.told.result c.told.ensures.answer))
 
 pub returns-then-at_once-clause-moves : goal.returns-then-at_once-clause-moves
 returns-then-at_once-clause-moves g c =
@@ -283,21 +283,21 @@ returns-then-at_once-clause-moves g c =
     let first = first_may homes cpu O (buffer_sections (C.seen m)) own talks (C.under_way p.lower) p.calling t call home c.requires.fits.1.calls
     c.requires.runs c.requires.hand c.requires.same c.requires.goes_on in
     let may = first.0 in
-    let one = c.turn-done in
+    let one = c.pace-done in
     let m1 = one.new.m in
-    let turn1 = taken one.ensures.turned in
+    let pace1 = taken one.ensures.paced in
     let at_once = (ap (λ (s : Stage). is_at_once s c.at_once.result) (sym c.next_stage-stage.ensures) ∙ sym c.answers_at_once-at_once.ensures)
     ∙ c.if-at_once.true in
-    let two = c.turn-last in
+    let two = c.pace-last in
     let m2 = two.new.m in
     let Acts1 : CpuId → Type 0 = λ d. C.ActsFor m1 d in
-    let turned2 = rw (one.ensures.opening, one.ensures.cpu) at two.ensures.turned in
-    let sm : m1 ≡ m = elim (why turn1 c.at_once.result c.if-done.true at_once may.called c.requires.runs c.at_once.ensures)
+    let paced2 = rw (one.ensures.opening, one.ensures.cpu) at two.ensures.paced in
+    let sm : m1 ≡ m = elim (why pace1 c.at_once.result c.if-done.true at_once may.called c.requires.runs c.at_once.ensures)
     [ inl some ↦ one.ensures.woken some | inr some ↦ one.ensures.handed some ] in
-    let is : C.seen m2 ≡ turned2.mine ++ (turned2.others ++ C.seen m) = turned2.is ∙ ap (λ l. turned2.mine ++ (turned2.others ++ l)) (ap C.seen sm) in
+    let is : C.seen m2 ≡ paced2.mine ++ (paced2.others ++ C.seen m) = paced2.is ∙ ap (λ l. paced2.mine ++ (paced2.others ++ l)) (ap C.seen sm) in
     rw (two.ensures.opening, one.ensures.opening)
-    (moves_grown (C.opening m) Acts1 _ cpu turned2.mine turned2.others (C.seen m) (C.seen m2) (λ d both. one.ensures.acts d both.0) turned2.foreign
-    turned2.own_events is)
+    (moves_grown (C.opening m) Acts1 _ cpu paced2.mine paced2.others (C.seen m) (C.seen m2) (λ d both. one.ensures.acts d both.0) paced2.foreign
+    paced2.own_events is)
 
 pub returns-then-at_once-clause-fits : goal.returns-then-at_once-clause-fits
 returns-then-at_once-clause-fits g c =
@@ -318,37 +318,37 @@ returns-then-at_once-clause-fits g c =
     let first = first_may homes cpu O (buffer_sections (C.seen m)) own talks (C.under_way p.lower) p.calling t call home c.requires.fits.1.calls
     c.requires.runs c.requires.hand c.requires.same c.requires.goes_on in
     let may = first.0 in
-    let one = c.turn-done in
+    let one = c.pace-done in
     let m1 = one.new.m in
     let talks1 = one.new.self.talks.talks in
     let later1 = talk_of talks1 t in
-    let turn1 = taken one.ensures.turned in
+    let pace1 = taken one.ensures.paced in
     let same1 : (u : Tid) → same_tid t u ≡ false → talk_of talks1 u ≡ talk_of talks u = λ u other. other_talk talks talks1 t u later1 one.ensures.talks other in
-    let sizes1 = sizes_of turn1 talks talks1 one.ensures.talks c.requires.fits.1.sizes in
-    let others1 = others_after turn1 home may.called talks talks1 refl same1 first.1 in
+    let sizes1 = sizes_of pace1 talks talks1 one.ensures.talks c.requires.fits.1.sizes in
+    let others1 = others_after pace1 home may.called talks talks1 refl same1 first.1 in
     let at_once = (ap (λ (s : Stage). is_at_once s c.at_once.result) (sym c.next_stage-stage.ensures) ∙ sym c.answers_at_once-at_once.ensures)
     ∙ c.if-at_once.true in
-    let two = c.turn-last in
+    let two = c.pace-last in
     let talks2 = two.new.self.talks.talks in
     let later2 = talk_of talks2 t in
     let next = going later1 call in
-    let next_is : going later1 call ≡ later1 = next_going turn1 c.at_once.result c.if-done.true at_once may.called in
-    let called1 = later_call turn1 c.at_once.result c.if-done.true at_once may.called in
+    let next_is : going later1 call ≡ later1 = next_going pace1 c.at_once.result c.if-done.true at_once may.called in
+    let called1 = later_call pace1 c.at_once.result c.if-done.true at_once may.called in
     let called2 : next.call ≡ Some call = ap (λ (x : Talk). x.call) next_is ∙ called1 in
-    let turned2 = rw (one.ensures.opening, one.ensures.cpu) at two.ensures.turned in
-    let turn2 = taken turned2 in
+    let paced2 = rw (one.ensures.opening, one.ensures.cpu) at two.ensures.paced in
+    let pace2 = taken paced2 in
     let same2 : (u : Tid) → same_tid t u ≡ false → talk_of talks2 u ≡ talk_of talks1 u
     = λ u other. other_talk talks1 talks2 t u later2 two.ensures.talks other in
-    let sm : m1 ≡ m = elim (why turn1 c.at_once.result c.if-done.true at_once may.called c.requires.runs c.at_once.ensures)
+    let sm : m1 ≡ m = elim (why pace1 c.at_once.result c.if-done.true at_once may.called c.requires.runs c.at_once.ensures)
     [ inl some ↦ one.ensures.woken some | inr some ↦ one.ensures.handed some ] in (
       rw c.told.ensures.lower two.ensures.fits,
       rw (c.told.ensures.lower, c.told.ensures.talks, c.told.ensures.calling, two.ensures.opening, two.ensures.cpu, one.ensures.opening, one.ensures.cpu)
           (record {
             boots = c.requires.fits.1.boots;
-            sizes = sizes_of turn2 talks1 talks2 two.ensures.talks sizes1;
+            sizes = sizes_of pace2 talks1 talks2 two.ensures.talks sizes1;
             calls =
-                finish turn2 home called2 talks1 talks2 refl same2 others1
-                c.told.result (told_as turn2 c.next_stage-next.result c.next_stage-next.ensures c.told.result c.told.ensures.answer);
+                finish pace2 home called2 talks1 talks2 refl same2 others1
+                c.told.result (told_as pace2 c.next_stage-next.result c.next_stage-next.ensures c.told.result c.told.ensures.answer);
           }),
     )
 
@@ -371,43 +371,43 @@ returns-then-at_once-clause-called g c =
     let first = first_may homes cpu O (buffer_sections (C.seen m)) own talks (C.under_way p.lower) p.calling t call home c.requires.fits.1.calls
     c.requires.runs c.requires.hand c.requires.same c.requires.goes_on in
     let may = first.0 in
-    let one = c.turn-done in
+    let one = c.pace-done in
     let m1 = one.new.m in
     let own1 = C.own one.new.self.lower in
     let under1 = C.under_way one.new.self.lower in
     let talks1 = one.new.self.talks.talks in
     let later1 = talk_of talks1 t in
-    let turn1 = taken one.ensures.turned in
+    let pace1 = taken one.ensures.paced in
     let at_once = (ap (λ (s : Stage). is_at_once s c.at_once.result) (sym c.next_stage-stage.ensures) ∙ sym c.answers_at_once-at_once.ensures)
     ∙ c.if-at_once.true in
-    let two = c.turn-last in
+    let two = c.pace-last in
     let m2 = two.new.m in
     let own2 = C.own two.new.self.lower in
     let under2 = C.under_way two.new.self.lower in
     let talks2 = two.new.self.talks.talks in
     let later2 = talk_of talks2 t in
     let next = going later1 call in
-    let next_is : going later1 call ≡ later1 = next_going turn1 c.at_once.result c.if-done.true at_once may.called in
-    let called1 = later_call turn1 c.at_once.result c.if-done.true at_once may.called in
+    let next_is : going later1 call ≡ later1 = next_going pace1 c.at_once.result c.if-done.true at_once may.called in
+    let called1 = later_call pace1 c.at_once.result c.if-done.true at_once may.called in
     let called2 : next.call ≡ Some call = ap (λ (x : Talk). x.call) next_is ∙ called1 in
     let Acts1 : CpuId → Type 0 = λ d. C.ActsFor m1 d in
-    let turned2 = rw (one.ensures.opening, one.ensures.cpu) at two.ensures.turned in
-    let turn2 = taken turned2 in
+    let paced2 = rw (one.ensures.opening, one.ensures.cpu) at two.ensures.paced in
+    let pace2 = taken paced2 in
     let same2 : (u : Tid) → same_tid t u ≡ false → talk_of talks2 u ≡ talk_of talks1 u
     = λ u other. other_talk talks1 talks2 t u later2 two.ensures.talks other in
-    let sm : m1 ≡ m = elim (why turn1 c.at_once.result c.if-done.true at_once may.called c.requires.runs c.at_once.ensures)
+    let sm : m1 ≡ m = elim (why pace1 c.at_once.result c.if-done.true at_once may.called c.requires.runs c.at_once.ensures)
     [ inl some ↦ one.ensures.woken some | inr some ↦ one.ensures.handed some ] in
-    let turned2m = subst (λ log. Turned homes Acts1 O cpu t call next log (C.seen m2) own1 own2 under2 two.result later2) (ap C.seen sm) turned2 in
-    let effect1 = later_effect turn1 c.at_once.result c.if-done.true at_once may.called in
-    let may2 = next_may turn1 c.at_once.result c.if-done.true at_once may.called in
+    let paced2m = subst (λ log. Paced homes Acts1 O cpu t call next log (C.seen m2) own1 own2 under2 two.result later2) (ap C.seen sm) paced2 in
+    let effect1 = later_effect pace1 c.at_once.result c.if-done.true at_once may.called in
+    let may2 = next_may pace1 c.at_once.result c.if-done.true at_once may.called in
     let in_call2 = goes_called O (buffer_sections (C.seen m1)) t call later1 own1 under1 may2.goes in
     rw (two.ensures.opening, one.ensures.opening, c.told.ensures.talks)
-    (called_by (taken turned2m) home called2 talks1 talks2 refl
+    (called_by (taken paced2m) home called2 talks1 talks2 refl
     same2 _ (λ d both. one.ensures.acts d both.0) talks
     (ap (λ (x : Talk). x.effect) next_is ∙ effect1)
     (λ u other. apart_talk talks1 talks2 t u later2 two.ensures.talks other ∙ apart_talk talks talks1 t u later1 one.ensures.talks other)
     (subst (λ (x : Talk). called_at x.stage ≡ true) (sym next_is) in_call2) c.told.result
-    (told_as turn2 c.next_stage-next.result c.next_stage-next.ensures c.told.result c.told.ensures.answer))
+    (told_as pace2 c.next_stage-next.result c.next_stage-next.ensures c.told.result c.told.ensures.answer))
 
 pub returns-then-at_once-clause-others : goal.returns-then-at_once-clause-others
 returns-then-at_once-clause-others g c q other fits =
@@ -417,22 +417,22 @@ returns-then-at_once-clause-others g c q other fits =
     let p = c.args.self.now in
     let cpu = C.cpu_of p.lower in
     let acts = law.own_cpu p.lower m c.requires.fits.0 in
-    let one = c.turn-done in
+    let one = c.pace-done in
     let m1 = one.new.m in
-    let turned1 = one.ensures.turned in
-    let two = c.turn-last in
+    let paced1 = one.ensures.paced in
+    let two = c.pace-last in
     let m2 = two.new.m in
-    let turned2 = rw (one.ensures.opening, one.ensures.cpu) at two.ensures.turned in
+    let paced2 = rw (one.ensures.opening, one.ensures.cpu) at two.ensures.paced in
     let lawful1 = rw one.ensures.opening at (law.lawful m1 cpu (one.ensures.acts cpu acts)) in
     let lawful2 = rw (two.ensures.opening, one.ensures.opening) at (law.lawful m2 cpu (two.ensures.acts cpu (one.ensures.acts cpu acts))) in
     let far = one.ensures.others q.lower other fits.0 in
-    let part1 = other_part (C.opening m) cpu (C.cpu_of q.lower) other turned1.mine turned1.others (C.seen m) (C.seen m1) turned1.own_events
-    (turned1.foreign (C.cpu_of q.lower) (law.own_cpu q.lower m fits.0)) turned1.is lawful1 (C.own q.lower) q.talks.talks
+    let part1 = other_part (C.opening m) cpu (C.cpu_of q.lower) other paced1.mine paced1.others (C.seen m) (C.seen m1) paced1.own_events
+    (paced1.foreign (C.cpu_of q.lower) (law.own_cpu q.lower m fits.0)) paced1.is lawful1 (C.own q.lower) q.talks.talks
     (C.under_way q.lower) q.calling fits.1 in (
       two.ensures.others q.lower (rw one.ensures.cpu other) far,
       rw (two.ensures.opening, one.ensures.opening)
-          (other_part (C.opening m) cpu (C.cpu_of q.lower) other turned2.mine turned2.others (C.seen m1) (C.seen m2) turned2.own_events
-          (turned2.foreign (C.cpu_of q.lower) (law.own_cpu q.lower m1 far)) turned2.is lawful2 (C.own q.lower) q.talks.talks
+          (other_part (C.opening m) cpu (C.cpu_of q.lower) other paced2.mine paced2.others (C.seen m1) (C.seen m2) paced2.own_events
+          (paced2.foreign (C.cpu_of q.lower) (law.own_cpu q.lower m1 far)) paced2.is lawful2 (C.own q.lower) q.talks.talks
           (C.under_way q.lower) q.calling part1),
     )
 
@@ -456,14 +456,14 @@ returns-clause-follows g c stepwise =
     c.requires.runs c.requires.hand c.requires.same c.requires.goes_on in
     let talk = going (talk_of talks t) call in
     let may = first.0 in
-    let one = c.turn-done in
+    let one = c.pace-done in
     let m1 = one.new.m in
     let Acts0 : CpuId → Type 0 = λ d. C.ActsFor m d in
-    let turn1 = taken one.ensures.turned in
+    let pace1 = taken one.ensures.paced in
     let table = table_of (queue_rules (lock_rules buffer_rules) (lock_moves buffer_rules)) in
     let in_call = goes_called O (buffer_sections (C.seen m)) t call talk own (C.under_way p.lower) may.goes in
     let marks = marks_of O (buffer_sections (C.seen m)) t call talk own (C.under_way p.lower) may.goes in
-    let free = exit_free turn1 c.at_once.result marks
+    let free = exit_free pace1 c.at_once.result marks
     (elim c.else-done.either [
       | inl both ↦ inl
           (both.0, (ap (λ (s : Stage). is_at_once s c.at_once.result) (sym c.next_stage-stage.ensures) ∙ sym c.answers_at_once-at_once.ensures) ∙ both.1)
@@ -474,7 +474,7 @@ returns-clause-follows g c stepwise =
     rw (
       c.told-2.ensures.lower,
       c.told-2.ensures.talks,
-      (told_as turn1 c.next_stage-stage.result c.next_stage-stage.ensures c.told-2.result c.told-2.ensures.answer),
+      (told_as pace1 c.next_stage-stage.result c.next_stage-stage.ensures c.told-2.result c.told-2.ensures.answer),
     )
     (follows_for Acts0 _ (λ d both. both.0) table (C.opening m) cpu (plan_at homes cpu t call talk.stage talk (buffering own talks)) (C.acts m)
     (C.acts m1) _ done)
@@ -499,29 +499,29 @@ returns-then-at_once-clause-follows g c stepwise =
     c.requires.runs c.requires.hand c.requires.same c.requires.goes_on in
     let talk = going (talk_of talks t) call in
     let may = first.0 in
-    let one = c.turn-done in
+    let one = c.pace-done in
     let m1 = one.new.m in
     let own1 = C.own one.new.self.lower in
     let talks1 = one.new.self.talks.talks in
     let later1 = talk_of talks1 t in
     let Acts0 : CpuId → Type 0 = λ d. C.ActsFor m d in
-    let turned1 = one.ensures.turned in
-    let turn1 = taken turned1 in
+    let paced1 = one.ensures.paced in
+    let pace1 = taken paced1 in
     let table = table_of (queue_rules (lock_rules buffer_rules) (lock_moves buffer_rules)) in
     let marks = marks_of O (buffer_sections (C.seen m)) t call talk own (C.under_way p.lower) may.goes in
     let at_once = (ap (λ (s : Stage). is_at_once s c.at_once.result) (sym c.next_stage-stage.ensures) ∙ sym c.answers_at_once-at_once.ensures)
     ∙ c.if-at_once.true in
-    let two = c.turn-last in
+    let two = c.pace-last in
     let m2 = two.new.m in
     let own2 = C.own two.new.self.lower in
     let talks2 = two.new.self.talks.talks in
-    let end = ended_of turn1 c.if-done.true in
+    let end = ended_of pace1 c.if-done.true in
     let got1 : Left Buffering Reply = record { own = buffering own1 talks1; answer = if one.result then replied call talk talk.stage else None } in
     let next = going later1 call in
-    let next_is : going later1 call ≡ later1 = next_going turn1 c.at_once.result c.if-done.true at_once may.called in
+    let next_is : going later1 call ≡ later1 = next_going pace1 c.at_once.result c.if-done.true at_once may.called in
     let cpu1 = C.cpu_of one.new.self.lower in
-    let turned2 = rw (one.ensures.opening, one.ensures.cpu) at two.ensures.turned in
-    let turn2 = taken turned2 in
+    let paced2 = rw (one.ensures.opening, one.ensures.cpu) at two.ensures.paced in
+    let pace2 = taken paced2 in
     let got2n : Left Buffering Reply = record { own = buffering own2 talks2; answer = if two.result then replied call next next.stage else None } in
     let second = follows_for (λ d. C.ActsFor m1 d) Acts0 (λ d a. one.ensures.acts d a) table (C.opening m1) cpu1
     (plan_of (homes_in (C.opening m1)) cpu1 t call next.stage next (buffering own1 talks1)) (C.acts m1) (C.acts m2) got2n (two.ensures.follows stepwise) in
@@ -534,13 +534,13 @@ returns-then-at_once-clause-follows g c stepwise =
     (C.acts m1) (C.acts m2) got2n) one.ensures.cpu second1) in
     let both = two_follows Acts0 table (C.opening m) cpu homes t call talk.stage talk (buffering own talks) (C.acts m) (C.acts m1)
     (C.acts m2) got1 got2n c.at_once.result end.heard_is.0
-    at_once end.heard_is.1 (λ w. sym (turned1.over w) ∙ c.if-done.true)
+    at_once end.heard_is.1 (λ w. sym (paced1.over w) ∙ c.if-done.true)
     (why_slept t talk.stage own c.at_once.result at_once marks c.requires.runs c.at_once.ensures)
     end.free.0 end.free.1 (one.ensures.follows stepwise) second0 in
     rw (
       c.told.ensures.lower,
       c.told.ensures.talks,
-      (told_as turn2 c.next_stage-next.result c.next_stage-next.ensures c.told.result c.told.ensures.answer),
+      (told_as pace2 c.next_stage-next.result c.next_stage-next.ensures c.told.result c.told.ensures.answer),
     )
     (follows_for Acts0 _ (λ d both. both.0) table (C.opening m) cpu (plan_at homes cpu t call talk.stage talk (buffering own talks)) (C.acts m)
     (C.acts m2) got2n both)

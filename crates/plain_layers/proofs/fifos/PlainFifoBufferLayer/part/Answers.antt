@@ -23,6 +23,6 @@ returns-clause-fits g c = λ m acts outside seen still homes pending boots.
         none = c.part.ensures.call;
         kept = ap (λ (s : Sleeping Tried). s.kept) c.part.ensures.own;
         waits = quiet_waits;
-        places = length-replicate THREADS quiet;
+        slots = length-replicate THREADS quiet;
       },
     )

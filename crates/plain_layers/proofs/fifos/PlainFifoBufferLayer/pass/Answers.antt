@@ -77,6 +77,6 @@ returns-clause-fits g c =
         none = nothing_under c.pass.result (S.under_way c.pass.new.self) _ (said.prompt fits.1) said.call;
         kept = said.kept ∙ fits.3.kept;
         waits = fits.3.waits;
-        places = fits.3.places;
+        slots = fits.3.slots;
       },
     )

@@ -39,7 +39,7 @@ bounds-self-from g c =
     subst (λ k. k < THREADS) (sym c.from.ensures) small
 
 pub listed : goal.listed
-listed g c = subst (λ n. c.from.result < n) (sym c.requires.fits.3.places) (bounds-self-from g c)
+listed g c = subst (λ n. c.from.result < n) (sym c.requires.fits.3.slots) (bounds-self-from g c)
 
 pub returns-clause-called : goal.returns-clause-called
 returns-clause-called g c =
@@ -58,7 +58,7 @@ returns-clause-called g c =
     let set : slice_set c.args.self.now.talks c.from.result c.next.result
     ≡ slice_set c.args.self.now.talks c.args.t.0 (talk_after c.args.call.now (effect_in c.whole-outcome.result.out))
     = λ i. slice_set c.args.self.now.talks (c.from.ensures i) (after i) in
-    let within : c.args.t.0 < length c.args.self.now.talks = subst (λ k. c.args.t.0 < k) (sym fits.3.places) small in
+    let within : c.args.t.0 < length c.args.self.now.talks = subst (λ k. c.args.t.0 < k) (sym fits.3.slots) small in
     subst (λ o. Called Acts (S.cpu_of lower) c.args.t c.args.call.now c.args.self.now.talks (slice_set c.args.self.now.talks c.from.result c.next.result)
     (entries_in (inner (S.opening m)) (buffer_sections (S.seen m))) (entries_in (inner o) (buffer_sections (S.seen n))) c.reply.result) (sym said.opening)
     (done_called (S.opening m) (S.cpu_of lower) c.buffer_in.result c.attempt_in.result (S.seen m) (S.seen n) (S.own lower).threads
@@ -95,7 +95,7 @@ returns-clause-fits g c =
     let set : slice_set c.args.self.now.talks c.from.result c.next.result
     ≡ slice_set c.args.self.now.talks c.args.t.0 (talk_after c.args.call.now (effect_in c.whole-outcome.result.out))
     = λ i. slice_set c.args.self.now.talks (c.from.ensures i) (after i) in
-    let within : c.args.t.0 < length c.args.self.now.talks = subst (λ k. c.args.t.0 < k) (sym fits.3.places) small in (
+    let within : c.args.t.0 < length c.args.self.now.talks = subst (λ k. c.args.t.0 < k) (sym fits.3.slots) small in (
       said.fits,
       fits.1,
       owned_after (λ e. S.ActsFor m e) (λ e. S.ActsFor n e) (S.opening m) (S.opening n) said.opening said.acts fits.2,
@@ -105,7 +105,7 @@ returns-clause-fits g c =
             (S.own c.whole-outcome.new.part) c.whole-outcome.result said.done;
         waits = subst (λ (l : List Talk). (u : Tid) → (talk_of l u).stage ≢ Between → (talk_of l u).effect ≡ None) (sym set)
             (set_waits c.args.self.now.talks c.args.t c.args.call.now (effect_in c.whole-outcome.result.out) within fits.3.waits);
-        places = length-set c.args.self.now.talks c.from.result c.next.result ∙ fits.3.places;
+        slots = length-set c.args.self.now.talks c.from.result c.next.result ∙ fits.3.slots;
       },
     )
 

@@ -13,7 +13,7 @@ returns-clause-opening g c = ap (λ blocks. opened blocks.items) c.of-opening.en
 
 pub returns-clause-acts : goal.returns-clause-acts
 returns-clause-acts g c = λ cpu known.
-    let Fit = g.K.TurnWords.Fit in
+    let Fit = g.K.LineWords.Fit in
     let rules = g.E.Edit.rules in
     let cells = c.fill.new.cells.items in (
       known,

@@ -14,7 +14,7 @@ returns-clause-fits g c =
     let self = c.args.self.now in
     let m = c.args.m.now in
     let fits = c.requires.fits in
-    let acts = subst (λ d. Q.ActsFor m d) fits.1.cpu (g.met.Q.QueueLayer.own self.lower m fits.0) in
+    let acts = subst (λ d. Q.ActsFor m d) fits.1.cpu (g.met.Q.QueueLayer.own_cpu self.lower m fits.0) in
     let opens = g.met.Q.QueueLayer.opens m self.cpu acts in
     let n = c.look.new.m in
     let said = c.look.ensures in
@@ -36,11 +36,11 @@ returns-clause-others g c = λ p other theirs.
     let self = c.args.self.now in
     let m = c.args.m.now in
     let fits = c.requires.fits in
-    let acts = subst (λ d. Q.ActsFor m d) fits.1.cpu (g.met.Q.QueueLayer.own self.lower m fits.0) in
+    let acts = subst (λ d. Q.ActsFor m d) fits.1.cpu (g.met.Q.QueueLayer.own_cpu self.lower m fits.0) in
     let opens = g.met.Q.QueueLayer.opens m self.cpu acts in
     let n = c.look.new.m in
     let said = c.look.ensures in
-    let their = subst (λ d. Q.ActsFor m d) theirs.1.cpu (g.met.Q.QueueLayer.own p.lower m theirs.0) in
+    let their = subst (λ d. Q.ActsFor m d) theirs.1.cpu (g.met.Q.QueueLayer.own_cpu p.lower m theirs.0) in
     let legal = subst (λ o. IsLawful (QueueAllowed (kernel rules mv o)) (Q.seen n)) said.opening
     (g.met.Q.QueueLayer.lawful n p.cpu (said.acts p.cpu their)) in (
       said.others p.lower (λ e. other (sym theirs.1.cpu ∙ (e ∙ fits.1.cpu))) theirs.0,

@@ -19,7 +19,7 @@ local-requires g c =
     let self = c.args.self.now in
     let m = c.args.m.now in
     let fits = c.requires.fits in
-    let acts = subst (λ d. Q.ActsFor m d) fits.1.cpu (g.met.Q.QueueLayer.own self.lower m fits.0) in
+    let acts = subst (λ d. Q.ActsFor m d) fits.1.cpu (g.met.Q.QueueLayer.own_cpu self.lower m fits.0) in
     let opens = g.met.Q.QueueLayer.opens m self.cpu acts in
     let lawful = g.met.Q.QueueLayer.lawful m self.cpu acts in
     finish_ok rules mv (Q.opening m) wakes opens self.cpu (Q.seen m) self.own lawful fits.1.stands
@@ -33,7 +33,7 @@ poll-requires-clause-call g c =
     let self = c.args.self.now in
     let m = c.args.m.now in
     let fits = c.requires.fits in
-    let acts = subst (λ d. Q.ActsFor m d) fits.1.cpu (g.met.Q.QueueLayer.own self.lower m fits.0) in
+    let acts = subst (λ d. Q.ActsFor m d) fits.1.cpu (g.met.Q.QueueLayer.own_cpu self.lower m fits.0) in
     let opens = g.met.Q.QueueLayer.opens m self.cpu acts in
     let lawful = g.met.Q.QueueLayer.lawful m self.cpu acts in
     let is : queue_call (homes_in (Q.opening m)) self.cpu c.args.call.now ≡ Some c.in-Some.step
@@ -50,7 +50,7 @@ answered-requires g c =
     let self = c.args.self.now in
     let m = c.args.m.now in
     let fits = c.requires.fits in
-    let acts = subst (λ d. Q.ActsFor m d) fits.1.cpu (g.met.Q.QueueLayer.own self.lower m fits.0) in
+    let acts = subst (λ d. Q.ActsFor m d) fits.1.cpu (g.met.Q.QueueLayer.own_cpu self.lower m fits.0) in
     let opens = g.met.Q.QueueLayer.opens m self.cpu acts in
     let lawful = g.met.Q.QueueLayer.lawful m self.cpu acts in
     let is : queue_call (homes_in (Q.opening m)) self.cpu c.args.call.now ≡ Some c.in-Some.step
@@ -73,7 +73,7 @@ returns-in-None-clause-fits g c =
     let self = c.args.self.now in
     let m = c.args.m.now in
     let fits = c.requires.fits in
-    let acts = subst (λ d. Q.ActsFor m d) fits.1.cpu (g.met.Q.QueueLayer.own self.lower m fits.0) in
+    let acts = subst (λ d. Q.ActsFor m d) fits.1.cpu (g.met.Q.QueueLayer.own_cpu self.lower m fits.0) in
     let opens = g.met.Q.QueueLayer.opens m self.cpu acts in
     let lawful = g.met.Q.QueueLayer.lawful m self.cpu acts in
     let is : queue_call (homes_in (Q.opening m)) self.cpu c.args.call.now ≡ None
@@ -95,7 +95,7 @@ returns-in-None-clause-seen g c =
     let self = c.args.self.now in
     let m = c.args.m.now in
     let fits = c.requires.fits in
-    let acts = subst (λ d. Q.ActsFor m d) fits.1.cpu (g.met.Q.QueueLayer.own self.lower m fits.0) in
+    let acts = subst (λ d. Q.ActsFor m d) fits.1.cpu (g.met.Q.QueueLayer.own_cpu self.lower m fits.0) in
     let opens = g.met.Q.QueueLayer.opens m self.cpu acts in
     let lawful = g.met.Q.QueueLayer.lawful m self.cpu acts in
     let is : queue_call (homes_in (Q.opening m)) self.cpu c.args.call.now ≡ None
@@ -116,7 +116,7 @@ returns-in-None-poll-clause-fits g c =
     let self = c.args.self.now in
     let m = c.args.m.now in
     let fits = c.requires.fits in
-    let acts = subst (λ d. Q.ActsFor m d) fits.1.cpu (g.met.Q.QueueLayer.own self.lower m fits.0) in
+    let acts = subst (λ d. Q.ActsFor m d) fits.1.cpu (g.met.Q.QueueLayer.own_cpu self.lower m fits.0) in
     let opens = g.met.Q.QueueLayer.opens m self.cpu acts in
     let lawful = g.met.Q.QueueLayer.lawful m self.cpu acts in
     let is : queue_call (homes_in (Q.opening m)) self.cpu c.args.call.now ≡ Some c.in-Some.step
@@ -143,13 +143,13 @@ returns-in-None-poll-clause-others g c =
     let self = c.args.self.now in
     let m = c.args.m.now in
     let fits = c.requires.fits in
-    let acts = subst (λ d. Q.ActsFor m d) fits.1.cpu (g.met.Q.QueueLayer.own self.lower m fits.0) in
+    let acts = subst (λ d. Q.ActsFor m d) fits.1.cpu (g.met.Q.QueueLayer.own_cpu self.lower m fits.0) in
     let opens = g.met.Q.QueueLayer.opens m self.cpu acts in
     let lawful = g.met.Q.QueueLayer.lawful m self.cpu acts in
     λ p other theirs.
     let n = c.poll.new.m in
     let said = c.in-None-poll.ensures in
-    let their = subst (λ d. Q.ActsFor m d) theirs.1.cpu (g.met.Q.QueueLayer.own p.lower m theirs.0) in
+    let their = subst (λ d. Q.ActsFor m d) theirs.1.cpu (g.met.Q.QueueLayer.own_cpu p.lower m theirs.0) in
     let legal = subst (λ o. IsLawful (QueueAllowed (kernel rules mv o)) (Q.seen n)) said.opening (g.met.Q.QueueLayer.lawful n p.cpu (said.acts p.cpu their)) in
     let apart : same_cpu (Q.cpu_of self.lower) p.cpu ≡ false = ap (λ d. same_cpu d p.cpu) fits.1.cpu
     ∙ ne_eqb self.cpu.0 p.cpu.0 (λ e. other (sym (ap cpu_numbered e))) in (
@@ -171,7 +171,7 @@ returns-in-Some-poll-clause-fits g c =
     let self = c.args.self.now in
     let m = c.args.m.now in
     let fits = c.requires.fits in
-    let acts = subst (λ d. Q.ActsFor m d) fits.1.cpu (g.met.Q.QueueLayer.own self.lower m fits.0) in
+    let acts = subst (λ d. Q.ActsFor m d) fits.1.cpu (g.met.Q.QueueLayer.own_cpu self.lower m fits.0) in
     let opens = g.met.Q.QueueLayer.opens m self.cpu acts in
     let lawful = g.met.Q.QueueLayer.lawful m self.cpu acts in
     let is : queue_call (homes_in (Q.opening m)) self.cpu c.args.call.now ≡ Some c.in-Some.step
@@ -200,13 +200,13 @@ returns-in-Some-poll-clause-others g c =
     let self = c.args.self.now in
     let m = c.args.m.now in
     let fits = c.requires.fits in
-    let acts = subst (λ d. Q.ActsFor m d) fits.1.cpu (g.met.Q.QueueLayer.own self.lower m fits.0) in
+    let acts = subst (λ d. Q.ActsFor m d) fits.1.cpu (g.met.Q.QueueLayer.own_cpu self.lower m fits.0) in
     let opens = g.met.Q.QueueLayer.opens m self.cpu acts in
     let lawful = g.met.Q.QueueLayer.lawful m self.cpu acts in
     λ p other theirs.
     let n = c.poll.new.m in
     let said = c.in-Some-poll.ensures in
-    let their = subst (λ d. Q.ActsFor m d) theirs.1.cpu (g.met.Q.QueueLayer.own p.lower m theirs.0) in
+    let their = subst (λ d. Q.ActsFor m d) theirs.1.cpu (g.met.Q.QueueLayer.own_cpu p.lower m theirs.0) in
     let legal = subst (λ o. IsLawful (QueueAllowed (kernel rules mv o)) (Q.seen n)) said.opening (g.met.Q.QueueLayer.lawful n p.cpu (said.acts p.cpu their)) in
     let apart : same_cpu (Q.cpu_of self.lower) p.cpu ≡ false = ap (λ d. same_cpu d p.cpu) fits.1.cpu
     ∙ ne_eqb self.cpu.0 p.cpu.0 (λ e. other (sym (ap cpu_numbered e))) in (

@@ -4,7 +4,7 @@ use Rattle.layer_traits.proofs.NestedLemmas.{may_section, polled_event}
 use Rattle.layer_traits.specs.Protocol.{section}
 use Rattle.layer_traits.specs.QueueBlocks.{StartsWell}
 use Rattle.layer_traits.specs.QueueRules.{SectionAllowed, queue_rules}
-use Rattle.layer_traits.specs.Turns.{MayPoll, Polled}
+use Rattle.layer_traits.specs.Polls.{MayPoll, Polled}
 use Rattle.shared_queue.proofs.shared.SharedQueuesQueueLayer.poll.Goals as goal
 
 -- a call that may be polled is a section that may
@@ -30,7 +30,7 @@ returns-clause-seen g c =
     let lower = c.args.self.now.lower in
     let cpu = L.cpu_of lower in
     let said = c.poll.ensures in
-    let acts = said.acts cpu (g.met.L.LockLayer.own lower m c.requires.fits.0) in
+    let acts = said.acts cpu (g.met.L.LockLayer.own_cpu lower m c.requires.fits.0) in
     let lawful : IsLawful (SectionAllowed rules mv (L.opening m)) (L.seen n)
     = subst (λ o. IsLawful (SectionAllowed rules mv o) (L.seen n)) said.opening (g.met.L.LockLayer.lawful n cpu acts) in
     polled_event rules mv (L.opening m) c.requires.fits.1 g.met.E.Moves.wakes_sleepers (L.ActsFor m) (λ d. L.ActsFor m d × StartsWell (L.opening m))

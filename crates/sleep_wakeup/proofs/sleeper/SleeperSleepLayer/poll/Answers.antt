@@ -31,7 +31,7 @@ poll-requires-clause-call g c =
     let fits : KeptFits self.kept (S.under_way self.lower) hand = subst (λ h. KeptFits self.kept (S.under_way self.lower) h)
     (sym is) c.requires.fits.2 in
     let met = g.met.S.SchedLayer in
-    let acts = met.own self.lower m c.requires.fits.0 in
+    let acts = met.own_cpu self.lower m c.requires.fits.0 in
     subst (λ s. MaySched (beneath rules (S.opening m)) cpu (S.seen m) threads (S.under_way self.lower) s) (sym c.section.ensures)
     (nested_may rules (S.opening m) cpu (S.seen m) threads buffer edit (met.opens m cpu acts) (met.lawful m cpu acts) c.requires.fits.1
     (met.stands self.lower m c.requires.fits.0)
@@ -159,7 +159,7 @@ poll-requires-in-Some-clause-call g c =
     let fits : KeptFits self.kept (S.under_way self.lower) hand = subst (λ h. KeptFits self.kept (S.under_way self.lower) h)
     (sym is) c.requires.fits.2 in
     let met = g.met.S.SchedLayer in
-    let acts = met.own self.lower m c.requires.fits.0 in
+    let acts = met.own_cpu self.lower m c.requires.fits.0 in
     nested_may rules (S.opening m) cpu (S.seen m) threads buffer edit (met.opens m cpu acts) (met.lawful m cpu acts) c.requires.fits.1
     (met.stands self.lower m c.requires.fits.0)
     self.kept (S.under_way self.lower) hand is fits c.requires.call

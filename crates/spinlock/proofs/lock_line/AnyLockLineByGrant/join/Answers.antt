@@ -1,6 +1,6 @@
 use Rattle.event_log.specs.declared.grants.GrantEvent.TheVariants.{Take}
 use Rattle.spinlock.specs.LineLaws.{grants_legal, rests_outside_grants}
-use Rattle.spinlock.proofs.LineLemmas.{grant_adds, takes_place}
+use Rattle.spinlock.proofs.LineLemmas.{grant_adds, takes_spot}
 use Rattle.spinlock.proofs.lock_line.AnyLockLineByGrant.join.Goals as goal
 
 pub take-requires-clause-outside : goal.take-requires-clause-outside
@@ -17,6 +17,6 @@ returns-clause-ticket g c =
     let W = g.W.GrantWords in
     let m = c.args.self.now in
     let n = c.take.new.self in
-    takes_place (W.ActsFor m) (W.seen m) (W.seen n) c.args.cpu c.args.lock c.take.result c.take.ensures.adds
+    takes_spot (W.ActsFor m) (W.seen m) (W.seen n) c.args.cpu c.args.lock c.take.result c.take.ensures.adds
     (grants_legal (g.W.Edit.Edit.rules.allowed (W.opening n)) (W.seen n)
     (g.met.W.GrantWords.legal n c.args.cpu (c.take.ensures.acts c.args.cpu c.requires.cpu)))

@@ -1,0 +1,301 @@
+-- Where each thread is, and what it does at which buffer, as the section log tells: two folds over the log. Both are needed only to show
+-- that the steps of the table keep the order of a call's sections: a thread that was woken runs again exactly when it may go on.
+use Rattle.std.proofs.Common.{◌≡◌, ℕ, Bool, true, false, ◌&&◌, ◌==◌, List, [], ◌∷◌, length, Option, Some, None, nat_lt, if◌then◌else◌}
+use Rattle.event_log.specs.declared.ids.CpuId.{CpuId}
+use Rattle.event_log.specs.declared.ids.Tid.{Tid}
+use Rattle.event_log.specs.declared.ids.BufId.{BufId}
+use Rattle.event_log.specs.declared.ids.LockId.{LockId}
+use Rattle.event_log.specs.declared.ids.LockId.TheVariants.{Pending, Buffer as AtBuffer}
+use Rattle.event_log.specs.declared.ids.TheConstants.{THREADS}
+use Rattle.event_log.specs.History.{same_cpu}
+use Rattle.event_log.specs.Sections.{Section}
+use Rattle.thread_blocks.specs.Queues.{same_tid}
+use Rattle.layer_traits.specs.declared.locked.Side.{Side}
+use Rattle.layer_traits.specs.declared.locked.Side.TheVariants.{Receivers, Senders}
+use Rattle.layer_traits.specs.Places.{is_thread, one_if}
+use Rattle.cpu.specs.Table.Blocks.{Buffer, Block, OfBuffer, OfPending, Name, AcqQ, Enter, TryPut, TryTake, Shut, WaitOn, SigRecv, SigSend, RelQ, Pend, TakeAll}
+use Rattle.cpu.specs.Table.Edits.{may_put, may_take, answer_of_buffer}
+use Rattle.cpu.specs.Table.Setups.{Setup, home_of}
+use Rattle.cpu.specs.Wakeups.Order.{Progress, Begins, WasRefused, Owes, MayTry, block_of}
+
+-- where a thread is: at home (it runs, is ready or has ended), in the hand of a CPU, among the pending, or asleep at a buffer
+pub data Post : Type 0 where
+  Home : Post
+  InHand : (cpu : CpuId) → Post
+  IsPending : Post
+  AtLock : (buffer : BufId) → Post
+  AtWait : (buffer : BufId) (side : Side) → Post
+
+-- what a thread does inside a call: it has the lock and enters or closes next, tries next, tried in vain, waits, or owes these signals
+pub data Doing : Type 0 where
+  GotIt : Doing
+  Trying : (side : Side) → Doing
+  Failed : (side : Side) → Doing
+  Waiting : (side : Side) → Doing
+  Owing : (receivers senders : Bool) → Doing
+
+-- whether a thread is inside a call, as its sections tell, at which buffer, and what it does there
+pub data Visit : Type 0 where
+  Outside : Visit
+  In : (buffer : BufId) (doing : Doing) → Visit
+
+abbrev pub is_buffer : BufId → BufId → Bool
+is_buffer b d = b.0 == d.0
+
+abbrev pub is_side : Side → Side → Bool
+is_side Receivers Receivers = true
+is_side Senders Senders = true
+is_side Receivers Senders = false
+is_side Senders Receivers = false
+
+-- Marks of a post.
+
+abbrev pub is_home : Post → Bool
+is_home Home = true
+is_home (InHand c) = false
+is_home IsPending = false
+is_home (AtLock b) = false
+is_home (AtWait b side) = false
+
+abbrev pub is_hand : CpuId → Post → Bool
+is_hand c (InHand d) = same_cpu d c
+is_hand c Home = false
+is_hand c IsPending = false
+is_hand c (AtLock b) = false
+is_hand c (AtWait b side) = false
+
+abbrev pub is_pending : Post → Bool
+is_pending IsPending = true
+is_pending Home = false
+is_pending (InHand c) = false
+is_pending (AtLock b) = false
+is_pending (AtWait b side) = false
+
+abbrev pub is_lock : BufId → Post → Bool
+is_lock b (AtLock d) = is_buffer b d
+is_lock b Home = false
+is_lock b (InHand c) = false
+is_lock b IsPending = false
+is_lock b (AtWait d side) = false
+
+abbrev pub is_wait : BufId → Side → Post → Bool
+is_wait b side (AtWait d other) = is_buffer b d && is_side side other
+is_wait b side Home = false
+is_wait b side (InHand c) = false
+is_wait b side IsPending = false
+is_wait b side (AtLock d) = false
+
+abbrev pub is_asleep : Post → Bool
+is_asleep (AtLock d) = true
+is_asleep (AtWait d side) = true
+is_asleep Home = false
+is_asleep (InHand c) = false
+is_asleep IsPending = false
+
+-- it was woken by another CPU and is not at home yet
+abbrev pub is_moved : Post → Bool
+is_moved (InHand c) = true
+is_moved IsPending = true
+is_moved Home = false
+is_moved (AtLock d) = false
+is_moved (AtWait d side) = false
+
+-- Marks of a visit.
+
+abbrev pub names : BufId → Visit → Bool
+names b Outside = false
+names b (In d doing) = is_buffer b d
+
+-- it owns the lock, or will own it before it does anything else
+abbrev pub goes_on : Visit → Bool
+goes_on Outside = false
+goes_on (In d GotIt) = true
+goes_on (In d (Trying side)) = true
+goes_on (In d (Failed side)) = true
+goes_on (In d (Owing receivers senders)) = true
+goes_on (In d (Waiting side)) = false
+
+abbrev pub is_inside : BufId → Visit → Bool
+is_inside b visit = names b visit && goes_on visit
+
+-- what it does first once it has the lock
+abbrev pub starts_here : Visit → Bool
+starts_here Outside = false
+starts_here (In d GotIt) = true
+starts_here (In d (Trying side)) = true
+starts_here (In d (Failed side)) = false
+starts_here (In d (Owing receivers senders)) = false
+starts_here (In d (Waiting side)) = false
+
+abbrev pub is_starting : BufId → Visit → Bool
+is_starting b visit = names b visit && starts_here visit
+
+-- it stands in the line of this side
+abbrev pub stands : Side → Visit → Bool
+stands side Outside = false
+stands side (In d GotIt) = false
+stands side (In d (Trying other)) = is_side side other
+stands side (In d (Failed other)) = is_side side other
+stands side (In d (Waiting other)) = is_side side other
+stands side (In d (Owing receivers senders)) = false
+
+abbrev pub is_lined : BufId → Side → Visit → Bool
+is_lined b side visit = names b visit && stands side visit
+
+-- the owner's progress is what its visit says
+abbrev pub InStep : Visit → Progress → Type 0
+InStep Outside g = Unit {0}
+InStep (In d GotIt) g = g ≡ Begins
+InStep (In d (Trying side)) g = MayTry side g
+InStep (In d (Failed side)) g = g ≡ WasRefused side
+InStep (In d (Waiting side)) g = Unit {0}
+InStep (In d (Owing receivers senders)) g = g ≡ Owes receivers senders
+
+-- The folds.
+
+-- whose section it is; a section on pending threads has no caller
+abbrev pub caller_in : Name → Option Tid
+caller_in (AcqQ t) = Some t
+caller_in (Enter t side) = Some t
+caller_in (TryPut t m) = Some t
+caller_in (TryTake t) = Some t
+caller_in (Shut t) = Some t
+caller_in (WaitOn t side) = Some t
+caller_in (SigRecv t) = Some t
+caller_in (SigSend t) = Some t
+caller_in (RelQ t) = Some t
+caller_in (Pend s) = None
+caller_in TakeAll = None
+
+abbrev pub is_caller : Tid → Name → Bool
+is_caller u name = is_thread u (caller_in name)
+
+-- where a caller sleeps
+abbrev pub bed : BufId → Name → Post
+bed b (WaitOn t side) = AtWait b side
+bed b name = AtLock b
+
+abbrev pub post_by : Bool → CpuId → Post
+post_by here c = if here then Home else InHand c
+
+-- a woken thread is at home at once, or in the hand of the CPU that woke it
+abbrev pub post_woken : Setup → CpuId → Tid → Post
+post_woken setup c u = post_by (same_cpu (home_of setup u) c) c
+
+abbrev pub post_slept : BufId → Tid → Name → Bool → Post → Post
+post_slept b u name slept x = if slept && is_caller u name then bed b name else x
+
+abbrev pub post_moved : Setup → CpuId → BufId → Tid → Name → Bool → Option Tid → Post → Post
+post_moved setup c b u name slept woke x = if is_thread u woke then post_woken setup c u else post_slept b u name slept x
+
+abbrev pub post_drained : Post → Post
+post_drained IsPending = Home
+post_drained Home = Home
+post_drained (InHand c) = InHand c
+post_drained (AtLock b) = AtLock b
+post_drained (AtWait b side) = AtWait b side
+
+abbrev pub post_pending : Setup → CpuId → Tid → Name → Post → Post
+post_pending setup d u (Pend s) x = if same_tid s u then IsPending else x
+post_pending setup d u TakeAll x = if same_cpu (home_of setup u) d then post_drained x else x
+post_pending setup d u name x = x
+
+abbrev pub post_buffer : Setup → CpuId → BufId → Tid → Name → Option Block → Post → Post
+post_buffer setup c b u name (Some (OfBuffer k)) x = post_moved setup c b u name (answer_of_buffer name k).slept (answer_of_buffer name k).woke x
+post_buffer setup c b u name (Some (OfPending threads)) x = x
+post_buffer setup c b u name None x = x
+
+abbrev pub post_at : Setup → CpuId → LockId → Tid → Name → Option Block → Post → Post
+post_at setup c (AtBuffer b) u name o x = post_buffer setup c b u name o x
+post_at setup c (Pending d) u name o x = post_pending setup d u name x
+
+abbrev pub post : Setup → Tid → List (Section Name) → Post
+post setup u [] = Home
+post setup u (s ∷ past) = post_at setup s.cpu s.lock u s.edit (block_of setup s.lock past) (post setup u past)
+
+-- what a caller does after its section
+abbrev pub acquired_visit : BufId → Visit → Visit
+acquired_visit b Outside = In b GotIt
+acquired_visit b (In d (Waiting side)) = In b (Trying side)
+acquired_visit b (In d other) = In d other
+
+abbrev pub signalled : Side → Visit → Visit
+signalled Receivers (In d (Owing receivers senders)) = In d (Owing false senders)
+signalled Senders (In d (Owing receivers senders)) = In d (Owing receivers false)
+signalled side other = other
+
+abbrev pub next_visit : BufId → Name → Buffer → Visit → Visit
+next_visit b (AcqQ t) k visit = acquired_visit b visit
+next_visit b (Enter t side) k visit = In b (Trying side)
+next_visit b (TryPut t m) k visit = if may_put t k then In b (Owing true true) else In b (Failed Senders)
+next_visit b (TryTake t) k visit = if may_take t k then In b (Owing true true) else In b (Failed Receivers)
+next_visit b (Shut t) k visit = In b (Owing true true)
+next_visit b (WaitOn t side) k visit = In b (Waiting side)
+next_visit b (SigRecv t) k visit = signalled Receivers visit
+next_visit b (SigSend t) k visit = signalled Senders visit
+next_visit b (RelQ t) k visit = Outside
+next_visit b (Pend s) k visit = visit
+next_visit b TakeAll k visit = visit
+
+abbrev pub visit_moved : BufId → Tid → Name → Buffer → Visit → Visit
+visit_moved b u name k visit = if is_caller u name then next_visit b name k visit else visit
+
+abbrev pub visit_buffer : BufId → Tid → Name → Option Block → Visit → Visit
+visit_buffer b u name (Some (OfBuffer k)) visit = visit_moved b u name k visit
+visit_buffer b u name (Some (OfPending threads)) visit = visit
+visit_buffer b u name None visit = visit
+
+abbrev pub visit_at : LockId → Tid → Name → Option Block → Visit → Visit
+visit_at (AtBuffer b) u name o visit = visit_buffer b u name o visit
+visit_at (Pending d) u name o visit = visit
+
+abbrev pub visit : Setup → Tid → List (Section Name) → Visit
+visit setup u [] = Outside
+visit setup u (s ∷ past) = visit_at s.lock u s.edit (block_of setup s.lock past) (visit setup u past)
+
+-- Which section may come.
+
+-- the section is the one that is due to its caller
+abbrev pub IsDue : BufId → Name → Visit → Type 0
+IsDue b (AcqQ t) Outside = Unit {0}
+IsDue b (AcqQ t) (In d (Waiting side)) = d ≡ b
+IsDue b (Enter t side) (In d GotIt) = d ≡ b
+IsDue b (Shut t) (In d GotIt) = d ≡ b
+IsDue b (TryPut t m) (In d (Trying Senders)) = d ≡ b
+IsDue b (TryTake t) (In d (Trying Receivers)) = d ≡ b
+IsDue b (WaitOn t side) (In d (Failed other)) = (d ≡ b) × (other ≡ side)
+IsDue b (SigRecv t) (In d (Owing receivers senders)) = d ≡ b
+IsDue b (SigSend t) (In d (Owing receivers senders)) = d ≡ b
+IsDue b (RelQ t) (In d (Owing receivers senders)) = (d ≡ b) × (receivers ≡ false) × (senders ≡ false)
+IsDue b name visit = ⊥
+
+-- a thread is at home on a CPU
+abbrev pub is_local : Setup → CpuId → Tid → Bool
+is_local setup c u = same_cpu (home_of setup u) c && nat_lt u.0 (length setup.homes)
+
+-- the caller of a section runs on its CPU, and the section is due to it
+pub record IsCallers (setup : Setup) (c : CpuId) (b : BufId) (name : Name) (t : Tid) (post : Post) (visit : Visit) : Type 0 where
+  pub local : is_local setup c t ≡ true
+  pub here : post ≡ Home
+  pub due : IsDue b name visit
+
+abbrev pub MayComeBy : Setup → List (Section Name) → CpuId → BufId → Name → Option Tid → Type 0
+MayComeBy setup past c b name None = ⊥
+MayComeBy setup past c b name (Some t) = IsCallers setup c b name t (post setup t past) (visit setup t past)
+
+abbrev pub MayComeTo : Setup → List (Section Name) → CpuId → CpuId → Name → Type 0
+MayComeTo setup past c d (Pend s) = (post setup s past ≡ InHand c) × (home_of setup s ≡ d)
+MayComeTo setup past c d TakeAll = c ≡ d
+MayComeTo setup past c d name = ⊥
+
+abbrev pub MayComeAt : Setup → List (Section Name) → CpuId → LockId → Name → Type 0
+MayComeAt setup past c (AtBuffer b) name = MayComeBy setup past c b name (caller_in name)
+MayComeAt setup past c (Pending d) name = MayComeTo setup past c d name
+
+-- the section may come: the table does no other
+abbrev pub MayCome : Setup → List (Section Name) → Section Name → Type 0
+MayCome setup past s = MayComeAt setup past s.cpu s.lock s.edit
+
+-- how often a thread stands in a list whose threads bear a mark; a number that is no thread's stands in none
+abbrev pub marked : Tid → Bool → ℕ
+marked u mark = one_if (nat_lt u.0 THREADS && mark)
