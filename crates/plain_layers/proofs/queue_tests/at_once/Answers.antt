@@ -20,4 +20,4 @@ returns-clause-seen g c =
     let part = c.args.part.now in
     seen_alone (kernel g.E.Edit.rules g.E.Moves.moves (Q.opening m)) (Q.ActsFor m) c.requires.all (event (Q.cpu_of part) c.args.call.now)
     c.poll.result c.unwrap.result (Q.seen m) (Q.seen c.poll.new.m) c.unwrap.ensures c.poll.ensures.seen
-    (law.known c.poll.new.m (Q.cpu_of c.poll.new.self) (law.own c.poll.new.self c.poll.new.m c.poll.ensures.fits))
+    (law.known c.poll.new.m (Q.cpu_of c.poll.new.self) (law.own_cpu c.poll.new.self c.poll.new.m c.poll.ensures.fits))
