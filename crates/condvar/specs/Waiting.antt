@@ -1,5 +1,5 @@
 -- Which call waits, on which side, and which answer says that its caller waits now.
-use Rattle.std.specs.Prelude.{Bool, true, false, Option, Some, None}
+use Rattle.std.specs.Prelude.{Bool, true, false, List, Option, Some, None}
 use Rattle.layer_traits.specs.declared.conditions.CvLeave.TheVariants.{Leave, Wait}
 use Rattle.layer_traits.specs.declared.conditions.CvOut.{CvOut}
 use Rattle.layer_traits.specs.declared.conditions.CvOut.TheVariants as answer
@@ -9,7 +9,10 @@ use Rattle.layer_traits.specs.declared.locked.QOut.TheVariants.{Acquired, Queued
 use Rattle.layer_traits.specs.declared.locked.Side.{Side}
 use Rattle.layer_traits.specs.declared.locked.Side.TheVariants.{Receivers}
 use Rattle.layer_traits.specs.declared.sleeps.Outcome.{Outcome}
+use Rattle.event_log.specs.declared.ids.BufId.{BufId}
 use Rattle.layer_traits.specs.Conditions.{CvCall}
+use Rattle.layer_traits.specs.CvLaw.{Waiting}
+use Rattle.layer_traits.specs.LockLaw.{Locking}
 
 -- the side of a wait; Receivers of a call that is no wait
 abbrev pub side_in : {G : Type 0} → CvCall G → Side
@@ -36,3 +39,7 @@ is_waiting (Released out) = is_waited out
 abbrev pub is_wait : {O : Type 0} → Option (Outcome (QOut (CvOut O))) → Bool
 is_wait None = false
 is_wait (Some outcome) = is_waiting outcome.out
+
+-- a CPU's own state: that of its locks, and who waits at which buffer
+abbrev pub with_waits : {O : Type 0} → Locking (CvOut O) → List (Option BufId) → Waiting O
+with_waits lock waits = record { lock = lock; waits = waits }

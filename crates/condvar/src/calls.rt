@@ -13,12 +13,12 @@ use layer_traits::{CvEdit, CvLeave, Guarded, QEdit, Side};
 pub fn caller_of<G: Guarded>(call: &QEdit<CvEdit<G>, CvLeave>) -> Tid
     ensures { result ≡ lock_caller (cv_rules G.deeds) call.now }
 {
-    match *call {
-        QEdit::Acquire(t) => t,
+    match call {
+        QEdit::Acquire(t) => *t,
         QEdit::Inside(CvEdit::Edit(edit)) => edit.caller(),
-        QEdit::Inside(CvEdit::SignalFront(t, _)) => t,
-        QEdit::Release(CvLeave::Leave(t)) => t,
-        QEdit::Release(CvLeave::Wait(t, _)) => t,
+        QEdit::Inside(CvEdit::SignalFront(t, _)) => *t,
+        QEdit::Release(CvLeave::Leave(t)) => *t,
+        QEdit::Release(CvLeave::Wait(t, _)) => *t,
     }
 }
 
@@ -27,8 +27,8 @@ pub fn caller_of<G: Guarded>(call: &QEdit<CvEdit<G>, CvLeave>) -> Tid
 pub fn side_of<G: Guarded>(call: &QEdit<CvEdit<G>, CvLeave>) -> Side
     ensures { result ≡ side_in call.now }
 {
-    match *call {
-        QEdit::Release(CvLeave::Wait(_, side)) => side,
+    match call {
+        QEdit::Release(CvLeave::Wait(_, side)) => *side,
         QEdit::Release(CvLeave::Leave(_)) | QEdit::Acquire(_) | QEdit::Inside(_) => Side::Receivers,
     }
 }

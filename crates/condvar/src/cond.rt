@@ -5,7 +5,7 @@ use crate::waits::Waits;
 use event_log::{BufId, CpuId, Tid};
 use layer_traits::{
     CvEdit, CvLayer, CvLeave, CvOut, Guarded, Line, Outcome, OwnedConds, OwnedQLocks, Pass, QEdit,
-    QLockLayer, QOut,
+    QLockLayer, QOut, Tray,
 };
 
 /// One CPU's part of queuing locks with Mesa conditions (Anderson and Dahlin), over a part `Q` of
@@ -17,6 +17,19 @@ pub struct Cond<Q> {
 }
 
 impl<G: Guarded, Q: QLockLayer<CvEdit<G>>> CvLayer<G> for Cond<Q> {
+    ghost use Rattle.std.specs.Prelude.{◌≡◌, ◌≢◌, ◌+◌, ◌<◌, ◌≤◌, None, Some, IsSome, IfSome};
+    ghost use Rattle.event_log.specs.declared.ids.CpuId.{CpuId};
+    ghost use Rattle.event_log.specs.declared.ids.LockId.TheVariants.{Buffer};
+    ghost use Rattle.layer_traits.specs.Conditions.{cv_rules};
+    ghost use Rattle.layer_traits.specs.CvLaw.{CvPolled, MayWait, MustStay, cv_plan, waiting_with};
+    ghost use Rattle.layer_traits.specs.LockLaw.{MayGo, MayLock, lock_kernel, slept_for};
+    ghost use Rattle.layer_traits.specs.Locking.{lock_caller, lock_moves, lock_rules};
+    ghost use Rattle.layer_traits.specs.Plans.{Follows, IsWhole, table_of};
+    ghost use Rattle.layer_traits.specs.QueueBlocks.{homes_in};
+    ghost use Rattle.layer_traits.specs.QueueRules.{queue_rules};
+    ghost use Rattle.layer_traits.specs.Trays.{cv_brought, cv_carried, lock_brought, lock_carried};
+    ghost use Rattle.condvar.specs.Waiting.{with_waits};
+
     type Machine = Q::Machine;
 
     ghost opening = { λ m. Q.opening m };
@@ -33,7 +46,7 @@ impl<G: Guarded, Q: QLockLayer<CvEdit<G>>> CvLayer<G> for Cond<Q> {
 
     ghost cpu_of = { λ p. Q.cpu_of p.lower };
 
-    ghost own = { λ p. record { lock = Q.own p.lower; waits = p.waits.buffers } };
+    ghost own = { λ p. with_waits (Q.own p.lower) p.waits.buffers };
 
     ghost under_way = { λ p. Q.under_way p.lower };
 
@@ -97,23 +110,59 @@ impl<G: Guarded, Q: QLockLayer<CvEdit<G>>> CvLayer<G> for Cond<Q> {
         &mut self,
         m: &mut Q::Machine,
         buffer: BufId,
-        call: &QEdit<CvEdit<G>, CvLeave>,
-    ) -> Option<Outcome<QOut<CvOut<G::Out>>>> {
-        let t = caller_of::<G>(call);
+        call: QEdit<CvEdit<G>, CvLeave>,
+        tray: &mut Tray,
+    ) -> Option<Outcome<QOut<CvOut<G::Out>>>>
+        requires fits { Q.Fits self.old.lower m.old }
+        requires buffer { IsSome (Q.opening m.old (Buffer buffer)) }
+        requires room { 0 < Q.room m.old }
+        requires caller { (Q.own self.old.lower).sleep.threads.current ≡ Some (lock_caller (cv_rules G.deeds) call) }
+        requires call { MayWait (slept_for self.old.waits.buffers (lock_caller (cv_rules G.deeds) call)) (Q.under_way self.old.lower) buffer
+            call (lock_caller (cv_rules G.deeds) call)
+            (MayGo (slept_for (Q.own self.old.lower).slept (lock_caller (cv_rules G.deeds) call)) (Q.under_way self.old.lower) buffer call
+            (lock_caller (cv_rules G.deeds) call)
+            (MayLock (cv_rules G.deeds) (lock_kernel (cv_rules G.deeds) (Q.opening m.old)) (Q.cpu_of self.old.lower) (Q.seen m.old)
+            (Q.own self.old.lower).sleep.threads.hand buffer call)) }
+        requires carried { lock_carried (cv_carried G.carried) call tray.old.message }
+        ensures seen { CvPolled G.deeds (lock_kernel (cv_rules G.deeds) (Q.opening m.old)) (λ c. Q.ActsFor m.old c) (Q.cpu_of self.old.lower)
+            buffer call (slept_for self.old.waits.buffers (lock_caller (cv_rules G.deeds) call)) (Q.seen m.old) (Q.seen m.new)
+            (with_waits (Q.own self.old.lower) self.old.waits.buffers) (Q.under_way self.new.lower)
+            (waiting_with (Q.own self.new.lower) self.new.waits.buffers result) }
+        ensures woken { IsSome (slept_for self.old.waits.buffers (lock_caller (cv_rules G.deeds) call)) → m.new ≡ m.old }
+        ensures handed { IsSome (slept_for (Q.own self.old.lower).slept (lock_caller (cv_rules G.deeds) call)) → m.new ≡ m.old }
+        ensures fits { Q.Fits self.new.lower m.new }
+        ensures cpu { Q.cpu_of self.new.lower ≡ Q.cpu_of self.old.lower }
+        ensures opening { Q.opening m.new ≡ Q.opening m.old }
+        ensures site { Q.site m.new ≡ Q.site m.old }
+        ensures room { Q.room m.old ≤ Q.room m.new + 1 }
+        ensures acts { (c : CpuId) → Q.ActsFor m.old c → Q.ActsFor m.new c }
+        ensures others { (p : Q) → Q.cpu_of p ≢ Q.cpu_of self.old.lower → Q.Fits p m.old → Q.Fits p m.new }
+        ensures brought { IfSome result (λ outcome. lock_brought (cv_brought G.brought) outcome.out tray.new.message) }
+        ensures prompt { IsWhole Q.IsStepwise → result ≡ None
+            → MustStay (lock_caller (cv_rules G.deeds) call) buffer (with_waits (Q.own self.old.lower) self.old.waits.buffers)
+            (with_waits (Q.own self.new.lower) self.new.waits.buffers) }
+        ensures follows { Q.IsStepwise
+            → Follows (λ c. Q.ActsFor m.old c) (table_of (queue_rules (lock_rules (cv_rules G.deeds)) (lock_moves (cv_rules G.deeds))))
+            (Q.opening m.old) (Q.cpu_of self.old.lower)
+            (cv_plan (lock_moves (cv_rules G.deeds)) (homes_in (Q.opening m.old)) (Q.cpu_of self.old.lower) buffer call
+            (with_waits (Q.own self.old.lower) self.old.waits.buffers))
+            (Q.acts m.old) (Q.acts m.new) (waiting_with (Q.own self.new.lower) self.new.waits.buffers result) }
+    {
+        let t = caller_of::<G>(&call);
         if self.waits.wake(t) {
             return Some(Outcome {
-                out: QOut::Released(CvOut::Waited(side_of::<G>(call))),
+                out: QOut::Released(CvOut::Waited(side_of::<G>(&call))),
                 slept: false,
                 woke: None,
             });
         }
-        let answer = self.lower.poll(m, buffer, call);
+        let answer = self.lower.poll(m, buffer, call, tray);
         self.waits.told(t, buffer, answer)
     }
 
     #[inline(always)]
-    fn pass(&mut self, m: &mut Q::Machine, call: Pass) -> Option<()> {
-        self.lower.pass(m, call)
+    fn pass(&mut self, m: &mut Q::Machine, call: Pass, tray: &mut Tray) -> Option<()> {
+        self.lower.pass(m, call, tray)
     }
 
     ghost own_cpu = { λ p m. Q.own_cpu p.lower m };

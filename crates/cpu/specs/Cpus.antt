@@ -12,6 +12,7 @@ use Rattle.event_log.specs.Actions.{Action, doer}
 use Rattle.thread_blocks.specs.Queues.{is_in}
 use Rattle.guest.specs.declared.instructions.Instruction.{Instruction}
 use Rattle.guest.specs.Instructions.{instruction_at, names_below}
+use Rattle.layer_traits.specs.declared.calls.Call.{Call}
 use Rattle.layer_traits.specs.declared.calls.Effect.{Effect}
 use Rattle.layer_traits.specs.declared.passes.Pass.{Pass}
 use Rattle.layer_traits.specs.declared.passes.Pass.TheVariants.{Switch, YieldNow, Drain, MakeReady, End}
@@ -77,6 +78,11 @@ chosen_at (Some t) hand ready guests = chosen_for t hand (guest_at guests t.0)
 -- what a CPU does next that is not halted
 abbrev pub chosen : Threads → List (Option Guest) → Choice
 chosen own guests = chosen_at own.current own.hand own.ready guests
+
+-- a guest stands at this message call
+abbrev pub stands_at : Option Guest → Call → Type 0
+stands_at None call = ⊥
+stands_at (Some g) call = todo_of g ≡ Calls call
 
 -- what is under way while a choice is being done
 abbrev pub doing_of : Choice → Option Doing

@@ -1,20 +1,21 @@
 //! One CPU over a layer of message calls.
 
-ghost use Rattle.std.specs.Prelude.{◌≡◌, ◌+◌, ◌<◌, true, false, ◌≤◌, [], ◌∷◌, ◌++◌, Some, None, length, vec_capacity};
-ghost use Rattle.std.specs.List.{list_all};
+ghost use Rattle.std.specs.Prelude.{◌≡◌, ◌+◌, ◌<◌, true, false, ◌≤◌, [], ◌∷◌, ◌++◌, Some, None, if◌then◌else◌, length, vec_capacity};
 ghost use Rattle.layer_traits.specs.BufferLaw.{buffer_of, entry_of};
-ghost use Rattle.cpu.specs.Guests.{computed, entries_of, polled};
-ghost use Rattle.cpu.specs.Cpus.{begins_at, begun_count, chosen_for, fresh_at, guest_at, is_begun_guest, is_over, passed_by, with_guest};
+ghost use Rattle.cpu.specs.Guests.{entries_of};
+ghost use Rattle.layer_traits.specs.declared.calls.Call.{Call};
+ghost use Rattle.cpu.specs.Cpus.{begins_at, begun_count, chosen_for, guest_at, stands_at};
 
-use crate::guests::{Guest, GuestStage, Todo};
-use event_log::{CpuId, Entry, Tid};
-use layer_traits::{Call, Effect, IpcLayer, Pass, Reason, Reply, Step};
+use crate::guest_tables::Guests;
+use crate::guests::{Guest, Todo};
+use event_log::{BufId, CpuId, Entry, Tid};
+use layer_traits::{Call, Effect, IpcLayer, Meant, Pass, Reason, Reply, Step};
 
 /// What a CPU does next that is not halted.
-#[derive(Clone, Copy, Debug)]
+#[derive(Drop)]
 pub enum Choice {
     /// It polls this message call of the thread that runs.
-    Polls(Tid, Call),
+    Polls(Tid, Meant<Call>),
     /// It polls this pass from thread to thread.
     Passes(Pass),
     /// The thread that runs does an instruction of its own.
@@ -30,15 +31,11 @@ pub struct Cpu<I: IpcLayer> {
     /// Its number.
     pub number: CpuId,
     /// The guest of each thread by its number; `None` at threads of other homes.
-    pub guests: Vec<Option<Guest>>,
+    pub guests: Guests,
     /// The entries of its calls that took effect, oldest first.
     pub trace: Vec<Entry>,
     /// How many entries the trace may have.
     pub limit: usize,
-    /// The number of a thread of this home that had not ended when one was looked for last: so a CPU
-    /// on which none runs need not ask them all whether they have. They are gone through where it
-    /// ends, and behind the first pass. Nothing rests on it.
-    pub lives: usize,
 }
 
 impl<I: IpcLayer> Cpu<I> {
@@ -56,25 +53,12 @@ impl<I: IpcLayer> Cpu<I> {
     {
         let hand = self.part.hand();
         match self.part.current() {
-            Some(thread) => choice_for(thread, hand, &self.guests[usize::from(thread.0)]),
+            Some(thread) => choice_for(thread, hand, self.guests.at(thread)),
             None => match hand {
                 Some(woken) => Choice::Passes(Pass::MakeReady(woken)),
                 None if self.part.has_ready() => Choice::Passes(Pass::Switch),
                 None => Choice::Passes(Pass::Drain),
             },
-        }
-    }
-
-    /// Whether the thread that runs, or where none does the one that was found last, has not ended:
-    /// the cheap reason why not all have.
-    #[inline(always)]
-    fn goes_on(&self) -> bool
-        requires { (t : _) → (I.threads self.now.part).current ≡ Some t → t.0 < length self.now.guests.items }
-        ensures { result ≡ true → list_all is_over self.now.guests.items ≡ false }
-    {
-        match self.part.current() {
-            Some(thread) => !is_over(&self.guests[usize::from(thread.0)]),
-            None => lives_at(&self.guests, self.lives),
         }
     }
 
@@ -84,16 +68,15 @@ impl<I: IpcLayer> Cpu<I> {
         requires { (t : _) → (I.threads self.now.part).current ≡ Some t → t.0 < length self.now.guests.items }
         ensures { result ≡ halted_at (I.threads self.now.part) self.now.guests.items self.now.trace.items self.now.limit }
     {
-        if self.part.hand().is_none() && !self.goes_on() && are_over(&self.guests) {
+        if self.part.hand().is_none() && self.guests.are_over() {
             return Some(Reason::AllEnded);
         }
-        // No more calls have begun than there are guests: far from the limit nothing has to be counted.
-        if self.trace.len() + self.guests.len() < self.limit {
+        if self.trace.len() + self.guests.begun() < self.limit {
             return None;
         }
         if let Choice::Polls(thread, _) = self.choice() {
-            let begins = is_between(&self.guests[usize::from(thread.0)]);
-            if begins && self.trace.len() + count_begun(&self.guests) == self.limit {
+            let begins = is_between(self.guests.at(thread));
+            if begins && self.trace.len() + self.guests.begun() == self.limit {
                 return Some(Reason::TraceFull);
             }
         }
@@ -123,13 +106,13 @@ impl<I: IpcLayer> Cpu<I> {
 
     /// Polls this message call of the thread that runs.
     #[inline(always)]
-    fn call(&mut self, m: &mut I::Machine, thread: Tid, call: Call)
+    fn poll(&mut self, m: &mut I::Machine, thread: Tid, call: &Call)
         requires fits { I.Fits self.old.part m.old }
         requires room { 0 < I.room m.old }
         requires number { I.cpu_of self.old.part ≡ self.old.number }
         requires is { IsCpuAt ⟦<I as IpcLayer>⟧ m.old self.old }
         requires live { stops_at ⟦<I as IpcLayer>⟧ self.old ≡ None }
-        requires chosen { chosen (I.threads self.old.part) self.old.guests.items ≡ Polls thread call }
+        requires chosen { chosen (I.threads self.old.part) self.old.guests.items ≡ Polls thread call.now }
         requires not_full { begins_at (guest_at self.old.guests.items thread.0) ≡ true
             → length self.old.trace.items + begun_count self.old.guests.items < self.old.limit }
         requires table { I.IsStepwise → IsTabledAt ⟦<I as IpcLayer>⟧ m.old self.old }
@@ -139,10 +122,33 @@ impl<I: IpcLayer> Cpu<I> {
         ensures table { I.IsStepwise → IsTabledAt ⟦<I as IpcLayer>⟧ m.new self.new }
         ensures steps { I.IsStepwise → WentAt ⟦<I as IpcLayer>⟧ m.old self.old m.new self.new Stepped }
     {
-        let answer = self.part.poll(m, thread, &call);
-        let effect = self.part.effect(thread);
-        let fresh = note_poll(&mut self.guests, thread, &effect, &answer);
-        note_effect(&mut self.trace, self.number, thread, &call, &fresh);
+        let answer = self.part.poll(m, thread, call);
+        let effect = self.part.effect_here(thread);
+        let fresh = self.guests.note_poll(thread, effect, &answer);
+        note_effect(&mut self.trace, self.number, thread, call, fresh, effect);
+    }
+
+    /// Polls the message call at which the thread that runs stands, which is the one asked for.
+    #[inline(always)]
+    fn call(&mut self, m: &mut I::Machine, thread: Tid, asked: Meant<Call>)
+        requires fits { I.Fits self.old.part m.old }
+        requires room { 0 < I.room m.old }
+        requires number { I.cpu_of self.old.part ≡ self.old.number }
+        requires is { IsCpuAt ⟦<I as IpcLayer>⟧ m.old self.old }
+        requires live { stops_at ⟦<I as IpcLayer>⟧ self.old ≡ None }
+        requires chosen { chosen (I.threads self.old.part) self.old.guests.items ≡ Polls thread asked }
+        requires not_full { begins_at (guest_at self.old.guests.items thread.0) ≡ true
+            → length self.old.trace.items + begun_count self.old.guests.items < self.old.limit }
+        requires table { I.IsStepwise → IsTabledAt ⟦<I as IpcLayer>⟧ m.old self.old }
+        ensures fits { I.Fits self.new.part m.new }
+        ensures is { IsCpuAt ⟦<I as IpcLayer>⟧ m.new self.new }
+        ensures leaves { Leaves ⟦<I as IpcLayer>⟧ m.old self.old m.new self.new }
+        ensures table { I.IsStepwise → IsTabledAt ⟦<I as IpcLayer>⟧ m.new self.new }
+        ensures steps { I.IsStepwise → WentAt ⟦<I as IpcLayer>⟧ m.old self.old m.new self.new Stepped }
+    {
+        let _ = asked;
+        let call = call_at(self.guests.at(thread));
+        self.poll(m, thread, &call);
     }
 
     /// Polls this pass from thread to thread.
@@ -164,7 +170,7 @@ impl<I: IpcLayer> Cpu<I> {
         let runs = self.part.current();
         let done = self.part.pass(m, pass);
         if done.is_some() {
-            note_pass(&mut self.guests, &mut self.lives, runs, pass);
+            self.guests.note_pass(runs, pass);
         }
     }
 
@@ -184,7 +190,7 @@ impl<I: IpcLayer> Cpu<I> {
         ensures table { I.IsStepwise → IsTabledAt ⟦<I as IpcLayer>⟧ m.new self.new }
         ensures steps { I.IsStepwise → WentAt ⟦<I as IpcLayer>⟧ m.old self.old m.new self.new Stepped }
     {
-        note_compute(&mut self.guests, thread);
+        self.guests.note_compute(thread);
         let _ = m;
     }
 
@@ -205,7 +211,7 @@ impl<I: IpcLayer> Cpu<I> {
         ensures steps { I.IsStepwise → WentAt ⟦<I as IpcLayer>⟧ m.old self.old m.new self.new Stepped }
     {
         match self.choice() {
-            Choice::Polls(thread, call) => self.call(m, thread, call),
+            Choice::Polls(thread, asked) => self.call(m, thread, asked),
             Choice::Passes(pass) => self.pass(m, pass),
             Choice::Computes(thread) => self.compute(m, thread),
         }
@@ -303,34 +309,6 @@ fn choice_for(thread: Tid, hand: Option<Tid>, guest: &Option<Guest>) -> Choice
     }
 }
 
-/// Whether the guest is in a call that has had no effect.
-#[inline(always)]
-fn is_begun(guest: &Option<Guest>) -> bool
-    ensures { result ≡ is_begun_guest guest.now }
-{
-    match guest {
-        Some(guest) => match guest.stage {
-            GuestStage::Begun => true,
-            GuestStage::Between | GuestStage::Done | GuestStage::Ended => false,
-        },
-        None => false,
-    }
-}
-
-/// Whether there is no guest or it has ended.
-#[inline(always)]
-fn is_over(guest: &Option<Guest>) -> bool
-    ensures { result ≡ is_over guest.now }
-{
-    match guest {
-        Some(guest) => match guest.stage {
-            GuestStage::Ended => true,
-            GuestStage::Between | GuestStage::Begun | GuestStage::Done => false,
-        },
-        None => true,
-    }
-}
-
 /// Whether there is a guest and it is in no call.
 #[inline(always)]
 fn is_between(guest: &Option<Guest>) -> bool
@@ -342,124 +320,37 @@ fn is_between(guest: &Option<Guest>) -> bool
     }
 }
 
-/// Whether each of the guests has ended.
+/// The message call at which this guest stands.
 #[inline(always)]
-fn are_over(guests: &[Option<Guest>]) -> bool
-    ensures { result ≡ list_all is_over guests.now }
+fn call_at(guest: &Option<Guest>) -> Call
+    ensures { (call : Call) → stands_at guest.now call → result ≡ call }
 {
-    guests.iter().all(is_over)
-}
-
-/// Whether there is a guest at this index and it has not ended.
-#[inline(always)]
-fn lives_at(guests: &[Option<Guest>], index: usize) -> bool
-    ensures { result ≡ true → list_all is_over guests.now ≡ false }
-{
-    if index < guests.len() {
-        return !is_over(&guests[index]);
-    }
-    false
-}
-
-/// The index of the first guest that has not ended; 0 where all have.
-fn first_that_lives(guests: &[Option<Guest>]) -> usize {
-    for index in 0..guests.len() {
-        if lives_at(guests, index) {
-            return index;
-        }
-    }
-    0
-}
-
-/// How many of the guests are in a call that has had no effect.
-#[inline(always)]
-fn count_begun(guests: &[Option<Guest>]) -> usize
-    ensures { result ≡ begun_count guests.now }
-{
-    let mut count = 0;
-    for guest in guests {
-        if is_begun(guest) {
-            count += 1;
-        }
-    }
-    count
-}
-
-/// Notes what a poll of a thread's call answered, and gives the effect that it had.
-#[inline(always)]
-fn note_poll(
-    guests: &mut Vec<Option<Guest>>,
-    thread: Tid,
-    effect: &Option<Effect>,
-    answer: &Option<Reply>,
-) -> Option<Effect>
-    requires { thread.0 < length guests.old.items }
-    ensures guests { guests.new.items ≡ with_guest guests.old.items thread.0 (λ g. polled g effect.now answer.now) }
-    ensures fresh { result ≡ fresh_at (guest_at guests.old.items thread.0) effect.now }
-{
-    match &mut guests[usize::from(thread.0)] {
-        Some(guest) => {
-            let fresh = guest.fresh(effect);
-            guest.note(effect, answer);
-            fresh
-        }
-        None => None,
+    match guest {
+        Some(guest) => guest.call(),
+        // It has none.
+        None => Call::Recv(BufId(0)),
     }
 }
 
-/// Notes that a pass is done which began while this thread ran.
-#[inline(always)]
-fn note_pass(guests: &mut Vec<Option<Guest>>, lives: &mut usize, runs: Option<Tid>, pass: Pass)
-    requires { (t : _) → runs ≡ Some t → t.0 < length guests.old.items }
-    ensures { guests.new.items ≡ passed_by runs guests.old.items pass }
-{
-    hear_pass(guests, runs, pass);
-    if !lives_at(guests, *lives) {
-        *lives = first_that_lives(guests);
-    }
-}
-
-/// Tells the guest that ran of this pass.
-#[inline(always)]
-fn hear_pass(guests: &mut Vec<Option<Guest>>, runs: Option<Tid>, pass: Pass)
-    requires { (t : _) → runs ≡ Some t → t.0 < length guests.old.items }
-    ensures { guests.new.items ≡ passed_by runs guests.old.items pass }
-{
-    if let Some(thread) = runs {
-        match &mut guests[usize::from(thread.0)] {
-            Some(guest) => guest.pass(pass),
-            None => {}
-        }
-    }
-}
-
-/// Notes that a thread did an instruction of its own.
-#[inline(always)]
-fn note_compute(guests: &mut Vec<Option<Guest>>, thread: Tid)
-    requires { thread.0 < length guests.old.items }
-    ensures { guests.new.items ≡ with_guest guests.old.items thread.0 computed }
-{
-    match &mut guests[usize::from(thread.0)] {
-        Some(guest) => guest.compute(),
-        None => {}
-    }
-}
-
-/// Writes the entry of a call's effect, where there is one; room for it is reserved.
+/// Writes the entry of a call's effect, where there is one and it is fresh; room for it is reserved.
 #[inline(always)]
 fn note_effect(
     trace: &mut Vec<Entry>,
     cpu: CpuId,
     thread: Tid,
     call: &Call,
+    fresh: bool,
     effect: &Option<Effect>,
 )
-    requires { (f : _) → effect.now ≡ Some f → length trace.old.items < vec_capacity trace.old }
-    ensures items { trace.new.items ≡ trace.old.items ++ entries_of cpu thread (buffer_of call.now) effect.now }
+    requires { (f : _) → (if fresh then effect.now else None) ≡ Some f → length trace.old.items < vec_capacity trace.old }
+    ensures items { trace.new.items ≡ trace.old.items ++ entries_of cpu thread (buffer_of call.now) (if fresh then effect.now else None) }
     ensures capacity { vec_capacity trace.old ≤ vec_capacity trace.new }
 {
+    if !fresh {
+        return;
+    }
     if let Some(effect) = effect {
-        put_entry(trace, entry(cpu, thread, call, *effect));
+        put_entry(trace, entry(cpu, thread, call, effect));
     }
 }
 
@@ -475,8 +366,8 @@ fn put_entry(trace: &mut Vec<Entry>, entry: Entry)
 
 /// The entry of an effect of a call.
 #[inline(always)]
-fn entry(cpu: CpuId, thread: Tid, call: &Call, effect: Effect) -> Entry
-    ensures { result ≡ entry_of cpu thread (buffer_of call.now) effect }
+fn entry(cpu: CpuId, thread: Tid, call: &Call, effect: &Effect) -> Entry
+    ensures { result ≡ entry_of cpu thread (buffer_of call.now) effect.now }
 {
     let (Call::Send(buffer, _) | Call::Recv(buffer) | Call::Close(buffer)) = *call;
     Entry {

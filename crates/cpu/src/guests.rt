@@ -1,9 +1,13 @@
 //! A thread's guest as its CPU keeps it.
 
-ghost use Rattle.std.specs.Prelude.{◌≡◌};
+ghost use Rattle.std.specs.Prelude.{◌≡◌, Option, None, if◌then◌else◌};
+ghost use Rattle.layer_traits.specs.declared.calls.Call.{Call};
+ghost use Rattle.layer_traits.specs.declared.calls.Effect.{Effect};
+ghost use Rattle.cpu.specs.declared.guests.Todo.TheVariants.{Calls};
 
+use event_log::BufId;
 use guest::{Instruction, Program, Thread};
-use layer_traits::{Call, Effect, Pass, Reply};
+use layer_traits::{Call, Effect, Meant, Pass, Reply};
 
 /// How a guest stands to its program.
 #[derive(Clone, Copy, Debug, PartialEq, Eq)]
@@ -18,8 +22,35 @@ pub enum GuestStage {
     Ended,
 }
 
+impl GuestStage {
+    ghost use Rattle.std.specs.Prelude.{◌≡◌, not};
+    ghost use Rattle.cpu.specs.Guests.{is_begun, is_ended};
+
+    /// Whether it is inside a call that has had no effect.
+    #[inline(always)]
+    pub(crate) fn is_begun(self) -> bool
+        ensures { result ≡ is_begun self }
+    {
+        match self {
+            GuestStage::Begun => true,
+            GuestStage::Between | GuestStage::Done | GuestStage::Ended => false,
+        }
+    }
+
+    /// Whether it is not the last one.
+    #[inline(always)]
+    pub(crate) fn is_live(self) -> bool
+        ensures { result ≡ not (is_ended self) }
+    {
+        match self {
+            GuestStage::Ended => false,
+            GuestStage::Between | GuestStage::Begun | GuestStage::Done => true,
+        }
+    }
+}
+
 /// What a guest does next.
-#[derive(Clone, Copy, Debug)]
+#[derive(Drop)]
 pub enum Todo {
     /// It ends.
     Finish,
@@ -28,7 +59,7 @@ pub enum Todo {
     /// It does an instruction that touches its own line and registers alone.
     Compute,
     /// It polls this message call.
-    Calls(Call),
+    Calls(Meant<Call>),
 }
 
 /// A thread's guest: its program, its line and registers, and its stage.
@@ -64,15 +95,32 @@ impl Guest {
         match self.thread.next(&self.program) {
             Instruction::Exit => Todo::Finish,
             Instruction::Yield => Todo::PassOn,
-            Instruction::Send(buffer, from, _) => {
-                Todo::Calls(Call::Send(buffer, self.thread.message(from)))
+            Instruction::Send(..) | Instruction::Recv(..) | Instruction::Close(_) => {
+                Todo::Calls(Meant::of(&self.call()))
             }
-            Instruction::Recv(buffer, ..) => Todo::Calls(Call::Recv(buffer)),
-            Instruction::Close(buffer) => Todo::Calls(Call::Close(buffer)),
             Instruction::Set(..)
             | Instruction::Add(..)
             | Instruction::Sub(..)
             | Instruction::Jnz(..) => Todo::Compute,
+        }
+    }
+
+    /// The message call at which the guest stands.
+    #[inline(always)]
+    pub(crate) fn call(&self) -> Call
+        ensures { (call : Call) → todo_of self.now ≡ Calls call → result ≡ call }
+    {
+        match self.thread.next(&self.program) {
+            Instruction::Send(buffer, from, _) => Call::Send(buffer, self.thread.message(from)),
+            Instruction::Close(buffer) => Call::Close(buffer),
+            Instruction::Recv(buffer, ..) => Call::Recv(buffer),
+            // It stands at none.
+            Instruction::Exit
+            | Instruction::Yield
+            | Instruction::Set(..)
+            | Instruction::Add(..)
+            | Instruction::Sub(..)
+            | Instruction::Jnz(..) => Call::Recv(BufId(0)),
         }
     }
 
@@ -123,15 +171,14 @@ impl Guest {
         }
     }
 
-    /// The effect that a poll of the guest's call had, where `effect` is what the call has had
-    /// after it.
+    /// Whether an effect that the guest's call has after a poll came in that poll.
     #[inline(always)]
-    pub(crate) fn fresh(&self, effect: &Option<Effect>) -> Option<Effect>
-        ensures { result ≡ fresh_effect self.now.stage effect.now }
+    pub(crate) fn awaits(&self) -> bool
+        ensures { (effect : Option Effect) → (if result then effect else None) ≡ fresh_effect self.now.stage effect }
     {
         match self.stage {
-            GuestStage::Done => None,
-            GuestStage::Between | GuestStage::Begun | GuestStage::Ended => *effect,
+            GuestStage::Done => false,
+            GuestStage::Between | GuestStage::Begun | GuestStage::Ended => true,
         }
     }
 

@@ -4,11 +4,13 @@
 #![tactic(auto)]
 
 mod cpus;
+mod guest_tables;
 mod guests;
 mod laws;
 mod systems;
 
 pub use cpus::{Choice, Cpu};
+pub use guest_tables::Guests;
 pub use guests::{Guest, GuestStage, Todo};
 pub use laws::{
     calls_return_alone, cpus_lose_no_wake_up, free_locks_have_no_sleepers, halts_exactly,

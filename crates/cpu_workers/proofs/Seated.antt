@@ -1,6 +1,7 @@
 -- A CPU that was made with its guests is one before its first step, over a machine in which nothing was done.
 use Rattle.std.proofs.Common.{◌≡◌, ℕ, zero, suc, ◌<◌, ◌≤◌, List, [], ◌∷◌, length, replicate, drop, Option, Some, None, refl, ap, sym, ◌∙◌, subst, arith}
 use Rattle.std.specs.Prelude.{All, IfOk, Result, Ok, Err, slice_get, slice_index_or}
+use Rattle.std.proofs.lemmas.List.{length-drop}
 use Rattle.std.proofs.lemmas.Option.{get_or_from_slice_get}
 use Rattle.boot.specs.Plan.{BootPlan, IsPlan, Task}
 use Rattle.event_log.specs.declared.entries.Entry.{Entry}
@@ -111,6 +112,10 @@ pub left_at : {X : Type 0} (xs : List X) (n : ℕ) (r : X) → n < length xs →
 left_at [] n r within is = absurd (omega (arith, within))
 left_at (x ∷ xs) zero r within is = ap Some (sym is)
 left_at (x ∷ xs) (suc n) r within is = left_at xs n r (omega (arith, within)) is
+
+-- while not all of a list was taken from its front, something is left
+pub some_left : {X : Type 0} (all left : List X) (n : ℕ) → n < length all → left ≡ drop n all → 0 < length left
+some_left all left n within is = let long = ap (λ l. length l) is ∙ length-drop n all in omega (arith, within, long)
 
 -- what belongs to the element at this number
 pub both_back : {A B : Type 0} (Fits : A → B → Type 0) (xs : List A) (ys : List B) → Both Fits xs ys → (k : ℕ) (y : B) → slice_get ys k ≡ Some y

@@ -1,5 +1,5 @@
 -- What the workers of a plan left is a lawful report.
-use Rattle.std.proofs.Common.{◌≡◌, ℕ, ◌*◌, ◌^◌, ◌<◌, ◌≤◌, List, refl, sym, subst, arith}
+use Rattle.std.proofs.Common.{ℕ, ◌*◌, ◌^◌, ◌<◌, ◌≤◌, List, refl, sym, subst, arith}
 use Rattle.std.proofs.lemmas.Nat.{mul-le}
 use Rattle.boot.specs.Plan.{BootPlan, IsPlan}
 use Rattle.event_log.specs.declared.entries.Entry.{Entry}

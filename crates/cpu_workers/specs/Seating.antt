@@ -1,15 +1,14 @@
 -- The workers of a plan at one table: their actions by the layers' names, what each has done, and the blocks that they leave.
-use Rattle.std.specs.Prelude.{◌≡◌, ℕ, List, [], map, length, slice_get, Option, Some, None, IsSome, ◌<◌}
+use Rattle.std.specs.Prelude.{◌≡◌, ℕ, List, [], map, length, slice_get, Option, Some, IsSome, ◌<◌}
 use Rattle.boot.specs.Plan.{BootPlan}
 use Rattle.event_log.specs.declared.entries.Entry.{Entry}
 use Rattle.event_log.specs.declared.ids.BufId.{BufId}
 use Rattle.event_log.specs.declared.ids.CpuId.{CpuId}
 use Rattle.event_log.specs.declared.ids.LockId.{LockId}
-use Rattle.event_log.specs.declared.ids.LockId.TheVariants.{Pending, Buffer}
+use Rattle.event_log.specs.declared.ids.LockId.TheVariants.{Pending}
 use Rattle.event_log.specs.Actions.{Action, AreLegal, acts_of, renamed}
 use Rattle.event_log.specs.Messages.{Message}
 use Rattle.layer_traits.specs.declared.queue_edits.QueueBlock.{QueueBlock}
-use Rattle.layer_traits.specs.declared.queue_edits.QueueBlock.TheVariants.{Queue, Above}
 use Rattle.layer_traits.specs.declared.queue_edits.QueueEdit.{QueueEdit}
 use Rattle.layer_traits.specs.BufferEffects.{opening_locks}
 use Rattle.layer_traits.specs.OneLock.{AreDistinct, opened}

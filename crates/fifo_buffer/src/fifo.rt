@@ -14,23 +14,24 @@ ghost use Rattle.layer_traits.specs.QueueRules.{queue_rules};
 ghost use Rattle.layer_traits.specs.Queues.{buffer_sections};
 ghost use Rattle.fifo_buffer.specs.Paces.{MayPace, Sizes, Paced, calling_after, reply_at};
 
-use crate::sections::{answers_at_once, buffer_in, reply, section};
+use crate::sections::{answers_at_once, buffer_in, lay, reply, section};
 use crate::talk_table::Talks;
 use arrayvec::ArrayVec;
 use event_log::{BufId, CAPACITY, CpuId, Msg, Tid};
 use layer_traits::{
     BufferEdit, BufferLayer, Call, CvLayer, Effect, Line, OwnedBuffers, OwnedConds, Pass, Reply,
-    Stage,
+    Stage, Tray,
 };
 
 /// One CPU's part of first-in first-out blocking bounded buffers (Anderson and Dahlin), over a part
 /// `C` of conditions: it keeps of each thread how far its message call has come, and whose call is
-/// under way.
+/// under way. It owns the tray in which its CPU's layers hand messages and taken threads on.
 #[derive(Drop)]
 pub struct Fifo<C> {
     lower: C,
     talks: Talks,
     calling: Option<Tid>,
+    tray: Tray,
 }
 
 impl<C: CvLayer<BufferEdit>> Fifo<C> {
@@ -73,9 +74,10 @@ impl<C: CvLayer<BufferEdit>> Fifo<C> {
                   (going (talk_of self.old.talks.talks t) call.now).stage else None;
             }) }
     {
+        lay(&mut self.tray.message, call, stage);
         let edit = section(t, call, stage);
-        let answer = self.lower.poll(m, buffer_in(call), &edit);
-        self.talks.hear(t, call, &answer)
+        let answer = self.lower.poll(m, buffer_in(call), edit, &mut self.tray);
+        self.talks.hear(t, call, &answer, &self.tray.message)
     }
 
     /// The reply of `call` after a pace at this stage, which ended its section or not; and notes
@@ -88,7 +90,7 @@ impl<C: CvLayer<BufferEdit>> Fifo<C> {
         ensures talks { self.new.talks.talks ≡ self.old.talks.talks }
     {
         let answer = if done {
-            reply(call, stage, self.talks.effect(t))
+            reply(call, stage, self.talks.effect_here(t))
         } else {
             None
         };
@@ -158,6 +160,7 @@ impl<C: CvLayer<BufferEdit>> BufferLayer for Fifo<C> {
             lower: C::part(cpu, homes, buffers),
             talks: Talks::new(),
             calling: None,
+            tray: Tray::new(),
         }
     }
 
@@ -187,6 +190,11 @@ impl<C: CvLayer<BufferEdit>> BufferLayer for Fifo<C> {
     }
 
     #[inline(always)]
+    fn effect_here(&self, t: Tid) -> &Option<Effect> {
+        self.talks.effect_here(t)
+    }
+
+    #[inline(always)]
     fn look(&mut self, m: &mut C::Machine) -> bool {
         self.lower.look(m)
     }
@@ -205,7 +213,7 @@ impl<C: CvLayer<BufferEdit>> BufferLayer for Fifo<C> {
 
     #[inline(always)]
     fn pass(&mut self, m: &mut C::Machine, call: Pass) -> Option<()> {
-        self.lower.pass(m, call)
+        self.lower.pass(m, call, &mut self.tray)
     }
 
     ghost own_cpu = { λ p m fits. (C.own_cpu p.lower m fits.0, fits.1.boots) };

@@ -2,12 +2,14 @@
 
 ghost use Rattle.std.specs.Prelude.{◌≡◌};
 ghost use Rattle.layer_traits.specs.BufferLaw.{buffer_of, first_of, going, heard, other_side, enlisted, reply_by, section_at, side_of, told_by, tried, try_of};
+ghost use Rattle.layer_traits.specs.Trays.{buffer_brought, buffer_carried, cv_brought, cv_carried, lock_brought, lock_carried};
+ghost use Rattle.event_log.specs.declared.ids.Tid.{Tid};
 ghost use Rattle.fifo_buffer.specs.Paces.{is_at_once, reply_at};
 
 use event_log::{BufId, Kind, Msg, Tid};
 use layer_traits::{
-    BufferEdit, BufferOut, Call, CvEdit, CvLeave, CvOut, Effect, QEdit, QOut, Reply, Side, Stage,
-    Talk,
+    BufferEdit, BufferOut, Call, CvEdit, CvLeave, CvOut, Effect, Meant, QEdit, QOut, Reply, Side,
+    Stage, Talk,
 };
 
 /// The buffer of a call.
@@ -15,8 +17,8 @@ use layer_traits::{
 pub fn buffer_in(call: &Call) -> BufId
     ensures { result ≡ buffer_of call.now }
 {
-    match *call {
-        Call::Send(buffer, _) | Call::Recv(buffer) | Call::Close(buffer) => buffer,
+    match call {
+        Call::Send(buffer, _) | Call::Recv(buffer) | Call::Close(buffer) => *buffer,
     }
 }
 
@@ -25,7 +27,7 @@ pub fn buffer_in(call: &Call) -> BufId
 fn own_side(call: &Call) -> Side
     ensures { result ≡ side_of call.now }
 {
-    match *call {
+    match call {
         Call::Send(_, _) | Call::Close(_) => Side::Senders,
         Call::Recv(_) => Side::Receivers,
     }
@@ -36,7 +38,7 @@ fn own_side(call: &Call) -> Side
 fn far_side(call: &Call) -> Side
     ensures { result ≡ other_side call.now }
 {
-    match *call {
+    match call {
         Call::Send(_, _) | Call::Close(_) => Side::Receivers,
         Call::Recv(_) => Side::Senders,
     }
@@ -47,7 +49,7 @@ fn far_side(call: &Call) -> Side
 fn first_edit(t: Tid, call: &Call) -> BufferEdit
     ensures { result ≡ first_of t call.now }
 {
-    match *call {
+    match call {
         Call::Send(_, _) => BufferEdit::Enter(t, Side::Senders),
         Call::Recv(_) => BufferEdit::Enter(t, Side::Receivers),
         Call::Close(_) => BufferEdit::Shut(t),
@@ -59,8 +61,8 @@ fn first_edit(t: Tid, call: &Call) -> BufferEdit
 fn next_try(t: Tid, call: &Call) -> BufferEdit
     ensures { result ≡ try_of t call.now }
 {
-    match *call {
-        Call::Send(_, message) => BufferEdit::TryPut(t, message),
+    match call {
+        Call::Send(_, message) => BufferEdit::TryPut(t, Meant::of(message)),
         Call::Recv(_) => BufferEdit::TryTake(t),
         Call::Close(_) => BufferEdit::Shut(t),
     }
@@ -68,19 +70,32 @@ fn next_try(t: Tid, call: &Call) -> BufferEdit
 
 /// The reply of a call after an effect.
 #[inline(always)]
-fn answer_by(call: &Call, kind: Kind, value: Msg) -> Reply
-    ensures { result ≡ reply_by call.now kind value }
+fn answer_by(call: &Call, kind: Kind, value: &Msg) -> Reply
+    ensures { result ≡ reply_by call.now kind value.now }
 {
-    match *call {
+    match call {
         Call::Send(_, _) => match kind {
             Kind::SendClosed => Reply::Closed,
             Kind::Send | Kind::Recv | Kind::Close | Kind::RecvClosed => Reply::Sent,
         },
         Call::Recv(_) => match kind {
             Kind::RecvClosed => Reply::Closed,
-            Kind::Send | Kind::Recv | Kind::Close | Kind::SendClosed => Reply::Got(value),
+            Kind::Send | Kind::Recv | Kind::Close | Kind::SendClosed => Reply::Got(*value),
         },
         Call::Close(_) => Reply::Shut,
+    }
+}
+
+/// Lays down the message that the section of `call` at this stage puts, if it puts one: a send's,
+/// where it tries.
+#[inline(always)]
+pub fn lay(message: &mut Msg, call: &Call, stage: Stage)
+    ensures { (t : Tid) → lock_carried (cv_carried buffer_carried) (section_at t call.now stage) message.new }
+{
+    if stage == Stage::Tries {
+        if let Call::Send(_, put) = call {
+            *message = *put;
+        }
     }
 }
 
@@ -106,82 +121,74 @@ pub fn begin(talk: &mut Talk, call: &Call)
     ensures { talk.new ≡ going talk.old call.now }
 {
     if talk.stage == Stage::Between {
-        *talk = Talk {
-            stage: Stage::Acquires,
-            call: Some(*call),
-            position: 0,
-            effect: None,
-        };
-    }
-}
-
-/// What an edit of the buffer answered, in the answer of its section; `NotYet` where it was none.
-#[inline(always)]
-fn told(out: &QOut<CvOut<BufferOut>>) -> BufferOut
-    ensures { result ≡ told_by out.now }
-{
-    match out {
-        QOut::Did(CvOut::Did(told)) => *told,
-        QOut::Did(CvOut::Signalled(_, _) | CvOut::Left | CvOut::Waited(_)) => BufferOut::NotYet,
-        QOut::Acquired | QOut::Queued | QOut::Released(_) => BufferOut::NotYet,
+        talk.stage = Stage::Acquires;
+        talk.call = Some(*call);
+        talk.position = 0;
+        talk.effect = None;
     }
 }
 
 /// Keeps what a thread that entered its line was told: its position; or what one that closed the
 /// buffer was told: its effect.
 #[inline(always)]
-fn hear_entry(talk: &mut Talk, told: BufferOut)
-    ensures { talk.new ≡ enlisted talk.old told }
+fn hear_entry(talk: &mut Talk, out: &QOut<CvOut<BufferOut>>)
+    ensures { talk.new ≡ enlisted talk.old (told_by out.now) }
 {
-    match told {
-        BufferOut::Entered(position) => {
+    match out {
+        QOut::Did(CvOut::Did(BufferOut::Entered(position))) => {
             talk.stage = Stage::Tries;
-            talk.position = position;
+            talk.position = *position;
         }
-        BufferOut::WasShut(op, pos) => {
+        QOut::Did(CvOut::Did(BufferOut::WasShut(op, pos))) => {
             talk.stage = Stage::Signals;
             talk.effect = Some(Effect {
                 kind: Kind::Close,
                 value: Msg::none(),
-                op,
-                pos,
+                op: *op,
+                pos: *pos,
             });
         }
-        BufferOut::NotYet | BufferOut::Done(_, _, _) => {}
+        QOut::Did(CvOut::Did(BufferOut::NotYet | BufferOut::Done(_, _, _))) => {}
+        QOut::Did(CvOut::Signalled(_, _) | CvOut::Left | CvOut::Waited(_)) => {}
+        QOut::Acquired | QOut::Queued | QOut::Released(_) => {}
     }
 }
 
-/// Keeps what a thread that tried was told: its effect, or that it has to wait.
+/// Keeps what a thread that tried was told: its effect, with the message that the answer brought, or
+/// that it has to wait.
 #[inline(always)]
-fn hear_try(talk: &mut Talk, told: BufferOut)
-    ensures { talk.new ≡ tried talk.old told }
+fn hear_try(talk: &mut Talk, out: &QOut<CvOut<BufferOut>>, message: &Msg)
+    requires { lock_brought (cv_brought buffer_brought) out.now message.now }
+    ensures { talk.new ≡ tried talk.old (told_by out.now) }
 {
-    match told {
-        BufferOut::Done(kind, op, value) => {
+    match out {
+        QOut::Did(CvOut::Did(BufferOut::Done(kind, op, _))) => {
             talk.stage = Stage::Signals;
             talk.effect = Some(Effect {
-                kind,
-                value,
-                op,
+                kind: *kind,
+                value: *message,
+                op: *op,
                 pos: talk.position,
             });
         }
-        BufferOut::NotYet | BufferOut::Entered(_) | BufferOut::WasShut(_, _) => {
+        QOut::Did(_) | QOut::Acquired | QOut::Queued | QOut::Released(_) => {
             talk.stage = Stage::Waits
         }
     }
 }
 
-/// Keeps what the section of the talk's stage answered: the talk is at the next stage then.
+/// Keeps what the section of the talk's stage answered, with the message that the answer brought:
+/// the talk is at the next stage then.
 #[inline(always)]
-pub fn hear_section(talk: &mut Talk, out: &QOut<CvOut<BufferOut>>)
+pub fn hear_section(talk: &mut Talk, out: &QOut<CvOut<BufferOut>>, message: &Msg)
+    requires { lock_brought (cv_brought buffer_brought) out.now message.now }
     ensures { talk.new ≡ heard talk.old talk.old.stage out.now }
 {
     match talk.stage {
         Stage::Between => {}
         Stage::Acquires => talk.stage = Stage::Enters,
-        Stage::Enters => hear_entry(talk, told(out)),
-        Stage::Tries => hear_try(talk, told(out)),
+        Stage::Enters => hear_entry(talk, out),
+        Stage::Tries => hear_try(talk, out, message),
         Stage::Waits => talk.stage = Stage::AcquiresAgain,
         Stage::AcquiresAgain => talk.stage = Stage::Tries,
         Stage::Signals => talk.stage = Stage::SignalsOwn,
@@ -196,12 +203,12 @@ pub fn hear_section(talk: &mut Talk, out: &QOut<CvOut<BufferOut>>)
 /// The reply of a call whose section at this stage has ended: that of its effect, after the last
 /// section.
 #[inline(always)]
-pub fn reply(call: &Call, stage: Stage, effect: Option<Effect>) -> Option<Reply>
-    ensures { result ≡ reply_at call.now stage effect }
+pub fn reply(call: &Call, stage: Stage, effect: &Option<Effect>) -> Option<Reply>
+    ensures { result ≡ reply_at call.now stage effect.now }
 {
     match stage {
         Stage::Releases => match effect {
-            Some(effect) => Some(answer_by(call, effect.kind, effect.value)),
+            Some(effect) => Some(answer_by(call, effect.kind, &effect.value)),
             None => None,
         },
         Stage::Between

@@ -58,6 +58,7 @@ impl Thread {
 
     /// The message that a send takes from here: the number of one register, or those of the first
     /// registers.
+    #[inline(always)]
     pub fn message(&self, from: Source) -> Msg
         requires { IsSource from }
         ensures { result ≡ message_from self.now from }

@@ -154,6 +154,11 @@ impl<B: BufferLayer> IpcLayer for Ipc<B> {
     }
 
     #[inline(always)]
+    fn effect_here(&self, t: Tid) -> &Option<Effect> {
+        self.lower.effect_here(t)
+    }
+
+    #[inline(always)]
     fn look(&mut self, m: &mut B::Machine) -> bool {
         self.lower.look(m)
     }

@@ -34,3 +34,4 @@ pub mod Told
 pub mod Openings
 pub mod EffectRuns
 pub mod Capacities
+pub mod Trays

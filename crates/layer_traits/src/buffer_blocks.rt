@@ -4,11 +4,13 @@ ghost use Rattle.std.specs.Prelude.{◌≡◌, ◌≤◌, ◌++◌, ◌∷◌, [
 ghost use Rattle.event_log.specs.declared.ids.TheConstants.{CAPACITY};
 ghost use Rattle.layer_traits.specs.declared.buffer_edits.BufferEdit.TheVariants.{Enter, TryPut, TryTake, Shut};
 ghost use Rattle.layer_traits.specs.declared.locked.Side.TheVariants.{Receivers, Senders};
+ghost use Rattle.layer_traits.specs.Trays.{buffer_brought};
 ghost use Rattle.layer_traits.specs.BufferBlocks.{buffer_answer, buffer_edited, empty_block, front_ready, is_first, may_go, may_join};
 
 use crate::buffer_edits::{BufferEdit, BufferOut};
 use crate::conditions::Guarded;
 use crate::locked::Side;
+use crate::trays::{Meant, Tray};
 use arrayvec::ArrayVec;
 use event_log::{CAPACITY, Kind, Msg, Ring, THREADS, Tid};
 use std::marker::Model;
@@ -124,9 +126,9 @@ impl BufferBlock {
 
     /// Puts `message` for `t`, where it stands first in the send line and there is room; a closed
     /// buffer takes no message, and tells `t` that it is closed.
-    fn put(&mut self, t: Tid, message: Msg) -> BufferOut
-        ensures block { self.new ≡ buffer_edited (TryPut t message) self.old }
-        ensures answer { result ≡ buffer_answer (TryPut t message) self.old }
+    fn put(&mut self, t: Tid, message: &Msg) -> BufferOut
+        ensures block { self.new ≡ buffer_edited (TryPut t message.now) self.old }
+        ensures answer { result ≡ buffer_answer (TryPut t message.now) self.old }
     {
         if !leads(&self.send_line, t) {
             return BufferOut::NotYet;
@@ -138,17 +140,18 @@ impl BufferBlock {
         let _ = self.send_line.pop();
         self.effects = op.wrapping_add(1);
         if self.closed {
-            return BufferOut::Done(Kind::SendClosed, op, message);
+            return BufferOut::Done(Kind::SendClosed, op, Meant::of(message));
         }
-        self.items.put(message);
-        BufferOut::Done(Kind::Send, op, message)
+        self.items.put(*message);
+        BufferOut::Done(Kind::Send, op, Meant::of(message))
     }
 
-    /// Takes the first item for `t`, where it stands first in the receive line and there is one; a
+    /// Takes the first item for `t` into `message`, where it stands first in the receive line and there is one; a
     /// buffer that is closed and has none tells `t` that it is closed.
-    fn take(&mut self, t: Tid) -> BufferOut
+    fn take(&mut self, t: Tid, message: &mut Msg) -> BufferOut
         ensures block { self.new ≡ buffer_edited (TryTake t) self.old }
         ensures answer { result ≡ buffer_answer (TryTake t) self.old }
+        ensures brought { buffer_brought result message.new }
     {
         if !leads(&self.receive_line, t) {
             return BufferOut::NotYet;
@@ -160,8 +163,14 @@ impl BufferBlock {
         let _ = self.receive_line.pop();
         self.effects = op.wrapping_add(1);
         match self.items.take() {
-            None => BufferOut::Done(Kind::RecvClosed, op, Msg::none()),
-            Some(message) => BufferOut::Done(Kind::Recv, op, message),
+            None => {
+                *message = Msg::none();
+                BufferOut::Done(Kind::RecvClosed, op, Meant::of(message))
+            }
+            Some(first) => {
+                *message = first;
+                BufferOut::Done(Kind::Recv, op, Meant::of(message))
+            }
         }
     }
 
@@ -229,6 +238,7 @@ fn leads(line: &ThreadQueue, t: Tid) -> bool
 
 impl Guarded for BufferEdit {
     ghost use Rattle.layer_traits.specs.BufferProtocol.{buffer_deeds};
+    ghost use Rattle.layer_traits.specs.Trays.{buffer_brought, buffer_carried};
 
     type Block = BufferBlock;
 
@@ -236,21 +246,26 @@ impl Guarded for BufferEdit {
 
     ghost deeds = { buffer_deeds };
 
-    fn caller(self) -> Tid {
+    ghost carried = { buffer_carried };
+
+    ghost brought = { buffer_brought };
+
+    fn caller(&self) -> Tid {
         match self {
             BufferEdit::Enter(t, _)
             | BufferEdit::TryPut(t, _)
             | BufferEdit::TryTake(t)
-            | BufferEdit::Shut(t) => t,
+            | BufferEdit::Shut(t) => *t,
         }
     }
 
-    fn apply(self, block: &mut BufferBlock) -> BufferOut {
+    #[inline(always)]
+    fn apply(&self, block: &mut BufferBlock, tray: &mut Tray) -> BufferOut {
         match self {
-            BufferEdit::Enter(t, side) => block.enter(t, side),
-            BufferEdit::TryPut(t, message) => block.put(t, message),
-            BufferEdit::TryTake(t) => block.take(t),
-            BufferEdit::Shut(t) => block.shut(t),
+            BufferEdit::Enter(t, side) => block.enter(*t, *side),
+            BufferEdit::TryPut(t, _) => block.put(*t, &tray.message),
+            BufferEdit::TryTake(t) => block.take(*t, &mut tray.message),
+            BufferEdit::Shut(t) => block.shut(*t),
         }
     }
 

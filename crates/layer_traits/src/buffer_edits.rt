@@ -1,16 +1,17 @@
 //! The edits of a first-in first-out buffer that is guarded by a lock with conditions.
 
 use crate::locked::Side;
+use crate::trays::Meant;
 use event_log::{Kind, Msg, Tid};
 
 /// An edit of a buffer.
-#[derive(Clone, Copy, Debug, PartialEq, Eq)]
+#[derive(Drop)]
 pub enum BufferEdit {
     /// This thread enters the line of this side and draws its position in it.
     Enter(Tid, Side),
-    /// This thread puts this message, where it stands first in the send line and there is room; it
+    /// This thread puts this message, which lies in the tray, where it stands first in the send line and there is room; it
     /// learns that the buffer is closed, where it is.
-    TryPut(Tid, Msg),
+    TryPut(Tid, Meant<Msg>),
     /// This thread takes the first message, where it stands first in the receive line and there is
     /// one; it learns that the buffer is closed, where it is and there is none.
     TryTake(Tid),
@@ -19,7 +20,7 @@ pub enum BufferEdit {
 }
 
 /// What an edit of a buffer answers.
-#[derive(Clone, Copy, Debug, PartialEq, Eq)]
+#[derive(Drop)]
 pub enum BufferOut {
     /// The thread has this position: how many had entered this line before it, modulo 2^64.
     Entered(u64),
@@ -27,8 +28,8 @@ pub enum BufferOut {
     /// was done.
     NotYet,
     /// An effect of this kind was done, behind this many others on the buffer, modulo 2^64, with
-    /// this message.
-    Done(Kind, u64, Msg),
+    /// this message, which lies in the tray.
+    Done(Kind, u64, Meant<Msg>),
     /// The buffer was closed, behind this many effects on it and this many closes, modulo 2^64.
     WasShut(u64, u64),
 }

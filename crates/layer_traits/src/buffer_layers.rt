@@ -132,6 +132,11 @@ pub trait BufferLayer {
         requires { t.0 < THREADS }
         ensures { result ≡ (talk_of (own self.now).talks t).effect };
 
+    /// The same effect where it lies: nothing is copied.
+    fn effect_here(&self, t: Tid) -> &Option<Effect>
+        requires { t.0 < THREADS }
+        ensures { result.now ≡ (talk_of (own self.now).talks t).effect };
+
     /// Looks again for a section that waits at its lock, and tells whether it did: a poll that ends
     /// nothing, so it needs no call and has no answer. Where it tells `false` nothing has changed,
     /// and the call is to be polled; a layer may always tell that.

@@ -4,10 +4,11 @@
 ghost use Rattle.std.specs.Prelude.{◌≡◌, Option};
 
 use crate::locked::{Locked, Side, Signal};
+use crate::trays::Tray;
 use event_log::Tid;
 
 /// What the owner of a lock with conditions does inside.
-#[derive(Clone, Copy, Debug, PartialEq, Eq)]
+#[derive(Drop)]
 pub enum CvEdit<G> {
     /// An edit of the block.
     Edit(G),
@@ -39,7 +40,8 @@ pub enum CvOut<O> {
 
 /// A pure edit of the block of a lock with conditions. The block has a line for each side, and
 /// tells whether the first of a line may go on.
-pub trait Guarded: Copy + Drop {
+pub trait Guarded: Drop {
+    ghost use Rattle.event_log.specs.declared.messages.Msg.{Msg};
     ghost use Rattle.layer_traits.specs.Conditions.{Deeds};
 
     /// What the lock guards.
@@ -53,13 +55,21 @@ pub trait Guarded: Copy + Drop {
     ghost deeds: { Deeds Self Self.Block Self.Out };
 
     /// The thread that edits.
-    fn caller(self) -> Tid
-        ensures { result ≡ deeds.caller self };
+    fn caller(&self) -> Tid
+        ensures { result ≡ deeds.caller self.now };
+
+    /// The message is what the edit puts, if it puts one.
+    ghost carried: { Self → Msg → Type 0 } = { λ _ _. Unit {0} };
+
+    /// The message is what the answer brings, if it brings one.
+    ghost brought: { Self.Out → Msg → Type 0 } = { λ _ _. Unit {0} };
 
     /// Edits `block` and gives the edit's answer. Takes no memory.
-    fn apply(self, block: &mut Self::Block) -> Self::Out
-        ensures block { block.new ≡ deeds.edited self block.old }
-        ensures answer { result ≡ deeds.answer self block.old };
+    fn apply(&self, block: &mut Self::Block, tray: &mut Tray) -> Self::Out
+        requires carried { carried self.now tray.old.message }
+        ensures block { block.new ≡ deeds.edited self.now block.old }
+        ensures answer { result ≡ deeds.answer self.now block.old }
+        ensures brought { brought result tray.new.message };
 
     /// The front of this side's line, where it may go on.
     fn ready(side: Side, block: &Self::Block) -> Option<Tid>
@@ -68,6 +78,7 @@ pub trait Guarded: Copy + Drop {
 
 impl<G: Guarded> Locked for CvEdit<G> {
     ghost use Rattle.layer_traits.specs.Conditions.{cv_rules};
+    ghost use Rattle.layer_traits.specs.Trays.{cv_brought, cv_carried};
 
     type Block = G::Block;
 
@@ -77,17 +88,22 @@ impl<G: Guarded> Locked for CvEdit<G> {
 
     ghost rules = { cv_rules G.deeds };
 
-    fn caller(self) -> Tid {
+    ghost carried = { cv_carried G.carried };
+
+    ghost brought = { cv_brought G.brought };
+
+    fn caller(&self) -> Tid {
         match self {
             CvEdit::Edit(edit) => edit.caller(),
-            CvEdit::SignalFront(t, _) => t,
+            CvEdit::SignalFront(t, _) => *t,
         }
     }
 
-    fn apply(self, block: &mut G::Block) -> CvOut<G::Out> {
+    #[inline(always)]
+    fn apply(&self, block: &mut G::Block, tray: &mut Tray) -> CvOut<G::Out> {
         match self {
-            CvEdit::Edit(edit) => CvOut::Did(edit.apply(block)),
-            CvEdit::SignalFront(_, side) => CvOut::Signalled(side, G::ready(side, block)),
+            CvEdit::Edit(edit) => CvOut::Did(edit.apply(block, tray)),
+            CvEdit::SignalFront(_, side) => CvOut::Signalled(*side, G::ready(*side, block)),
         }
     }
 
@@ -107,6 +123,7 @@ impl<G: Guarded> Locked for CvEdit<G> {
         }
     }
 
+    #[inline(always)]
     fn apply_last(last: CvLeave, _block: &mut G::Block) -> CvOut<G::Out> {
         match last {
             CvLeave::Leave(_) => CvOut::Left,

@@ -1,12 +1,13 @@
 //! The layer of conditions.
 
 ghost use Rattle.std.specs.Prelude.{◌≡◌, ◌≢◌, ℕ, ◌+◌, ◌<◌, ◌≤◌, Bool, true, false, List, [], Option};
-ghost use Rattle.std.specs.Prelude.{Some, None, IsSome, OnSome, is_some, length, map, if◌then◌else◌};
+ghost use Rattle.std.specs.Prelude.{Some, None, IsSome, IfSome, OnSome, is_some, length, map, if◌then◌else◌};
 
 use crate::conditions::{CvEdit, CvLeave, CvOut, Guarded};
 use crate::locked::{QEdit, QOut};
 use crate::passes::Pass;
 use crate::sleeps::Outcome;
+use crate::trays::Tray;
 use event_log::{BufId, CpuId, Tid};
 
 /// One CPU's part of a layer of queuing locks with Mesa conditions (Anderson and Dahlin): the
@@ -43,6 +44,7 @@ pub trait CvLayer<G: Guarded> {
     ghost use Rattle.layer_traits.specs.Locking.{LockState, AreAtRest, lock_after, lock_caller, lock_moves, lock_rules};
     ghost use Rattle.layer_traits.specs.LockLaw.{HasOrAwaits, LocksAgree, MayGo, MayLock, is_handed, lock_kernel, slept_for};
     ghost use Rattle.layer_traits.specs.Conditions.{CvCall, cv_rules};
+    ghost use Rattle.layer_traits.specs.Trays.{cv_brought, cv_carried, lock_brought, lock_carried};
     ghost use Rattle.layer_traits.specs.CvLaw.{CvPolled, MayWait, MustStay, Waiting, cv_pass_plan, cv_plan, waiting_at_start};
 
     /// What lies beneath.
@@ -155,23 +157,25 @@ pub trait CvLayer<G: Guarded> {
         &mut self,
         m: &mut Self::Machine,
         buffer: BufId,
-        call: &QEdit<CvEdit<G>, CvLeave>,
+        call: QEdit<CvEdit<G>, CvLeave>,
+        tray: &mut Tray,
     ) -> Option<Outcome<QOut<CvOut<G::Out>>>>
         requires fits { Fits self.old m.old }
         requires buffer { IsSome (opening m.old (Buffer buffer)) }
         requires room { 0 < room m.old }
-        requires caller { (own self.old).lock.sleep.threads.current ≡ Some (lock_caller (cv_rules G.deeds) call.now) }
-        requires call { MayWait (slept_for (own self.old).waits (lock_caller (cv_rules G.deeds) call.now)) (under_way self.old) buffer
-            call.now (lock_caller (cv_rules G.deeds) call.now)
-            (MayGo (slept_for (own self.old).lock.slept (lock_caller (cv_rules G.deeds) call.now)) (under_way self.old) buffer call.now
-            (lock_caller (cv_rules G.deeds) call.now)
+        requires caller { (own self.old).lock.sleep.threads.current ≡ Some (lock_caller (cv_rules G.deeds) call) }
+        requires call { MayWait (slept_for (own self.old).waits (lock_caller (cv_rules G.deeds) call)) (under_way self.old) buffer
+            call (lock_caller (cv_rules G.deeds) call)
+            (MayGo (slept_for (own self.old).lock.slept (lock_caller (cv_rules G.deeds) call)) (under_way self.old) buffer call
+            (lock_caller (cv_rules G.deeds) call)
             (MayLock (cv_rules G.deeds) (lock_kernel (cv_rules G.deeds) (opening m.old)) (cpu_of self.old) (seen m.old)
-            (own self.old).lock.sleep.threads.hand buffer call.now)) }
-        ensures seen { CvPolled G.deeds (lock_kernel (cv_rules G.deeds) (opening m.old)) (ActsFor m.old) (cpu_of self.old) buffer call.now
-            (slept_for (own self.old).waits (lock_caller (cv_rules G.deeds) call.now)) (seen m.old) (seen m.new) (own self.old)
+            (own self.old).lock.sleep.threads.hand buffer call)) }
+        requires carried { lock_carried (cv_carried G.carried) call tray.old.message }
+        ensures seen { CvPolled G.deeds (lock_kernel (cv_rules G.deeds) (opening m.old)) (ActsFor m.old) (cpu_of self.old) buffer call
+            (slept_for (own self.old).waits (lock_caller (cv_rules G.deeds) call)) (seen m.old) (seen m.new) (own self.old)
             (under_way self.new) (record { own = own self.new; answer = result }) }
-        ensures woken { IsSome (slept_for (own self.old).waits (lock_caller (cv_rules G.deeds) call.now)) → m.new ≡ m.old }
-        ensures handed { IsSome (slept_for (own self.old).lock.slept (lock_caller (cv_rules G.deeds) call.now)) → m.new ≡ m.old }
+        ensures woken { IsSome (slept_for (own self.old).waits (lock_caller (cv_rules G.deeds) call)) → m.new ≡ m.old }
+        ensures handed { IsSome (slept_for (own self.old).lock.slept (lock_caller (cv_rules G.deeds) call)) → m.new ≡ m.old }
         ensures fits { Fits self.new m.new }
         ensures cpu { cpu_of self.new ≡ cpu_of self.old }
         ensures opening { opening m.new ≡ opening m.old }
@@ -179,16 +183,17 @@ pub trait CvLayer<G: Guarded> {
         ensures room { room m.old ≤ room m.new + 1 }
         ensures acts { (c : CpuId) → ActsFor m.old c → ActsFor m.new c }
         ensures others { (p : Self) → cpu_of p ≢ cpu_of self.old → Fits p m.old → Fits p m.new }
+        ensures brought { IfSome result (λ outcome. lock_brought (cv_brought G.brought) outcome.out tray.new.message) }
         ensures prompt { IsWhole IsStepwise → result ≡ None
-            → MustStay (lock_caller (cv_rules G.deeds) call.now) buffer (own self.old) (own self.new) }
+            → MustStay (lock_caller (cv_rules G.deeds) call) buffer (own self.old) (own self.new) }
         ensures follows { IsStepwise
             → Follows (ActsFor m.old) (table_of (queue_rules (lock_rules (cv_rules G.deeds)) (lock_moves (cv_rules G.deeds))))
             (opening m.old) (cpu_of self.old)
-            (cv_plan (lock_moves (cv_rules G.deeds)) (homes_in (opening m.old)) (cpu_of self.old) buffer call.now (own self.old))
+            (cv_plan (lock_moves (cv_rules G.deeds)) (homes_in (opening m.old)) (cpu_of self.old) buffer call (own self.old))
             (acts m.old) (acts m.new) (record { own = own self.new; answer = result }) };
 
     /// Passes a call on to the scheduler. Who sleeps and who waits stay.
-    fn pass(&mut self, m: &mut Self::Machine, call: Pass) -> Option<()>
+    fn pass(&mut self, m: &mut Self::Machine, call: Pass, tray: &mut Tray) -> Option<()>
         requires fits { Fits self.old m.old }
         requires room { 0 < room m.old }
         requires call { MayCall (under_way self.old) (sched.Pass call) (MayPass call (own self.old).lock.sleep.threads) }

@@ -2,16 +2,19 @@
 
 ghost use Rattle.std.specs.Prelude.{◌≡◌};
 
+use crate::trays::Tray;
+
 /// What a section leaves in the event that ends it: its edit. So a words log tells each section's
 /// edit and, by the fold of the edits, its answer.
-#[derive(Clone, Copy, Debug, PartialEq, Eq)]
+#[derive(Drop)]
 pub struct Mark<E> {
     /// The edit of the section.
     pub edit: E,
 }
 
 /// A pure edit of a lock's block: one section applies one edit.
-pub trait Edit: Copy + Drop {
+pub trait Edit: Drop {
+    ghost use Rattle.layer_traits.specs.declared.trays.Tray.{Tray};
     ghost use Rattle.layer_traits.specs.Protocol.{Rules};
 
     /// What the lock guards.
@@ -24,8 +27,16 @@ pub trait Edit: Copy + Drop {
     /// it finds; and after which sections which CPU may do it.
     ghost rules: { Rules Self Self.Block Self.Out };
 
+    /// The tray holds what the edit puts.
+    ghost carried: { Self → Tray → Type 0 } = { λ _ _. Unit {0} };
+
+    /// The tray holds what the answer brings.
+    ghost brought: { Self.Out → Tray → Type 0 } = { λ _ _. Unit {0} };
+
     /// Edits `block` and gives the edit's answer. Takes no memory.
-    fn apply(self, block: &mut Self::Block) -> Self::Out
-        ensures block { block.new ≡ rules.edited self block.old }
-        ensures answer { result ≡ rules.answer self block.old };
+    fn apply(&self, block: &mut Self::Block, tray: &mut Tray) -> Self::Out
+        requires carried { carried self.now tray.old }
+        ensures block { block.new ≡ rules.edited self.now block.old }
+        ensures answer { result ≡ rules.answer self.now block.old }
+        ensures brought { brought result tray.new };
 }

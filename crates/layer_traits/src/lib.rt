@@ -38,6 +38,7 @@ mod steps;
 mod stepwise;
 mod talks;
 mod told_grants;
+mod trays;
 mod words;
 
 pub use buffer_blocks::BufferBlock;
@@ -76,4 +77,5 @@ pub use steps::{Reason, Step};
 pub use stepwise::{Prompt, Stepwise};
 pub use talks::{Stage, Talk};
 pub use told_grants::TellsGrants;
+pub use trays::{Meant, Tray};
 pub use words::Words;

@@ -2,6 +2,7 @@
 
 ghost use Rattle.std.specs.Prelude.{◌≡◌};
 
+use crate::trays::Tray;
 use event_log::Tid;
 
 /// On which side of a buffer a thread waits.
@@ -25,7 +26,7 @@ pub enum Signal {
 }
 
 /// A call on a queuing lock.
-#[derive(Clone, Copy, Debug, PartialEq, Eq)]
+#[derive(Drop)]
 pub enum QEdit<F, R> {
     /// This thread asks for the lock. It owns it at once if nobody does, and else sleeps until the
     /// owner hands it over.
@@ -51,7 +52,8 @@ pub enum QOut<O> {
 
 /// An edit inside a queuing lock. It says whom it signals; a last edit says on which side its
 /// caller waits, if it does.
-pub trait Locked: Copy + Drop {
+pub trait Locked: Drop {
+    ghost use Rattle.event_log.specs.declared.messages.Msg.{Msg};
     ghost use Rattle.layer_traits.specs.Locking.{LockRules};
 
     /// What the lock guards besides its owner and its waiting lists.
@@ -69,13 +71,22 @@ pub trait Locked: Copy + Drop {
     ghost rules: { LockRules Self Self.Release Self.Block Self.Out };
 
     /// The thread that calls.
-    fn caller(self) -> Tid
-        ensures { result ≡ rules.caller self };
+    fn caller(&self) -> Tid
+        ensures { result ≡ rules.caller self.now };
+
+    /// The message is what the edit puts, if it puts one.
+    ghost carried: { Self → Msg → Type 0 } = { λ _ _. Unit {0} };
+
+    /// The message is what the answer of an edit brings, if it brings one. No last edit puts or
+    /// brings any.
+    ghost brought: { Self.Out → Msg → Type 0 } = { λ _ _. Unit {0} };
 
     /// Edits `block` and gives the edit's answer. Takes no memory.
-    fn apply(self, block: &mut Self::Block) -> Self::Out
-        ensures block { block.new ≡ rules.edited self block.old }
-        ensures answer { result ≡ rules.answer self block.old };
+    fn apply(&self, block: &mut Self::Block, tray: &mut Tray) -> Self::Out
+        requires carried { carried self.now tray.old.message }
+        ensures block { block.new ≡ rules.edited self.now block.old }
+        ensures answer { result ≡ rules.answer self.now block.old }
+        ensures brought { brought result tray.new.message };
 
     /// Whom the edit that answered this signals.
     fn signals(out: &Self::Out) -> Signal

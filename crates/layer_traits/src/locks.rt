@@ -1,8 +1,9 @@
 //! The layer of critical sections.
 
-ghost use Rattle.std.specs.Prelude.{◌≡◌, ◌≢◌, ℕ, ◌+◌, ◌<◌, ◌≤◌, true, false, List, [], Option, IsSome, OnSome, is_some, if◌then◌else◌};
+ghost use Rattle.std.specs.Prelude.{◌≡◌, ◌≢◌, ℕ, ◌+◌, ◌<◌, ◌≤◌, true, false, List, [], Option, IsSome, IfSome, OnSome, is_some, if◌then◌else◌};
 
 use crate::edits::Edit;
+use crate::trays::Tray;
 use event_log::{CpuId, LockId};
 
 /// One CPU's part of a layer of critical sections. A poll does at most one atomic action of the
@@ -92,17 +93,25 @@ pub trait LockLayer<E: Edit> {
 
     /// Does at most one action of the section of `edit` at `lock`. Gives the edit's answer once
     /// the section has ended, and `None` while the same call is to be polled again.
-    fn poll(&mut self, m: &mut Self::Machine, lock: LockId, edit: E) -> Option<E::Out>
+    fn poll(
+        &mut self,
+        m: &mut Self::Machine,
+        lock: LockId,
+        edit: E,
+        tray: &mut Tray,
+    ) -> Option<E::Out>
         requires fits { Fits self.old m.old }
         requires lock { IsSome (opening m.old lock) }
         requires room { 0 < room m.old }
         requires call { MayPoll (E.rules.allowed (opening m.old)) (seen m.old) (under_way self.old)
             (section (cpu_of self.old) lock edit) }
+        requires carried { E.carried edit tray.old }
         ensures fits { Fits self.new m.new }
         ensures cpu { cpu_of self.new ≡ cpu_of self.old }
         ensures call { under_way self.new
             ≡ (if is_some result then None else Some (section (cpu_of self.old) lock edit)) }
         ensures prompt { IsWhole IsStepwise → IsSome result }
+        ensures brought { IfSome result (λ out. E.brought out tray.new) }
         ensures seen { Polled E.rules (opening m.old) (ActsFor m.old)
             (section (cpu_of self.old) lock edit) result (seen m.old) (seen m.new) }
         ensures opening { opening m.new ≡ opening m.old }

@@ -1,12 +1,13 @@
 //! The layer of locks that are handed from owner to owner.
 
 ghost use Rattle.std.specs.Prelude.{◌≡◌, ◌≢◌, ℕ, ◌+◌, ◌<◌, ◌≤◌, Bool, true, false, List, [], length};
-ghost use Rattle.std.specs.Prelude.{map, Option, Some, None, IsSome, OnSome, is_some, if◌then◌else◌};
+ghost use Rattle.std.specs.Prelude.{map, Option, Some, None, IsSome, IfSome, OnSome, is_some, if◌then◌else◌};
 
 use crate::locked::{Locked, QEdit, QOut};
 use crate::passes::Pass;
 use crate::scheds::SchedCall;
 use crate::sleeps::Outcome;
+use crate::trays::Tray;
 use event_log::{BufId, CpuId, Tid};
 
 /// One CPU's part of a layer of queuing locks (Gu et al., OSDI 2016): each buffer's lock has an
@@ -43,6 +44,7 @@ pub trait QLockLayer<F: Locked> {
     ghost use Rattle.layer_traits.specs.Queues.{IsKnownEvent, QueueAllowed, buffer_sections, event_actor, event_of, moves_in};
     ghost use Rattle.layer_traits.specs.Scheds.{SchedPolled};
     ghost use Rattle.layer_traits.specs.SleepLaw.{MayCall, done_if};
+    ghost use Rattle.layer_traits.specs.Trays.{lock_brought, lock_carried};
     ghost use Rattle.thread_blocks.specs.Queues.{is_in};
 
     /// What lies beneath.
@@ -161,35 +163,38 @@ pub trait QLockLayer<F: Locked> {
         &mut self,
         m: &mut Self::Machine,
         buffer: BufId,
-        edit: &QEdit<F, F::Release>,
+        edit: QEdit<F, F::Release>,
+        tray: &mut Tray,
     ) -> Option<Outcome<QOut<F::Out>>>
         requires fits { Fits self.old m.old }
         requires buffer { IsSome (opening m.old (Buffer buffer)) }
         requires room { 0 < room m.old }
-        requires caller { (own self.old).sleep.threads.current ≡ Some (lock_caller F.rules edit.now) }
-        requires call { MayGo (slept_for (own self.old).slept (lock_caller F.rules edit.now)) (under_way self.old) buffer edit.now
-            (lock_caller F.rules edit.now)
-            (MayLock F.rules (lock_kernel F.rules (opening m.old)) (cpu_of self.old) (seen m.old) (own self.old).sleep.threads.hand buffer edit.now) }
+        requires caller { (own self.old).sleep.threads.current ≡ Some (lock_caller F.rules edit) }
+        requires call { MayGo (slept_for (own self.old).slept (lock_caller F.rules edit)) (under_way self.old) buffer edit
+            (lock_caller F.rules edit)
+            (MayLock F.rules (lock_kernel F.rules (opening m.old)) (cpu_of self.old) (seen m.old) (own self.old).sleep.threads.hand buffer edit) }
+        requires carried { lock_carried F.carried edit tray.old.message }
         ensures fits { Fits self.new m.new }
         ensures cpu { cpu_of self.new ≡ cpu_of self.old }
-        ensures seen { LockPolled F.rules (lock_kernel F.rules (opening m.old)) (ActsFor m.old) (cpu_of self.old) buffer edit.now
-            (slept_for (own self.old).slept (lock_caller F.rules edit.now)) (seen m.old) (seen m.new) (own self.old) (under_way self.new)
+        ensures seen { LockPolled F.rules (lock_kernel F.rules (opening m.old)) (ActsFor m.old) (cpu_of self.old) buffer edit
+            (slept_for (own self.old).slept (lock_caller F.rules edit)) (seen m.old) (seen m.new) (own self.old) (under_way self.new)
             (record { own = own self.new; answer = result }) }
-        ensures still { IsSome (slept_for (own self.old).slept (lock_caller F.rules edit.now)) → m.new ≡ m.old }
+        ensures still { IsSome (slept_for (own self.old).slept (lock_caller F.rules edit)) → m.new ≡ m.old }
         ensures opening { opening m.new ≡ opening m.old }
         ensures site { site m.new ≡ site m.old }
         ensures room { room m.old ≤ room m.new + 1 }
         ensures acts { (c : CpuId) → ActsFor m.old c → ActsFor m.new c }
         ensures others { (p : Self) → cpu_of p ≢ cpu_of self.old → Fits p m.old → Fits p m.new }
-        ensures prompt { IsWhole IsStepwise → result ≡ None → MustWait (lock_caller F.rules edit.now) buffer (own self.old) (own self.new) }
+        ensures brought { IfSome result (λ outcome. lock_brought F.brought outcome.out tray.new.message) }
+        ensures prompt { IsWhole IsStepwise → result ≡ None → MustWait (lock_caller F.rules edit) buffer (own self.old) (own self.new) }
         ensures follows { IsStepwise → Follows (ActsFor m.old) (table_of (queue_rules (lock_rules F.rules) (lock_moves F.rules))) (opening m.old)
             (cpu_of self.old)
-            (lock_plan (lock_moves F.rules) (homes_in (opening m.old)) (cpu_of self.old) buffer edit.now (own self.old))
+            (lock_plan (lock_moves F.rules) (homes_in (opening m.old)) (cpu_of self.old) buffer edit (own self.old))
             (acts m.old) (acts m.new) (record { own = own self.new; answer = result }) };
 
     /// Does at most one action of a call on the scheduler, which goes through unchanged. Answers
     /// once the call has ended, and gives `None` while the same call is to be polled again.
-    fn pass(&mut self, m: &mut Self::Machine, call: Pass) -> Option<()>
+    fn pass(&mut self, m: &mut Self::Machine, call: Pass, tray: &mut Tray) -> Option<()>
         requires fits { Fits self.old m.old }
         requires room { 0 < room m.old }
         requires call { MayCall (under_way self.old) (sched.Pass call) (MayPass call (own self.old).sleep.threads) }

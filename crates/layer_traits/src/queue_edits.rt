@@ -4,13 +4,14 @@ use crate::edits::Edit;
 use crate::moves::Moves;
 use crate::queues::QueueAnswer;
 use crate::room::{Room, edit_room, push_in, take_from};
+use crate::trays::{Meant, Tray};
 use arrayvec::ArrayVec;
 use event_log::{CpuId, THREADS, Tid};
 use std::snapshot::Snapshot;
 use thread_blocks::ThreadQueue;
 
 /// An edit at shared queues: of a pending queue, or of a block of the layer above.
-#[derive(Clone, Copy, Debug, PartialEq, Eq)]
+#[derive(Drop)]
 pub enum QueueEdit<E> {
     /// Puts a thread at the end of the queue.
     Push(Tid),
@@ -33,6 +34,7 @@ pub enum QueueBlock<B> {
 
 impl<E: Moves> Edit for QueueEdit<E> {
     ghost use Rattle.layer_traits.specs.QueueRules.{queue_rules};
+    ghost use Rattle.layer_traits.specs.Trays.{queue_brought, queue_carried};
 
     type Block = QueueBlock<E::Block>;
 
@@ -40,23 +42,31 @@ impl<E: Moves> Edit for QueueEdit<E> {
 
     ghost rules = { queue_rules E.rules E.moves };
 
-    fn apply(self, block: &mut QueueBlock<E::Block>) -> QueueAnswer<E::Out> {
+    ghost carried = { queue_carried E.carried };
+
+    ghost brought = { queue_brought E.brought };
+
+    #[inline(always)]
+    fn apply(&self, block: &mut QueueBlock<E::Block>, tray: &mut Tray) -> QueueAnswer<E::Out> {
         match self {
             QueueEdit::Push(t) => {
                 if let QueueBlock::Queue(queue, _) = block {
-                    if usize::from(t.0) < THREADS && !queue.content().contains(t) {
-                        push_in(queue, t);
+                    if usize::from(t.0) < THREADS && !queue.content().contains(*t) {
+                        push_in(queue, *t);
                     }
                 }
                 QueueAnswer::Done
             }
             QueueEdit::TakeAll => match block {
-                QueueBlock::Queue(queue, _) => QueueAnswer::Taken(take_from(queue)),
+                QueueBlock::Queue(queue, _) => {
+                    tray.taken = take_from(queue);
+                    QueueAnswer::Taken(Meant::of(&tray.taken))
+                }
                 QueueBlock::Above(_) => QueueAnswer::Done,
             },
             QueueEdit::Above(edit) => match block {
                 QueueBlock::Queue(_, _) => QueueAnswer::Done,
-                QueueBlock::Above(above) => QueueAnswer::Answer(edit_room(above, edit)),
+                QueueBlock::Above(above) => QueueAnswer::Answer(edit_room(above, edit, tray)),
             },
         }
     }

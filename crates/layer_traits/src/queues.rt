@@ -1,13 +1,14 @@
 //! The layer of shared queues.
 
-ghost use Rattle.std.specs.Prelude.{◌≡◌, ◌≢◌, ℕ, ◌+◌, ◌<◌, ◌≤◌, true, false, List, [], Option, IsSome, OnSome, is_some, map, if◌then◌else◌};
+ghost use Rattle.std.specs.Prelude.{◌≡◌, ◌≢◌, ℕ, ◌+◌, ◌<◌, ◌≤◌, true, false, List, [], Option, IsSome, IfSome, OnSome, is_some, map, if◌then◌else◌};
 
 use crate::moves::Moves;
+use crate::trays::{Meant, Tray};
 use event_log::{BufId, CpuId, LockId, Tid};
 use thread_blocks::ThreadList;
 
 /// A call at shared queues.
-#[derive(Clone, Copy, Debug, PartialEq, Eq)]
+#[derive(Drop)]
 pub enum QueueCall<E> {
     /// Puts a thread at the end of the pending queue of a CPU.
     Push(CpuId, Tid),
@@ -18,7 +19,7 @@ pub enum QueueCall<E> {
 }
 
 /// A call at shared queues, and the CPU that made it.
-#[derive(Clone, Copy, Debug, PartialEq, Eq)]
+#[derive(Drop)]
 pub struct QueueEvent<E> {
     /// The CPU whose call it is.
     pub cpu: CpuId,
@@ -31,8 +32,8 @@ pub struct QueueEvent<E> {
 pub enum QueueAnswer<O> {
     /// The thread was pushed.
     Done,
-    /// The threads that were taken, in their order.
-    Taken(ThreadList),
+    /// The threads that were taken, in their order: they lie in the tray.
+    Taken(Meant<ThreadList>),
     /// What the edit answers.
     Answer(O),
 }
@@ -56,6 +57,7 @@ pub trait QueueLayer<E: Moves> {
     ghost use Rattle.layer_traits.specs.Plans.{Follows, IsWhole, table_of, answered, is_in_section};
     ghost use Rattle.layer_traits.specs.QueueBlocks.{StartsWell};
     ghost use Rattle.layer_traits.specs.QueueRules.{AreProper, queue_rules};
+    ghost use Rattle.layer_traits.specs.Trays.{call_carried, queue_brought};
     ghost use Rattle.layer_traits.specs.Queues.{IsKnownEvent, MayQueue, QueueAllowed, QueuePolled, event, event_actor, event_of, kernel, lock_of, queue_plan};
 
     /// What lies beneath.
@@ -131,18 +133,25 @@ pub trait QueueLayer<E: Moves> {
     /// Does at most one action of `call`. Gives its answer once the call has ended, and `None` while
     /// the same call is to be polled again. A CPU pushes who is in its hand into the queue of that
     /// thread's home, and takes its own queue alone.
-    fn poll(&mut self, m: &mut Self::Machine, call: &QueueCall<E>) -> Option<QueueAnswer<E::Out>>
+    fn poll(
+        &mut self,
+        m: &mut Self::Machine,
+        call: QueueCall<E>,
+        tray: &mut Tray,
+    ) -> Option<QueueAnswer<E::Out>>
         requires fits { Fits self.old m.old }
-        requires lock { IsSome (opening m.old (lock_of call.now)) }
+        requires lock { IsSome (opening m.old (lock_of call)) }
         requires room { 0 < room m.old }
         requires call { MayQueue (QueueAllowed (kernel E.rules E.moves (opening m.old))) (seen m.old) (under_way self.old)
-            (event (cpu_of self.old) call.now) }
+            (event (cpu_of self.old) call) }
+        requires carried { call_carried E.carried call tray.old }
         ensures fits { Fits self.new m.new }
         ensures cpu { cpu_of self.new ≡ cpu_of self.old }
-        ensures call { under_way self.new ≡ (if is_some result then None else Some (event (cpu_of self.old) call.now)) }
+        ensures call { under_way self.new ≡ (if is_some result then None else Some (event (cpu_of self.old) call)) }
         ensures prompt { IsWhole IsStepwise → IsSome result }
+        ensures brought { IfSome result (λ answer. queue_brought E.brought answer tray.new) }
         ensures seen { QueuePolled (kernel E.rules E.moves (opening m.old)) (ActsFor m.old)
-            (event (cpu_of self.old) call.now) result (seen m.old) (seen m.new) }
+            (event (cpu_of self.old) call) result (seen m.old) (seen m.new) }
         ensures opening { opening m.new ≡ opening m.old }
         ensures site { site m.new ≡ site m.old }
         ensures room { room m.old ≤ room m.new + 1 }
@@ -150,7 +159,7 @@ pub trait QueueLayer<E: Moves> {
         ensures outside { OnSome result (IsOutside m.new (cpu_of self.old)) }
         ensures others { (p : Self) → cpu_of p ≢ cpu_of self.old → Fits p m.old → Fits p m.new }
         ensures follows { IsStepwise → Follows (ActsFor m.old) (table_of (queue_rules E.rules E.moves)) (opening m.old) (cpu_of self.old)
-            (queue_plan call.now) (acts m.old) (acts m.new) (answered result) };
+            (queue_plan call) (acts m.old) (acts m.new) (answered result) };
 
     /// Law: a part that agrees with a machine is of a CPU for which the machine's holder acts.
     ghost own_cpu: { (p : Self) (m : Self.Machine) → Fits p m → ActsFor m (cpu_of p) };

@@ -5,6 +5,7 @@ ghost use Rattle.event_log.specs.declared.ids.TheConstants.{THREADS};
 ghost use Rattle.thread_blocks.specs.Queues.{is_in};
 
 use crate::edits::Edit;
+use crate::trays::Tray;
 use event_log::{NoMemory, Tid};
 use std::alloc::Global;
 use std::marker::Model;
@@ -45,11 +46,13 @@ impl<B: Drop> Room<B> {
 
 /// Edits what the room holds, and gives the edit's answer. Takes no memory.
 #[inline(always)]
-pub fn edit_room<E: Edit>(room: &mut Room<E::Block>, edit: E) -> E::Out
-    ensures block { room.new ≡ E.rules.edited edit room.old }
-    ensures answer { result ≡ E.rules.answer edit room.old }
+pub fn edit_room<E: Edit>(room: &mut Room<E::Block>, edit: &E, tray: &mut Tray) -> E::Out
+    requires carried { E.carried edit.now tray.old }
+    ensures block { room.new ≡ E.rules.edited edit.now room.old }
+    ensures answer { result ≡ E.rules.answer edit.now room.old }
+    ensures brought { E.brought result tray.new }
 {
-    edit.apply(&mut room.content)
+    edit.apply(&mut room.content, tray)
 }
 
 /// Puts `t`, which does not stand in the queue that the room holds, behind the others.

@@ -1,14 +1,15 @@
 //! The layer of schedulers.
 
-ghost use Rattle.std.specs.Prelude.{◌≡◌, ◌≢◌, ℕ, ◌+◌, ◌<◌, ◌≤◌, true, false, length, List, [], Option, IsSome, OnSome, is_some, map, if◌then◌else◌};
+ghost use Rattle.std.specs.Prelude.{◌≡◌, ◌≢◌, ℕ, ◌+◌, ◌<◌, ◌≤◌, true, false, length, List, [], Option, IsSome, IfSome, OnSome, is_some, map, if◌then◌else◌};
 ghost use Rattle.event_log.specs.declared.ids.TheConstants.{THREADS};
 
 use crate::moves::Moves;
 use crate::passes::Pass;
+use crate::trays::Tray;
 use event_log::{BufId, CpuId, LockId, Tid};
 
 /// A call of a CPU's scheduler.
-#[derive(Clone, Copy, Debug, PartialEq, Eq)]
+#[derive(Drop)]
 pub enum SchedCall<E> {
     /// Passes from thread to thread.
     Pass(Pass),
@@ -17,7 +18,7 @@ pub enum SchedCall<E> {
 }
 
 /// What a call of a scheduler answers.
-#[derive(Clone, Copy, Debug, PartialEq, Eq, Drop)]
+#[derive(Drop)]
 pub enum SchedAnswer<O> {
     /// The pass is done.
     Done,
@@ -51,6 +52,7 @@ pub trait SchedLayer<E: Moves> {
     ghost use Rattle.layer_traits.specs.QueueBlocks.{StartsWell, homes_in};
     ghost use Rattle.layer_traits.specs.QueueRules.{AreProper, queue_rules};
     ghost use Rattle.layer_traits.specs.Queues.{IsKnownEvent, QueueAllowed, event_actor, event_of, kernel, moves_in};
+    ghost use Rattle.layer_traits.specs.Trays.{sched_brought, sched_carried};
     ghost use Rattle.layer_traits.specs.Scheds.{BufferIsThere, IsLocal, IsShared, MaySched, SchedPolled, left, sched_plan};
 
     /// What lies beneath.
@@ -154,27 +156,34 @@ pub trait SchedLayer<E: Moves> {
 
     /// Does at most one action of `call`. Gives its answer once the call has ended, and `None` while
     /// the same call is to be polled again. A call that touches nothing shared answers at once.
-    fn poll(&mut self, m: &mut Self::Machine, call: &SchedCall<E>) -> Option<SchedAnswer<E::Out>>
+    fn poll(
+        &mut self,
+        m: &mut Self::Machine,
+        call: SchedCall<E>,
+        tray: &mut Tray,
+    ) -> Option<SchedAnswer<E::Out>>
         requires fits { Fits self.old m.old }
-        requires buffer { BufferIsThere (opening m.old) call.now }
+        requires buffer { BufferIsThere (opening m.old) call }
         requires room { 0 < room m.old }
         requires call { MaySched (kernel E.rules E.moves (opening m.old)) (cpu_of self.old) (seen m.old) (threads self.old)
-            (under_way self.old) call.now }
+            (under_way self.old) call }
+        requires carried { sched_carried E.carried call tray.old }
         ensures fits { Fits self.new m.new }
         ensures cpu { cpu_of self.new ≡ cpu_of self.old }
-        ensures call { under_way self.new ≡ (if is_some result then None else Some call.now) }
+        ensures call { under_way self.new ≡ (if is_some result then None else Some call) }
         ensures prompt { IsWhole IsStepwise → IsSome result }
-        ensures seen { SchedPolled (kernel E.rules E.moves (opening m.old)) (ActsFor m.old) (cpu_of self.old) call.now result
+        ensures brought { IfSome result (λ answer. sched_brought E.brought answer tray.new) }
+        ensures seen { SchedPolled (kernel E.rules E.moves (opening m.old)) (ActsFor m.old) (cpu_of self.old) call result
             (seen m.old) (seen m.new) (threads self.old) (threads self.new) }
-        ensures still { IsLocal call.now → m.new ≡ m.old }
+        ensures still { IsLocal call → m.new ≡ m.old }
         ensures opening { opening m.new ≡ opening m.old }
         ensures site { site m.new ≡ site m.old }
         ensures room { room m.old ≤ room m.new + 1 }
         ensures acts { (c : CpuId) → ActsFor m.old c → ActsFor m.new c }
-        ensures outside { OnSome result (IsShared call.now → IsOutside m.new (cpu_of self.old)) }
+        ensures outside { OnSome result (IsShared call → IsOutside m.new (cpu_of self.old)) }
         ensures others { (p : Self) → cpu_of p ≢ cpu_of self.old → Fits p m.old → Fits p m.new }
         ensures follows { IsStepwise → Follows (ActsFor m.old) (table_of (queue_rules E.rules E.moves)) (opening m.old) (cpu_of self.old)
-            (sched_plan E.moves (homes_in (opening m.old)) (cpu_of self.old) call.now (threads self.old))
+            (sched_plan E.moves (homes_in (opening m.old)) (cpu_of self.old) call (threads self.old))
             (acts m.old) (acts m.new) (left (threads self.new) result) };
 
     /// Law: a part that agrees with a machine is of a CPU for which the machine's holder acts.

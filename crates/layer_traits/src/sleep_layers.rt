@@ -1,11 +1,12 @@
 //! The layer of sections that put threads to sleep and wake them.
 
 ghost use Rattle.std.specs.Prelude.{◌≡◌, ◌≢◌, ℕ, ◌+◌, ◌<◌, ◌≤◌, Bool, true, false, List, [], length};
-ghost use Rattle.std.specs.Prelude.{map, Option, Some, None, IsSome, OnSome, is_some, if◌then◌else◌};
+ghost use Rattle.std.specs.Prelude.{map, Option, Some, None, IsSome, IfSome, OnSome, is_some, if◌then◌else◌};
 
 use crate::passes::Pass;
 use crate::scheds::SchedCall;
 use crate::sleeps::{Outcome, Sleeps};
+use crate::trays::Tray;
 use event_log::{BufId, CpuId, Tid};
 
 /// One CPU's part of a layer whose sections put threads to sleep and wake them (Gu et al., PLDI
@@ -149,12 +150,19 @@ pub trait SleepLayer<E: Sleeps> {
     /// Does at most one action of the section of `edit` at the lock of `buffer`, or of sending home
     /// the thread that it woke. Gives the section's outcome once that is done, and `None` while the
     /// same call is to be polled again.
-    fn poll(&mut self, m: &mut Self::Machine, buffer: BufId, edit: E) -> Option<Outcome<E::Out>>
+    fn poll(
+        &mut self,
+        m: &mut Self::Machine,
+        buffer: BufId,
+        edit: E,
+        tray: &mut Tray,
+    ) -> Option<Outcome<E::Out>>
         requires fits { Fits self.old m.old }
         requires buffer { IsSome (opening m.old (Buffer buffer)) }
         requires room { 0 < room m.old }
         requires call { MayCall (under_way self.old) (sched.OnBuffer buffer edit)
             (MaySleep (sleep_kernel E.rules (opening m.old)) (cpu_of self.old) (seen m.old) (own self.old).threads buffer edit) }
+        requires carried { E.carried edit tray.old.message }
         ensures fits { Fits self.new m.new }
         ensures cpu { cpu_of self.new ≡ cpu_of self.old }
         ensures call { under_way self.new ≡ (if is_some result then None else Some (sched.OnBuffer buffer edit)) }
@@ -166,6 +174,7 @@ pub trait SleepLayer<E: Sleeps> {
         ensures acts { (c : CpuId) → ActsFor m.old c → ActsFor m.new c }
         ensures outside { OnSome result (IsOutside m.new (cpu_of self.old)) }
         ensures others { (p : Self) → cpu_of p ≢ cpu_of self.old → Fits p m.old → Fits p m.new }
+        ensures brought { IfSome result (λ outcome. E.brought outcome.out tray.new.message) }
         ensures prompt { IsWhole IsStepwise → result ≡ None → MustSend (own self.old) (own self.new) }
         ensures follows { IsStepwise → Follows (ActsFor m.old) (table_of (queue_rules (sleep_rules E.rules) (sleep_moves E.rules))) (opening m.old)
             (cpu_of self.old)
@@ -174,7 +183,7 @@ pub trait SleepLayer<E: Sleeps> {
 
     /// Does at most one action of a call on the scheduler, which goes through unchanged. Answers
     /// once the call has ended, and gives `None` while the same call is to be polled again.
-    fn pass(&mut self, m: &mut Self::Machine, call: Pass) -> Option<()>
+    fn pass(&mut self, m: &mut Self::Machine, call: Pass, tray: &mut Tray) -> Option<()>
         requires fits { Fits self.old m.old }
         requires room { 0 < room m.old }
         requires call { MayCall (under_way self.old) (sched.Pass call) (MayPass call (own self.old).threads) }

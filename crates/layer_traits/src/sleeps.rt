@@ -3,6 +3,7 @@
 ghost use Rattle.std.specs.Prelude.{◌≡◌};
 
 use crate::moves::Line;
+use crate::trays::Tray;
 use event_log::Tid;
 
 /// Who leaves the waiting lists of a lock in a section.
@@ -31,7 +32,8 @@ pub struct Outcome<O> {
 
 /// An edit of a sleeping layer. It says which waiting list of its lock its caller joins, if any,
 /// and who leaves one; the layer keeps the lists.
-pub trait Sleeps: Copy + Drop {
+pub trait Sleeps: Drop {
+    ghost use Rattle.event_log.specs.declared.messages.Msg.{Msg};
     ghost use Rattle.layer_traits.specs.Sleeping.{SleepRules};
 
     /// What the lock guards besides its waiting lists.
@@ -46,14 +48,22 @@ pub trait Sleeps: Copy + Drop {
     ghost rules: { SleepRules Self Self.Block Self.Out };
 
     /// The thread that calls.
-    fn caller(self) -> Tid
-        ensures { result ≡ rules.caller self };
+    fn caller(&self) -> Tid
+        ensures { result ≡ rules.caller self.now };
+
+    /// The message is what the edit puts, if it puts one.
+    ghost carried: { Self → Msg → Type 0 } = { λ _ _. Unit {0} };
+
+    /// The message is what the answer brings, if it brings one.
+    ghost brought: { Self.Out → Msg → Type 0 } = { λ _ _. Unit {0} };
 
     /// Edits `block`, where `first` is the first of those that sleep for the lock, and gives the
     /// edit's answer. Takes no memory.
-    fn apply(self, first: Option<Tid>, block: &mut Self::Block) -> Self::Out
-        ensures block { block.new ≡ rules.edited self first block.old }
-        ensures answer { result ≡ rules.answer self first block.old };
+    fn apply(&self, first: Option<Tid>, block: &mut Self::Block, tray: &mut Tray) -> Self::Out
+        requires carried { carried self.now tray.old.message }
+        ensures block { block.new ≡ rules.edited self.now first block.old }
+        ensures answer { result ≡ rules.answer self.now first block.old }
+        ensures brought { brought result tray.new.message };
 
     /// Which waiting list the caller joins; `None` where it does not fall asleep.
     fn joins(out: &Self::Out) -> Option<Line>

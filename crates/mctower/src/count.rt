@@ -9,7 +9,7 @@ ghost use Rattle.mctower.specs.Count.{AreReady, after_round, after_rounds, count
 use crate::line::MOST_TIMES;
 use boot::LockKind;
 use event_log::{BufId, CpuId, LockId, NoMemory};
-use layer_traits::{Edit, LockLayer, OwnedLocks};
+use layer_traits::{Edit, LockLayer, OwnedLocks, Tray};
 use plain_machine::{GrantPlain, Plain};
 use spinlock::{Grant, Ticket, whole};
 use std::alloc::{AllocError, Global};
@@ -28,15 +28,21 @@ impl Edit for AddOne {
 
     ghost rules = { counting };
 
-    fn apply(self, block: &mut u64) -> u64 {
+    fn apply(&self, block: &mut u64, _tray: &mut Tray) -> u64 {
         let before = *block;
         *block = before.wrapping_add(1);
         before
     }
 }
 
-/// Each part in turn does one whole section at `lock`, which adds 1 to the lock's number.
-fn round<L: LockLayer<AddOne>>(parts: &mut [L], machine: &mut L::Machine, lock: LockId)
+/// Each part in turn does one whole section at `lock`, which adds 1 to the lock's number. Nothing
+/// lies in the tray that counts.
+fn round<L: LockLayer<AddOne>>(
+    parts: &mut [L],
+    machine: &mut L::Machine,
+    lock: LockId,
+    tray: &mut Tray,
+)
     requires stepwise { L.IsStepwise }
     requires ready { AreReady L.cpu_of L.under_way L.Fits parts.old machine.old }
     requires lock { IsSome (L.opening machine.old lock) }
@@ -52,7 +58,7 @@ fn round<L: LockLayer<AddOne>>(parts: &mut [L], machine: &mut L::Machine, lock: 
     ensures order { L.acts machine.new ≡ after_round lock (length parts.old) (L.acts machine.old) }
 {
     for i in 0..parts.len() {
-        whole(&mut parts[i], machine, lock, AddOne);
+        whole(&mut parts[i], machine, lock, AddOne, tray);
     }
 }
 
@@ -70,8 +76,9 @@ fn rounds<L: LockLayer<AddOne>>(parts: &mut [L], machine: &mut L::Machine, lock:
     ensures counted { sections_at lock (L.seen machine.new) ≡ sections_at lock (L.seen machine.old) + times * length parts.old }
     ensures order { L.acts machine.new ≡ after_rounds lock (length parts.old) times (L.acts machine.old) }
 {
+    let mut tray = Tray::new();
     for _ in 0..times {
-        round(parts, machine, lock);
+        round(parts, machine, lock, &mut tray);
     }
 }
 
@@ -221,7 +228,7 @@ mod tests {
     #[test]
     fn adding_one_wraps(rt: HostRuntime) {
         let mut number = u64::MAX;
-        assert_eq!(rt; AddOne.apply(&mut number), u64::MAX);
+        assert_eq!(rt; AddOne.apply(&mut number, &mut Tray::new()), u64::MAX);
         assert_eq!(rt; number, 0);
     }
 }

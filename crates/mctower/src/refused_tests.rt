@@ -3,7 +3,7 @@
 //! these tests in turn, until none is left to refuse.
 
 use crate::count::count_plain;
-use crate::tower::serve_tower;
+use crate::tower::{Server, serve_tower};
 use arrayvec::ArrayVec;
 use boot::LockKind;
 use event_log::NoMemory;
@@ -49,7 +49,7 @@ fn run_with_a_refused_allocation(rt: HostRuntime) {
     let mut page = ArrayVec::<u8, 200>::new();
     let mut told = ArrayVec::<u8, 200>::new();
     let words = ["run", "--schedule", "0*32,1*60,0*60"];
-    let status = serve_tower(
+    let status = serve_tower::<Server, _, _, _, _>(
         &rt,
         rt.alloc(),
         words.as_slice(),

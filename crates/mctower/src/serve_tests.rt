@@ -2,7 +2,7 @@
 //! and an output that fails anywhere.
 
 use crate::print::print;
-use crate::tower::serve_tower;
+use crate::tower::{Server, serve_tower};
 use std::io::{self, Write};
 use std::sync::Wait;
 use std::test::Fail;
@@ -30,7 +30,7 @@ pub(crate) fn is_answered<T: AllocGlobal + Threads + Wait + Sync>(
 ) -> bool {
     let mut out = Vec::new(rt.alloc());
     let mut err = Vec::new(rt.alloc());
-    let given = serve_tower(
+    let given = serve_tower::<Server, _, _, _, _>(
         rt,
         rt.alloc(),
         words,
@@ -162,7 +162,7 @@ fn an_output_that_fails_anywhere(rt: HostRuntime) {
             room,
         };
         let mut told = Vec::new(rt.alloc());
-        let status = serve_tower(
+        let status = serve_tower::<Server, _, _, _, _>(
             &rt,
             rt.alloc(),
             words.as_slice(),
@@ -206,7 +206,7 @@ fn an_output_that_fails_at_its_flush_alone(rt: HostRuntime) {
     let printed = print(&mut Sink::new(&mut page), &[b"one\n".as_slice()]);
     assert_eq!(rt; printed, Err(WriteFault));
     let mut told = Vec::new(rt.alloc());
-    let status = serve_tower(
+    let status = serve_tower::<Server, _, _, _, _>(
         &rt,
         rt.alloc(),
         ["check"].as_slice(),

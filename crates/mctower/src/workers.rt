@@ -14,7 +14,7 @@ use crate::line::MOST_TIMES;
 use boot::LockKind;
 use crossbeam_utils::sync::WaitGroup;
 use event_log::{CPUS, CpuId, LockId, NoMemory};
-use layer_traits::LockLayer;
+use layer_traits::{LockLayer, Tray};
 use spinlock::{Grant, Ticket};
 use std::alloc::{AllocError, Global};
 use std::marker::{Brand, Model, PhantomData};
@@ -118,12 +118,13 @@ fn pause(spins: u16) -> u16 {
     }
 }
 
-// One section that adds 1: polls until it answers.
+// One section that adds 1: polls until it answers. Nothing lies in the tray that counts.
 fn add_one<L: LockLayer<AddOne>, R: Wait>(
     rt: &R,
     part: &mut L,
     machine: &mut L::Machine,
     lock: LockId,
+    tray: &mut Tray,
 )
     requires fits { L.Fits part.old machine.old }
     requires rests { L.under_way part.old ≡ None }
@@ -140,7 +141,7 @@ fn add_one<L: LockLayer<AddOne>, R: Wait>(
 {
     let mut spins = SPINS;
     for _ in rt.forever() {
-        if part.poll(machine, lock, AddOne).is_some() {
+        if part.poll(machine, lock, AddOne, tray).is_some() {
             return;
         }
         spins = pause(spins);
@@ -165,8 +166,9 @@ fn work_at<L: LockLayer<AddOne> + Drop, R: Wait>(
     ensures made { made cpu NUMBER (L.seen seat.new) ≡ made cpu NUMBER (L.seen seat.old) + times }
 {
     let mut part = L::part(cpu, &[], 1);
+    let mut tray = Tray::new();
     for _ in 0..times {
-        add_one(rt, &mut part, seat, NUMBER);
+        add_one(rt, &mut part, seat, NUMBER, &mut tray);
     }
 }
 

@@ -1,7 +1,6 @@
 -- The polls of a whole section: the first does it, and answers unless the woken thread is still to be sent home; the second does that.
 use Rattle.std.proofs.Common.{◌≡◌, ◌<◌, Bool, true, false, List, [], ◌∷◌, ◌++◌, Option, Some, None, IsSome, if◌then◌else◌, refl, ap}
 use Rattle.std.proofs.Common.{sym, ◌∙◌, subst, unwrap_or}
-use Rattle.event_log.specs.declared.ids.BufId.{BufId}
 use Rattle.event_log.specs.declared.ids.CpuId.{CpuId}
 use Rattle.event_log.specs.declared.ids.Tid.{Tid}
 use Rattle.event_log.specs.declared.ids.TheConstants.{CPUS}
@@ -13,7 +12,7 @@ use Rattle.layer_traits.specs.declared.sleeps.Outcome.{Outcome}
 use Rattle.layer_traits.specs.Passes.{passed_on, queue_for}
 use Rattle.layer_traits.specs.Places.{Threads}
 use Rattle.layer_traits.specs.Plans.{Left}
-use Rattle.layer_traits.specs.Queues.{IsKnownEvent, Kernel, event, event_actor, out_at}
+use Rattle.layer_traits.specs.Queues.{IsKnownEvent, event, event_actor, out_at}
 use Rattle.layer_traits.specs.Scheds.{own_answered}
 use Rattle.layer_traits.specs.SleepLaw.{Deed, Does, MayDo, Sends, SleepPolled, Sleeping, Waits, left_with, must_send, seen_with}
 use Rattle.plain_layers.specs.Wholes.{Asked, DoneAlone, DoneSending}

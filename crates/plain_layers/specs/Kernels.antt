@@ -5,7 +5,7 @@ use Rattle.event_log.specs.declared.ids.CpuId.{CpuId}
 use Rattle.event_log.specs.declared.ids.LockId.{LockId}
 use Rattle.event_log.specs.declared.ids.LockId.TheVariants.{Pending, Buffer}
 use Rattle.event_log.specs.declared.ids.Tid.{Tid}
-use Rattle.event_log.specs.declared.ids.TheConstants.{THREADS}
+use Rattle.event_log.specs.declared.ids.TheConstants.{CPUS, THREADS}
 use Rattle.event_log.specs.History.{IsLawful}
 use Rattle.event_log.specs.Log.{events_in, room_of}
 use Rattle.event_log.specs.Sections.{block_after}
@@ -73,3 +73,11 @@ pub record IsKernel {E B O : Type 0} (rules : Rules E B O) (mv : MoveRules E O) 
   pub queues : (d : CpuId) → slice_get lists.pending.items d.0
       ≡ option_map (λ queue. pending_by (moves_in (kernel rules mv (opening_of start)) past) d) (slice_get start.lists.value.pending.items d.0)
   pub blocks : (b : BufId) → slice_get lists.buffers.items b.0 ≡ block_after rules.edited (inner (opening_of start)) (Buffer b) (buffer_sections past)
+
+-- a machine is sound, and this is a CPU for which its holder acts
+abbrev pub HasKernel : {E B O : Type 0} → Rules E B O → MoveRules E O → PlainKernel E B O → CpuId → Type 0
+HasKernel rules mv m c = (c.0 < CPUS) × IsKernel rules mv m.opening (calls_in m) m.lists
+
+-- nobody has to know a machine again, so no numbers tell which it is
+abbrev pub no_site : List ℕ
+no_site = []

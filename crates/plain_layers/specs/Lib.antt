@@ -1,5 +1,6 @@
 pub mod Tables
 pub mod Kernels
+pub mod KernelParts
 pub mod ShownLaws
 pub mod Attempts
 pub mod Wholes

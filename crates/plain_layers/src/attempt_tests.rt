@@ -2,7 +2,7 @@
 
 use crate::{Ask, Attempt, PlainBuffer, Tried};
 use event_log::{Kind, Msg, Tid};
-use layer_traits::{Effect, Leave, Side, Sleeps};
+use layer_traits::{Effect, Leave, Side, Sleeps, Tray};
 
 /// What a sender is told whom the buffer allows no effect.
 const WAITS_TO_SEND: Tried = Tried::Refused(Side::Senders);
@@ -30,7 +30,7 @@ fn tries(buffer: &mut PlainBuffer, thread: u8, ask: Ask) -> Tried {
         thread: Tid(thread),
         ask,
     };
-    attempt.apply(None, buffer)
+    attempt.apply(None, buffer, &mut Tray::new())
 }
 
 /// An attempt that had an effect of this kind, with this message, op and position, and woke this one.

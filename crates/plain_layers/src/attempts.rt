@@ -13,7 +13,7 @@ ghost use Rattle.thread_blocks.specs.Queues.{first};
 
 use arrayvec::ArrayVec;
 use event_log::{CAPACITY, Kind, Msg, Ring, THREADS, Tid};
-use layer_traits::{Effect, Leave, Line, Side, Sleeps};
+use layer_traits::{Effect, Leave, Line, Side, Sleeps, Tray};
 use std::marker::Model;
 use thread_blocks::ThreadQueue;
 
@@ -292,11 +292,11 @@ impl Sleeps for Attempt {
 
     ghost rules = { attempts };
 
-    fn caller(self) -> Tid {
+    fn caller(&self) -> Tid {
         self.thread
     }
 
-    fn apply(self, _first: Option<Tid>, block: &mut PlainBuffer) -> Tried {
+    fn apply(&self, _first: Option<Tid>, block: &mut PlainBuffer, _tray: &mut Tray) -> Tried {
         if !block.allows(&self.ask) {
             let side = side_of(&self.ask);
             block.wait(self.thread, side);

@@ -7,12 +7,13 @@ ghost use Rattle.layer_traits.specs.LockLaw.{IsAcquire, lock_kernel};
 ghost use Rattle.layer_traits.specs.Locking.{IsOwners, lock_caller, owner_of};
 ghost use Rattle.layer_traits.specs.QueueBlocks.{inner};
 ghost use Rattle.layer_traits.specs.Queues.{buffer_sections};
+ghost use Rattle.layer_traits.specs.Trays.{cv_carried, lock_carried};
 ghost use Rattle.plain_layers.specs.declared.cond_paces.Pace.TheVariants.{Answered, GoesOn, Sleeps};
 ghost use Rattle.plain_layers.specs.CondPaces.{HasEnded, MayPace, WaitsAt};
 
 use event_log::{BufId, Tid};
 use layer_traits::{
-    CvEdit, CvLayer, CvLeave, CvOut, Guarded, Outcome, OwnedConds, Pass, QEdit, QOut, Side,
+    CvEdit, CvLayer, CvLeave, CvOut, Guarded, Outcome, OwnedConds, Pass, QEdit, QOut, Side, Tray,
 };
 
 /// How a call stands after a poll.
@@ -30,12 +31,12 @@ pub enum Pace<O> {
 fn caller_of<G: Guarded>(call: &QEdit<CvEdit<G>, CvLeave>) -> Tid
     ensures { result ≡ lock_caller (cv_rules G.deeds) call.now }
 {
-    match *call {
-        QEdit::Acquire(t) => t,
+    match call {
+        QEdit::Acquire(t) => *t,
         QEdit::Inside(CvEdit::Edit(edit)) => edit.caller(),
-        QEdit::Inside(CvEdit::SignalFront(t, _)) => t,
-        QEdit::Release(CvLeave::Leave(t)) => t,
-        QEdit::Release(CvLeave::Wait(t, _)) => t,
+        QEdit::Inside(CvEdit::SignalFront(t, _)) => *t,
+        QEdit::Release(CvLeave::Leave(t)) => *t,
+        QEdit::Release(CvLeave::Wait(t, _)) => *t,
     }
 }
 
@@ -44,29 +45,30 @@ pub fn one_pace<G: Guarded, C: CvLayer<G>>(
     part: &mut C,
     m: &mut C::Machine,
     buffer: BufId,
-    call: &QEdit<CvEdit<G>, CvLeave>,
+    call: QEdit<CvEdit<G>, CvLeave>,
 ) -> Pace<G::Out>
     requires fits { C.Fits part.old m.old }
     requires buffer { IsSome (C.opening m.old (Buffer buffer)) }
     requires room { 0 < C.room m.old }
     requires pace { MayPace G.deeds (lock_kernel (cv_rules G.deeds) (C.opening m.old)) (C.cpu_of part.old) (C.seen m.old) (C.own part.old)
-        (C.under_way part.old) buffer call.now }
+        (C.under_way part.old) buffer call }
+    requires carried { (message : _) → lock_carried (cv_carried G.carried) call message }
     ensures fits { C.Fits part.new m.new }
     ensures cpu { C.cpu_of part.new ≡ C.cpu_of part.old }
     ensures opening { C.opening m.new ≡ C.opening m.old }
     ensures room { C.room m.old ≤ C.room m.new + 1 }
     ensures others { (p : C) → C.cpu_of p ≢ C.cpu_of part.old → C.Fits p m.old → C.Fits p m.new }
     ensures goes { result ≡ GoesOn → MayPace G.deeds (lock_kernel (cv_rules G.deeds) (C.opening m.new)) (C.cpu_of part.new) (C.seen m.new) (C.own part.new)
-        (C.under_way part.new) buffer call.now }
-    ensures waits { result ≡ Sleeps → (IsAcquire call.now → ⊥)
-        → WaitsAt G.deeds (C.own part.new) (C.under_way part.new) (lock_caller (cv_rules G.deeds) call.now) buffer }
+        (C.under_way part.new) buffer call }
+    ensures waits { result ≡ Sleeps → (IsAcquire call → ⊥)
+        → WaitsAt G.deeds (C.own part.new) (C.under_way part.new) (lock_caller (cv_rules G.deeds) call) buffer }
     ensures ended { (outcome : _) → result ≡ Answered outcome
-        → HasEnded G.deeds (C.own part.new) (C.under_way part.new) (lock_caller (cv_rules G.deeds) call.now) }
-    ensures owns { (outcome : _) → result ≡ Answered outcome → IsAcquire call.now
+        → HasEnded G.deeds (C.own part.new) (C.under_way part.new) (lock_caller (cv_rules G.deeds) call) }
+    ensures owns { (outcome : _) → result ≡ Answered outcome → IsAcquire call
         → owner_of (cv_rules G.deeds) (inner (C.opening m.new)) (buffer_sections (C.seen m.new)) (Buffer buffer)
-        ≡ Some (lock_caller (cv_rules G.deeds) call.now) }
+        ≡ Some (lock_caller (cv_rules G.deeds) call) }
 {
-    match part.poll(m, buffer, call) {
+    match part.poll(m, buffer, call, &mut Tray::new()) {
         Some(outcome) => Pace::Answered(outcome),
         None => {
             if part.current().is_some() {
@@ -77,8 +79,22 @@ pub fn one_pace<G: Guarded, C: CvLayer<G>>(
     }
 }
 
+/// The call once more.
+fn again<G: Copy>(call: &QEdit<CvEdit<G>, CvLeave>) -> QEdit<CvEdit<G>, CvLeave>
+    ensures { result ≡ call.now }
+{
+    match call {
+        QEdit::Acquire(t) => QEdit::Acquire(*t),
+        QEdit::Inside(CvEdit::Edit(edit)) => QEdit::Inside(CvEdit::Edit(*edit)),
+        QEdit::Inside(CvEdit::SignalFront(t, side)) => {
+            QEdit::Inside(CvEdit::SignalFront(*t, *side))
+        }
+        QEdit::Release(leave) => QEdit::Release(*leave),
+    }
+}
+
 /// So many polls of a call of the thread that runs; `None` if it ends or sleeps sooner.
-pub fn paces<G: Guarded, C: CvLayer<G>>(
+pub fn paces<G: Guarded + Copy, C: CvLayer<G>>(
     part: &mut C,
     m: &mut C::Machine,
     buffer: BufId,
@@ -90,6 +106,7 @@ pub fn paces<G: Guarded, C: CvLayer<G>>(
     requires room { polls ≤ C.room m.old }
     requires pace { MayPace G.deeds (lock_kernel (cv_rules G.deeds) (C.opening m.old)) (C.cpu_of part.old) (C.seen m.old) (C.own part.old)
         (C.under_way part.old) buffer call.now }
+    requires carried { (message : _) → lock_carried (cv_carried G.carried) call.now message }
     ensures fits { C.Fits part.new m.new }
     ensures cpu { C.cpu_of part.new ≡ C.cpu_of part.old }
     ensures opening { C.opening m.new ≡ C.opening m.old }
@@ -107,7 +124,7 @@ pub fn paces<G: Guarded, C: CvLayer<G>>(
         let Pace::GoesOn = last else {
             return None;
         };
-        last = one_pace::<G, C>(part, m, buffer, call);
+        last = one_pace::<G, C>(part, m, buffer, again(call));
     }
     Some(last)
 }
@@ -125,7 +142,7 @@ fn is_callers<G: Guarded>(call: &QEdit<CvEdit<G>, CvLeave>, t: Tid, owner: Optio
 }
 
 /// So many polls of a call; `None` if its caller may not make it, or if it ends or sleeps sooner.
-pub fn calls<G: Guarded, C: OwnedConds<G>>(
+pub fn calls<G: Guarded + Copy, C: OwnedConds<G>>(
     part: &mut C,
     m: &mut C::Machine,
     buffer: BufId,
@@ -137,6 +154,7 @@ pub fn calls<G: Guarded, C: OwnedConds<G>>(
     requires buffer { IsSome (C.opening m.old (Buffer buffer)) }
     requires room { polls ≤ C.room m.old }
     requires ended { HasEnded G.deeds (C.own part.old) (C.under_way part.old) (lock_caller (cv_rules G.deeds) call.now) }
+    requires carried { (message : _) → lock_carried (cv_carried G.carried) call.now message }
     ensures fits { C.Fits part.new m.new }
     ensures cpu { C.cpu_of part.new ≡ C.cpu_of part.old }
     ensures opening { C.opening m.new ≡ C.opening m.old }
@@ -178,7 +196,7 @@ pub fn is_woken<G: Guarded, C: CvLayer<G>>(
     if part.current() != Some(t) {
         return None;
     }
-    Some(one_pace::<G, C>(part, m, buffer, &QEdit::Release(CvLeave::Wait(t, side))))
+    Some(one_pace::<G, C>(part, m, buffer, QEdit::Release(CvLeave::Wait(t, side))))
 }
 
 /// The next ready thread runs, if nobody does and nobody stands in the hand.
@@ -197,7 +215,7 @@ pub fn switches<G: Guarded, C: CvLayer<G>>(part: &mut C, m: &mut C::Machine) -> 
     if part.current().is_some() || part.hand().is_some() || !part.has_ready() {
         return false;
     }
-    part.pass(m, Pass::Switch).is_some()
+    part.pass(m, Pass::Switch, &mut Tray::new()).is_some()
 }
 
 /// Takes in so many polls who is pending, if nobody runs, stands in the hand or is ready.
@@ -223,7 +241,7 @@ pub fn drains<G: Guarded, C: CvLayer<G>>(part: &mut C, m: &mut C::Machine, polls
         if done {
             return false;
         }
-        done = part.pass(m, Pass::Drain).is_some();
+        done = part.pass(m, Pass::Drain, &mut Tray::new()).is_some();
     }
     done
 }

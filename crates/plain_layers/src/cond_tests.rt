@@ -20,7 +20,7 @@ use condvar::Cond;
 use event_log::{BufId, CPUS, CpuId, NoMemory, THREADS, Tid};
 use layer_traits::{
     CvEdit, CvLayer, CvLeave, CvOut, Guarded, Line, OwnedConds, OwnedLocks, QEdit, QOut, QueueEdit,
-    Side,
+    Side, Tray,
 };
 use plain_machine::Plain;
 use queuing_lock::{QLock, QLockEdit, lock_blocks};
@@ -52,11 +52,11 @@ impl Guarded for Reads {
       allowed = λ opening past s. Unit {0};
     } };
 
-    fn caller(self) -> Tid {
+    fn caller(&self) -> Tid {
         self.caller
     }
 
-    fn apply(self, block: &mut Tid) -> Tid {
+    fn apply(&self, block: &mut Tid, _tray: &mut Tray) -> Tid {
         *block
     }
 
@@ -67,7 +67,7 @@ impl Guarded for Reads {
 
 /// Thread 0 acquires in the polls of a section; after those of its Wait it waits among the receivers
 /// and the lock has no owner; and thread 1 then acquires in those of another.
-fn waits_and_frees<G: Guarded, C: OwnedConds<G>>(
+fn waits_and_frees<G: Guarded + Copy, C: OwnedConds<G>>(
     zero: &mut C,
     one: &mut C,
     m: &mut C::Machine,
@@ -114,7 +114,7 @@ fn waits_and_frees<G: Guarded, C: OwnedConds<G>>(
 
 /// Thread 1 signals the front of the receivers, by which thread 0 comes into CPU 1's hand and is then
 /// sent home, and leaves the lock.
-fn signals_and_leaves<G: Guarded, C: OwnedConds<G>>(
+fn signals_and_leaves<G: Guarded + Copy, C: OwnedConds<G>>(
     one: &mut C,
     m: &mut C::Machine,
     section: usize,
@@ -166,7 +166,7 @@ fn is_over<G: Guarded, C: CvLayer<G>>(zero: &mut C, m: &mut C::Machine, section:
 }
 
 /// Thread 0 waits and is woken by thread 1.
-fn is_waited_for<G: Guarded, C: OwnedConds<G>>(
+fn is_waited_for<G: Guarded + Copy, C: OwnedConds<G>>(
     zero: &mut C,
     one: &mut C,
     m: &mut C::Machine,

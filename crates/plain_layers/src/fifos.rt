@@ -11,7 +11,7 @@ use arrayvec::ArrayVec;
 use event_log::{BufId, CAPACITY, CpuId, Kind, Msg, THREADS, Tid};
 use layer_traits::{
     BufferLayer, Call, Effect, Line, Outcome, OwnedBuffers, OwnedSleeps, Pass, Reply, SleepLayer,
-    Stage, Talk,
+    Stage, Talk, Tray,
 };
 
 /// One CPU's part of first-in first-out blocking buffers as they are meant, over a part `S` of sleep
@@ -187,19 +187,30 @@ impl<S: SleepLayer<Attempt>> BufferLayer for PlainFifo<S> {
         self.talks[usize::from(t.0)].effect
     }
 
+    fn effect_here(&self, t: Tid) -> &Option<Effect> {
+        &self.talks[usize::from(t.0)].effect
+    }
+
     fn look(&mut self, _m: &mut S::Machine) -> bool {
         false
     }
 
     fn poll(&mut self, m: &mut S::Machine, t: Tid, call: &Call) -> Option<Reply> {
-        let outcome = whole(&mut self.lower, m, buffer_in(call), attempt_in(t, call));
+        let mut tray = Tray::new();
+        let outcome = whole(
+            &mut self.lower,
+            m,
+            buffer_in(call),
+            attempt_in(t, call),
+            &mut tray,
+        );
         let effect = outcome.out.effect();
         self.talks[usize::from(t.0)] = next(call, &effect);
         reply(call, &effect)
     }
 
     fn pass(&mut self, m: &mut S::Machine, call: Pass) -> Option<()> {
-        self.lower.pass(m, call)
+        self.lower.pass(m, call, &mut Tray::new())
     }
 
     ghost own_cpu = { λ p m fits. (S.own_cpu p.lower m fits.0, fits.1, fits.2) };

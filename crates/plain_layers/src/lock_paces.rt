@@ -6,12 +6,13 @@ ghost use Rattle.layer_traits.specs.LockLaw.{IsAcquire, lock_kernel};
 ghost use Rattle.layer_traits.specs.Locking.{lock_caller, owner_of};
 ghost use Rattle.layer_traits.specs.QueueBlocks.{inner};
 ghost use Rattle.layer_traits.specs.Queues.{buffer_sections};
+ghost use Rattle.layer_traits.specs.Trays.{lock_carried};
 ghost use Rattle.layer_traits.specs.declared.locked.QEdit.TheVariants.{Release};
 ghost use Rattle.plain_layers.specs.declared.lock_paces.Pace.TheVariants.{Answered, GoesOn, Sleeps};
 ghost use Rattle.plain_layers.specs.LockPaces.{HasEnded, MayPace, SleepsFor};
 
 use event_log::{BufId, Tid};
-use layer_traits::{Locked, Outcome, OwnedQLocks, Pass, QEdit, QLockLayer, QOut};
+use layer_traits::{Locked, Outcome, OwnedQLocks, Pass, QEdit, QLockLayer, QOut, Tray};
 
 /// How a call stands after a poll.
 #[derive(Drop)]
@@ -29,26 +30,27 @@ pub fn one_pace<F: Locked, Q: QLockLayer<F>>(
     part: &mut Q,
     m: &mut Q::Machine,
     buffer: BufId,
-    call: &QEdit<F, F::Release>,
+    call: QEdit<F, F::Release>,
 ) -> Pace<F::Out>
     requires fits { Q.Fits part.old m.old }
     requires buffer { IsSome (Q.opening m.old (Buffer buffer)) }
     requires room { 0 < Q.room m.old }
     requires pace { MayPace F.rules (lock_kernel F.rules (Q.opening m.old)) (Q.cpu_of part.old) (Q.seen m.old) (Q.own part.old)
-        (Q.under_way part.old) buffer call.now }
+        (Q.under_way part.old) buffer call }
+    requires carried { (message : _) → lock_carried F.carried call message }
     ensures fits { Q.Fits part.new m.new }
     ensures cpu { Q.cpu_of part.new ≡ Q.cpu_of part.old }
     ensures opening { Q.opening m.new ≡ Q.opening m.old }
     ensures room { Q.room m.old ≤ Q.room m.new + 1 }
     ensures others { (p : Q) → Q.cpu_of p ≢ Q.cpu_of part.old → Q.Fits p m.old → Q.Fits p m.new }
     ensures goes { result ≡ GoesOn → MayPace F.rules (lock_kernel F.rules (Q.opening m.new)) (Q.cpu_of part.new) (Q.seen m.new) (Q.own part.new)
-        (Q.under_way part.new) buffer call.now }
-    ensures sleeps { result ≡ Sleeps → SleepsFor F.rules (Q.own part.new) (Q.under_way part.new) (lock_caller F.rules call.now) buffer }
-    ensures ended { (outcome : _) → result ≡ Answered outcome → HasEnded F.rules (Q.own part.new) (Q.under_way part.new) (lock_caller F.rules call.now) }
-    ensures owns { (outcome : _) → result ≡ Answered outcome → IsAcquire call.now
-        → owner_of F.rules (inner (Q.opening m.new)) (buffer_sections (Q.seen m.new)) (Buffer buffer) ≡ Some (lock_caller F.rules call.now) }
+        (Q.under_way part.new) buffer call }
+    ensures sleeps { result ≡ Sleeps → SleepsFor F.rules (Q.own part.new) (Q.under_way part.new) (lock_caller F.rules call) buffer }
+    ensures ended { (outcome : _) → result ≡ Answered outcome → HasEnded F.rules (Q.own part.new) (Q.under_way part.new) (lock_caller F.rules call) }
+    ensures owns { (outcome : _) → result ≡ Answered outcome → IsAcquire call
+        → owner_of F.rules (inner (Q.opening m.new)) (buffer_sections (Q.seen m.new)) (Buffer buffer) ≡ Some (lock_caller F.rules call) }
 {
-    match part.poll(m, buffer, call) {
+    match part.poll(m, buffer, call, &mut Tray::new()) {
         Some(outcome) => Pace::Answered(outcome),
         None => {
             if part.current().is_some() {
@@ -59,8 +61,19 @@ pub fn one_pace<F: Locked, Q: QLockLayer<F>>(
     }
 }
 
+/// The call once more.
+fn again<F: Copy, R: Copy>(call: &QEdit<F, R>) -> QEdit<F, R>
+    ensures { result ≡ call.now }
+{
+    match call {
+        QEdit::Acquire(t) => QEdit::Acquire(*t),
+        QEdit::Inside(edit) => QEdit::Inside(*edit),
+        QEdit::Release(last) => QEdit::Release(*last),
+    }
+}
+
 /// So many polls of a call of the thread that runs; `None` if it ends or sleeps sooner.
-pub fn paces<F: Locked, Q: QLockLayer<F>>(
+pub fn paces<F: Locked + Copy, Q: QLockLayer<F>>(
     part: &mut Q,
     m: &mut Q::Machine,
     buffer: BufId,
@@ -72,6 +85,7 @@ pub fn paces<F: Locked, Q: QLockLayer<F>>(
     requires room { polls ≤ Q.room m.old }
     requires pace { MayPace F.rules (lock_kernel F.rules (Q.opening m.old)) (Q.cpu_of part.old) (Q.seen m.old) (Q.own part.old)
         (Q.under_way part.old) buffer call.now }
+    requires carried { (message : _) → lock_carried F.carried call.now message }
     ensures fits { Q.Fits part.new m.new }
     ensures cpu { Q.cpu_of part.new ≡ Q.cpu_of part.old }
     ensures opening { Q.opening m.new ≡ Q.opening m.old }
@@ -87,13 +101,13 @@ pub fn paces<F: Locked, Q: QLockLayer<F>>(
         let Pace::GoesOn = last else {
             return None;
         };
-        last = one_pace::<F, Q>(part, m, buffer, call);
+        last = one_pace::<F, Q>(part, m, buffer, again(call));
     }
     Some(last)
 }
 
 /// So many polls of a thread's Acquire; `None` if it may not call, or if it ends or sleeps sooner.
-pub fn acquires<F: Locked, Q: OwnedQLocks<F>>(
+pub fn acquires<F: Locked + Copy, Q: OwnedQLocks<F>>(
     part: &mut Q,
     m: &mut Q::Machine,
     buffer: BufId,
@@ -126,7 +140,7 @@ pub fn acquires<F: Locked, Q: OwnedQLocks<F>>(
 }
 
 /// So many polls of an owner's Release; `None` if it may not call, or if it ends sooner.
-pub fn releases<F: Locked, Q: OwnedQLocks<F>>(
+pub fn releases<F: Locked + Copy, Q: OwnedQLocks<F>>(
     part: &mut Q,
     m: &mut Q::Machine,
     buffer: BufId,
@@ -177,7 +191,7 @@ pub fn is_handed<F: Locked, Q: QLockLayer<F>>(
     if part.current() != Some(t) || !part.at_once() {
         return None;
     }
-    Some(one_pace::<F, Q>(part, m, buffer, &QEdit::Acquire(t)))
+    Some(one_pace::<F, Q>(part, m, buffer, QEdit::Acquire(t)))
 }
 
 /// The next ready thread runs, if nobody does and nobody stands in the hand.
@@ -195,7 +209,7 @@ pub fn switches<F: Locked, Q: QLockLayer<F>>(part: &mut Q, m: &mut Q::Machine) -
     if part.current().is_some() || part.hand().is_some() || !part.has_ready() {
         return false;
     }
-    part.pass(m, Pass::Switch).is_some()
+    part.pass(m, Pass::Switch, &mut Tray::new()).is_some()
 }
 
 /// Takes in so many polls who is pending, if nobody runs, stands in the hand or is ready.
@@ -220,7 +234,7 @@ pub fn drains<F: Locked, Q: QLockLayer<F>>(part: &mut Q, m: &mut Q::Machine, pol
         if done {
             return false;
         }
-        done = part.pass(m, Pass::Drain).is_some();
+        done = part.pass(m, Pass::Drain, &mut Tray::new()).is_some();
     }
     done
 }

@@ -17,7 +17,7 @@ use crate::lock_paces::{Pace, acquires, drains, is_handed, paces, releases, swit
 use crate::openings::Opens;
 use event_log::{BufId, CPUS, CpuId, NoMemory, THREADS, Tid};
 use layer_traits::{
-    Line, Locked, OwnedLocks, OwnedQLocks, QEdit, QLockLayer, QOut, QueueEdit, Side, Signal,
+    Line, Locked, OwnedLocks, OwnedQLocks, QEdit, QLockLayer, QOut, QueueEdit, Side, Signal, Tray,
 };
 use plain_machine::Plain;
 use queuing_lock::{QBlock, QLock, QLockEdit, lock_blocks};
@@ -56,11 +56,11 @@ impl Locked for Reads {
       allowed = λ opening past s. Unit {0};
     } };
 
-    fn caller(self) -> Tid {
+    fn caller(&self) -> Tid {
         self.caller
     }
 
-    fn apply(self, block: &mut u8) -> u8 {
+    fn apply(&self, block: &mut u8, _tray: &mut Tray) -> u8 {
         *block
     }
 
@@ -82,7 +82,7 @@ impl Locked for Reads {
 }
 
 /// Thread 0 acquires in the polls of a section; thread 1's Acquire then sleeps at the lock.
-fn one_sleeps<F: Locked, Q: OwnedQLocks<F>>(
+fn one_sleeps<F: Locked + Copy, Q: OwnedQLocks<F>>(
     zero: &mut Q,
     one: &mut Q,
     m: &mut Q::Machine,
@@ -120,7 +120,7 @@ fn one_sleeps<F: Locked, Q: OwnedQLocks<F>>(
 
 /// Thread 0's Release leaves thread 1 the owner and in CPU 0's hand after the polls of a section,
 /// and answers after as many more, by which thread 1 is sent home.
-fn hands_over<F: Locked, Q: OwnedQLocks<F>>(
+fn hands_over<F: Locked + Copy, Q: OwnedQLocks<F>>(
     zero: &mut Q,
     m: &mut Q::Machine,
     last: F::Release,
@@ -149,7 +149,7 @@ fn hands_over<F: Locked, Q: OwnedQLocks<F>>(
 }
 
 /// Thread 1 is told that it owns the lock only once it runs again on its CPU.
-fn one_is_told<F: Locked, Q: OwnedQLocks<F>>(
+fn one_is_told<F: Locked + Copy, Q: OwnedQLocks<F>>(
     one: &mut Q,
     m: &mut Q::Machine,
     section: usize,
@@ -174,7 +174,7 @@ fn one_is_told<F: Locked, Q: OwnedQLocks<F>>(
 }
 
 /// The lock passes from thread 0 to thread 1, for which thread 2 then sleeps.
-fn is_handed_over<F: Locked, Q: OwnedQLocks<F>>(
+fn is_handed_over<F: Locked + Copy, Q: OwnedQLocks<F>>(
     zero: &mut Q,
     one: &mut Q,
     two: &mut Q,

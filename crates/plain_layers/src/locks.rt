@@ -4,7 +4,7 @@ ghost use Rattle.std.specs.Prelude.{◌≡◌, [], None};
 
 use crate::lock_table::LockTable;
 use event_log::{CpuId, LockId, NoMemory};
-use layer_traits::{Edit, LockLayer, OwnedLocks};
+use layer_traits::{Edit, LockLayer, OwnedLocks, Tray};
 use std::alloc::Global;
 use std::marker::PhantomData;
 
@@ -58,8 +58,14 @@ impl<E: Edit> LockLayer<E> for PlainLock<E> {
         false
     }
 
-    fn poll(&mut self, m: &mut LockTable<E>, lock: LockId, edit: E) -> Option<E::Out> {
-        Some(m.done(self.cpu, lock, edit))
+    fn poll(
+        &mut self,
+        m: &mut LockTable<E>,
+        lock: LockId,
+        edit: E,
+        tray: &mut Tray,
+    ) -> Option<E::Out> {
+        Some(m.done(self.cpu, lock, edit, tray))
     }
 
     ghost own_cpu = { λ p m fits. fits };

@@ -7,6 +7,7 @@ ghost use Rattle.event_log.specs.declared.ids.TheConstants.{CPUS};
 ghost use Rattle.layer_traits.specs.Plans.{IsWhole};
 ghost use Rattle.layer_traits.specs.QueueBlocks.{homes_in, inner};
 ghost use Rattle.layer_traits.specs.Queues.{QueueAllowed, StaysCallable, event, kernel, lock_of};
+ghost use Rattle.layer_traits.specs.Trays.{call_carried, queue_brought};
 ghost use Rattle.plain_layers.specs.Naps.{bed};
 ghost use Rattle.plain_layers.specs.QueuePaces.{cpu_one, cpu_zero};
 
@@ -14,7 +15,7 @@ use crate::PlainQueues;
 use crate::kernel::PlainKernel;
 use crate::sched_tests::Nap;
 use event_log::{BufId, CpuId, NoMemory, Tid};
-use layer_traits::{Moves, QueueAnswer, QueueCall, QueueLayer};
+use layer_traits::{Moves, QueueAnswer, QueueCall, QueueLayer, Tray};
 use std::alloc::Global;
 use std::process::Abort;
 use std::test::Fail;
@@ -25,34 +26,37 @@ use thread_blocks::ThreadQueue;
 fn at_once<E: Moves, Q: QueueLayer<E>>(
     part: &mut Q,
     m: &mut Q::Machine,
-    call: &QueueCall<E>,
+    call: QueueCall<E>,
+    tray: &mut Tray,
 ) -> QueueAnswer<E::Out>
     requires whole { IsWhole Q.IsStepwise }
     requires all { (c : CpuId) → c.0 < CPUS → Q.ActsFor m.old c }
     requires fits { Q.Fits part.old m.old }
     requires idle { Q.under_way part.old ≡ None }
-    requires lock { IsSome (Q.opening m.old (lock_of call.now)) }
+    requires lock { IsSome (Q.opening m.old (lock_of call)) }
     requires room { 0 < Q.room m.old }
-    requires call { StaysCallable (QueueAllowed (kernel E.rules E.moves (Q.opening m.old))) (Q.seen m.old) (event (Q.cpu_of part.old) call.now) }
+    requires call { StaysCallable (QueueAllowed (kernel E.rules E.moves (Q.opening m.old))) (Q.seen m.old) (event (Q.cpu_of part.old) call) }
+    requires carried { call_carried E.carried call tray.old }
     ensures all { (c : CpuId) → c.0 < CPUS → Q.ActsFor m.new c }
     ensures fits { Q.Fits part.new m.new }
     ensures idle { Q.under_way part.new ≡ None }
     ensures cpu { Q.cpu_of part.new ≡ Q.cpu_of part.old }
     ensures opening { Q.opening m.new ≡ Q.opening m.old }
     ensures room { Q.room m.old ≤ Q.room m.new + 1 }
-    ensures seen { Q.seen m.new ≡ event (Q.cpu_of part.old) call.now ∷ Q.seen m.old }
+    ensures seen { Q.seen m.new ≡ event (Q.cpu_of part.old) call ∷ Q.seen m.old }
     ensures others { (p : Q) → Q.cpu_of p ≢ Q.cpu_of part.old → Q.Fits p m.old → Q.Fits p m.new }
+    ensures brought { queue_brought E.brought result tray.new }
 {
-    part.poll(m, call).unwrap()
+    part.poll(m, call, tray).unwrap()
 }
 
-/// Whether these are the threads that were taken: this one alone.
-fn is_taken(answer: QueueAnswer<(bool, Option<Tid>)>, t: Tid) -> bool {
-    let QueueAnswer::Taken(mut list) = answer else {
+/// Whether the threads that were taken, which lie in the tray, are this one alone.
+fn is_taken(answer: QueueAnswer<(bool, Option<Tid>)>, tray: &mut Tray, t: Tid) -> bool {
+    let QueueAnswer::Taken(_) = answer else {
         return false;
     };
     let mut queue = ThreadQueue::new();
-    list.drain_into(&mut queue);
+    tray.taken.drain_into(&mut queue);
     queue.len() == 1 && queue.front() == Some(t)
 }
 
@@ -89,14 +93,15 @@ fn meet_at_one_queue<Q: QueueLayer<Nap>>(
         by: Tid(0),
         wakes: true,
     };
-    let slept = at_once(first, m, &QueueCall::OnBuffer(BufId(0), sleep));
+    let mut tray = Tray::new();
+    let slept = at_once(first, m, QueueCall::OnBuffer(BufId(0), sleep), &mut tray);
     assert!(rt; matches!(slept, QueueAnswer::Answer((true, None))));
-    let woke = at_once(second, m, &QueueCall::OnBuffer(BufId(0), wake));
+    let woke = at_once(second, m, QueueCall::OnBuffer(BufId(0), wake), &mut tray);
     assert!(rt; matches!(woke, QueueAnswer::Answer((false, Some(Tid(1))))));
-    let pushed = at_once(second, m, &QueueCall::Push(CpuId(0), Tid(1)));
+    let pushed = at_once(second, m, QueueCall::Push(CpuId(0), Tid(1)), &mut tray);
     assert!(rt; matches!(pushed, QueueAnswer::Done));
-    let taken = at_once(first, m, &QueueCall::TakeAll(CpuId(0)));
-    assert!(rt; is_taken(taken, Tid(1)));
+    let taken = at_once(first, m, QueueCall::TakeAll(CpuId(0)), &mut tray);
+    assert!(rt; is_taken(taken, &mut tray, Tid(1)));
 }
 
 /// Two CPUs at the queue of the first, on a machine of lists.

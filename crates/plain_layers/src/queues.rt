@@ -4,7 +4,7 @@ ghost use Rattle.std.specs.Prelude.{◌≡◌, [], None};
 
 use crate::kernel::PlainKernel;
 use event_log::{BufId, CpuId, Tid};
-use layer_traits::{Moves, OwnedQueues, QueueAnswer, QueueCall, QueueLayer};
+use layer_traits::{Moves, OwnedQueues, QueueAnswer, QueueCall, QueueLayer, Tray};
 use std::marker::PhantomData;
 
 /// One CPU's part of shared queues as they are meant: a push, a taking or an edit is done in one
@@ -16,9 +16,14 @@ pub struct PlainQueues<E> {
 }
 
 impl<E: Moves> QueueLayer<E> for PlainQueues<E> {
-    ghost use Rattle.std.specs.Prelude.{◌<◌};
-    ghost use Rattle.event_log.specs.declared.ids.TheConstants.{CPUS};
-    ghost use Rattle.plain_layers.specs.Kernels.{IsKernel, calls_in, call_room, opening_of};
+    ghost use Rattle.std.specs.Prelude.{◌≢◌, ◌+◌, ◌<◌, ◌≤◌, IfSome, IsSome, OnSome, Some, if◌then◌else◌, is_some};
+    ghost use Rattle.event_log.specs.declared.ids.CpuId.{CpuId};
+    ghost use Rattle.layer_traits.specs.Plans.{Follows, IsWhole, answered, table_of};
+    ghost use Rattle.layer_traits.specs.QueueRules.{queue_rules};
+    ghost use Rattle.layer_traits.specs.Queues.{MayQueue, QueueAllowed, QueuePolled, event, kernel, lock_of, queue_plan};
+    ghost use Rattle.layer_traits.specs.Trays.{call_carried, queue_brought};
+    ghost use Rattle.plain_layers.specs.declared.queues.PlainQueues.{PlainQueues};
+    ghost use Rattle.plain_layers.specs.Kernels.{HasKernel, calls_in, call_room, no_site, opening_of};
 
     type Machine = PlainKernel<E>;
 
@@ -26,9 +31,11 @@ impl<E: Moves> QueueLayer<E> for PlainQueues<E> {
 
     ghost seen = { λ m. calls_in m };
 
-    ghost ActsFor = { λ m c. (c.0 < CPUS) × IsKernel E.rules E.moves m.opening (calls_in m) m.lists };
+    ghost ActsFor = { λ m c. HasKernel E.rules E.moves m c };
 
     ghost room = { λ m. call_room m };
+
+    ghost site = { λ m. no_site };
 
     ghost IsOutside = { λ m c. Unit {0} };
 
@@ -36,7 +43,7 @@ impl<E: Moves> QueueLayer<E> for PlainQueues<E> {
 
     ghost under_way = { λ p. None };
 
-    ghost Fits = { λ p m. (p.cpu.0 < CPUS) × IsKernel E.rules E.moves m.opening (calls_in m) m.lists };
+    ghost Fits = { λ p m. HasKernel E.rules E.moves m p.cpu };
 
     ghost IsStepwise = { ⊥ };
 
@@ -57,8 +64,35 @@ impl<E: Moves> QueueLayer<E> for PlainQueues<E> {
         false
     }
 
-    fn poll(&mut self, m: &mut PlainKernel<E>, call: &QueueCall<E>) -> Option<QueueAnswer<E::Out>> {
-        Some(m.done(self.cpu, *call))
+    fn poll(
+        &mut self,
+        m: &mut PlainKernel<E>,
+        call: QueueCall<E>,
+        tray: &mut Tray,
+    ) -> Option<QueueAnswer<E::Out>>
+        requires fits { HasKernel E.rules E.moves m.old self.old.cpu }
+        requires lock { IsSome (opening_of m.old.opening (lock_of call)) }
+        requires room { 0 < call_room m.old }
+        requires call { MayQueue (QueueAllowed (kernel E.rules E.moves (opening_of m.old.opening))) (calls_in m.old) None
+            (event self.old.cpu call) }
+        requires carried { call_carried E.carried call tray.old }
+        ensures fits { HasKernel E.rules E.moves m.new self.new.cpu }
+        ensures cpu { self.new.cpu ≡ self.old.cpu }
+        ensures call { None ≡ (if is_some result then None else Some (event self.old.cpu call)) }
+        ensures prompt { IsWhole ⊥ → IsSome result }
+        ensures brought { IfSome result (λ answer. queue_brought E.brought answer tray.new) }
+        ensures seen { QueuePolled (kernel E.rules E.moves (opening_of m.old.opening)) (HasKernel E.rules E.moves m.old)
+            (event self.old.cpu call) result (calls_in m.old) (calls_in m.new) }
+        ensures opening { opening_of m.new.opening ≡ opening_of m.old.opening }
+        ensures site { no_site ≡ no_site }
+        ensures room { call_room m.old ≤ call_room m.new + 1 }
+        ensures acts { (c : CpuId) → HasKernel E.rules E.moves m.old c → HasKernel E.rules E.moves m.new c }
+        ensures outside { OnSome result (Unit {0}) }
+        ensures others { (p : PlainQueues E) → p.cpu ≢ self.old.cpu → HasKernel E.rules E.moves m.old p.cpu → HasKernel E.rules E.moves m.new p.cpu }
+        ensures follows { ⊥ → Follows (HasKernel E.rules E.moves m.old) (table_of (queue_rules E.rules E.moves)) (opening_of m.old.opening) self.old.cpu
+            (queue_plan call) [] [] (answered result) }
+    {
+        Some(m.done(self.cpu, call, tray))
     }
 
     ghost own_cpu = { λ p m fits. fits };

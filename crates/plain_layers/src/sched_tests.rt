@@ -14,7 +14,7 @@ use crate::openings::Opens;
 use crate::{PlainLock, PlainQueues, PlainSched};
 use event_log::{BufId, CPUS, CpuId, LockId, NoMemory, Tid};
 use layer_traits::{
-    Edit, Line, Moves, OwnedLocks, OwnedScheds, Pass, QueueEdit, SchedCall, SchedLayer,
+    Edit, Line, Moves, OwnedLocks, OwnedScheds, Pass, QueueEdit, SchedCall, SchedLayer, Tray,
 };
 use plain_machine::{GrantLockWords, GrantPlain, Plain};
 use scheduler::Sched;
@@ -40,7 +40,7 @@ impl Edit for Nap {
 
     ghost rules = { nap_rules (λ e. e.wakes) (λ e. e.by) };
 
-    fn apply(self, block: &mut Option<Tid>) -> (bool, Option<Tid>) {
+    fn apply(&self, block: &mut Option<Tid>, _tray: &mut Tray) -> (bool, Option<Tid>) {
         if self.wakes {
             let woke = *block;
             *block = None;
@@ -118,14 +118,18 @@ fn passed_at<S: SchedLayer<Nap>>(part: &mut S, m: &mut S::Machine, pass: Pass) -
     if part.is_busy() || !may_pass(part, pass) {
         return 0;
     }
-    let call = SchedCall::Pass(pass);
-    if part.poll(m, &call).is_some() {
+    let mut tray = Tray::new();
+    if part.poll(m, SchedCall::Pass(pass), &mut tray).is_some() {
         return 1;
     }
-    if part.poll(m, &call).is_some() {
+    if part.poll(m, SchedCall::Pass(pass), &mut tray).is_some() {
         return 2;
     }
-    if part.poll(m, &call).is_some() { 3 } else { 0 }
+    if part.poll(m, SchedCall::Pass(pass), &mut tray).is_some() {
+        3
+    } else {
+        0
+    }
 }
 
 /// The same of a nap.
@@ -142,14 +146,27 @@ fn napped_at<S: SchedLayer<Nap>>(part: &mut S, m: &mut S::Machine, nap: Nap) -> 
     if part.is_busy() || part.current() != Some(nap.by) || part.hand().is_some() {
         return 0;
     }
-    let call = SchedCall::OnBuffer(BufId(0), nap);
-    if part.poll(m, &call).is_some() {
+    let mut tray = Tray::new();
+    if part
+        .poll(m, SchedCall::OnBuffer(BufId(0), nap), &mut tray)
+        .is_some()
+    {
         return 1;
     }
-    if part.poll(m, &call).is_some() {
+    if part
+        .poll(m, SchedCall::OnBuffer(BufId(0), nap), &mut tray)
+        .is_some()
+    {
         return 2;
     }
-    if part.poll(m, &call).is_some() { 3 } else { 0 }
+    if part
+        .poll(m, SchedCall::OnBuffer(BufId(0), nap), &mut tray)
+        .is_some()
+    {
+        3
+    } else {
+        0
+    }
 }
 
 /// Thread `t` sleeps at buffer 0, or waits in CPU 0's queue: the machine tells it, and no part has the
@@ -315,7 +332,8 @@ fn polled<S: SchedLayer<Nap>>(part: &mut S, m: &mut S::Machine, pass: Pass) -> b
     if !part.is_busy() && !may_pass(part, pass) {
         return false;
     }
-    part.poll(m, &SchedCall::Pass(pass)).is_some()
+    part.poll(m, SchedCall::Pass(pass), &mut Tray::new())
+        .is_some()
 }
 
 /// The second CPU pushes thread 1, which it has in hand, into the queue of the first CPU, while the

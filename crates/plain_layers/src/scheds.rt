@@ -5,7 +5,7 @@ ghost use Rattle.std.specs.Prelude.{◌≡◌, [], None};
 use crate::kernel::PlainKernel;
 use arrayvec::ArrayVec;
 use event_log::{BufId, CpuId, THREADS, Tid};
-use layer_traits::{Moves, OwnedScheds, SchedAnswer, SchedCall, SchedLayer, kept_homes};
+use layer_traits::{Moves, OwnedScheds, SchedAnswer, SchedCall, SchedLayer, Tray, kept_homes};
 use scheduler::{OwnThreads, call_beneath};
 use std::marker::PhantomData;
 
@@ -20,10 +20,17 @@ pub struct PlainSched<E> {
 }
 
 impl<E: Moves> SchedLayer<E> for PlainSched<E> {
-    ghost use Rattle.std.specs.Prelude.{◌<◌};
-    ghost use Rattle.event_log.specs.declared.ids.TheConstants.{CPUS};
-    ghost use Rattle.plain_layers.specs.Kernels.{IsKernel, calls_in, call_room, opening_of};
-    ghost use Rattle.scheduler.specs.Parts.{PartFits};
+    ghost use Rattle.std.specs.Prelude.{◌≢◌, ◌+◌, ◌<◌, ◌≤◌, IfSome, IsSome, OnSome, Some, if◌then◌else◌, is_some};
+    ghost use Rattle.event_log.specs.declared.ids.CpuId.{CpuId};
+    ghost use Rattle.layer_traits.specs.Plans.{Follows, IsWhole, table_of};
+    ghost use Rattle.layer_traits.specs.QueueBlocks.{homes_in};
+    ghost use Rattle.layer_traits.specs.QueueRules.{queue_rules};
+    ghost use Rattle.layer_traits.specs.Queues.{kernel};
+    ghost use Rattle.layer_traits.specs.Scheds.{BufferIsThere, IsLocal, IsShared, MaySched, SchedPolled, left, sched_plan};
+    ghost use Rattle.layer_traits.specs.Trays.{sched_brought, sched_carried};
+    ghost use Rattle.plain_layers.specs.declared.scheds.PlainSched.{PlainSched};
+    ghost use Rattle.plain_layers.specs.Kernels.{HasKernel, calls_in, call_room, no_site, opening_of};
+    ghost use Rattle.plain_layers.specs.KernelParts.{HasThreads};
 
     type Machine = PlainKernel<E>;
 
@@ -31,9 +38,11 @@ impl<E: Moves> SchedLayer<E> for PlainSched<E> {
 
     ghost seen = { λ m. calls_in m };
 
-    ghost ActsFor = { λ m c. (c.0 < CPUS) × IsKernel E.rules E.moves m.opening (calls_in m) m.lists };
+    ghost ActsFor = { λ m c. HasKernel E.rules E.moves m c };
 
     ghost room = { λ m. call_room m };
+
+    ghost site = { λ m. no_site };
 
     ghost IsOutside = { λ m c. Unit {0} };
 
@@ -43,8 +52,7 @@ impl<E: Moves> SchedLayer<E> for PlainSched<E> {
 
     ghost under_way = { λ p. None };
 
-    ghost Fits = { λ p m. (p.cpu.0 < CPUS) × IsKernel E.rules E.moves m.opening (calls_in m) m.lists
-        × PartFits E.rules E.moves (opening_of m.opening) p.cpu p.cpu p.homes.items None (calls_in m) p.own };
+    ghost Fits = { λ p m. HasThreads E.rules E.moves m p.cpu p.homes.items p.own };
 
     ghost IsStepwise = { ⊥ };
 
@@ -87,16 +95,44 @@ impl<E: Moves> SchedLayer<E> for PlainSched<E> {
         false
     }
 
-    fn poll(&mut self, m: &mut PlainKernel<E>, call: &SchedCall<E>) -> Option<SchedAnswer<E::Out>> {
+    fn poll(
+        &mut self,
+        m: &mut PlainKernel<E>,
+        call: SchedCall<E>,
+        tray: &mut Tray,
+    ) -> Option<SchedAnswer<E::Out>>
+        requires fits { HasThreads E.rules E.moves m.old self.old.cpu self.old.homes.items self.old.own }
+        requires buffer { BufferIsThere (opening_of m.old.opening) call }
+        requires room { 0 < call_room m.old }
+        requires call { MaySched (kernel E.rules E.moves (opening_of m.old.opening)) self.old.cpu (calls_in m.old) self.old.own None call }
+        requires carried { sched_carried E.carried call tray.old }
+        ensures fits { HasThreads E.rules E.moves m.new self.new.cpu self.new.homes.items self.new.own }
+        ensures cpu { self.new.cpu ≡ self.old.cpu }
+        ensures call { None ≡ (if is_some result then None else Some call) }
+        ensures prompt { IsWhole ⊥ → IsSome result }
+        ensures brought { IfSome result (λ answer. sched_brought E.brought answer tray.new) }
+        ensures seen { SchedPolled (kernel E.rules E.moves (opening_of m.old.opening)) (HasKernel E.rules E.moves m.old) self.old.cpu call result
+            (calls_in m.old) (calls_in m.new) self.old.own self.new.own }
+        ensures still { IsLocal call → m.new ≡ m.old }
+        ensures opening { opening_of m.new.opening ≡ opening_of m.old.opening }
+        ensures site { no_site ≡ no_site }
+        ensures room { call_room m.old ≤ call_room m.new + 1 }
+        ensures acts { (c : CpuId) → HasKernel E.rules E.moves m.old c → HasKernel E.rules E.moves m.new c }
+        ensures outside { OnSome result (IsShared call → Unit {0}) }
+        ensures others { (p : PlainSched E) → p.cpu ≢ self.old.cpu → HasThreads E.rules E.moves m.old p.cpu p.homes.items p.own
+            → HasThreads E.rules E.moves m.new p.cpu p.homes.items p.own }
+        ensures follows { ⊥ → Follows (HasKernel E.rules E.moves m.old) (table_of (queue_rules E.rules E.moves)) (opening_of m.old.opening) self.old.cpu
+            (sched_plan E.moves (homes_in (opening_of m.old.opening)) self.old.cpu call self.old.own) [] [] (left self.new.own result) }
+    {
         let homes = self.homes.as_slice();
         match call_beneath(homes, self.cpu, call) {
-            None => {
-                self.own.local(call);
+            Err(pass) => {
+                self.own.local(pass);
                 Some(SchedAnswer::Done)
             }
-            Some(step) => {
-                let answer = m.done(self.cpu, step);
-                Some(self.own.answered::<E>(homes, self.cpu, answer))
+            Ok(step) => {
+                let answer = m.done(self.cpu, step, tray);
+                Some(self.own.answered::<E>(homes, self.cpu, answer, tray))
             }
         }
     }

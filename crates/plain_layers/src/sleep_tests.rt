@@ -14,7 +14,7 @@ use crate::PlainSched;
 use crate::openings::Opens;
 use event_log::{BufId, CPUS, CpuId, NoMemory, Tid};
 use layer_traits::{
-    Leave, Line, Outcome, OwnedLocks, OwnedSleeps, Pass, QueueEdit, SleepLayer, Sleeps,
+    Leave, Line, Outcome, OwnedLocks, OwnedSleeps, Pass, QueueEdit, SleepLayer, Sleeps, Tray,
 };
 use plain_machine::Plain;
 use scheduler::Sched;
@@ -50,12 +50,12 @@ impl Sleeps for Nap {
       allowed = λ opening past s. Unit {0};
     } };
 
-    fn caller(self) -> Tid {
+    fn caller(&self) -> Tid {
         self.caller
     }
 
-    fn apply(self, _first: Option<Tid>, _block: &mut u8) -> Nap {
-        self
+    fn apply(&self, _first: Option<Tid>, _block: &mut u8, _tray: &mut Tray) -> Nap {
+        *self
     }
 
     fn joins(out: &Nap) -> Option<Line> {
@@ -106,7 +106,7 @@ fn switches<S: SleepLayer<Nap>>(part: &mut S, m: &mut S::Machine) -> bool
     if part.current().is_some() || part.hand().is_some() || !part.has_ready() {
         return false;
     }
-    part.pass(m, Pass::Switch).is_some()
+    part.pass(m, Pass::Switch, &mut Tray::new()).is_some()
 }
 
 /// Polls a section, if its caller runs and nobody stands in the hand, until it answers, at most three
@@ -130,13 +130,14 @@ fn ends_at<S: SleepLayer<Nap>>(
     if part.current() != Some(nap.caller) || part.hand().is_some() {
         return None;
     }
-    if let Some(outcome) = part.poll(m, BufId(0), nap) {
+    let mut tray = Tray::new();
+    if let Some(outcome) = part.poll(m, BufId(0), nap, &mut tray) {
         return Some((1, outcome));
     }
-    if let Some(outcome) = part.poll(m, BufId(0), nap) {
+    if let Some(outcome) = part.poll(m, BufId(0), nap, &mut tray) {
         return Some((2, outcome));
     }
-    match part.poll(m, BufId(0), nap) {
+    match part.poll(m, BufId(0), nap, &mut tray) {
         None => None,
         Some(outcome) => Some((3, outcome)),
     }
@@ -159,19 +160,20 @@ fn takes_in_hand_at<S: SleepLayer<Nap>>(part: &mut S, m: &mut S::Machine, nap: N
     if part.current() != Some(nap.caller) || part.hand().is_some() {
         return 0;
     }
-    if part.poll(m, BufId(0), nap).is_some() {
+    let mut tray = Tray::new();
+    if part.poll(m, BufId(0), nap, &mut tray).is_some() {
         return 0;
     }
     if part.hand().is_some() {
         return 1;
     }
-    if part.poll(m, BufId(0), nap).is_some() {
+    if part.poll(m, BufId(0), nap, &mut tray).is_some() {
         return 0;
     }
     if part.hand().is_some() {
         return 2;
     }
-    if part.poll(m, BufId(0), nap).is_some() {
+    if part.poll(m, BufId(0), nap, &mut tray).is_some() {
         return 0;
     }
     if part.hand().is_some() { 3 } else { 0 }
@@ -194,13 +196,14 @@ fn sends_at<S: SleepLayer<Nap>>(
     ensures idle { is_some result ≡ true → S.under_way part.new ≡ None }
     ensures others { (p : S) → S.cpu_of p ≢ S.cpu_of part.old → S.Fits p m.old → S.Fits p m.new }
 {
-    if let Some(outcome) = part.poll(m, BufId(0), nap) {
+    let mut tray = Tray::new();
+    if let Some(outcome) = part.poll(m, BufId(0), nap, &mut tray) {
         return Some((1, outcome));
     }
-    if let Some(outcome) = part.poll(m, BufId(0), nap) {
+    if let Some(outcome) = part.poll(m, BufId(0), nap, &mut tray) {
         return Some((2, outcome));
     }
-    match part.poll(m, BufId(0), nap) {
+    match part.poll(m, BufId(0), nap, &mut tray) {
         None => None,
         Some(outcome) => Some((3, outcome)),
     }
@@ -258,7 +261,10 @@ fn at_home<S: SleepLayer<Nap>>(home: &mut S, m: &mut S::Machine, polls: u8) -> b
     if at != polls || woke.woke != Some(Tid(0)) || !home.is_ready(Tid(0)) {
         return false;
     }
-    if home.current().is_none() || home.hand().is_some() || home.pass(m, Pass::End).is_none() {
+    if home.current().is_none()
+        || home.hand().is_some()
+        || home.pass(m, Pass::End, &mut Tray::new()).is_none()
+    {
         return false;
     }
     home.has_ended(Tid(2)) && home.current().is_none()

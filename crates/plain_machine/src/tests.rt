@@ -6,12 +6,12 @@ ghost use Rattle.event_log.specs.WordsLog.{standing, Outside};
 
 use crate::{GrantLockWords, Granting, LineWords, LockWords, Plain};
 use event_log::{BufId, CPUS, CpuId, LockId, NoMemory};
-use layer_traits::{Edit, GrantWords, Words};
+use layer_traits::{Edit, GrantWords, Tray, Words};
 use std::alloc::Global;
 use std::test::Fail;
 
 /// Adds 1 to a number modulo 2^64, and answers the old number.
-#[derive(Clone, Copy)]
+#[derive(Drop)]
 struct AddOne;
 
 impl Edit for AddOne {
@@ -25,7 +25,7 @@ impl Edit for AddOne {
       allowed = λ opening past s. Unit {0};
     } };
 
-    fn apply(self, block: &mut u64) -> u64 {
+    fn apply(&self, block: &mut u64, _tray: &mut Tray) -> u64 {
         let old = *block;
         *block = old.wrapping_add(1);
         old
@@ -70,7 +70,7 @@ fn add_one<W: Words<Edit = AddOne>>(words: &mut W, cpu: CpuId, lock: LockId) -> 
 {
     let ticket = words.draw(cpu, lock);
     let mut block = words.look(cpu, lock, ticket)?;
-    let number = AddOne.apply(&mut block);
+    let number = AddOne.apply(&mut block, &mut Tray::new());
     words.free(cpu, lock, block, W::mark(AddOne));
     Some(number)
 }
@@ -90,7 +90,7 @@ fn add_one_granted<W: GrantWords<Edit = AddOne>>(
 {
     let ticket = words.take(cpu, lock);
     let mut block = words.peek(cpu, lock, ticket)?;
-    let number = AddOne.apply(&mut block);
+    let number = AddOne.apply(&mut block, &mut Tray::new());
     words.give(cpu, lock, block, W::mark(AddOne));
     Some(number)
 }

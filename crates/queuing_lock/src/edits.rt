@@ -2,13 +2,14 @@
 
 ghost use Rattle.std.specs.Prelude.{◌≡◌};
 ghost use Rattle.layer_traits.specs.Locking.{line_for};
+ghost use Rattle.layer_traits.specs.Trays.{lock_brought, lock_carried};
 ghost use Rattle.queuing_lock.specs.Nested.{busy_rules, leaving};
 
 use event_log::Tid;
-use layer_traits::{Leave, Line, Locked, QEdit, QOut, Side, Signal, Sleeps};
+use layer_traits::{Leave, Line, Locked, QEdit, QOut, Side, Signal, Sleeps, Tray};
 
 /// A call on a queuing lock, as a section of the layer that lets threads sleep.
-#[derive(Clone, Copy, Debug, PartialEq, Eq)]
+#[derive(Drop)]
 pub struct QLockEdit<F, R> {
     /// The call.
     pub edit: QEdit<F, R>,
@@ -31,28 +32,38 @@ impl<F: Locked> Sleeps for QLockEdit<F, F::Release> {
 
     ghost rules = { busy_rules F.rules };
 
+    ghost carried = { λ section. lock_carried F.carried section.edit };
+
+    ghost brought = { lock_brought F.brought };
+
     #[inline(always)]
-    fn caller(self) -> Tid {
-        match self.edit {
-            QEdit::Acquire(t) => t,
+    fn caller(&self) -> Tid {
+        match &self.edit {
+            QEdit::Acquire(t) => *t,
             QEdit::Inside(inside) => inside.caller(),
-            QEdit::Release(last) => F::last_caller(last),
+            QEdit::Release(last) => F::last_caller(*last),
         }
     }
 
-    fn apply(self, first: Option<Tid>, block: &mut QBlock<F::Block>) -> QOut<F::Out> {
-        match self.edit {
+    #[inline(always)]
+    fn apply(
+        &self,
+        first: Option<Tid>,
+        block: &mut QBlock<F::Block>,
+        tray: &mut Tray,
+    ) -> QOut<F::Out> {
+        match &self.edit {
             QEdit::Acquire(t) => {
                 if block.busy.is_some() {
                     return QOut::Queued;
                 }
-                block.busy = Some(t);
+                block.busy = Some(*t);
                 QOut::Acquired
             }
-            QEdit::Inside(inside) => QOut::Did(inside.apply(&mut block.above)),
+            QEdit::Inside(inside) => QOut::Did(inside.apply(&mut block.above, tray)),
             QEdit::Release(last) => {
                 block.busy = first;
-                QOut::Released(F::apply_last(last, &mut block.above))
+                QOut::Released(F::apply_last(*last, &mut block.above))
             }
         }
     }

@@ -5,7 +5,7 @@ use crate::slept::Slept;
 use event_log::{BufId, CpuId, Tid};
 use layer_traits::{
     Line, Locked, Outcome, OwnedQLocks, OwnedSleeps, Pass, QEdit, QLockLayer, QOut, SleepLayer,
-    Sleeps,
+    Sleeps, Tray,
 };
 
 /// One CPU's part of queuing locks over a part `S` of a layer that lets threads sleep: it keeps of
@@ -17,11 +17,20 @@ pub struct QLock<S> {
 }
 
 impl<F: Locked, S: SleepLayer<QLockEdit<F, F::Release>>> QLockLayer<F> for QLock<S> {
-    ghost use Rattle.std.proofs.Common.{map, option_map, ap, ◌∙◌};
+    ghost use Rattle.std.proofs.Common.{◌≡◌, ◌≢◌, ◌+◌, ◌<◌, ◌≤◌, Some, None, IsSome, IfSome, map, option_map, ap, ◌∙◌};
+    ghost use Rattle.event_log.specs.declared.ids.CpuId.{CpuId};
+    ghost use Rattle.event_log.specs.declared.ids.LockId.TheVariants.{Buffer};
     ghost use Rattle.event_log.specs.Actions.{renamed};
     ghost use Rattle.event_log.proofs.Renaming.{legal_renamed};
+    ghost use Rattle.layer_traits.specs.LockLaw.{LockPolled, MayGo, MayLock, MustWait, lock_kernel, lock_plan, locking, slept_for};
+    ghost use Rattle.layer_traits.specs.Locking.{lock_caller, lock_moves, lock_rules};
+    ghost use Rattle.layer_traits.specs.Plans.{Follows, IsWhole, table_of};
+    ghost use Rattle.layer_traits.specs.QueueBlocks.{homes_in};
+    ghost use Rattle.layer_traits.specs.QueueRules.{queue_rules};
     ghost use Rattle.layer_traits.specs.Renaming.{renamed_edit, renamed_events, renamed_sched, viewed};
+    ghost use Rattle.layer_traits.specs.Trays.{lock_brought, lock_carried};
     ghost use Rattle.layer_traits.proofs.KernelRenaming.{known_renamed, proper_renamed, seen_renamed, starts_viewed};
+    ghost use Rattle.queuing_lock.specs.declared.qlock.QLock.{QLock};
     ghost use Rattle.queuing_lock.specs.Nested.{edit_in, lock_of};
     ghost use Rattle.queuing_lock.specs.NestedLaws.{locks_busy, locks_lawful, locks_lists, locks_moving, locks_stand, none_beneath};
     ghost use Rattle.queuing_lock.specs.Parts.{KeptFits, SleptFits};
@@ -106,14 +115,58 @@ impl<F: Locked, S: SleepLayer<QLockEdit<F, F::Release>>> QLockLayer<F> for QLock
         self.lower.look(m)
     }
 
+    // The trait's clauses in this layer's terms: the check hands none down to a method that takes a
+    // type over the trait's own parameter by value.
     #[inline(always)]
     fn poll(
         &mut self,
         m: &mut S::Machine,
         buffer: BufId,
-        edit: &QEdit<F, F::Release>,
-    ) -> Option<Outcome<QOut<F::Out>>> {
-        let section = QLockEdit { edit: *edit };
+        edit: QEdit<F, F::Release>,
+        tray: &mut Tray,
+    ) -> Option<Outcome<QOut<F::Out>>>
+        requires fits { S.Fits self.old.lower m.old
+            × SleptFits F.rules (viewed lock_of (S.opening m.old)) (S.cpu_of self.old.lower) (renamed_events edit_in (S.seen m.old)) self.old.slept.buffers
+            × KeptFits (option_map (renamed_sched edit_in) (S.under_way self.old.lower)) (S.own self.old.lower).kept (S.own self.old.lower).threads.hand }
+        requires buffer { IsSome (viewed lock_of (S.opening m.old) (Buffer buffer)) }
+        requires room { 0 < S.room m.old }
+        requires caller { (S.own self.old.lower).threads.current ≡ Some (lock_caller F.rules edit) }
+        requires call { MayGo (slept_for self.old.slept.buffers (lock_caller F.rules edit))
+            (option_map (renamed_sched edit_in) (S.under_way self.old.lower)) buffer edit (lock_caller F.rules edit)
+            (MayLock F.rules (lock_kernel F.rules (viewed lock_of (S.opening m.old))) (S.cpu_of self.old.lower) (renamed_events edit_in (S.seen m.old))
+            (S.own self.old.lower).threads.hand buffer edit) }
+        requires carried { lock_carried F.carried edit tray.old.message }
+        ensures fits { S.Fits self.new.lower m.new
+            × SleptFits F.rules (viewed lock_of (S.opening m.new)) (S.cpu_of self.new.lower) (renamed_events edit_in (S.seen m.new)) self.new.slept.buffers
+            × KeptFits (option_map (renamed_sched edit_in) (S.under_way self.new.lower)) (S.own self.new.lower).kept (S.own self.new.lower).threads.hand }
+        ensures cpu { S.cpu_of self.new.lower ≡ S.cpu_of self.old.lower }
+        ensures seen { LockPolled F.rules (lock_kernel F.rules (viewed lock_of (S.opening m.old))) (λ c. S.ActsFor m.old c) (S.cpu_of self.old.lower) buffer edit
+            (slept_for self.old.slept.buffers (lock_caller F.rules edit)) (renamed_events edit_in (S.seen m.old)) (renamed_events edit_in (S.seen m.new))
+            (record { sleep = S.own self.old.lower; slept = self.old.slept.buffers }) (option_map (renamed_sched edit_in) (S.under_way self.new.lower))
+            (locking (S.own self.new.lower) self.new.slept.buffers result) }
+        ensures still { IsSome (slept_for self.old.slept.buffers (lock_caller F.rules edit)) → m.new ≡ m.old }
+        ensures opening { viewed lock_of (S.opening m.new) ≡ viewed lock_of (S.opening m.old) }
+        ensures site { S.site m.new ≡ S.site m.old }
+        ensures room { S.room m.old ≤ S.room m.new + 1 }
+        ensures acts { (c : CpuId) → S.ActsFor m.old c → S.ActsFor m.new c }
+        ensures others { (p : QLock S) → S.cpu_of p.lower ≢ S.cpu_of self.old.lower → S.Fits p.lower m.old
+            × SleptFits F.rules (viewed lock_of (S.opening m.old)) (S.cpu_of p.lower) (renamed_events edit_in (S.seen m.old)) p.slept.buffers
+            × KeptFits (option_map (renamed_sched edit_in) (S.under_way p.lower)) (S.own p.lower).kept (S.own p.lower).threads.hand
+            → S.Fits p.lower m.new
+            × SleptFits F.rules (viewed lock_of (S.opening m.new)) (S.cpu_of p.lower) (renamed_events edit_in (S.seen m.new)) p.slept.buffers
+            × KeptFits (option_map (renamed_sched edit_in) (S.under_way p.lower)) (S.own p.lower).kept (S.own p.lower).threads.hand }
+        ensures brought { IfSome result (λ outcome. lock_brought F.brought outcome.out tray.new.message) }
+        ensures prompt { IsWhole S.IsStepwise → result ≡ None → MustWait (lock_caller F.rules edit) buffer
+            (record { sleep = S.own self.old.lower; slept = self.old.slept.buffers })
+            (record { sleep = S.own self.new.lower; slept = self.new.slept.buffers }) }
+        ensures follows { S.IsStepwise → Follows (λ c. S.ActsFor m.old c) (table_of (queue_rules (lock_rules F.rules) (lock_moves F.rules)))
+            (viewed lock_of (S.opening m.old)) (S.cpu_of self.old.lower)
+            (lock_plan (lock_moves F.rules) (homes_in (viewed lock_of (S.opening m.old))) (S.cpu_of self.old.lower) buffer edit
+            (record { sleep = S.own self.old.lower; slept = self.old.slept.buffers }))
+            (map (renamed (renamed_edit edit_in)) (S.acts m.old)) (map (renamed (renamed_edit edit_in)) (S.acts m.new))
+            (locking (S.own self.new.lower) self.new.slept.buffers result) }
+    {
+        let section = QLockEdit { edit };
         let t = section.caller();
         if self.slept.has(t) {
             self.slept.over(t);
@@ -123,15 +176,15 @@ impl<F: Locked, S: SleepLayer<QLockEdit<F, F::Release>>> QLockLayer<F> for QLock
                 woke: None,
             });
         }
-        match self.lower.poll(m, buffer, section) {
+        match self.lower.poll(m, buffer, section, tray) {
             None => None,
             Some(outcome) => self.slept.told(t, buffer, outcome),
         }
     }
 
     #[inline(always)]
-    fn pass(&mut self, m: &mut S::Machine, call: Pass) -> Option<()> {
-        self.lower.pass(m, call)
+    fn pass(&mut self, m: &mut S::Machine, call: Pass, tray: &mut Tray) -> Option<()> {
+        self.lower.pass(m, call, tray)
     }
 
     ghost own_cpu = { λ p m fits. S.own_cpu p.lower m fits.0 };

@@ -1,29 +1,30 @@
 //! Which call a scheduler's call is at the shared queues.
 
-ghost use Rattle.std.specs.Prelude.{◌≡◌};
+ghost use Rattle.std.specs.Prelude.{◌≡◌, Some, None, IfOk, IfErr};
+ghost use Rattle.layer_traits.specs.declared.scheds.SchedCall.TheVariants as calls;
 ghost use Rattle.layer_traits.specs.Passes.{queue_for};
 ghost use Rattle.layer_traits.specs.Scheds.{queue_call};
 
 use event_log::{CpuId, Tid};
 use layer_traits::{Pass, QueueCall, SchedCall};
 
-/// The call of `cpu` at the shared queues; `None` where `call` touches nothing shared. `homes` holds
-/// the home of each thread.
+/// The call of `cpu` at the shared queues, into which `call` is moved; the pass that `call` is, where
+/// it touches nothing shared. `homes` holds the home of each thread.
 #[inline(always)]
-pub fn call_beneath<E: Copy>(
+pub fn call_beneath<E>(
     homes: &[CpuId],
     cpu: CpuId,
-    call: &SchedCall<E>,
-) -> Option<QueueCall<E>>
-    ensures { result ≡ queue_call homes.now cpu call.now }
+    call: SchedCall<E>,
+) -> Result<QueueCall<E>, Pass>
+    ensures shared { IfOk result (λ step. queue_call homes.now cpu call ≡ Some step) }
+    ensures local { IfErr result (λ pass. (call ≡ calls.Pass pass) × (queue_call homes.now cpu call ≡ None)) }
 {
-    match *call {
-        SchedCall::Pass(Pass::Switch) => None,
-        SchedCall::Pass(Pass::YieldNow) => Some(QueueCall::TakeAll(cpu)),
-        SchedCall::Pass(Pass::Drain) => Some(QueueCall::TakeAll(cpu)),
-        SchedCall::Pass(Pass::MakeReady(t)) => Some(QueueCall::Push(queue_for(homes, cpu, t), t)),
-        SchedCall::Pass(Pass::End) => None,
-        SchedCall::OnBuffer(b, edit) => Some(QueueCall::OnBuffer(b, edit)),
+    match call {
+        SchedCall::Pass(Pass::YieldNow) => Ok(QueueCall::TakeAll(cpu)),
+        SchedCall::Pass(Pass::Drain) => Ok(QueueCall::TakeAll(cpu)),
+        SchedCall::Pass(Pass::MakeReady(t)) => Ok(QueueCall::Push(queue_for(homes, cpu, t), t)),
+        SchedCall::Pass(pass) => Err(pass),
+        SchedCall::OnBuffer(b, edit) => Ok(QueueCall::OnBuffer(b, edit)),
     }
 }
 

@@ -7,10 +7,11 @@ ghost use Rattle.thread_blocks.specs.Queues.{is_in, AreApart};
 ghost use Rattle.layer_traits.specs.Places.{at_boot, home_of, is_cpu};
 ghost use Rattle.layer_traits.specs.Passes.{switched, took, passed_on, finished, own_slept, own_woken};
 ghost use Rattle.layer_traits.specs.Scheds.{own_by, answer_by};
-ghost use Rattle.scheduler.specs.Owns.{MayFinish, MayJoin, MaySettle, MayTake, local_after};
+ghost use Rattle.layer_traits.specs.Trays.{queue_brought, sched_brought};
+ghost use Rattle.scheduler.specs.Owns.{MayFinish, MayJoin, MaySettle, MayTake, passed_by};
 
 use event_log::{CpuId, Tid};
-use layer_traits::{Line, Moves, Pass, QueueAnswer, SchedAnswer, SchedCall};
+use layer_traits::{Line, Moves, Pass, QueueAnswer, SchedAnswer, Tray};
 use std::marker::Model;
 use thread_blocks::{ThreadList, ThreadQueue};
 
@@ -116,11 +117,10 @@ impl OwnThreads {
 
     /// The threads of `queue` join those that are ready, and behind them the thread that runs.
     #[inline(always)]
-    fn take(&mut self, queue: ThreadList)
-        requires { MayJoin queue self.old }
-        ensures { self.new ≡ took queue self.old }
+    fn take(&mut self, queue: &mut ThreadList)
+        requires { MayJoin queue.old self.old }
+        ensures { self.new ≡ took queue.old self.old }
     {
-        let mut queue = queue;
         queue.drain_into(&mut self.ready);
         if let Some(t) = self.current {
             self.ready.push(t);
@@ -154,39 +154,43 @@ impl OwnThreads {
         }
     }
 
-    /// Does a call that touches nothing shared: a switch, or the end of the thread that runs. Any
-    /// other call changes nothing.
+    /// Does a pass that touches nothing shared: a switch, or the end of the thread that runs. Any
+    /// other pass changes nothing.
     #[inline(always)]
-    pub fn local<E>(&mut self, call: &SchedCall<E>)
+    pub fn local(&mut self, pass: Pass)
         requires { MayFinish self.old }
-        ensures { self.new ≡ local_after call.now self.old }
+        ensures { self.new ≡ passed_by pass self.old }
     {
-        match call {
-            SchedCall::Pass(Pass::Switch) => self.switch(),
-            SchedCall::Pass(Pass::End) => self.finish(),
+        match pass {
+            Pass::Switch => self.switch(),
+            Pass::End => self.finish(),
             _ => {}
         }
     }
 
-    /// Takes up the answer of the shared queues, and gives the scheduler's.
+    /// Takes up the answer of the shared queues, and gives the scheduler's. The threads that were
+    /// taken go straight from the tray to those that are ready.
     #[inline(always)]
     pub fn answered<E: Moves>(
         &mut self,
         homes: &[CpuId],
         cpu: CpuId,
         answer: QueueAnswer<E::Out>,
+        tray: &mut Tray,
     ) -> SchedAnswer<E::Out>
-        requires { MayTake E.moves answer self.old }
+        requires may { MayTake E.moves answer self.old }
+        requires brought { queue_brought E.brought answer tray.old }
         ensures own { self.new ≡ own_by E.moves homes.now cpu answer self.old }
         ensures answer { result ≡ answer_by answer }
+        ensures brought { sched_brought E.brought result tray.new }
     {
         match answer {
             QueueAnswer::Done => {
                 self.pass_on();
                 SchedAnswer::Done
             }
-            QueueAnswer::Taken(queue) => {
-                self.take(queue);
+            QueueAnswer::Taken(_) => {
+                self.take(&mut tray.taken);
                 SchedAnswer::Done
             }
             QueueAnswer::Answer(out) => {

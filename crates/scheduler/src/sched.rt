@@ -7,7 +7,8 @@ use crate::owns::OwnThreads;
 use arrayvec::ArrayVec;
 use event_log::{BufId, CpuId, THREADS, Tid};
 use layer_traits::{
-    Moves, OwnedQueues, OwnedScheds, QueueLayer, SchedAnswer, SchedCall, SchedLayer, kept_homes,
+    Moves, OwnedQueues, OwnedScheds, QueueLayer, SchedAnswer, SchedCall, SchedLayer, Tray,
+    kept_homes,
 };
 
 /// One CPU's part of a scheduler over shared queues: it does its CPU's calls one by one, and keeps
@@ -22,8 +23,17 @@ pub struct Sched<Q> {
 }
 
 impl<E: Moves, Q: QueueLayer<E>> SchedLayer<E> for Sched<Q> {
+    ghost use Rattle.std.specs.Prelude.{◌≢◌, ◌+◌, ◌<◌, ◌≤◌, IfSome, IsSome, None, OnSome, Some, if◌then◌else◌, is_some};
     ghost use Rattle.std.proofs.Common.{subst};
+    ghost use Rattle.event_log.specs.declared.ids.CpuId.{CpuId};
+    ghost use Rattle.layer_traits.specs.Plans.{Follows, IsWhole, table_of};
+    ghost use Rattle.layer_traits.specs.QueueBlocks.{homes_in};
+    ghost use Rattle.layer_traits.specs.QueueRules.{queue_rules};
+    ghost use Rattle.layer_traits.specs.Queues.{kernel};
+    ghost use Rattle.layer_traits.specs.Scheds.{BufferIsThere, IsLocal, IsShared, MaySched, SchedPolled, left, sched_plan};
+    ghost use Rattle.layer_traits.specs.Trays.{sched_brought, sched_carried};
     ghost use Rattle.scheduler.specs.Parts.{PartFits, sched_under, busy_under};
+    ghost use Rattle.scheduler.specs.declared.sched.Sched.{Sched};
 
     type Machine = Q::Machine;
 
@@ -96,17 +106,54 @@ impl<E: Moves, Q: QueueLayer<E>> SchedLayer<E> for Sched<Q> {
         self.lower.look(m)
     }
 
+    // The trait's clauses in this layer's terms: the check hands none down to a method that takes a
+    // type over the trait's own parameter by value.
     #[inline(always)]
-    fn poll(&mut self, m: &mut Q::Machine, call: &SchedCall<E>) -> Option<SchedAnswer<E::Out>> {
+    fn poll(
+        &mut self,
+        m: &mut Q::Machine,
+        call: SchedCall<E>,
+        tray: &mut Tray,
+    ) -> Option<SchedAnswer<E::Out>>
+        requires fits { Q.Fits self.old.lower m.old × PartFits E.rules E.moves (Q.opening m.old) self.old.cpu (Q.cpu_of self.old.lower) self.old.homes.items
+            (Q.under_way self.old.lower) (Q.seen m.old) self.old.own }
+        requires buffer { BufferIsThere (Q.opening m.old) call }
+        requires room { 0 < Q.room m.old }
+        requires call { MaySched (kernel E.rules E.moves (Q.opening m.old)) self.old.cpu (Q.seen m.old) self.old.own
+            (sched_under (Q.under_way self.old.lower) self.old.own.current) call }
+        requires carried { sched_carried E.carried call tray.old }
+        ensures fits { Q.Fits self.new.lower m.new × PartFits E.rules E.moves (Q.opening m.new) self.new.cpu (Q.cpu_of self.new.lower) self.new.homes.items
+            (Q.under_way self.new.lower) (Q.seen m.new) self.new.own }
+        ensures cpu { self.new.cpu ≡ self.old.cpu }
+        ensures call { sched_under (Q.under_way self.new.lower) self.new.own.current ≡ (if is_some result then None else Some call) }
+        ensures prompt { IsWhole Q.IsStepwise → IsSome result }
+        ensures brought { IfSome result (λ answer. sched_brought E.brought answer tray.new) }
+        ensures seen { SchedPolled (kernel E.rules E.moves (Q.opening m.old)) (λ c. Q.ActsFor m.old c) self.old.cpu call result
+            (Q.seen m.old) (Q.seen m.new) self.old.own self.new.own }
+        ensures still { IsLocal call → m.new ≡ m.old }
+        ensures opening { Q.opening m.new ≡ Q.opening m.old }
+        ensures site { Q.site m.new ≡ Q.site m.old }
+        ensures room { Q.room m.old ≤ Q.room m.new + 1 }
+        ensures acts { (c : CpuId) → Q.ActsFor m.old c → Q.ActsFor m.new c }
+        ensures outside { OnSome result (IsShared call → Q.IsOutside m.new self.old.cpu) }
+        ensures others { (p : Sched Q) → p.cpu ≢ self.old.cpu
+            → Q.Fits p.lower m.old × PartFits E.rules E.moves (Q.opening m.old) p.cpu (Q.cpu_of p.lower) p.homes.items
+            (Q.under_way p.lower) (Q.seen m.old) p.own
+            → Q.Fits p.lower m.new × PartFits E.rules E.moves (Q.opening m.new) p.cpu (Q.cpu_of p.lower) p.homes.items
+            (Q.under_way p.lower) (Q.seen m.new) p.own }
+        ensures follows { Q.IsStepwise → Follows (λ c. Q.ActsFor m.old c) (table_of (queue_rules E.rules E.moves)) (Q.opening m.old) self.old.cpu
+            (sched_plan E.moves (homes_in (Q.opening m.old)) self.old.cpu call self.old.own)
+            (Q.acts m.old) (Q.acts m.new) (left self.new.own result) }
+    {
         let homes = self.homes.as_slice();
         match call_beneath(homes, self.cpu, call) {
-            None => {
-                self.own.local(call);
+            Err(pass) => {
+                self.own.local(pass);
                 Some(SchedAnswer::Done)
             }
-            Some(step) => match self.lower.poll(m, &step) {
+            Ok(step) => match self.lower.poll(m, step, tray) {
                 None => None,
-                Some(answer) => Some(self.own.answered::<E>(homes, self.cpu, answer)),
+                Some(answer) => Some(self.own.answered::<E>(homes, self.cpu, answer, tray)),
             },
         }
     }

@@ -6,12 +6,12 @@ ghost use Rattle.layer_traits.specs.Queues.{lock_of, edit_of};
 use event_log::{BufId, CpuId, LockId, Tid};
 use layer_traits::{
     LockLayer, Moves, OwnedLocks, OwnedQueues, QueueAnswer, QueueBlock, QueueCall, QueueEdit,
-    QueueLayer,
+    QueueLayer, Tray,
 };
 
 /// The lock of a call, and its edit of the block that the lock guards.
 #[inline(always)]
-fn section_of<E: Copy + Drop>(call: QueueCall<E>) -> (LockId, QueueEdit<E>)
+fn section_of<E>(call: QueueCall<E>) -> (LockId, QueueEdit<E>)
     ensures { result ≡ (lock_of call, edit_of call) }
 {
     match call {
@@ -29,13 +29,17 @@ pub struct SharedQueues<L> {
 }
 
 impl<E: Moves, L: LockLayer<QueueEdit<E>>> QueueLayer<E> for SharedQueues<L> {
-    ghost use Rattle.std.specs.Prelude.{map, option_map};
+    ghost use Rattle.std.specs.Prelude.{◌≢◌, ◌+◌, ◌<◌, ◌≤◌, IfSome, IsSome, None, OnSome, Some, if◌then◌else◌, is_some, map, option_map};
+    ghost use Rattle.event_log.specs.declared.ids.CpuId.{CpuId};
     ghost use Rattle.std.proofs.Common.{ap, ◌∙◌, subst};
     ghost use Rattle.layer_traits.specs.QueueBlocks.{StartsWell};
-    ghost use Rattle.layer_traits.specs.QueueRules.{AreProper, IsProperCall};
-    ghost use Rattle.layer_traits.specs.Queues.{event_of};
+    ghost use Rattle.layer_traits.specs.QueueRules.{AreProper, IsProperCall, queue_rules};
+    ghost use Rattle.layer_traits.specs.Plans.{Follows, IsWhole, answered, table_of};
+    ghost use Rattle.layer_traits.specs.Queues.{MayQueue, QueueAllowed, QueuePolled, event, event_of, kernel, queue_plan};
+    ghost use Rattle.layer_traits.specs.Trays.{call_carried, queue_brought};
     ghost use Rattle.layer_traits.proofs.NestedLemmas.{known_events, lawful_events, lawful_proper};
     ghost use Rattle.shared_queue.specs.SharedLaws.{same_busy};
+    ghost use Rattle.shared_queue.specs.declared.shared.SharedQueues.{SharedQueues};
 
     type Machine = L::Machine;
 
@@ -77,10 +81,42 @@ impl<E: Moves, L: LockLayer<QueueEdit<E>>> QueueLayer<E> for SharedQueues<L> {
         self.lower.look(m)
     }
 
+    // The trait's clauses in this layer's terms: the check hands none down to a method that takes a
+    // type over the trait's own parameter by value.
     #[inline(always)]
-    fn poll(&mut self, m: &mut L::Machine, call: &QueueCall<E>) -> Option<QueueAnswer<E::Out>> {
-        let (lock, edit) = section_of(*call);
-        self.lower.poll(m, lock, edit)
+    fn poll(
+        &mut self,
+        m: &mut L::Machine,
+        call: QueueCall<E>,
+        tray: &mut Tray,
+    ) -> Option<QueueAnswer<E::Out>>
+        requires fits { L.Fits self.old.lower m.old × StartsWell (L.opening m.old) × IsProperCall (L.under_way self.old.lower) }
+        requires lock { IsSome (L.opening m.old (lock_of call)) }
+        requires room { 0 < L.room m.old }
+        requires call { MayQueue (QueueAllowed (kernel E.rules E.moves (L.opening m.old))) (map event_of (L.seen m.old))
+            (option_map event_of (L.under_way self.old.lower)) (event (L.cpu_of self.old.lower) call) }
+        requires carried { call_carried E.carried call tray.old }
+        ensures fits { L.Fits self.new.lower m.new × StartsWell (L.opening m.new) × IsProperCall (L.under_way self.new.lower) }
+        ensures cpu { L.cpu_of self.new.lower ≡ L.cpu_of self.old.lower }
+        ensures call { option_map event_of (L.under_way self.new.lower)
+            ≡ (if is_some result then None else Some (event (L.cpu_of self.old.lower) call)) }
+        ensures prompt { IsWhole L.IsStepwise → IsSome result }
+        ensures brought { IfSome result (λ answer. queue_brought E.brought answer tray.new) }
+        ensures seen { QueuePolled (kernel E.rules E.moves (L.opening m.old)) (λ c. L.ActsFor m.old c × StartsWell (L.opening m.old))
+            (event (L.cpu_of self.old.lower) call) result (map event_of (L.seen m.old)) (map event_of (L.seen m.new)) }
+        ensures opening { L.opening m.new ≡ L.opening m.old }
+        ensures site { L.site m.new ≡ L.site m.old }
+        ensures room { L.room m.old ≤ L.room m.new + 1 }
+        ensures acts { (c : CpuId) → L.ActsFor m.old c × StartsWell (L.opening m.old) → L.ActsFor m.new c × StartsWell (L.opening m.new) }
+        ensures outside { OnSome result (L.IsOutside m.new (L.cpu_of self.old.lower)) }
+        ensures others { (p : SharedQueues L) → L.cpu_of p.lower ≢ L.cpu_of self.old.lower
+            → L.Fits p.lower m.old × StartsWell (L.opening m.old) × IsProperCall (L.under_way p.lower)
+            → L.Fits p.lower m.new × StartsWell (L.opening m.new) × IsProperCall (L.under_way p.lower) }
+        ensures follows { L.IsStepwise → Follows (λ c. L.ActsFor m.old c × StartsWell (L.opening m.old)) (table_of (queue_rules E.rules E.moves))
+            (L.opening m.old) (L.cpu_of self.old.lower) (queue_plan call) (L.acts m.old) (L.acts m.new) (answered result) }
+    {
+        let (lock, edit) = section_of(call);
+        self.lower.poll(m, lock, edit, tray)
     }
 
     ghost own_cpu = { λ p m fits. (L.own_cpu p.lower m fits.0, fits.1) };

@@ -4,6 +4,7 @@ use Rattle.event_log.specs.declared.ids.BufId.{BufId}
 use Rattle.event_log.specs.declared.ids.CpuId.{CpuId}
 use Rattle.event_log.specs.declared.ids.LockId.{LockId}
 use Rattle.event_log.specs.declared.ids.Tid.{Tid}
+use Rattle.event_log.specs.declared.messages.Msg.{Msg}
 use Rattle.event_log.specs.History.{IsLawful}
 use Rattle.event_log.specs.Actions.{Action, renamed}
 use Rattle.layer_traits.specs.declared.passes.Pass.{Pass}
@@ -79,25 +80,28 @@ left_if waits outcome threads =
     else record { own = record { threads = threads; kept = None }; answer = Some outcome }
 
 -- what the part keeps and answers then
-abbrev kept_if : {E O : Type 0} → Bool → BufId → E → Outcome O → Threads → Left (Sleeping O) (Outcome O)
-kept_if waits b e outcome threads = record {
-  own = own_of (if waits then Some (record { buffer = b; edit = e; outcome = outcome }) else None) threads;
+abbrev kept_if : {E O : Type 0} → Bool → BufId → E → Outcome O → Msg → Threads → Left (Sleeping O) (Outcome O)
+kept_if waits b e outcome message threads = record {
+  own = own_of (if waits then Some (record { buffer = b; edit = e; outcome = outcome; message = message }) else None) threads;
   answer = if waits then None else Some outcome;
 }
 
 -- what is kept and answered is what the scheduler's answer tells
-pub told_is : {E O : Type 0} (kept : Option (Kept E O)) (threads : Threads) (b : BufId) (e : E) (answer : SchedAnswer (Outcome O)) (hand : Option Tid)
-    (kept' : Option (Kept E O)) (result : Option (Outcome O))
-    → hand ≡ threads.hand → kept' ≡ kept_told hand b e answer → result ≡ answer_told kept hand answer
+pub told_is : {E O : Type 0} (kept : Option (Kept E O)) (threads : Threads) (b : BufId) (e meant : E) (answer : SchedAnswer (Outcome O)) (message : Msg)
+    (hand : Option Tid) (kept' : Option (Kept E O)) (result : Option (Outcome O))
+    → meant ≡ e → hand ≡ threads.hand → kept' ≡ kept_told hand b meant answer message → result ≡ answer_told kept hand answer
     → left_told (outcome_in kept) threads (Some answer) ≡ record { own = own_of kept' threads; answer = result }
-told_is {O = O} kept threads b e Done hand kept' result in_hand keeps gives =
+told_is {O = O} kept threads b e meant Done message hand kept' result same in_hand keeps gives =
     λ i. record { own = own_of (sym keeps i) threads; answer = sym gives i }
-told_is {O = O} kept threads b e (Answer outcome) hand kept' result in_hand keeps gives =
+told_is {O = O} kept threads b e meant (Answer outcome) message hand kept' result same in_hand keeps gives =
     by_test (must_wait outcome threads.hand)
-    ∙ ((λ i. record { own = own_of (kept_told (sym in_hand i) b e (Answer outcome)) threads; answer = answer_told kept (sym in_hand i) (Answer outcome) })
+    ∙ ((λ i. record {
+      own = own_of (kept_told (sym in_hand i) b (sym same i) (Answer outcome) message) threads;
+      answer = answer_told kept (sym in_hand i) (Answer outcome);
+    })
     ∙ λ i. record { own = own_of (sym keeps i) threads; answer = sym gives i })
   where
-    by_test : (waits : Bool) → left_if waits outcome threads ≡ kept_if waits b e outcome threads
+    by_test : (waits : Bool) → left_if waits outcome threads ≡ kept_if waits b e outcome message threads
     by_test true = refl
     by_test false = refl
 

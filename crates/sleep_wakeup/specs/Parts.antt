@@ -2,6 +2,7 @@
 use Rattle.std.specs.Prelude.{◌≡◌, Bool, not, ◌&&◌, Option, Some, None, is_some, option_map, if◌then◌else◌}
 use Rattle.event_log.specs.declared.ids.BufId.{BufId}
 use Rattle.event_log.specs.declared.ids.Tid.{Tid}
+use Rattle.event_log.specs.declared.messages.Msg.{Msg}
 use Rattle.layer_traits.specs.declared.passes.Pass.TheVariants.{MakeReady}
 use Rattle.layer_traits.specs.declared.scheds.SchedAnswer.{SchedAnswer}
 use Rattle.layer_traits.specs.declared.scheds.SchedAnswer.TheVariants.{Done, Answer}
@@ -43,19 +44,31 @@ KeptFits (Some k) (Some under) (Some t) = under ≡ call.Pass (MakeReady t)
 KeptFits (Some k) None None = ⊥
 KeptFits (Some k) (Some under) None = ⊥
 
+-- of a kept outcome that message is kept which it brings
+abbrev pub KeptBrings : {E O : Type 0} → (O → Msg → Type 0) → Option (Kept E O) → Type 0
+KeptBrings brought None = Unit {0}
+KeptBrings brought (Some k) = brought k.outcome.out k.message
+
 -- the outcome has to wait: its caller goes on, and a thread stands in the hand
 abbrev pub must_wait : {O : Type 0} → Outcome O → Option Tid → Bool
 must_wait outcome hand = not outcome.slept && is_some hand
 
--- what is kept after the scheduler's answer
-abbrev pub kept_told : {E O : Type 0} → Option Tid → BufId → E → SchedAnswer (Outcome O) → Option (Kept E O)
-kept_told hand b e Done = None
-kept_told hand b e (Answer outcome) = if must_wait outcome hand then Some (record { buffer = b; edit = e; outcome = outcome }) else None
+-- what is kept after the scheduler's answer, where this message lies in the tray
+abbrev pub kept_told : {E O : Type 0} → Option Tid → BufId → E → SchedAnswer (Outcome O) → Msg → Option (Kept E O)
+kept_told hand b e Done message = None
+kept_told hand b e (Answer outcome) message =
+    if must_wait outcome hand then Some (record { buffer = b; edit = e; outcome = outcome; message = message }) else None
 
 -- what is answered after it
 abbrev pub answer_told : {E O : Type 0} → Option (Kept E O) → Option Tid → SchedAnswer (Outcome O) → Option (Outcome O)
 answer_told kept hand Done = outcome_in kept
 answer_told kept hand (Answer outcome) = if must_wait outcome hand then None else Some outcome
+
+-- the message in the tray after it: that of the kept outcome, where that is answered
+abbrev pub message_told : {E O : Type 0} → Option (Kept E O) → SchedAnswer (Outcome O) → Msg → Msg
+message_told None Done message = message
+message_told (Some k) Done message = k.message
+message_told kept (Answer outcome) message = message
 
 -- a call that is passed on is done where the scheduler answers
 abbrev pub done_of : {O : Type 0} → Option (SchedAnswer O) → Option (Unit {0})

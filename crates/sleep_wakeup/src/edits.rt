@@ -7,11 +7,11 @@ ghost use Rattle.sleep_wakeup.specs.Nested.{state_of};
 ghost use Rattle.layer_traits.specs.Sleeping.{joined, left, line_joined, woken};
 
 use event_log::{THREADS, Tid};
-use layer_traits::{Edit, Leave, Line, Moves, Outcome, Sleeps};
+use layer_traits::{Edit, Leave, Line, Moves, Outcome, Sleeps, Tray};
 use thread_blocks::ThreadQueue;
 
 /// An edit of the layer above, with what it makes of the waiting lists.
-#[derive(Clone, Copy, Debug, PartialEq, Eq)]
+#[derive(Drop)]
 pub struct SleepEdit<E> {
     /// The edit.
     pub edit: E,
@@ -32,6 +32,7 @@ pub struct SleepBlock<B> {
 
 /// Puts `t` at the end of a waiting list, if it is a thread that a machine may have and does not
 /// stand there yet.
+#[inline(always)]
 fn join(queue: &mut ThreadQueue, t: Tid)
     ensures { queue.new ≡ joined t queue.old }
 {
@@ -57,6 +58,7 @@ pub fn line_in_block<B>(block: &SleepBlock<B>, t: Tid) -> Option<Line>
 }
 
 /// Lets those go that leave, and gives whom that wakes.
+#[inline(always)]
 fn let_out(
     leave: Leave,
     sleepers: &mut ThreadQueue,
@@ -87,6 +89,7 @@ fn let_out(
 }
 
 /// Puts `t` at the end of the list of this line, if there is one.
+#[inline(always)]
 fn fall_asleep(
     line: Option<Line>,
     t: Tid,
@@ -115,9 +118,14 @@ impl<E: Sleeps> Edit for SleepEdit<E> {
 
     ghost rules = { nested_rules E.rules };
 
-    fn apply(self, block: &mut SleepBlock<E::Block>) -> Outcome<E::Out> {
+    ghost carried = { λ section tray. E.carried section.edit tray.message };
+
+    ghost brought = { λ outcome tray. E.brought outcome.out tray.message };
+
+    #[inline(always)]
+    fn apply(&self, block: &mut SleepBlock<E::Block>, tray: &mut Tray) -> Outcome<E::Out> {
         let first = block.sleepers.front();
-        let out = self.edit.apply(first, &mut block.above);
+        let out = self.edit.apply(first, &mut block.above, tray);
         let line = E::joins(&out);
         let leave = E::leaves(&out);
         let woke = let_out(

@@ -4,7 +4,8 @@ use crate::edits::{SleepEdit, line_in_block};
 use crate::kept::{Kept, done, section, told};
 use event_log::{BufId, CpuId, Tid};
 use layer_traits::{
-    Line, Outcome, OwnedScheds, OwnedSleeps, Pass, SchedCall, SchedLayer, SleepLayer, Sleeps,
+    Line, Meant, Outcome, OwnedScheds, OwnedSleeps, Pass, SchedCall, SchedLayer, SleepLayer,
+    Sleeps, Tray,
 };
 
 /// One CPU's part of sleep and wakeup over a part of a scheduler (Gu et al., PLDI 2018): the
@@ -26,7 +27,7 @@ impl<E: Sleeps, S: SchedLayer<SleepEdit<E>>> SleepLayer<E> for Sleeper<E, S> {
     ghost use Rattle.layer_traits.specs.Sleeping.{NobodySleeps};
     ghost use Rattle.sleep_wakeup.specs.Nested.{edit_in, state_of, states};
     ghost use Rattle.sleep_wakeup.specs.NestedLaws.{nested_busy, nested_idle, nested_lawful, nested_lists, nested_moving, nested_stands};
-    ghost use Rattle.sleep_wakeup.specs.Parts.{KeptFits, own_of, under_of};
+    ghost use Rattle.sleep_wakeup.specs.Parts.{KeptBrings, KeptFits, own_of, under_of};
 
     type Machine = S::Machine;
 
@@ -51,7 +52,7 @@ impl<E: Sleeps, S: SchedLayer<SleepEdit<E>>> SleepLayer<E> for Sleeper<E, S> {
     ghost is_inside = { λ p. is_some (S.under_way p.lower) };
 
     ghost Fits = { λ p m. S.Fits p.lower m × NobodySleeps (states (inner (S.opening m)))
-        × KeptFits p.kept (S.under_way p.lower) (S.threads p.lower).hand };
+        × KeptFits p.kept (S.under_way p.lower) (S.threads p.lower).hand × KeptBrings E.brought p.kept };
 
     ghost IsStepwise = { S.IsStepwise };
 
@@ -100,23 +101,44 @@ impl<E: Sleeps, S: SchedLayer<SleepEdit<E>>> SleepLayer<E> for Sleeper<E, S> {
     }
 
     #[inline(always)]
-    fn poll(&mut self, m: &mut S::Machine, buffer: BufId, edit: E) -> Option<Outcome<E::Out>> {
+    fn poll(
+        &mut self,
+        m: &mut S::Machine,
+        buffer: BufId,
+        edit: E,
+        tray: &mut Tray,
+    ) -> Option<Outcome<E::Out>> {
         // Two arms in full, as one that polls either call would copy the edit with the other's bytes.
         match self.lower.hand() {
-            None => match self.lower.poll(m, &section(buffer, edit)) {
-                None => None,
-                Some(answer) => told(&mut self.kept, self.lower.hand(), buffer, edit, answer),
-            },
-            Some(t) => match self.lower.poll(m, &SchedCall::Pass(Pass::MakeReady(t))) {
-                None => None,
-                Some(answer) => told(&mut self.kept, self.lower.hand(), buffer, edit, answer),
-            },
+            None => {
+                let meant = Meant::of(&edit);
+                match self.lower.poll(m, section(buffer, edit), tray) {
+                    None => None,
+                    Some(answer) => {
+                        let hand = self.lower.hand();
+                        told(&mut self.kept, hand, buffer, meant, answer, tray)
+                    }
+                }
+            }
+            Some(t) => {
+                let meant = Meant::of(&edit);
+                match self
+                    .lower
+                    .poll(m, SchedCall::Pass(Pass::MakeReady(t)), tray)
+                {
+                    None => None,
+                    Some(answer) => {
+                        let hand = self.lower.hand();
+                        told(&mut self.kept, hand, buffer, meant, answer, tray)
+                    }
+                }
+            }
         }
     }
 
     #[inline(always)]
-    fn pass(&mut self, m: &mut S::Machine, call: Pass) -> Option<()> {
-        let answer = self.lower.poll(m, &SchedCall::Pass(call));
+    fn pass(&mut self, m: &mut S::Machine, call: Pass, tray: &mut Tray) -> Option<()> {
+        let answer = self.lower.poll(m, SchedCall::Pass(call), tray);
         done(answer)
     }
 

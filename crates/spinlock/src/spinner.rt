@@ -6,7 +6,7 @@ use crate::lock_line::{ByGrant, ByTicket, LockLine};
 use crate::owned_lock_line::OwnedLockLine;
 use crate::stages::TicketStage;
 use event_log::{CpuId, LockId, NoMemory};
-use layer_traits::{Edit, LockLayer, OwnedLocks};
+use layer_traits::{Edit, LockLayer, OwnedLocks, Tray};
 use std::alloc::Global;
 use std::marker::PhantomData;
 use std::mem;
@@ -79,8 +79,8 @@ impl<M: LockLine<By>, By> LockLayer<M::Edit> for Spinner<M, By> {
     fn look(&mut self, m: &mut M) -> bool {
         match self.stage {
             TicketStage::Drawn { lock, ticket, .. } => {
-                let found = m.enter(self.cpu, lock, ticket);
-                self.stage.hit(found);
+                let again = m.enter(self.cpu, lock, ticket);
+                self.stage.hit(again);
                 true
             }
             TicketStage::Out => false,
@@ -89,16 +89,22 @@ impl<M: LockLine<By>, By> LockLayer<M::Edit> for Spinner<M, By> {
     }
 
     #[inline(always)]
-    fn poll(&mut self, m: &mut M, lock: LockId, edit: M::Edit) -> Option<<M::Edit as Edit>::Out> {
+    fn poll(
+        &mut self,
+        m: &mut M,
+        lock: LockId,
+        edit: M::Edit,
+        tray: &mut Tray,
+    ) -> Option<<M::Edit as Edit>::Out> {
         match self.stage {
             TicketStage::Out => {
                 let ticket = m.join(self.cpu, lock);
                 self.stage = TicketStage::Drawn { lock, edit, ticket };
                 None
             }
-            TicketStage::Drawn { lock, edit, ticket } => {
+            TicketStage::Drawn { lock, ticket, .. } => {
                 let found = m.enter(self.cpu, lock, ticket);
-                self.stage.after_look(lock, edit, found);
+                self.stage.hit(found);
                 None
             }
             TicketStage::Held { .. } => {
@@ -110,7 +116,7 @@ impl<M: LockLine<By>, By> LockLayer<M::Edit> for Spinner<M, By> {
                 else {
                     unreachable!()
                 };
-                let out = edit.apply(&mut block);
+                let out = edit.apply(&mut block, tray);
                 m.leave(self.cpu, lock, block, edit);
                 Some(out)
             }

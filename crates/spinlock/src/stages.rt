@@ -1,8 +1,9 @@
 //! How far a section has come.
 
-ghost use Rattle.std.specs.Prelude.{◌≡◌, MatchOption, option_map};
+ghost use Rattle.std.specs.Prelude.{◌≡◌, option_map};
 
 use event_log::LockId;
+use std::mem;
 
 /// How far a CPU's section has come, with what the CPU keeps of it.
 #[derive(Drop)]
@@ -30,34 +31,20 @@ pub enum TicketStage<E, B> {
 }
 
 impl<E: Drop, B: Drop> TicketStage<E, B> {
-    /// Goes on after a look of the CPU: a look that found this block hits, and with another the
-    /// stage stays as it is.
-    #[inline(always)]
-    pub fn after_look(&mut self, lock: LockId, edit: E, found: Option<B>)
-        ensures { MatchOption found (self.new ≡ self.old) (λ block. self.new ≡ TicketStage.Held lock edit block) }
-    {
-        if let Some(block) = found {
-            *self = TicketStage::Held { lock, edit, block };
-        }
-    }
-}
-
-impl<E: Copy + Drop, B: Drop> TicketStage<E, B> {
     ghost use Rattle.spinlock.specs.Stages.{hit_by};
 
-    /// Goes on after another look of a CPU that waits: as after a look, with the edit that the
-    /// stage keeps.
+    /// Goes on after a look of a CPU that waits: a look that found this block hits, and the edit
+    /// moves on with it. A look that missed writes nothing.
     #[inline(always)]
     pub fn hit(&mut self, found: Option<B>)
         ensures { self.new ≡ hit_by found self.old }
     {
         if let Some(block) = found {
-            if let TicketStage::Drawn { lock, edit, .. } = self {
-                *self = TicketStage::Held {
-                    lock: *lock,
-                    edit: *edit,
-                    block,
-                };
+            match mem::replace(self, TicketStage::Out) {
+                TicketStage::Drawn { lock, edit, .. } => {
+                    *self = TicketStage::Held { lock, edit, block };
+                }
+                other => *self = other,
             }
         }
     }

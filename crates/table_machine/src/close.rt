@@ -89,9 +89,11 @@ fn returned<E: Edit>(
 {
     for i in 0..locks.len() {
         let home = closed.take(i);
-        let Some(block) = home.block else {
-            unreachable!()
-        };
+        let Home {
+            block: left,
+            edit: _,
+        } = home;
+        let Some(block) = left else { unreachable!() };
         blocks.push_reserved((locks[i], block));
     }
     closed.free();

@@ -12,13 +12,13 @@ ghost use Rattle.table_machine.specs.declared.tests.TheConstants.{LOCK, OTHER};
 
 use crate::{GrantShared, Key, Shared, TableWords, TicketWords, WaiterWords, meet};
 use event_log::{BufId, CpuId, LockId, NoMemory};
-use layer_traits::{Edit, GrantWords, Words};
+use layer_traits::{Edit, GrantWords, Tray, Words};
 use std::alloc::Global;
 use std::process::Abort;
 use std::test::Fail;
 
 /// Adds 1 to a number modulo 2^64, and answers the old number.
-#[derive(Clone, Copy)]
+#[derive(Drop)]
 struct AddOne;
 
 impl Edit for AddOne {
@@ -32,7 +32,7 @@ impl Edit for AddOne {
       allowed = λ opening past s. Unit {0};
     } };
 
-    fn apply(self, block: &mut u64) -> u64 {
+    fn apply(&self, block: &mut u64, _tray: &mut Tray) -> u64 {
         let old = *block;
         *block = old.wrapping_add(1);
         old
@@ -139,7 +139,7 @@ fn frees<W: Words<Edit = AddOne>>(words: &mut W, cpu: CpuId, lock: LockId, ticke
     ensures outside { standing cpu (W.seen words.new) ≡ Outside }
 {
     let mut block = found;
-    AddOne.apply(&mut block);
+    AddOne.apply(&mut block, &mut Tray::new());
     words.free(cpu, lock, block, W::mark(AddOne));
 }
 
@@ -352,7 +352,7 @@ fn gives<W: GrantWords<Edit = AddOne>>(
     ensures outside { grant_standing cpu (W.seen words.new) ≡ Outside }
 {
     let mut block = found;
-    AddOne.apply(&mut block);
+    AddOne.apply(&mut block, &mut Tray::new());
     words.give(cpu, lock, block, W::mark(AddOne));
 }
 

@@ -1,5 +1,5 @@
 -- A message is spelled and read again, and what is read as a message is spelled so.
-use Rattle.std.proofs.Common.{◌-◌, ◌≡◌, ℕ, ◌<◌, ◌≤◌, ◌^◌, ◌==◌, Bool, true, false, not, ◌&&◌, List, [], ◌∷◌, length, map, drop}
+use Rattle.std.proofs.Common.{◌≡◌, ℕ, ◌<◌, ◌≤◌, ◌^◌, ◌==◌, Bool, true, false, not, ◌&&◌, List, [], ◌∷◌, length, map, drop}
 use Rattle.std.proofs.Common.{Result, Ok, Err, refl, sym, ap, subst, ◌∙◌, lt-ltb, lit<, arith}
 use Rattle.std.specs.Prelude.{decimal, nat_lt, nat_le, slice_index_or}
 use Rattle.std.specs.Str.{bytes_eq}

@@ -7,6 +7,7 @@ ghost use Rattle.layer_traits.specs.Places.{at_boot};
 ghost use Rattle.cpu.specs.Boots.{IsBooted, IsBootedAs};
 
 use crate::cpus::Cpu;
+use crate::guest_tables::Guests;
 use crate::guests::Guest;
 use crate::systems::System;
 use event_log::{CpuId, NoMemory};
@@ -41,10 +42,9 @@ impl<I: IpcLayer> Cpu<I> {
         Ok(Cpu {
             part: I::part(number, homes, buffers),
             number,
-            guests,
+            guests: Guests::new(guests),
             trace,
             limit,
-            lives: 0,
         })
     }
 }

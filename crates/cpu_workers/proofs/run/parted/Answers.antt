@@ -1,4 +1,4 @@
-use Rattle.std.proofs.Common.{◌≡◌, ◌≤◌, ◌++◌, [], ◌∷◌, length, map, refl, sym, ap, ◌∙◌, subst, rules, vec_capacity, vec_len}
+use Rattle.std.proofs.Common.{◌≤◌, ◌++◌, [], ◌∷◌, length, map, sym, ap, ◌∙◌, subst, rules, vec_capacity, vec_len}
 use Rattle.std.proofs.lemmas.List.{length-map, map-append}
 use Rattle.cpu_workers.proofs.Joining.{no_more, room_for, yield_more}
 use Rattle.cpu_workers.proofs.run.parted.Goals as goal

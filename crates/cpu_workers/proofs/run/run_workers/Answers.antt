@@ -1,4 +1,4 @@
-use Rattle.std.proofs.Common.{◌≡◌, map, sym, subst}
+use Rattle.std.proofs.Common.{map, sym, subst}
 use Rattle.cpu_workers.specs.Seating.{HaveLeft}
 use Rattle.cpu_workers.proofs.Desks.{all_covered, all_over}
 use Rattle.cpu_workers.proofs.Told.{lawful_so}

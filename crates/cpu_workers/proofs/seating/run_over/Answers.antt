@@ -1,6 +1,15 @@
-use Rattle.std.proofs.Common.{◌≡◌, sym, ap, ◌∙◌, subst, arith}
+use denote.Param.Send.{sendable}
+use Rattle.std.proofs.Crossing.{crosses}
+use Rattle.std.proofs.Common.{◌∙◌, subst, arith}
 use Rattle.event_log.specs.declared.ids.CpuId.{CpuId}
 use Rattle.layer_traits.specs.OnePlace.{cpu_at}
+use Rattle.shared_queue.proofs.shared.SharedQueues.TheSendSync as shared
+use Rattle.scheduler.proofs.sched.Sched.TheSendSync as sched
+use Rattle.queuing_lock.proofs.qlock.QLock.TheSendSync as qlock
+use Rattle.condvar.proofs.cond.Cond.TheSendSync as cond
+use Rattle.fifo_buffer.proofs.fifo.Fifo.TheSendSync as fifo
+use Rattle.ipc_calls.proofs.ipc.Ipc.TheSendSync as ipc
+use Rattle.cpu_workers.proofs.Crossing.{tower_sleeper_send}
 use Rattle.cpu_workers.proofs.Joining.{both_length}
 use Rattle.cpu_workers.proofs.Seated.{all_fresh, both_back, left_so}
 use Rattle.cpu_workers.proofs.seating.run_over.Goals as goal
@@ -42,3 +51,16 @@ returns-clause-left g c = λ k x at.
     let e = both_back _ c.in_ok-workers.workers.items c.in_ok-came.came.items c.in_ok-came.ensures k d.0 d.1 in
     let n = c.in_ok-workers.ensures.each k e.0 e.1 in
     left_so c.args.boot.now (g.G.Gate.MayLimit c.args.gate.now) c.args.turns (cpu_at k) e.0 d.0.worker _ _ _ d.0.did x.did n.0 e.2 d.2.0 d.2.2
+
+pub work_all-requires-send-I : goal.work_all-requires-send-I
+work_all-requires-send-I g c κs within = search (
+  sendable,
+  crosses,
+  ipc.the_send,
+  fifo.the_send,
+  cond.the_send,
+  qlock.the_send,
+  sched.the_send,
+  shared.the_send,
+  tower_sleeper_send,
+) depth 12

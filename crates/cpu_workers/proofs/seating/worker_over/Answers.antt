@@ -1,4 +1,4 @@
-use Rattle.std.proofs.Common.{◌≡◌, ◌≤◌, List, Option, length, refl, ap, sym, ◌∙◌, subst, arith}
+use Rattle.std.proofs.Common.{◌≤◌, List, Option, length, refl, ap, sym, ◌∙◌, subst, arith}
 use Rattle.event_log.specs.declared.ids.LockId.TheVariants.{Pending}
 use Rattle.layer_traits.specs.Renaming.{viewed}
 use Rattle.layer_traits.proofs.KernelRenaming.{homes_viewed, viewed_there}

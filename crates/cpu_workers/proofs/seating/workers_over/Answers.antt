@@ -1,11 +1,11 @@
-use Rattle.std.proofs.Common.{◌≡◌, ◌≤◌, ◌∷◌, ◌<◌, [], List, Some, drop, length, refl, ap, ◌∙◌, sym, subst, arith, vec_capacity, vec_len}
+use Rattle.std.proofs.Common.{◌≡◌, ◌≤◌, ◌∷◌, ◌<◌, [], Some, drop, length, ap, ◌∙◌, sym, subst, arith}
 use Rattle.std.specs.Prelude.{slice_get, slice_index_or}
 use Rattle.std.proofs.lemmas.List.{length-append}
 use Rattle.layer_traits.specs.OnePlace.{cpu_at}
 use Rattle.cpu.proofs.Booting.{at_end, drop_more}
 use Rattle.cpu_workers.specs.Seating.{IsAtBoot}
 use Rattle.cpu_workers.specs.Working.{Working}
-use Rattle.cpu_workers.proofs.Seated.{left_at}
+use Rattle.cpu_workers.proofs.Seated.{left_at, some_left}
 use Rattle.cpu_workers.proofs.seating.workers_over.Goals as goal
 
 pub worker_over-requires-clause-ready : goal.worker_over-requires-clause-ready
@@ -54,3 +54,21 @@ loop-number-preserved g c =
           (rw inv.so_many (e.at_boot, λ m there. let same : c.remove-machine.result ≡ m = cc (here, there) in e.site ∙ ap (λ x. L.site x) same))
           k z (subst (λ l. slice_get l k ≡ Some z) grown at);
     }
+
+pub remove-machine-requires : goal.remove-machine-requires
+remove-machine-requires g c =
+    let machines = c.args.machines.items in
+    let n = c.loop-number.number in
+    let within : n < length machines =
+    let test = c.loop-number-test.true in let count = c.len-count.ensures in let ok = c.args.machines.ok.0 in omega (arith, test, count, ok) in
+    let some = some_left machines c.loop-number.machines.items n within c.loop-number.invariant.machines_left in
+    let its = c.loop-number.machines.ok.0 in
+    omega (arith, some, its)
+
+pub returns-clause-count : goal.returns-clause-count
+returns-clause-count g c =
+    let machines = c.args.machines.items in
+    let all : c.loop-number.number ≡ length machines =
+    let test = c.loop-number-test.false in let last = c.loop-number.auto.number-end in let count = c.len-count.ensures in let ok = c.args.machines.ok.0 in
+    omega (arith, test, last, count, ok) in
+    c.loop-number.invariant.so_many ∙ all

@@ -1,4 +1,4 @@
-use Rattle.std.proofs.Common.{◌≡◌, refl, sym, ◌∙◌}
+use Rattle.std.proofs.Common.{refl, ◌∙◌}
 use Rattle.mctower.proofs.RunningLemmas.{bad_cpu, newly, not_written, opened, run_of, stays_of, written}
 use Rattle.mctower.proofs.run.run_boot.Goals as goal
 

@@ -1,4 +1,4 @@
-use Rattle.std.proofs.Common.{◌≡◌, ◌<◌, List, ℕ, length, get_or, ap, refl, sym, ◌∙◌, subst, map}
+use Rattle.std.proofs.Common.{◌<◌, List, ℕ, length, get_or, ap, refl, sym, ◌∙◌, subst}
 use Rattle.std.specs.Prelude.{Err}
 use Rattle.event_log.specs.declared.entries.Entry.{Entry}
 use Rattle.event_log.specs.Messages.{IsMessage}

@@ -1,4 +1,4 @@
-use Rattle.std.proofs.Common.{◌≡◌, inr, ℕ, List, length, map, Ok, Err, refl, ap, sym, ◌∙◌, subst}
+use Rattle.std.proofs.Common.{inr, ℕ, length, map, Ok, Err, refl, ap, sym, ◌∙◌, subst}
 use Rattle.boot.specs.Plan.{plan_of}
 use Rattle.tracer.specs.Gather.{traces_in}
 use Rattle.cpu.specs.Claims.{buffer_at, listed}

@@ -14,7 +14,7 @@ returns-then-is_some-clause-goes g c =
     let deeds = g.G.Guarded.deeds in
     let C = g.C.CvLayer in
     let opening = C.opening c.args.m.now in
-    let e = c.args.call.now in
+    let e = c.args.call in
     let b = c.args.buffer in
     let own = C.own c.poll.new.self in
     let under = C.under_way c.poll.new.self in
@@ -32,7 +32,7 @@ pub returns-in-Some-clause-ended : goal.returns-in-Some-clause-ended
 returns-in-Some-clause-ended g c =
     let deeds = g.G.Guarded.deeds in
     let C = g.C.CvLayer in
-    let e = c.args.call.now in
+    let e = c.args.call in
     let own = C.own c.poll.new.self in
     let under = C.under_way c.poll.new.self in
     let seen = C.seen c.poll.new.m in
@@ -47,7 +47,7 @@ pub returns-in-Some-clause-owns : goal.returns-in-Some-clause-owns
 returns-in-Some-clause-owns g c =
     let deeds = g.G.Guarded.deeds in
     let C = g.C.CvLayer in
-    let e = c.args.call.now in
+    let e = c.args.call in
     let own = C.own c.poll.new.self in
     let under = C.under_way c.poll.new.self in
     let seen = C.seen c.poll.new.m in
@@ -65,7 +65,7 @@ pub returns-else-is_some-clause-waits : goal.returns-else-is_some-clause-waits
 returns-else-is_some-clause-waits g c =
     let deeds = g.G.Guarded.deeds in
     let C = g.C.CvLayer in
-    let e = c.args.call.now in
+    let e = c.args.call in
     let own = C.own c.poll.new.self in
     let under = C.under_way c.poll.new.self in
     let seen = C.seen c.poll.new.m in
@@ -75,3 +75,7 @@ returns-else-is_some-clause-waits g c =
     refl c.requires.pace c.poll.ensures.seen (λ some. ap C.seen (c.poll.ensures.handed some)) in
     λ same other. waits_after deeds (C.opening c.args.m.now) (C.ActsFor c.args.m.now) (C.cpu_of c.args.part.now) c.args.buffer e seen own under
     c.poll.result c.current.result after c.in-None.is c.current.ensures (sym c.is_some.ensures ∙ c.if-is_some.false) other
+
+-- the call puts no message of its own, whatever lies in the tray
+pub poll-requires-clause-carried : goal.poll-requires-clause-carried
+poll-requires-clause-carried g c = c.requires.carried c.new.result.message

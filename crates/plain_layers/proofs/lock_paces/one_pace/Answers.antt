@@ -13,7 +13,7 @@ returns-then-is_some-clause-goes g c =
     let rules = g.F.Locked.rules in
     let Q = g.Q.QLockLayer in
     let opening = Q.opening c.args.m.now in
-    let e = c.args.call.now in
+    let e = c.args.call in
     let b = c.args.buffer in
     let own = Q.own c.poll.new.self in
     let under = Q.under_way c.poll.new.self in
@@ -31,7 +31,7 @@ pub returns-in-Some-clause-ended : goal.returns-in-Some-clause-ended
 returns-in-Some-clause-ended g c =
     let rules = g.F.Locked.rules in
     let Q = g.Q.QLockLayer in
-    let e = c.args.call.now in
+    let e = c.args.call in
     let own = Q.own c.poll.new.self in
     let under = Q.under_way c.poll.new.self in
     let seen = Q.seen c.poll.new.m in
@@ -46,7 +46,7 @@ pub returns-in-Some-clause-owns : goal.returns-in-Some-clause-owns
 returns-in-Some-clause-owns g c =
     let rules = g.F.Locked.rules in
     let Q = g.Q.QLockLayer in
-    let e = c.args.call.now in
+    let e = c.args.call in
     let own = Q.own c.poll.new.self in
     let under = Q.under_way c.poll.new.self in
     let seen = Q.seen c.poll.new.m in
@@ -63,7 +63,7 @@ pub returns-else-is_some-clause-sleeps : goal.returns-else-is_some-clause-sleeps
 returns-else-is_some-clause-sleeps g c =
     let rules = g.F.Locked.rules in
     let Q = g.Q.QLockLayer in
-    let e = c.args.call.now in
+    let e = c.args.call in
     let own = Q.own c.poll.new.self in
     let under = Q.under_way c.poll.new.self in
     let seen = Q.seen c.poll.new.m in

@@ -14,7 +14,7 @@ pub returns-clause-block : goal.returns-clause-block
 returns-clause-block g c =
     let blocks = c.args.blocks.now.items in
     let slot = c.slot_of-slot.result in
-    slot_edited c.args.lock (g.E.Edit.rules.edited c.args.edit) slot blocks c.index_mut.result.now c.apply.new.block
+    slot_edited c.args.lock (g.E.Edit.rules.edited c.args.edit.now) slot blocks c.index_mut.result.now c.apply.new.block
     (subst (λ l. IsSlot c.args.lock slot l) c.deref.ensures.value c.slot_of-slot.ensures) c.index_mut.ensures.value c.apply.ensures.block
 
 pub returns-clause-answer : goal.returns-clause-answer
@@ -23,4 +23,4 @@ returns-clause-answer g c =
     let slot = c.slot_of-slot.result in
     let tells = slot_tells c.args.lock slot blocks c.index_mut.result.now
     (subst (λ l. IsSlot c.args.lock slot l) c.deref.ensures.value c.slot_of-slot.ensures) c.index_mut.ensures.value in
-    ap (option_map (g.E.Edit.rules.answer c.args.edit)) tells.1 ∙ ap Some (sym c.apply.ensures.answer)
+    ap (option_map (g.E.Edit.rules.answer c.args.edit.now)) tells.1 ∙ ap Some (sym c.apply.ensures.answer)

@@ -8,7 +8,7 @@ poll-requires-clause-call g c =
     let Q = g.Q.QueueLayer in
     let m = c.args.m.now in
     let part = c.args.part.now in
-    first_poll (QueueAllowed (kernel g.E.Edit.rules g.E.Moves.moves (Q.opening m))) (Q.seen m) (Q.under_way part) (event (Q.cpu_of part) c.args.call.now)
+    first_poll (QueueAllowed (kernel g.E.Edit.rules g.E.Moves.moves (Q.opening m))) (Q.seen m) (Q.under_way part) (event (Q.cpu_of part) c.args.call)
     c.requires.idle c.requires.call
 
 -- the call alone is new
@@ -18,6 +18,6 @@ returns-clause-seen g c =
     let law = g.met.Q.QueueLayer in
     let m = c.args.m.now in
     let part = c.args.part.now in
-    seen_alone (kernel g.E.Edit.rules g.E.Moves.moves (Q.opening m)) (Q.ActsFor m) c.requires.all (event (Q.cpu_of part) c.args.call.now)
+    seen_alone (kernel g.E.Edit.rules g.E.Moves.moves (Q.opening m)) (Q.ActsFor m) c.requires.all (event (Q.cpu_of part) c.args.call)
     c.poll.result c.unwrap.result (Q.seen m) (Q.seen c.poll.new.m) c.unwrap.ensures c.poll.ensures.seen
     (law.known c.poll.new.m (Q.cpu_of c.poll.new.self) (law.own_cpu c.poll.new.self c.poll.new.m c.poll.ensures.fits))

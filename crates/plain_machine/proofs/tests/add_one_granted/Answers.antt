@@ -1,4 +1,4 @@
-use Rattle.std.proofs.Common.{◌≡◌, ◌++◌, IsSome, if◌then◌else◌, ap, subst, sym, ◌∙◌}
+use Rattle.std.proofs.Common.{◌++◌, IsSome, if◌then◌else◌, ap, subst, sym, ◌∙◌}
 use Rattle.event_log.specs.Grants.{grant_standing}
 use Rattle.event_log.specs.WordsLog.{Waiting}
 use Rattle.event_log.proofs.Same.{same_cpu_self}

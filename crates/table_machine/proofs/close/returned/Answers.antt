@@ -1,4 +1,4 @@
-use Rattle.std.proofs.Common.{◌<◌, ◌≡◌, ◌+◌, [], ◌∷◌, ◌++◌, length, arith, sym, ap, ◌∙◌, subst, length-append, vec_capacity}
+use Rattle.std.proofs.Common.{◌<◌, ◌≡◌, ◌+◌, length, arith, sym, ap, ◌∙◌, subst, length-append, vec_capacity}
 use Rattle.std.specs.Mem.Slots.{slots_items, slots_filled, slots_len, slots_counts}
 use Rattle.table_machine.proofs.Returning.{stays_filled, stays_empty, a_block, given_more, below_of}
 use Rattle.table_machine.proofs.close.returned.Goals as goal
@@ -26,7 +26,7 @@ loop-i-preserved g c =
       room = subst (λ n. Rattle.std.proofs.Common.◌≤◌ (length c.args.locks.items) n) (sym c.push_reserved.ensures.capacity) c.loop-i.invariant.room;
       done = given_more c.args.locks.items (slots_items c.args.closed.slots) (slots_items c.loop-i.closed.slots) c.loop-i.blocks.items
           c.push_reserved.new.self.items c.loop-i.i c.index.result.now c.take-home.result c.in-Some.block
-          c.loop-i.invariant.given (c.push_reserved.ensures.items ∙ ap (λ b. c.loop-i.blocks.items ++ (c.index.result.now, b) ∷ []) c.in-Some.block-is) below
+          c.loop-i.invariant.given c.push_reserved.ensures.items below
           c.index.ensures c.take-home.ensures.value c.loop-i.invariant.same c.in-Some.is c.loop-i.invariant.done;
     }
 

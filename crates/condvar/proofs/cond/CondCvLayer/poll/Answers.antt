@@ -46,7 +46,7 @@ returns-then-wake-clause-seen g c =
     let cpu = Q.cpu_of p in
     let rules = cv_rules g.G.Guarded.deeds in
     let k = lock_kernel rules (Q.opening m) in
-    let t = lock_caller rules c.args.call.now in
+    let t = lock_caller rules c.args.call in
     let waits = c.args.self.now.waits.buffers in
     let own : Waiting _ = record { lock = Q.own p; waits = waits } in
     let caller = c.caller_of-t.ensures in
@@ -57,7 +57,7 @@ returns-then-wake-clause-seen g c =
     let now : c.wake.new.self.buffers ≡ slice_set waits t.0 None
     = c.wake.ensures.now ∙ ap (λ b. if b then slice_set waits c.caller_of-t.result.0 None else waits) c.if-wake.true
     ∙ ap (λ (u : Tid). slice_set waits u.0 None) caller in
-    over_polled g.G.Guarded.deeds k (λ d. Q.ActsFor m d) cpu c.args.buffer c.args.call.now (Q.seen m) own (Q.under_way p) _ c.side_of.result
+    over_polled g.G.Guarded.deeds k (λ d. Q.ActsFor m d) cpu c.args.buffer c.args.call (Q.seen m) own (Q.under_way p) _ c.side_of.result
     c.wake.new.self.buffers (slept_for waits t) some c.requires.call awake c.side_of.ensures now
 
 -- src/cond.rt:86:5
@@ -70,14 +70,14 @@ returns-clause-seen g c =
     let cpu = Q.cpu_of p in
     let rules = cv_rules g.G.Guarded.deeds in
     let k = lock_kernel rules (Q.opening m) in
-    let t = lock_caller rules c.args.call.now in
+    let t = lock_caller rules c.args.call in
     let waits = c.args.self.now.waits.buffers in
     let own : Waiting _ = record { lock = Q.own p; waits = waits } in
     let caller = c.caller_of-t.ensures in
     let none : is_some (slept_for waits t) ≡ false = ap (λ u. is_some (slept_for waits u)) (sym caller) ∙ sym c.wake.ensures.was ∙ c.if-wake.false in
     let kept : c.wake.new.self.buffers ≡ waits
     = c.wake.ensures.now ∙ ap (λ b. if b then slice_set waits c.caller_of-t.result.0 None else waits) c.if-wake.false in
-    waits_polled g.G.Guarded.deeds k (λ d. Q.ActsFor m d) cpu c.args.buffer c.args.call.now (Q.seen m) (Q.seen c.poll-answer.new.m) own
+    waits_polled g.G.Guarded.deeds k (λ d. Q.ActsFor m d) cpu c.args.buffer c.args.call (Q.seen m) (Q.seen c.poll-answer.new.m) own
     (Q.under_way c.poll-answer.new.self) (Q.own c.poll-answer.new.self) c.told.new.self.buffers c.poll-answer.result c.told.result (slept_for waits t) none
     c.poll-answer.ensures.seen (rw (← kept, ← caller) c.told.ensures.waits) c.told.ensures.told
 
@@ -91,7 +91,7 @@ returns-clause-follows g c stepwise =
     let cpu = Q.cpu_of p in
     let rules = cv_rules g.G.Guarded.deeds in
     let k = lock_kernel rules (Q.opening m) in
-    let t = lock_caller rules c.args.call.now in
+    let t = lock_caller rules c.args.call in
     let waits = c.args.self.now.waits.buffers in
     let own : Waiting _ = record { lock = Q.own p; waits = waits } in
     let caller = c.caller_of-t.ensures in
@@ -100,5 +100,5 @@ returns-clause-follows g c stepwise =
     = c.wake.ensures.now ∙ ap (λ b. if b then slice_set waits c.caller_of-t.result.0 None else waits) c.if-wake.false in
     waits_follow (λ d. Q.ActsFor m d) (table_of (queue_rules (lock_rules rules) (lock_moves rules))) (Q.opening m) (lock_moves rules)
     (homes_in (Q.opening m)) cpu
-    c.args.buffer c.args.call.now own (Q.acts m) (Q.acts c.poll-answer.new.m) (Q.own c.poll-answer.new.self) c.told.new.self.buffers c.poll-answer.result
+    c.args.buffer c.args.call own (Q.acts m) (Q.acts c.poll-answer.new.m) (Q.own c.poll-answer.new.self) c.told.new.self.buffers c.poll-answer.result
     c.told.result (slept_for waits t) none (c.poll-answer.ensures.follows stepwise) (rw (← kept, ← caller) c.told.ensures.waits) c.told.ensures.told

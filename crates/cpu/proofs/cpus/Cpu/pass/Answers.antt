@@ -38,7 +38,7 @@ returns-then-is_some-clause-is g c =
     let told = c.pass-done.ensures.passed in
     rw (c.pass-done.ensures.homes, c.pass-done.ensures.caps, c.pass-done.ensures.talks)
     (noted_done (valid_cpu c.requires.is) c.args.pass (pending_by (told.others ++ I.moves m) (I.cpu_of p.part)) (I.seen c.pass-done.new.m)
-    (I.threads c.pass-done.new.self) (I.doing c.pass-done.new.self) c.note_pass.new.guests.items (runs_home cpu) c.requires.chosen
+    (I.threads c.pass-done.new.self) (I.doing c.pass-done.new.self) c.note_pass.new.self.items (runs_home cpu) c.requires.chosen
     (others_same (λ d. I.ActsFor m d) p.number (I.seen m) (I.seen c.pass-done.new.m) c.pass-done.ensures.seen (acts_for cpu))
     (rw some at told.after)
     (c.pass-done.ensures.doing ∙ doing_done c.args.pass c.pass-done.result some)
@@ -126,7 +126,7 @@ done_told g c step =
       own = I.threads q;
       tells = (law.tells step q).0;
       doing = I.doing q;
-      guests = c.note_pass.new.guests.items;
+      guests = c.note_pass.new.self.items;
       new = I.acts n;
       result = c.pass-done.result;
       before = I.moves m;

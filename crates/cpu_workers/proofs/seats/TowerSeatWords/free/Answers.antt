@@ -1,5 +1,4 @@
-use Rattle.std.proofs.Common.{◌≡◌, ℕ, ap, sym, ◌∙◌, subst}
-use Rattle.event_log.specs.declared.ids.CpuId.{CpuId}
+use Rattle.std.proofs.Common.{ap, sym, ◌∙◌, subst}
 use Rattle.event_log.specs.declared.events.Event.TheVariants.{Free}
 use Rattle.event_log.specs.History.{Adds}
 use Rattle.event_log.specs.WordsLog.{actor}

@@ -1,4 +1,3 @@
-use Rattle.std.proofs.Common.{◌≡◌}
 use Rattle.cpu_workers.proofs.Seated.{boots_over, made_of, private_over, tabled_over}
 use Rattle.cpu_workers.proofs.worker.Worker.at_boot.Goals as goal
 

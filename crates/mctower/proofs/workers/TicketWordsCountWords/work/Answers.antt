@@ -1,4 +1,4 @@
-use Rattle.std.proofs.Common.{◌≡◌, ◌+◌, ℕ, ap, subst, sym, ◌∙◌}
+use Rattle.std.proofs.Common.{◌+◌, ℕ, ap, subst, sym, ◌∙◌}
 use Rattle.layer_traits.proofs.PlanLemmas.{sections_acts}
 use Rattle.layer_traits.specs.WordsProtocol.{sections}
 use Rattle.table_machine.specs.Desks.{Desk}

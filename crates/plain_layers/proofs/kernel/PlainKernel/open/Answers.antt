@@ -1,4 +1,4 @@
-use Rattle.std.proofs.Common.{◌≡◌, ap, length, reverse, subst, sym, ◌∙◌}
+use Rattle.std.proofs.Common.{ap, length, reverse, subst, sym, ◌∙◌}
 use Rattle.plain_layers.specs.declared.kernel.Lists.{Lists}
 use Rattle.plain_layers.specs.declared.kernel.Opening.{Opening}
 use Rattle.plain_layers.proofs.KernelLemmas.{OpensWith, kernel_fresh, homes_told, queue_is_there, buffer_opens}

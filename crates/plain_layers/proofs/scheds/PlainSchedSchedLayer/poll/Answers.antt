@@ -1,13 +1,15 @@
-use Rattle.std.proofs.Common.{◌≡◌, false, [], Some, None, ap, sym, ◌∙◌, subst, subst₂, refl, ◌<◌}
+use Rattle.std.proofs.Common.{◌≡◌, false, [], Some, None, IfErr, IfOk, ap, sym, ◌∙◌, subst, subst₂, refl, ◌<◌}
 use Rattle.std.proofs.lemmas.Bool.{ne_eqb}
 use Rattle.event_log.specs.History.{IsLawful, same_cpu}
 use Rattle.event_log.specs.declared.ids.CpuId.{CpuId}
 use Rattle.event_log.specs.declared.ids.TheConstants.{CPUS}
 use Rattle.event_log.proofs.Same.{cpu_numbered}
 use Rattle.layer_traits.specs.declared.scheds.SchedAnswer.TheVariants.{Done}
+use Rattle.layer_traits.specs.declared.scheds.SchedCall.TheVariants.{Pass}
 use Rattle.layer_traits.specs.QueueBlocks.{homes_in}
 use Rattle.layer_traits.specs.Queues.{QueueAllowed, QueuePolled, event, kernel}
 use Rattle.layer_traits.specs.Scheds.{SchedPolled, own_by, queue_call}
+use Rattle.scheduler.specs.Owns.{local_after}
 use Rattle.scheduler.specs.Parts.{PartFits}
 use Rattle.scheduler.proofs.StepLemmas.{call_may, done_fits, done_polled, finish_ok, local_fits, local_polled, lock_is_there, may_take, other_fits}
 use Rattle.plain_layers.specs.Kernels.{IsKernel, calls_in, opening_of}
@@ -33,10 +35,11 @@ done-answer-requires-clause-lock g c =
     let m = c.args.m.now in
     let opening = opening_of m.opening in
     let fits = c.requires.fits in
-    let is : queue_call (homes_in opening) self.cpu c.args.call.now ≡ Some c.in-Some.step
-    = ap (λ h. queue_call h self.cpu c.args.call.now) (fits.2.homes ∙ sym c.as_slice-homes.ensures.value) ∙ (sym c.call_beneath.ensures ∙ c.in-Some.is) in
+    let is : queue_call (homes_in opening) self.cpu c.args.call ≡ Some c.in-Ok.step
+    = ap (λ h. queue_call h self.cpu c.args.call) (fits.2.homes ∙ sym c.as_slice-homes.ensures.value)
+    ∙ subst (λ r. IfOk r (λ step. queue_call c.as_slice-homes.result.now self.cpu c.args.call ≡ Some step)) c.in-Ok.is c.call_beneath.ensures.shared in
     lock_is_there rules mv opening wakes fits.1.starts self.cpu self.cpu self.homes.items None (calls_in m) self.own fits.1.lawful fits.2
-    c.args.call.now c.requires.call c.in-Some.step is c.requires.buffer
+    c.args.call c.requires.call c.in-Ok.step is c.requires.buffer
 
 pub done-answer-requires-clause-call : goal.done-answer-requires-clause-call
 done-answer-requires-clause-call g c =
@@ -47,13 +50,14 @@ done-answer-requires-clause-call g c =
     let m = c.args.m.now in
     let opening = opening_of m.opening in
     let fits = c.requires.fits in
-    let is : queue_call (homes_in opening) self.cpu c.args.call.now ≡ Some c.in-Some.step
-    = ap (λ h. queue_call h self.cpu c.args.call.now) (fits.2.homes ∙ sym c.as_slice-homes.ensures.value) ∙ (sym c.call_beneath.ensures ∙ c.in-Some.is) in
+    let is : queue_call (homes_in opening) self.cpu c.args.call ≡ Some c.in-Ok.step
+    = ap (λ h. queue_call h self.cpu c.args.call) (fits.2.homes ∙ sym c.as_slice-homes.ensures.value)
+    ∙ subst (λ r. IfOk r (λ step. queue_call c.as_slice-homes.result.now self.cpu c.args.call ≡ Some step)) c.in-Ok.is c.call_beneath.ensures.shared in
     call_may rules mv opening wakes fits.1.starts self.cpu self.cpu self.homes.items None (calls_in m) self.own fits.1.lawful fits.2
-    c.args.call.now c.requires.call c.in-Some.step is [] tt fits.1.lawful
+    c.args.call c.requires.call c.in-Ok.step is [] tt fits.1.lawful
 
-pub answered-requires : goal.answered-requires
-answered-requires g c =
+pub answered-requires-clause-may : goal.answered-requires-clause-may
+answered-requires-clause-may g c =
     let rules = g.E.Edit.rules in
     let mv = g.E.Moves.moves in
     let wakes = g.met.E.Moves.wakes_sleepers in
@@ -61,21 +65,22 @@ answered-requires g c =
     let m = c.args.m.now in
     let opening = opening_of m.opening in
     let fits = c.requires.fits in
-    let is : queue_call (homes_in opening) self.cpu c.args.call.now ≡ Some c.in-Some.step
-    = ap (λ h. queue_call h self.cpu c.args.call.now) (fits.2.homes ∙ sym c.as_slice-homes.ensures.value) ∙ (sym c.call_beneath.ensures ∙ c.in-Some.is) in
+    let is : queue_call (homes_in opening) self.cpu c.args.call ≡ Some c.in-Ok.step
+    = ap (λ h. queue_call h self.cpu c.args.call) (fits.2.homes ∙ sym c.as_slice-homes.ensures.value)
+    ∙ subst (λ r. IfOk r (λ step. queue_call c.as_slice-homes.result.now self.cpu c.args.call ≡ Some step)) c.in-Ok.is c.call_beneath.ensures.shared in
     let Acts = λ (d : CpuId). (d.0 < CPUS) × IsKernel rules mv m.opening (calls_in m) m.lists in
     let n = c.done-answer.new.self in
     let said = c.done-answer.ensures in
     let legal = subst (λ o. IsLawful (QueueAllowed (kernel rules mv (opening_of o))) (calls_in n)) said.opening said.sound.lawful in
-    let polled : QueuePolled (kernel rules mv opening) Acts (event self.cpu c.in-Some.step) (Some c.done-answer.result) (calls_in m) (calls_in n) =
+    let polled : QueuePolled (kernel rules mv opening) Acts (event self.cpu c.in-Ok.step) (Some c.done-answer.result) (calls_in m) (calls_in n) =
     record { others = []; foreign = λ d acts. tt; is = said.seen; answers = said.answer } in
     may_take rules mv opening wakes fits.1.starts self.cpu self.cpu self.homes.items None (calls_in m) self.own fits.1.lawful fits.2
-    c.args.call.now c.requires.call c.in-Some.step is Acts (fits.0, fits.1) (calls_in n) c.done-answer.result polled legal
+    c.args.call c.requires.call c.in-Ok.step is Acts (fits.0, fits.1) (calls_in n) c.done-answer.result polled legal
 
 -- a call that touches nothing shared
 
-pub returns-in-None-clause-fits : goal.returns-in-None-clause-fits
-returns-in-None-clause-fits g c =
+pub returns-in-Err-clause-fits : goal.returns-in-Err-clause-fits
+returns-in-Err-clause-fits g c =
     let rules = g.E.Edit.rules in
     let mv = g.E.Moves.moves in
     let wakes = g.met.E.Moves.wakes_sleepers in
@@ -83,14 +88,17 @@ returns-in-None-clause-fits g c =
     let m = c.args.m.now in
     let opening = opening_of m.opening in
     let fits = c.requires.fits in
-    let is : queue_call (homes_in opening) self.cpu c.args.call.now ≡ None
-    = ap (λ h. queue_call h self.cpu c.args.call.now) (fits.2.homes ∙ sym c.as_slice-homes.ensures.value) ∙ (sym c.call_beneath.ensures ∙ c.in-None.is) in
+    let told = subst (λ r. IfErr r (λ pass. (c.args.call ≡ Pass pass) × (queue_call c.as_slice-homes.result.now self.cpu c.args.call ≡ None)))
+    c.in-Err.is c.call_beneath.ensures.local in
+    let is : queue_call (homes_in opening) self.cpu c.args.call ≡ None
+    = ap (λ h. queue_call h self.cpu c.args.call) (fits.2.homes ∙ sym c.as_slice-homes.ensures.value) ∙ told.1 in
+    let own : c.local.new.self ≡ local_after c.args.call self.own = c.local.ensures ∙ ap (λ s. local_after s self.own) (sym told.0) in
     let kept = local_fits rules mv opening wakes fits.1.starts self.cpu self.cpu self.homes.items None (calls_in m) self.own fits.1.lawful fits.2
-    c.args.call.now c.requires.call is in
-    (fits.0, fits.1, subst (λ o. PartFits rules mv opening self.cpu self.cpu self.homes.items None (calls_in m) o) (sym c.local.ensures) kept)
+    c.args.call c.requires.call is in
+    (fits.0, fits.1, subst (λ o. PartFits rules mv opening self.cpu self.cpu self.homes.items None (calls_in m) o) (sym own) kept)
 
-pub returns-in-None-clause-seen : goal.returns-in-None-clause-seen
-returns-in-None-clause-seen g c =
+pub returns-in-Err-clause-seen : goal.returns-in-Err-clause-seen
+returns-in-Err-clause-seen g c =
     let rules = g.E.Edit.rules in
     let mv = g.E.Moves.moves in
     let wakes = g.met.E.Moves.wakes_sleepers in
@@ -98,17 +106,20 @@ returns-in-None-clause-seen g c =
     let m = c.args.m.now in
     let opening = opening_of m.opening in
     let fits = c.requires.fits in
-    let is : queue_call (homes_in opening) self.cpu c.args.call.now ≡ None
-    = ap (λ h. queue_call h self.cpu c.args.call.now) (fits.2.homes ∙ sym c.as_slice-homes.ensures.value) ∙ (sym c.call_beneath.ensures ∙ c.in-None.is) in
+    let told = subst (λ r. IfErr r (λ pass. (c.args.call ≡ Pass pass) × (queue_call c.as_slice-homes.result.now self.cpu c.args.call ≡ None)))
+    c.in-Err.is c.call_beneath.ensures.local in
+    let is : queue_call (homes_in opening) self.cpu c.args.call ≡ None
+    = ap (λ h. queue_call h self.cpu c.args.call) (fits.2.homes ∙ sym c.as_slice-homes.ensures.value) ∙ told.1 in
+    let own : c.local.new.self ≡ local_after c.args.call self.own = c.local.ensures ∙ ap (λ s. local_after s self.own) (sym told.0) in
     let Acts = λ (d : CpuId). (d.0 < CPUS) × IsKernel rules mv m.opening (calls_in m) m.lists in
-    subst (λ o. SchedPolled (kernel rules mv opening) Acts self.cpu c.args.call.now (Some Done) (calls_in m) (calls_in m) self.own o) (sym c.local.ensures)
+    subst (λ o. SchedPolled (kernel rules mv opening) Acts self.cpu c.args.call (Some Done) (calls_in m) (calls_in m) self.own o) (sym own)
     (local_polled rules mv opening wakes fits.1.starts self.cpu self.cpu self.homes.items None (calls_in m) self.own fits.1.lawful fits.2
-    c.args.call.now c.requires.call is Acts)
+    c.args.call c.requires.call is Acts)
 
 -- a call that is one at the shared queues
 
-pub returns-in-Some-clause-fits : goal.returns-in-Some-clause-fits
-returns-in-Some-clause-fits g c =
+pub returns-in-Ok-clause-fits : goal.returns-in-Ok-clause-fits
+returns-in-Ok-clause-fits g c =
     let rules = g.E.Edit.rules in
     let mv = g.E.Moves.moves in
     let wakes = g.met.E.Moves.wakes_sleepers in
@@ -116,13 +127,14 @@ returns-in-Some-clause-fits g c =
     let m = c.args.m.now in
     let opening = opening_of m.opening in
     let fits = c.requires.fits in
-    let is : queue_call (homes_in opening) self.cpu c.args.call.now ≡ Some c.in-Some.step
-    = ap (λ h. queue_call h self.cpu c.args.call.now) (fits.2.homes ∙ sym c.as_slice-homes.ensures.value) ∙ (sym c.call_beneath.ensures ∙ c.in-Some.is) in
+    let is : queue_call (homes_in opening) self.cpu c.args.call ≡ Some c.in-Ok.step
+    = ap (λ h. queue_call h self.cpu c.args.call) (fits.2.homes ∙ sym c.as_slice-homes.ensures.value)
+    ∙ subst (λ r. IfOk r (λ step. queue_call c.as_slice-homes.result.now self.cpu c.args.call ≡ Some step)) c.in-Ok.is c.call_beneath.ensures.shared in
     let Acts = λ (d : CpuId). (d.0 < CPUS) × IsKernel rules mv m.opening (calls_in m) m.lists in
     let n = c.done-answer.new.self in
     let said = c.done-answer.ensures in
     let legal = subst (λ o. IsLawful (QueueAllowed (kernel rules mv (opening_of o))) (calls_in n)) said.opening said.sound.lawful in
-    let polled : QueuePolled (kernel rules mv opening) Acts (event self.cpu c.in-Some.step) (Some c.done-answer.result) (calls_in m) (calls_in n) =
+    let polled : QueuePolled (kernel rules mv opening) Acts (event self.cpu c.in-Ok.step) (Some c.done-answer.result) (calls_in m) (calls_in n) =
     record { others = []; foreign = λ d acts. tt; is = said.seen; answers = said.answer } in
     let own : c.answered.new.self ≡ own_by mv (homes_in opening) self.cpu c.done-answer.result self.own
     = c.answered.ensures.own ∙ ap (λ h. own_by mv h self.cpu c.done-answer.result self.own) (sym (fits.2.homes ∙ sym c.as_slice-homes.ensures.value)) in (
@@ -130,11 +142,11 @@ returns-in-Some-clause-fits g c =
       said.sound,
       subst₂ (λ o x. PartFits rules mv (opening_of o) self.cpu self.cpu self.homes.items None (calls_in n) x) (sym said.opening) (sym own)
           (done_fits rules mv opening wakes fits.1.starts self.cpu self.cpu self.homes.items None (calls_in m) self.own fits.1.lawful fits.2
-          c.args.call.now c.requires.call c.in-Some.step is Acts (fits.0, fits.1) (calls_in n) c.done-answer.result polled legal self.cpu None refl refl),
+          c.args.call c.requires.call c.in-Ok.step is Acts (fits.0, fits.1) (calls_in n) c.done-answer.result polled legal self.cpu None refl refl),
     )
 
-pub returns-in-Some-clause-seen : goal.returns-in-Some-clause-seen
-returns-in-Some-clause-seen g c =
+pub returns-in-Ok-clause-seen : goal.returns-in-Ok-clause-seen
+returns-in-Ok-clause-seen g c =
     let rules = g.E.Edit.rules in
     let mv = g.E.Moves.moves in
     let wakes = g.met.E.Moves.wakes_sleepers in
@@ -142,23 +154,24 @@ returns-in-Some-clause-seen g c =
     let m = c.args.m.now in
     let opening = opening_of m.opening in
     let fits = c.requires.fits in
-    let is : queue_call (homes_in opening) self.cpu c.args.call.now ≡ Some c.in-Some.step
-    = ap (λ h. queue_call h self.cpu c.args.call.now) (fits.2.homes ∙ sym c.as_slice-homes.ensures.value) ∙ (sym c.call_beneath.ensures ∙ c.in-Some.is) in
+    let is : queue_call (homes_in opening) self.cpu c.args.call ≡ Some c.in-Ok.step
+    = ap (λ h. queue_call h self.cpu c.args.call) (fits.2.homes ∙ sym c.as_slice-homes.ensures.value)
+    ∙ subst (λ r. IfOk r (λ step. queue_call c.as_slice-homes.result.now self.cpu c.args.call ≡ Some step)) c.in-Ok.is c.call_beneath.ensures.shared in
     let Acts = λ (d : CpuId). (d.0 < CPUS) × IsKernel rules mv m.opening (calls_in m) m.lists in
     let n = c.done-answer.new.self in
     let said = c.done-answer.ensures in
     let legal = subst (λ o. IsLawful (QueueAllowed (kernel rules mv (opening_of o))) (calls_in n)) said.opening said.sound.lawful in
-    let polled : QueuePolled (kernel rules mv opening) Acts (event self.cpu c.in-Some.step) (Some c.done-answer.result) (calls_in m) (calls_in n) =
+    let polled : QueuePolled (kernel rules mv opening) Acts (event self.cpu c.in-Ok.step) (Some c.done-answer.result) (calls_in m) (calls_in n) =
     record { others = []; foreign = λ d acts. tt; is = said.seen; answers = said.answer } in
     let own : c.answered.new.self ≡ own_by mv (homes_in opening) self.cpu c.done-answer.result self.own
     = c.answered.ensures.own ∙ ap (λ h. own_by mv h self.cpu c.done-answer.result self.own) (sym (fits.2.homes ∙ sym c.as_slice-homes.ensures.value)) in
-    subst₂ (λ a x. SchedPolled (kernel rules mv opening) Acts self.cpu c.args.call.now (Some a) (calls_in m) (calls_in n) self.own x)
+    subst₂ (λ a x. SchedPolled (kernel rules mv opening) Acts self.cpu c.args.call (Some a) (calls_in m) (calls_in n) self.own x)
     (sym c.answered.ensures.answer) (sym own)
     (done_polled rules mv opening wakes fits.1.starts self.cpu self.cpu self.homes.items None (calls_in m) self.own fits.1.lawful fits.2
-    c.args.call.now c.requires.call c.in-Some.step is Acts (fits.0, fits.1) (calls_in n) c.done-answer.result polled legal)
+    c.args.call c.requires.call c.in-Ok.step is Acts (fits.0, fits.1) (calls_in n) c.done-answer.result polled legal)
 
-pub returns-in-Some-clause-others : goal.returns-in-Some-clause-others
-returns-in-Some-clause-others g c =
+pub returns-in-Ok-clause-others : goal.returns-in-Ok-clause-others
+returns-in-Ok-clause-others g c =
     let rules = g.E.Edit.rules in
     let mv = g.E.Moves.moves in
     let wakes = g.met.E.Moves.wakes_sleepers in
@@ -170,13 +183,13 @@ returns-in-Some-clause-others g c =
     let n = c.done-answer.new.self in
     let said = c.done-answer.ensures in
     let legal = subst (λ o. IsLawful (QueueAllowed (kernel rules mv (opening_of o))) (calls_in n)) said.opening said.sound.lawful in
-    let polled : QueuePolled (kernel rules mv opening) Acts (event self.cpu c.in-Some.step) (Some c.done-answer.result) (calls_in m) (calls_in n) =
+    let polled : QueuePolled (kernel rules mv opening) Acts (event self.cpu c.in-Ok.step) (Some c.done-answer.result) (calls_in m) (calls_in n) =
     record { others = []; foreign = λ d acts. tt; is = said.seen; answers = said.answer } in
     λ p other theirs.
     let apart : same_cpu self.cpu p.cpu ≡ false = ne_eqb self.cpu.0 p.cpu.0 (λ e. other (sym (ap cpu_numbered e))) in (
       theirs.0,
       said.sound,
       subst (λ o. PartFits rules mv (opening_of o) p.cpu p.cpu p.homes.items None (calls_in n) p.own) (sym said.opening)
-          (other_fits rules mv opening wakes fits.1.starts Acts self.cpu p.cpu p.cpu p.homes.items None c.in-Some.step (Some c.done-answer.result)
+          (other_fits rules mv opening wakes fits.1.starts Acts self.cpu p.cpu p.cpu p.homes.items None c.in-Ok.step (Some c.done-answer.result)
           (calls_in m) (calls_in n) p.own (theirs.0, fits.1) apart polled legal theirs.2),
     )

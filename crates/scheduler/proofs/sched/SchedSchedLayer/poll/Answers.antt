@@ -6,6 +6,7 @@ use Rattle.layer_traits.specs.declared.scheds.SchedAnswer.TheVariants.{Done}
 use Rattle.layer_traits.specs.QueueBlocks.{homes_in}
 use Rattle.layer_traits.specs.Queues.{QueueAllowed, kernel}
 use Rattle.layer_traits.specs.Scheds.{SchedPolled, own_by, queue_call}
+use Rattle.scheduler.specs.Owns.{local_after}
 use Rattle.scheduler.specs.Parts.{PartFits}
 use Rattle.scheduler.proofs.StepLemmas.{call_may, done_fits, finish_ok, local_fits, local_polled, may_take, other_fits, waiting_fits}
 use Rattle.scheduler.proofs.sched.SchedSchedLayer.poll.Goals as goal
@@ -36,13 +37,13 @@ poll-requires-clause-call g c =
     let acts = subst (λ d. Q.ActsFor m d) fits.1.cpu (g.met.Q.QueueLayer.own_cpu self.lower m fits.0) in
     let opens = g.met.Q.QueueLayer.opens m self.cpu acts in
     let lawful = g.met.Q.QueueLayer.lawful m self.cpu acts in
-    let is : queue_call (homes_in (Q.opening m)) self.cpu c.args.call.now ≡ Some c.in-Some.step
-    = ap (λ h. queue_call h self.cpu c.args.call.now) (fits.1.homes ∙ sym c.as_slice-homes.ensures.value) ∙ (sym c.call_beneath.ensures ∙ c.in-Some.is) in
+    let is : queue_call (homes_in (Q.opening m)) self.cpu c.args.call ≡ Some c.in-Ok.step
+    = ap (λ h. queue_call h self.cpu c.args.call) (fits.1.homes ∙ sym c.as_slice-homes.ensures.value) ∙ c.in-Ok.ensures.shared in
     call_may rules mv (Q.opening m) wakes opens self.cpu (Q.cpu_of self.lower) self.homes.items (Q.under_way self.lower) (Q.seen m) self.own lawful fits.1
-    c.args.call.now c.requires.call c.in-Some.step is
+    c.args.call c.requires.call c.in-Ok.step is
 
-pub answered-requires : goal.answered-requires
-answered-requires g c =
+pub answered-requires-clause-may : goal.answered-requires-clause-may
+answered-requires-clause-may g c =
     let Q = g.Q.QueueLayer in
     let rules = g.E.Edit.rules in
     let mv = g.E.Moves.moves in
@@ -53,16 +54,61 @@ answered-requires g c =
     let acts = subst (λ d. Q.ActsFor m d) fits.1.cpu (g.met.Q.QueueLayer.own_cpu self.lower m fits.0) in
     let opens = g.met.Q.QueueLayer.opens m self.cpu acts in
     let lawful = g.met.Q.QueueLayer.lawful m self.cpu acts in
-    let is : queue_call (homes_in (Q.opening m)) self.cpu c.args.call.now ≡ Some c.in-Some.step
-    = ap (λ h. queue_call h self.cpu c.args.call.now) (fits.1.homes ∙ sym c.as_slice-homes.ensures.value) ∙ (sym c.call_beneath.ensures ∙ c.in-Some.is) in
+    let is : queue_call (homes_in (Q.opening m)) self.cpu c.args.call ≡ Some c.in-Ok.step
+    = ap (λ h. queue_call h self.cpu c.args.call) (fits.1.homes ∙ sym c.as_slice-homes.ensures.value) ∙ c.in-Ok.ensures.shared in
     let n = c.poll.new.m in
-    let said = c.in-Some-poll.ensures in
+    let said = c.in-Some.ensures in
     let legal = subst (λ o. IsLawful (QueueAllowed (kernel rules mv o)) (Q.seen n)) said.opening
     (g.met.Q.QueueLayer.lawful n self.cpu (said.acts self.cpu acts)) in
     may_take rules mv (Q.opening m) wakes opens self.cpu (Q.cpu_of self.lower) self.homes.items (Q.under_way self.lower) (Q.seen m) self.own lawful fits.1
-    c.args.call.now c.requires.call c.in-Some.step is (λ d. Q.ActsFor m d) acts (Q.seen n) c.in-Some-poll.answer said.seen legal
+    c.args.call c.requires.call c.in-Ok.step is (λ d. Q.ActsFor m d) acts (Q.seen n) c.in-Some.answer said.seen legal
 
 -- a call that touches nothing shared
+
+pub returns-in-Err-clause-fits : goal.returns-in-Err-clause-fits
+returns-in-Err-clause-fits g c =
+    let Q = g.Q.QueueLayer in
+    let rules = g.E.Edit.rules in
+    let mv = g.E.Moves.moves in
+    let wakes = g.met.E.Moves.wakes_sleepers in
+    let self = c.args.self.now in
+    let m = c.args.m.now in
+    let fits = c.requires.fits in
+    let acts = subst (λ d. Q.ActsFor m d) fits.1.cpu (g.met.Q.QueueLayer.own_cpu self.lower m fits.0) in
+    let opens = g.met.Q.QueueLayer.opens m self.cpu acts in
+    let lawful = g.met.Q.QueueLayer.lawful m self.cpu acts in
+    let is : queue_call (homes_in (Q.opening m)) self.cpu c.args.call ≡ None
+    = ap (λ h. queue_call h self.cpu c.args.call) (fits.1.homes ∙ sym c.as_slice-homes.ensures.value) ∙ c.in-Err.ensures.local.1 in
+    let after : c.local.new.self ≡ local_after c.args.call self.own = c.local.ensures ∙ ap (λ s. local_after s self.own) (sym c.in-Err.ensures.local.0) in (
+      fits.0,
+      subst (λ o. PartFits rules mv (Q.opening m) self.cpu (Q.cpu_of self.lower) self.homes.items (Q.under_way self.lower) (Q.seen m) o)
+          (sym after)
+          (local_fits rules mv (Q.opening m) wakes opens self.cpu (Q.cpu_of self.lower) self.homes.items (Q.under_way self.lower) (Q.seen m) self.own lawful
+          fits.1
+          c.args.call c.requires.call is),
+    )
+
+pub returns-in-Err-clause-seen : goal.returns-in-Err-clause-seen
+returns-in-Err-clause-seen g c =
+    let Q = g.Q.QueueLayer in
+    let rules = g.E.Edit.rules in
+    let mv = g.E.Moves.moves in
+    let wakes = g.met.E.Moves.wakes_sleepers in
+    let self = c.args.self.now in
+    let m = c.args.m.now in
+    let fits = c.requires.fits in
+    let acts = subst (λ d. Q.ActsFor m d) fits.1.cpu (g.met.Q.QueueLayer.own_cpu self.lower m fits.0) in
+    let opens = g.met.Q.QueueLayer.opens m self.cpu acts in
+    let lawful = g.met.Q.QueueLayer.lawful m self.cpu acts in
+    let is : queue_call (homes_in (Q.opening m)) self.cpu c.args.call ≡ None
+    = ap (λ h. queue_call h self.cpu c.args.call) (fits.1.homes ∙ sym c.as_slice-homes.ensures.value) ∙ c.in-Err.ensures.local.1 in
+    let after : c.local.new.self ≡ local_after c.args.call self.own = c.local.ensures ∙ ap (λ s. local_after s self.own) (sym c.in-Err.ensures.local.0) in
+    subst (λ o. SchedPolled (kernel rules mv (Q.opening m)) (λ d. Q.ActsFor m d) self.cpu c.args.call (Some Done) (Q.seen m) (Q.seen m) self.own o)
+    (sym after)
+    (local_polled rules mv (Q.opening m) wakes opens self.cpu (Q.cpu_of self.lower) self.homes.items (Q.under_way self.lower) (Q.seen m) self.own lawful fits.1
+    c.args.call c.requires.call is (λ d. Q.ActsFor m d))
+
+-- a poll that waits
 
 pub returns-in-None-clause-fits : goal.returns-in-None-clause-fits
 returns-in-None-clause-fits g c =
@@ -76,53 +122,10 @@ returns-in-None-clause-fits g c =
     let acts = subst (λ d. Q.ActsFor m d) fits.1.cpu (g.met.Q.QueueLayer.own_cpu self.lower m fits.0) in
     let opens = g.met.Q.QueueLayer.opens m self.cpu acts in
     let lawful = g.met.Q.QueueLayer.lawful m self.cpu acts in
-    let is : queue_call (homes_in (Q.opening m)) self.cpu c.args.call.now ≡ None
-    = ap (λ h. queue_call h self.cpu c.args.call.now) (fits.1.homes ∙ sym c.as_slice-homes.ensures.value) ∙ (sym c.call_beneath.ensures ∙ c.in-None.is) in (
-      fits.0,
-      subst (λ o. PartFits rules mv (Q.opening m) self.cpu (Q.cpu_of self.lower) self.homes.items (Q.under_way self.lower) (Q.seen m) o)
-          (sym c.local.ensures)
-          (local_fits rules mv (Q.opening m) wakes opens self.cpu (Q.cpu_of self.lower) self.homes.items (Q.under_way self.lower) (Q.seen m) self.own lawful
-          fits.1
-          c.args.call.now c.requires.call is),
-    )
-
-pub returns-in-None-clause-seen : goal.returns-in-None-clause-seen
-returns-in-None-clause-seen g c =
-    let Q = g.Q.QueueLayer in
-    let rules = g.E.Edit.rules in
-    let mv = g.E.Moves.moves in
-    let wakes = g.met.E.Moves.wakes_sleepers in
-    let self = c.args.self.now in
-    let m = c.args.m.now in
-    let fits = c.requires.fits in
-    let acts = subst (λ d. Q.ActsFor m d) fits.1.cpu (g.met.Q.QueueLayer.own_cpu self.lower m fits.0) in
-    let opens = g.met.Q.QueueLayer.opens m self.cpu acts in
-    let lawful = g.met.Q.QueueLayer.lawful m self.cpu acts in
-    let is : queue_call (homes_in (Q.opening m)) self.cpu c.args.call.now ≡ None
-    = ap (λ h. queue_call h self.cpu c.args.call.now) (fits.1.homes ∙ sym c.as_slice-homes.ensures.value) ∙ (sym c.call_beneath.ensures ∙ c.in-None.is) in
-    subst (λ o. SchedPolled (kernel rules mv (Q.opening m)) (λ d. Q.ActsFor m d) self.cpu c.args.call.now (Some Done) (Q.seen m) (Q.seen m) self.own o)
-    (sym c.local.ensures)
-    (local_polled rules mv (Q.opening m) wakes opens self.cpu (Q.cpu_of self.lower) self.homes.items (Q.under_way self.lower) (Q.seen m) self.own lawful fits.1
-    c.args.call.now c.requires.call is (λ d. Q.ActsFor m d))
-
--- a poll that waits
-
-pub returns-in-None-poll-clause-fits : goal.returns-in-None-poll-clause-fits
-returns-in-None-poll-clause-fits g c =
-    let Q = g.Q.QueueLayer in
-    let rules = g.E.Edit.rules in
-    let mv = g.E.Moves.moves in
-    let wakes = g.met.E.Moves.wakes_sleepers in
-    let self = c.args.self.now in
-    let m = c.args.m.now in
-    let fits = c.requires.fits in
-    let acts = subst (λ d. Q.ActsFor m d) fits.1.cpu (g.met.Q.QueueLayer.own_cpu self.lower m fits.0) in
-    let opens = g.met.Q.QueueLayer.opens m self.cpu acts in
-    let lawful = g.met.Q.QueueLayer.lawful m self.cpu acts in
-    let is : queue_call (homes_in (Q.opening m)) self.cpu c.args.call.now ≡ Some c.in-Some.step
-    = ap (λ h. queue_call h self.cpu c.args.call.now) (fits.1.homes ∙ sym c.as_slice-homes.ensures.value) ∙ (sym c.call_beneath.ensures ∙ c.in-Some.is) in
+    let is : queue_call (homes_in (Q.opening m)) self.cpu c.args.call ≡ Some c.in-Ok.step
+    = ap (λ h. queue_call h self.cpu c.args.call) (fits.1.homes ∙ sym c.as_slice-homes.ensures.value) ∙ c.in-Ok.ensures.shared in
     let n = c.poll.new.m in
-    let said = c.in-None-poll.ensures in
+    let said = c.in-None.ensures in
     let legal = subst (λ o. IsLawful (QueueAllowed (kernel rules mv o)) (Q.seen n)) said.opening
     (g.met.Q.QueueLayer.lawful n self.cpu (said.acts self.cpu acts)) in (
       said.fits,
@@ -130,12 +133,12 @@ returns-in-None-poll-clause-fits g c =
           (sym said.opening)
           (waiting_fits rules mv (Q.opening m) wakes opens self.cpu (Q.cpu_of self.lower) self.homes.items (Q.under_way self.lower) (Q.seen m) self.own lawful
           fits.1
-          c.args.call.now c.requires.call c.in-Some.step is (λ d. Q.ActsFor m d) acts (Q.seen n) said.seen legal
+          c.args.call c.requires.call c.in-Ok.step is (λ d. Q.ActsFor m d) acts (Q.seen n) said.seen legal
           (Q.cpu_of c.poll.new.self) (Q.under_way c.poll.new.self) said.cpu said.call),
     )
 
-pub returns-in-None-poll-clause-others : goal.returns-in-None-poll-clause-others
-returns-in-None-poll-clause-others g c =
+pub returns-in-None-clause-others : goal.returns-in-None-clause-others
+returns-in-None-clause-others g c =
     let Q = g.Q.QueueLayer in
     let rules = g.E.Edit.rules in
     let mv = g.E.Moves.moves in
@@ -148,7 +151,7 @@ returns-in-None-poll-clause-others g c =
     let lawful = g.met.Q.QueueLayer.lawful m self.cpu acts in
     λ p other theirs.
     let n = c.poll.new.m in
-    let said = c.in-None-poll.ensures in
+    let said = c.in-None.ensures in
     let their = subst (λ d. Q.ActsFor m d) theirs.1.cpu (g.met.Q.QueueLayer.own_cpu p.lower m theirs.0) in
     let legal = subst (λ o. IsLawful (QueueAllowed (kernel rules mv o)) (Q.seen n)) said.opening (g.met.Q.QueueLayer.lawful n p.cpu (said.acts p.cpu their)) in
     let apart : same_cpu (Q.cpu_of self.lower) p.cpu ≡ false = ap (λ d. same_cpu d p.cpu) fits.1.cpu
@@ -156,14 +159,14 @@ returns-in-None-poll-clause-others g c =
       said.others p.lower (λ e. other (sym theirs.1.cpu ∙ (e ∙ fits.1.cpu))) theirs.0,
       subst (λ o. PartFits rules mv o p.cpu (Q.cpu_of p.lower) p.homes.items (Q.under_way p.lower) (Q.seen n) p.own) (sym said.opening)
           (other_fits rules mv (Q.opening m) wakes opens (λ d. Q.ActsFor m d) (Q.cpu_of self.lower) p.cpu (Q.cpu_of p.lower) p.homes.items (Q.under_way p.lower)
-          c.in-Some.step None
+          c.in-Ok.step None
           (Q.seen m) (Q.seen n) p.own their apart said.seen legal theirs.1),
     )
 
 -- a poll that answers
 
-pub returns-in-Some-poll-clause-fits : goal.returns-in-Some-poll-clause-fits
-returns-in-Some-poll-clause-fits g c =
+pub returns-in-Some-clause-fits : goal.returns-in-Some-clause-fits
+returns-in-Some-clause-fits g c =
     let Q = g.Q.QueueLayer in
     let rules = g.E.Edit.rules in
     let mv = g.E.Moves.moves in
@@ -174,25 +177,25 @@ returns-in-Some-poll-clause-fits g c =
     let acts = subst (λ d. Q.ActsFor m d) fits.1.cpu (g.met.Q.QueueLayer.own_cpu self.lower m fits.0) in
     let opens = g.met.Q.QueueLayer.opens m self.cpu acts in
     let lawful = g.met.Q.QueueLayer.lawful m self.cpu acts in
-    let is : queue_call (homes_in (Q.opening m)) self.cpu c.args.call.now ≡ Some c.in-Some.step
-    = ap (λ h. queue_call h self.cpu c.args.call.now) (fits.1.homes ∙ sym c.as_slice-homes.ensures.value) ∙ (sym c.call_beneath.ensures ∙ c.in-Some.is) in
+    let is : queue_call (homes_in (Q.opening m)) self.cpu c.args.call ≡ Some c.in-Ok.step
+    = ap (λ h. queue_call h self.cpu c.args.call) (fits.1.homes ∙ sym c.as_slice-homes.ensures.value) ∙ c.in-Ok.ensures.shared in
     let n = c.poll.new.m in
-    let said = c.in-Some-poll.ensures in
+    let said = c.in-Some.ensures in
     let legal = subst (λ o. IsLawful (QueueAllowed (kernel rules mv o)) (Q.seen n)) said.opening
     (g.met.Q.QueueLayer.lawful n self.cpu (said.acts self.cpu acts)) in
-    let own : c.answered.new.self ≡ own_by mv (homes_in (Q.opening m)) self.cpu c.in-Some-poll.answer self.own
-    = c.answered.ensures.own ∙ ap (λ h. own_by mv h self.cpu c.in-Some-poll.answer self.own) (sym (fits.1.homes ∙ sym c.as_slice-homes.ensures.value)) in (
+    let own : c.answered.new.self ≡ own_by mv (homes_in (Q.opening m)) self.cpu c.in-Some.answer self.own
+    = c.answered.ensures.own ∙ ap (λ h. own_by mv h self.cpu c.in-Some.answer self.own) (sym (fits.1.homes ∙ sym c.as_slice-homes.ensures.value)) in (
       said.fits,
       subst₂ (λ o x. PartFits rules mv o self.cpu (Q.cpu_of c.poll.new.self) self.homes.items (Q.under_way c.poll.new.self) (Q.seen n) x)
           (sym said.opening) (sym own)
           (done_fits rules mv (Q.opening m) wakes opens self.cpu (Q.cpu_of self.lower) self.homes.items (Q.under_way self.lower) (Q.seen m) self.own lawful
           fits.1
-          c.args.call.now c.requires.call c.in-Some.step is (λ d. Q.ActsFor m d) acts (Q.seen n) c.in-Some-poll.answer said.seen legal
+          c.args.call c.requires.call c.in-Ok.step is (λ d. Q.ActsFor m d) acts (Q.seen n) c.in-Some.answer said.seen legal
           (Q.cpu_of c.poll.new.self) (Q.under_way c.poll.new.self) said.cpu said.call),
     )
 
-pub returns-in-Some-poll-clause-others : goal.returns-in-Some-poll-clause-others
-returns-in-Some-poll-clause-others g c =
+pub returns-in-Some-clause-others : goal.returns-in-Some-clause-others
+returns-in-Some-clause-others g c =
     let Q = g.Q.QueueLayer in
     let rules = g.E.Edit.rules in
     let mv = g.E.Moves.moves in
@@ -205,7 +208,7 @@ returns-in-Some-poll-clause-others g c =
     let lawful = g.met.Q.QueueLayer.lawful m self.cpu acts in
     λ p other theirs.
     let n = c.poll.new.m in
-    let said = c.in-Some-poll.ensures in
+    let said = c.in-Some.ensures in
     let their = subst (λ d. Q.ActsFor m d) theirs.1.cpu (g.met.Q.QueueLayer.own_cpu p.lower m theirs.0) in
     let legal = subst (λ o. IsLawful (QueueAllowed (kernel rules mv o)) (Q.seen n)) said.opening (g.met.Q.QueueLayer.lawful n p.cpu (said.acts p.cpu their)) in
     let apart : same_cpu (Q.cpu_of self.lower) p.cpu ≡ false = ap (λ d. same_cpu d p.cpu) fits.1.cpu
@@ -213,6 +216,6 @@ returns-in-Some-poll-clause-others g c =
       said.others p.lower (λ e. other (sym theirs.1.cpu ∙ (e ∙ fits.1.cpu))) theirs.0,
       subst (λ o. PartFits rules mv o p.cpu (Q.cpu_of p.lower) p.homes.items (Q.under_way p.lower) (Q.seen n) p.own) (sym said.opening)
           (other_fits rules mv (Q.opening m) wakes opens (λ d. Q.ActsFor m d) (Q.cpu_of self.lower) p.cpu (Q.cpu_of p.lower) p.homes.items (Q.under_way p.lower)
-          c.in-Some.step (Some c.in-Some-poll.answer)
+          c.in-Ok.step (Some c.in-Some.answer)
           (Q.seen m) (Q.seen n) p.own their apart said.seen legal theirs.1),
     )

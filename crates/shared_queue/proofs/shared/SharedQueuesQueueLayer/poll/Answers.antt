@@ -17,7 +17,7 @@ poll-requires-clause-call g c =
     let lower = c.args.self.now.lower in
     subst (λ s. MayPoll (SectionAllowed rules mv (L.opening m)) (L.seen m) (L.under_way lower) (section (L.cpu_of lower) s.0 s.1))
     (sym c.section_of-lock.ensures)
-    (may_section rules mv (L.opening m) (L.seen m) (L.under_way lower) (L.cpu_of lower) c.args.call.now c.requires.fits.2 c.requires.call)
+    (may_section rules mv (L.opening m) (L.seen m) (L.under_way lower) (L.cpu_of lower) c.args.call c.requires.fits.2 c.requires.call)
 
 -- and its poll is a poll of the call
 pub returns-clause-seen : goal.returns-clause-seen
@@ -35,6 +35,6 @@ returns-clause-seen g c =
     = subst (λ o. IsLawful (SectionAllowed rules mv o) (L.seen n)) said.opening (g.met.L.LockLayer.lawful n cpu acts) in
     polled_event rules mv (L.opening m) c.requires.fits.1 g.met.E.Moves.wakes_sleepers (L.ActsFor m) (λ d. L.ActsFor m d × StartsWell (L.opening m))
     (λ d both. both.0)
-    cpu c.args.call.now c.poll.result (L.seen m) (L.seen n) lawful
+    cpu c.args.call c.poll.result (L.seen m) (L.seen n) lawful
     (subst (λ s. Polled (queue_rules rules mv) (L.opening m) (L.ActsFor m) (section cpu s.0 s.1) c.poll.result (L.seen m) (L.seen n)) c.section_of-lock.ensures
     said.seen)

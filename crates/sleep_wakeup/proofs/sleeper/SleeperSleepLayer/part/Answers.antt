@@ -14,4 +14,5 @@ returns-clause-fits g c = λ m acts outside none homes queue nobody.
           (there_viewed state_of (S.opening m) (Pending c.args.cpu) queue),
       nobody_beneath (S.opening m) nobody,
       fresh_kept g.row.E-Out.Denot (S.under_way part) (S.threads part).hand c.part.ensures.call,
+      tt,
     )

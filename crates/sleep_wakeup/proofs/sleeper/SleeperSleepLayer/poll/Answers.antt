@@ -84,8 +84,8 @@ returns-in-None-poll-clause-follows g c = λ step.
     nested_sleep_follows rules (S.opening m) (λ d. S.ActsFor m d) cpu buffer edit (S.acts m)
     (S.acts n) self.kept threads after hand None is followed
 
-pub returns-in-Some-poll-clause-seen : goal.returns-in-Some-poll-clause-seen
-returns-in-Some-poll-clause-seen g c =
+pub returns-in-None-clause-seen : goal.returns-in-None-clause-seen
+returns-in-None-clause-seen g c =
     let rules = g.E.Sleeps.rules in
     let S = g.S.SchedLayer in
     let self = c.args.self.now in
@@ -108,15 +108,15 @@ returns-in-Some-poll-clause-seen g c =
     (S.seen n) threads after
     = transport (λ i. SchedPolled (beneath rules (S.opening m)) (λ d. S.ActsFor m d) cpu (c.section.ensures i) (c.in-Some-poll.is i) (S.seen m)
     (S.seen n) threads after) c.poll.ensures.seen in
-    let left = told_is self.kept after buffer edit c.in-Some-poll.answer c.hand-in-Some-poll.result c.told.new.kept c.told.result
-    c.hand-in-Some-poll.ensures c.told.ensures.kept c.told.ensures.answer in
+    let left = told_is self.kept after buffer edit c.of-meant.result c.in-Some-poll.answer c.poll.new.tray.message c.hand-hand.result
+    c.told.new.kept c.told.result c.of-meant.ensures c.hand-hand.ensures c.told.ensures.kept c.told.ensures.answer in
     subst (λ l. SleepPolled (here rules (S.opening m)) (λ d. S.ActsFor m d) cpu buffer edit (renamed_events edit_in (S.seen m))
     (renamed_events edit_in (S.seen n)) (own_of self.kept threads) l) left
     (nested_sleeps rules (S.opening m) (λ d. S.ActsFor m d) cpu buffer edit (Some c.in-Some-poll.answer) (S.seen m)
     (S.seen n) threads after self.kept hand is keeps polled)
 
-pub returns-in-Some-poll-clause-follows : goal.returns-in-Some-poll-clause-follows
-returns-in-Some-poll-clause-follows g c = λ step.
+pub returns-in-None-clause-follows : goal.returns-in-None-clause-follows
+returns-in-None-clause-follows g c = λ step.
     let rules = g.E.Sleeps.rules in
     let S = g.S.SchedLayer in
     let self = c.args.self.now in
@@ -135,8 +135,8 @@ returns-in-Some-poll-clause-follows g c = λ step.
     = transport (λ i. Follows (λ d. S.ActsFor m d) (table_of (queue_rules (nested_rules rules) (nested_moves rules))) (S.opening m) cpu
     (sched_plan (nested_moves rules) (homes_in (S.opening m)) cpu (c.section.ensures i) threads) (S.acts m) (S.acts n) (sched_left after (c.in-Some-poll.is i)))
     (c.poll.ensures.follows step) in
-    let left = told_is self.kept after buffer edit c.in-Some-poll.answer c.hand-in-Some-poll.result c.told.new.kept c.told.result
-    c.hand-in-Some-poll.ensures c.told.ensures.kept c.told.ensures.answer in
+    let left = told_is self.kept after buffer edit c.of-meant.result c.in-Some-poll.answer c.poll.new.tray.message c.hand-hand.result
+    c.told.new.kept c.told.result c.of-meant.ensures c.hand-hand.ensures c.told.ensures.kept c.told.ensures.answer in
     subst (λ l. Follows (λ d. S.ActsFor m d) (table_of (queue_rules (sleep_rules rules) (sleep_moves rules))) (viewed state_of (S.opening m)) cpu
     (sleep_plan (sleep_moves rules) (homes_in (viewed state_of (S.opening m))) cpu buffer edit (own_of self.kept threads))
     (map (renamed (renamed_edit edit_in)) (S.acts m)) (map (renamed (renamed_edit edit_in)) (S.acts n)) l) left
@@ -212,8 +212,8 @@ returns-in-None-poll-2-clause-follows g c = λ step.
     nested_sleep_follows rules (S.opening m) (λ d. S.ActsFor m d) cpu buffer edit (S.acts m)
     (S.acts n) self.kept threads after hand None is followed
 
-pub returns-in-Some-poll-2-clause-seen : goal.returns-in-Some-poll-2-clause-seen
-returns-in-Some-poll-2-clause-seen g c =
+pub returns-clause-seen : goal.returns-clause-seen
+returns-clause-seen g c =
     let rules = g.E.Sleeps.rules in
     let S = g.S.SchedLayer in
     let self = c.args.self.now in
@@ -236,16 +236,16 @@ returns-in-Some-poll-2-clause-seen g c =
     (S.seen n) threads after
     = transport (λ i. SchedPolled (beneath rules (S.opening m)) (λ d. S.ActsFor m d) cpu (due hand buffer (as_edit edit)) (c.in-Some-poll-2.is i) (S.seen m)
     (S.seen n) threads after) c.poll-in-Some.ensures.seen in
-    let left = told_is self.kept after buffer edit c.in-Some-poll-2.answer c.hand-in-Some-poll-2.result
-    c.told-in-Some-poll-2.new.kept c.told-in-Some-poll-2.result
-    c.hand-in-Some-poll-2.ensures c.told-in-Some-poll-2.ensures.kept c.told-in-Some-poll-2.ensures.answer in
+    let left = told_is self.kept after buffer edit c.of-meant-in-Some.result c.in-Some-poll-2.answer c.poll-in-Some.new.tray.message
+    c.hand-hand-in-Some-poll-2.result c.told-in-Some-poll-2.new.kept c.told-in-Some-poll-2.result
+    c.of-meant-in-Some.ensures c.hand-hand-in-Some-poll-2.ensures c.told-in-Some-poll-2.ensures.kept c.told-in-Some-poll-2.ensures.answer in
     subst (λ l. SleepPolled (here rules (S.opening m)) (λ d. S.ActsFor m d) cpu buffer edit (renamed_events edit_in (S.seen m))
     (renamed_events edit_in (S.seen n)) (own_of self.kept threads) l) left
     (nested_sleeps rules (S.opening m) (λ d. S.ActsFor m d) cpu buffer edit (Some c.in-Some-poll-2.answer) (S.seen m)
     (S.seen n) threads after self.kept hand is keeps polled)
 
-pub returns-in-Some-poll-2-clause-follows : goal.returns-in-Some-poll-2-clause-follows
-returns-in-Some-poll-2-clause-follows g c = λ step.
+pub returns-clause-follows : goal.returns-clause-follows
+returns-clause-follows g c = λ step.
     let rules = g.E.Sleeps.rules in
     let S = g.S.SchedLayer in
     let self = c.args.self.now in
@@ -265,9 +265,9 @@ returns-in-Some-poll-2-clause-follows g c = λ step.
     (sched_plan (nested_moves rules) (homes_in (S.opening m)) cpu (due hand buffer (as_edit edit)) threads) (S.acts m) (S.acts n)
     (sched_left after (c.in-Some-poll-2.is i)))
     (c.poll-in-Some.ensures.follows step) in
-    let left = told_is self.kept after buffer edit c.in-Some-poll-2.answer c.hand-in-Some-poll-2.result
-    c.told-in-Some-poll-2.new.kept c.told-in-Some-poll-2.result
-    c.hand-in-Some-poll-2.ensures c.told-in-Some-poll-2.ensures.kept c.told-in-Some-poll-2.ensures.answer in
+    let left = told_is self.kept after buffer edit c.of-meant-in-Some.result c.in-Some-poll-2.answer c.poll-in-Some.new.tray.message
+    c.hand-hand-in-Some-poll-2.result c.told-in-Some-poll-2.new.kept c.told-in-Some-poll-2.result
+    c.of-meant-in-Some.ensures c.hand-hand-in-Some-poll-2.ensures c.told-in-Some-poll-2.ensures.kept c.told-in-Some-poll-2.ensures.answer in
     subst (λ l. Follows (λ d. S.ActsFor m d) (table_of (queue_rules (sleep_rules rules) (sleep_moves rules))) (viewed state_of (S.opening m)) cpu
     (sleep_plan (sleep_moves rules) (homes_in (viewed state_of (S.opening m))) cpu buffer edit (own_of self.kept threads))
     (map (renamed (renamed_edit edit_in)) (S.acts m)) (map (renamed (renamed_edit edit_in)) (S.acts n)) l) left

@@ -1,13 +1,12 @@
-use Rattle.std.proofs.Common.{◌≡◌, MatchOption, Some, None, refl, subst, sym}
+use Rattle.std.proofs.Common.{◌≡◌, Some, None, refl, subst, sym}
 use Rattle.event_log.specs.Actions.{Take, Try, Give}
 use Rattle.event_log.specs.Sections.{sections_in}
 use Rattle.layer_traits.specs.Plans.{Follows, table_of, section_plan, answered}
 use Rattle.layer_traits.specs.Protocol.{StaysAllowed, section}
 use Rattle.layer_traits.specs.Polls.{MayPoll, Polled}
 use Rattle.spinlock.proofs.StageLemmas.{stepped, others_fit, joined_fits, joined_polled, joined_follows, tried_fits, tried_polled, tried_follows}
-use Rattle.spinlock.proofs.StageLemmas.{left_polled, left_follows}
-use Rattle.spinlock.specs.Stages.{StageFits, stage_section}
-use Rattle.spinlock.specs.declared.stages.TicketStage.TheVariants.{Held}
+use Rattle.spinlock.proofs.StageLemmas.{left_polled, left_follows, hit_found}
+use Rattle.spinlock.specs.Stages.{StageFits, hit_by, stage_section}
 use Rattle.spinlock.proofs.spinner.SpinnerLockLayerEdit.poll.Goals as goal
 
 -- a section begins, which stays allowed: its CPU joins the line
@@ -77,9 +76,8 @@ returns-in-Drawn-clause-fits g c =
       acts,
       tried_fits rules (step (g.met.M.LockLine.legal n cpu acts)) c.in-Drawn.lock c.in-Drawn.edit c.in-Drawn.ticket said.adds.0 said.adds.1 fits.0.1
           c.requires.fits.0 fits.1 fits.2 c.enter-found.result said.hits
-          c.after_look.new.self (subst
-          (λ s. MatchOption c.enter-found.result (c.after_look.new.self ≡ s) (λ block. c.after_look.new.self ≡ Held c.in-Drawn.lock c.in-Drawn.edit block))
-          c.in-Drawn.is c.after_look.ensures),
+          c.hit.new.self (hit_found c.in-Drawn.lock c.in-Drawn.edit c.in-Drawn.ticket c.enter-found.result c.hit.new.self
+          (subst (λ s. c.hit.new.self ≡ hit_by c.enter-found.result s) c.in-Drawn.is c.hit.ensures)),
     )
 
 pub returns-in-Drawn-clause-seen : goal.returns-in-Drawn-clause-seen

@@ -1,0 +1,166 @@
+use Rattle.std.proofs.Common.{◌++◌, Option, refl, ap, sym, ◌∙◌, subst, arith, vec_capacity}
+use Rattle.event_log.specs.declared.ids.CpuId.{CpuId}
+use Rattle.layer_traits.specs.declared.calls.Effect.{Effect}
+use Rattle.layer_traits.specs.BufferLaw.{buffer_of, talk_of}
+use Rattle.cpu.specs.Guests.{entries_of, polled}
+use Rattle.cpu.specs.Cpus.{ActsGrow, programs_of, fresh_at, guest_at, with_guest}
+use Rattle.cpu.proofs.GuestLists.{programs_with}
+use Rattle.cpu.proofs.Passing.{called_grows, follows_grow}
+use Rattle.cpu.proofs.Steps.{PolledCpu, noted_call, poll_buffer, poll_number, poll_room, poll_talks, poll_within, polls_at}
+use Rattle.layer_traits.specs.QueueBlocks.{homes_in}
+use Rattle.cpu.proofs.TableCalls.{ToldPoll, call_steps, call_tabled, hand_kept}
+use Rattle.cpu.proofs.CpuStates.{valid_cpu}
+use Rattle.cpu.proofs.Layered.{acts_for, laws_of, layered, runs_home, told_cpu, told_outset}
+use Rattle.cpu.proofs.cpus.Cpu.poll.Given.{Over}
+use Rattle.cpu.proofs.cpus.Cpu.poll.Goals as goal
+
+pub poll-answer-requires-clause-same : goal.poll-answer-requires-clause-same
+poll-answer-requires-clause-same g c = poll_talks (valid_cpu c.requires.is) c.args.thread c.args.call.now c.requires.chosen
+
+pub effect_here-effect-requires : goal.effect_here-effect-requires
+effect_here-effect-requires g c = poll_number (valid_cpu c.requires.is) c.args.thread c.args.call.now c.requires.chosen
+
+pub note_poll-fresh-requires : goal.note_poll-fresh-requires
+note_poll-fresh-requires g c = poll_within (valid_cpu c.requires.is) c.args.thread c.args.call.now c.requires.chosen
+
+pub note_effect-requires : goal.note_effect-requires
+note_effect-requires g c = λ f some.
+    let I = g.I.IpcLayer in
+    let m = c.args.m.now in
+    let p = c.args.self.now in
+    let t = c.args.thread in
+    let cpu = layered (laws_of g.met.I.IpcLayer) m p c.requires.fits c.requires.number c.requires.is c.requires.table in
+    let runs = (polls_at (valid_cpu c.requires.is) t c.args.call.now c.requires.chosen).runs in
+    let less = poll_buffer (valid_cpu c.requires.is) t c.args.call.now c.requires.chosen in
+    let effect = c.effect_here-effect.ensures in
+    let after : PolledCpu (λ d. I.ActsFor m d) (valid_cpu c.requires.is) t c.args.call.now = record {
+      talks = I.talks c.poll-answer.new.self;
+      seen = I.seen c.poll-answer.new.m;
+      own = I.threads c.poll-answer.new.self;
+      doing = I.doing c.poll-answer.new.self;
+      guests = c.note_poll-fresh.new.self.items;
+      trace = p.trace.items
+          ++ entries_of p.number t (buffer_of c.args.call.now)
+          (fresh_at (guest_at p.guests.items t.0) ((talk_of (I.talks c.poll-answer.new.self) t).effect));
+      capacity = vec_capacity p.trace;
+      answer = c.poll-answer.result;
+      acts = acts_for cpu;
+      home = runs_home cpu t runs;
+      called = rw c.requires.number at (c.poll-answer.ensures.called less);
+      runs_on = c.poll-answer.ensures.runs less;
+      doing_is = c.poll-answer.ensures.doing less;
+      guests_is = c.note_poll-fresh.ensures.guests
+          ∙ ap (λ (f : Option Effect). with_guest p.guests.items t.0 (λ x. polled x f c.poll-answer.result)) effect;
+      trace_is = refl;
+      strict = c.requires.not_full;
+      capacity_is = omega arith;
+    } in
+    poll_room (valid_cpu c.requires.is) t c.args.call.now c.requires.chosen _ after f
+    (sym (c.note_poll-fresh.ensures.fresh ∙ ap (λ (f : Option Effect). fresh_at (guest_at p.guests.items t.0) f) effect) ∙ some)
+
+pub returns-clause-is : goal.returns-clause-is
+returns-clause-is g c =
+    let I = g.I.IpcLayer in
+    let m = c.args.m.now in
+    let p = c.args.self.now in
+    let t = c.args.thread in
+    let cpu = layered (laws_of g.met.I.IpcLayer) m p c.requires.fits c.requires.number c.requires.is c.requires.table in
+    let runs = (polls_at (valid_cpu c.requires.is) t c.args.call.now c.requires.chosen).runs in
+    let less = poll_buffer (valid_cpu c.requires.is) t c.args.call.now c.requires.chosen in
+    let effect = c.effect_here-effect.ensures in
+    let after : PolledCpu (λ d. I.ActsFor m d) (valid_cpu c.requires.is) t c.args.call.now = record {
+      talks = I.talks c.poll-answer.new.self;
+      seen = I.seen c.poll-answer.new.m;
+      own = I.threads c.poll-answer.new.self;
+      doing = I.doing c.poll-answer.new.self;
+      guests = c.note_poll-fresh.new.self.items;
+      trace = c.note_effect.new.trace.items;
+      capacity = vec_capacity c.note_effect.new.trace;
+      answer = c.poll-answer.result;
+      acts = acts_for cpu;
+      home = runs_home cpu t runs;
+      called = rw c.requires.number at (c.poll-answer.ensures.called less);
+      runs_on = c.poll-answer.ensures.runs less;
+      doing_is = c.poll-answer.ensures.doing less;
+      guests_is = c.note_poll-fresh.ensures.guests
+          ∙ ap (λ (f : Option Effect). with_guest p.guests.items t.0 (λ x. polled x f c.poll-answer.result)) effect;
+      trace_is = c.note_effect.ensures.items
+          ∙ ap (λ (f : Option Effect). p.trace.items ++ entries_of p.number t (buffer_of c.args.call.now) f)
+          (c.note_poll-fresh.ensures.fresh ∙ ap (λ (f : Option Effect). fresh_at (guest_at p.guests.items t.0) f) effect);
+      strict = c.requires.not_full;
+      capacity_is = c.note_effect.ensures.capacity;
+    } in
+    rw (c.poll-answer.ensures.homes, c.poll-answer.ensures.caps)
+    (noted_call (valid_cpu c.requires.is) t c.args.call.now c.requires.chosen _ after)
+
+pub returns-clause-leaves : goal.returns-clause-leaves
+returns-clause-leaves g c =
+    let I = g.I.IpcLayer in
+    let m = c.args.m.now in
+    let e = c.poll-answer.ensures in
+    let less = poll_buffer (valid_cpu c.requires.is) c.args.thread c.args.call.now c.requires.chosen in
+    record {
+      number = refl;
+      limit = refl;
+      cpu = e.cpu ∙ c.requires.number;
+      programs = ap programs_of c.note_poll-fresh.ensures.guests ∙ programs_with c.args.self.now.guests.items c.args.thread.0 _ (λ x. refl);
+      seen = called_grows _ _ _ _ _ _ _ _ _ (rw c.requires.number at (e.called less));
+      moves = rw c.requires.number at e.moves;
+      grows = λ step. subst (λ (d : CpuId). ActsGrow (λ e. I.ActsFor m e) d (I.acts m) (I.acts c.poll-answer.new.m)) c.requires.number
+          (follows_grow _ _ _ _ _ _ _ _ (e.follows step));
+      opening = e.opening;
+      caps = e.caps;
+      homes = e.homes;
+      site = e.site;
+      room = e.room;
+      acts = e.acts;
+      others = λ q apart fits. e.others q (rw c.requires.number apart) fits;
+    }
+
+-- what the poll leaves of the CPU over the tower
+abbrev told_poll : (g : Over) (c : goal.After-note_effect g) (step : g.I.IpcLayer.IsStepwise)
+    → let cpu = layered (laws_of g.met.I.IpcLayer) c.args.m.now c.args.self.now c.requires.fits c.requires.number c.requires.is c.requires.table in
+    ToldPoll (λ d. g.I.IpcLayer.ActsFor c.args.m.now d) (told_cpu cpu step) c.args.thread c.args.call.now (g.I.IpcLayer.acts c.args.m.now)
+told_poll g c step =
+    let I = g.I.IpcLayer in
+    let law = g.met.I.IpcLayer in
+    let m = c.args.m.now in
+    let p = c.args.self.now in
+    let q = c.poll-answer.new.self in
+    let n = c.poll-answer.new.m in
+    let less = poll_buffer (valid_cpu c.requires.is) c.args.thread c.args.call.now c.requires.chosen in
+    let effect = c.effect_here-effect.ensures in
+    record {
+      homes = homes_in (I.opening m);
+      homes_are = law.tells_homes step m;
+      part = I.own q;
+      own = I.threads q;
+      talks = I.talks q;
+      tells = law.tells step q;
+      doing = I.doing q;
+      guests = c.note_poll-fresh.new.self.items;
+      trace = c.note_effect.new.trace.items;
+      new = I.acts n;
+      result = c.poll-answer.result;
+      known = hand_kept (I.homes_of m) (I.homes_of n) (I.cpu_of q) (I.moves n) (I.threads q) c.poll-answer.ensures.homes
+          (law.stands q n c.poll-answer.ensures.fits) (law.moved n (I.cpu_of q) (law.own_cpu q n c.poll-answer.ensures.fits));
+      follows = c.poll-answer.ensures.follows step;
+      ended_is = (c.poll-answer.ensures.runs less).ended;
+      doing_is = c.poll-answer.ensures.doing less;
+      guests_is = c.note_poll-fresh.ensures.guests
+          ∙ ap (λ (f : Option Effect). with_guest p.guests.items c.args.thread.0 (λ x. polled x f c.poll-answer.result)) effect;
+      trace_is = c.note_effect.ensures.items
+          ∙ ap (λ (f : Option Effect). p.trace.items ++ entries_of p.number c.args.thread (buffer_of c.args.call.now) f)
+          (c.note_poll-fresh.ensures.fresh ∙ ap (λ (f : Option Effect). fresh_at (guest_at p.guests.items c.args.thread.0) f) effect);
+    }
+
+pub returns-clause-table : goal.returns-clause-table
+returns-clause-table g c = λ step.
+    let cpu = layered (laws_of g.met.I.IpcLayer) c.args.m.now c.args.self.now c.requires.fits c.requires.number c.requires.is c.requires.table in
+    rw (c.poll-answer.ensures.homes, c.poll-answer.ensures.caps, c.poll-answer.ensures.opening)
+    (call_tabled (told_cpu cpu step) _ _ (told_outset cpu step) c.args.thread c.args.call.now c.requires.chosen c.requires.live (told_poll g c step))
+
+pub returns-clause-steps : goal.returns-clause-steps
+returns-clause-steps g c = λ step.
+    let cpu = layered (laws_of g.met.I.IpcLayer) c.args.m.now c.args.self.now c.requires.fits c.requires.number c.requires.is c.requires.table in
+    call_steps (told_cpu cpu step) _ _ (told_outset cpu step) c.args.thread c.args.call.now c.requires.chosen c.requires.live (told_poll g c step)

@@ -1,0 +1,205 @@
+//! The guests of a CPU, by thread.
+
+ghost use Rattle.std.specs.Prelude.{◌≡◌, ◌+◌, ◌^◌, ◌<◌, ◌≤◌, not, length, if◌then◌else◌, Some, None};
+ghost use Rattle.std.specs.List.{count_by, list_all};
+ghost use Rattle.layer_traits.specs.Places.{one_if};
+ghost use Rattle.cpu.specs.Guests.{computed, is_begun, is_ended, polled};
+ghost use Rattle.cpu.specs.Cpus.{begun_count, fresh_at, guest_at, is_begun_guest, is_over, passed_by, with_guest};
+
+use crate::guests::{Guest, GuestStage};
+use event_log::Tid;
+use layer_traits::{Effect, Pass, Reply};
+use std::marker::Model;
+
+/// The guest of each thread by its number, `None` at threads of other homes. It is seen as their
+/// table, and keeps two counts over it, so that nobody who asks for one goes through the table.
+#[derive(Drop)]
+pub struct Guests {
+    table: Vec<Option<Guest>>,
+    /// How many are in a call that has had no effect.
+    begun: usize,
+    /// How many have not ended.
+    live: usize,
+}
+
+impl Model for Guests {
+    ghost use Rattle.std.specs.Prelude.{◌≡◌, not, Option, Vec};
+    ghost use Rattle.std.specs.Global.{Global};
+    ghost use Rattle.std.specs.List.{count_by};
+    ghost use Rattle.cpu.specs.declared.guests.Guest.{Guest};
+    ghost use Rattle.cpu.specs.Cpus.{begun_count, is_over};
+
+    ghost Value = { Vec (Option Guest) Global };
+
+    ghost view = { λ g. g.table };
+
+    ghost invariant = { λ g. (g.begun ≡ begun_count g.table.items) × (g.live ≡ count_by (λ x. not (is_over x)) g.table.items) };
+}
+
+impl Guests {
+    /// The guests of this table.
+    pub(crate) fn new(table: Vec<Option<Guest>>) -> Guests
+        ensures { result ≡ table }
+    {
+        let begun = count_begun(&table);
+        let live = count_live(&table);
+        Guests { table, begun, live }
+    }
+
+    /// What stands at this thread's number.
+    #[inline(always)]
+    pub(crate) fn at(&self, thread: Tid) -> &Option<Guest>
+        requires { thread.0 < length self.now.items }
+        ensures { result.now ≡ guest_at self.now.items thread.0 }
+    {
+        &self.table[usize::from(thread.0)]
+    }
+
+    /// How many of the guests are in a call that has had no effect.
+    #[inline(always)]
+    pub(crate) fn begun(&self) -> usize
+        ensures { result ≡ begun_count self.now.items }
+    {
+        self.begun
+    }
+
+    /// Whether each of the guests has ended.
+    #[inline(always)]
+    pub(crate) fn are_over(&self) -> bool
+        ensures { result ≡ list_all is_over self.now.items }
+    {
+        self.live == 0
+    }
+
+    /// Notes what a poll of a thread's call answered, and tells whether an effect that the call has
+    /// after it came in it.
+    #[inline(always)]
+    pub(crate) fn note_poll(
+        &mut self,
+        thread: Tid,
+        effect: &Option<Effect>,
+        answer: &Option<Reply>,
+    ) -> bool
+        requires { thread.0 < length self.old.items }
+        ensures guests { self.new.items ≡ with_guest self.old.items thread.0 (λ g. polled g effect.now answer.now) }
+        ensures fresh { (if result then effect.now else None) ≡ fresh_at (guest_at self.old.items thread.0) effect.now }
+    {
+        let Some(guest) = &mut self.table[usize::from(thread.0)] else {
+            return false;
+        };
+        let before = guest.stage;
+        let fresh = guest.awaits();
+        guest.note(effect, answer);
+        let after = guest.stage;
+        recount(&mut self.begun, &mut self.live, before, after);
+        fresh
+    }
+
+    /// Notes that a pass is done which began while this thread ran.
+    #[inline(always)]
+    pub(crate) fn note_pass(&mut self, runs: Option<Tid>, pass: Pass)
+        requires { (t : _) → runs ≡ Some t → t.0 < length self.old.items }
+        ensures { self.new.items ≡ passed_by runs self.old.items pass }
+    {
+        if let Some(thread) = runs {
+            self.hear_pass(thread, pass);
+        }
+    }
+
+    /// Tells the guest of this thread, which ran, of this pass.
+    #[inline(always)]
+    fn hear_pass(&mut self, thread: Tid, pass: Pass)
+        requires { thread.0 < length self.old.items }
+        ensures { self.new.items ≡ passed_by (Some thread) self.old.items pass }
+    {
+        let Some(guest) = &mut self.table[usize::from(thread.0)] else {
+            return;
+        };
+        let before = guest.stage;
+        guest.pass(pass);
+        let after = guest.stage;
+        recount(&mut self.begun, &mut self.live, before, after);
+    }
+
+    /// Notes that a thread did an instruction of its own.
+    #[inline(always)]
+    pub(crate) fn note_compute(&mut self, thread: Tid)
+        requires { thread.0 < length self.old.items }
+        ensures { self.new.items ≡ with_guest self.old.items thread.0 computed }
+    {
+        match &mut self.table[usize::from(thread.0)] {
+            Some(guest) => guest.compute(),
+            None => {}
+        }
+    }
+}
+
+/// Counts a guest by the stage at which it now stands, and no more by the one before.
+#[inline(always)]
+fn recount(begun: &mut usize, live: &mut usize, before: GuestStage, after: GuestStage)
+    requires begun { one_if (is_begun before) ≤ begun.old }
+    requires begun_room { begun.old + one_if (is_begun after) < 2 ^ 64 + one_if (is_begun before) }
+    requires live { one_if (not (is_ended before)) ≤ live.old }
+    requires live_room { live.old + one_if (not (is_ended after)) < 2 ^ 64 + one_if (not (is_ended before)) }
+    ensures begun { begun.new + one_if (is_begun before) ≡ begun.old + one_if (is_begun after) }
+    ensures live { live.new + one_if (not (is_ended before)) ≡ live.old + one_if (not (is_ended after)) }
+{
+    *begun = recounted(*begun, before.is_begun(), after.is_begun());
+    *live = recounted(*live, before.is_live(), after.is_live());
+}
+
+/// What is left of a count, or comes to it, where one that was counted or not now is or is not.
+#[inline(always)]
+fn recounted(count: usize, before: bool, after: bool) -> usize
+    requires counted { one_if before ≤ count }
+    requires room { count + one_if after < 2 ^ 64 + one_if before }
+    ensures { result + one_if before ≡ count + one_if after }
+{
+    count - usize::from(before) + usize::from(after)
+}
+
+/// How many of the guests are in a call that has had no effect.
+fn count_begun(guests: &[Option<Guest>]) -> usize
+    ensures { result ≡ begun_count guests.now }
+{
+    let mut count = 0;
+    for guest in guests {
+        if is_begun(guest) {
+            count += 1;
+        }
+    }
+    count
+}
+
+/// How many of the guests have not ended.
+fn count_live(guests: &[Option<Guest>]) -> usize
+    ensures { result ≡ count_by (λ x. not (is_over x)) guests.now }
+{
+    let mut count = 0;
+    for guest in guests {
+        if is_live(guest) {
+            count += 1;
+        }
+    }
+    count
+}
+
+/// Whether there is a guest in a call that has had no effect.
+fn is_begun(guest: &Option<Guest>) -> bool
+    ensures { result ≡ is_begun_guest guest.now }
+{
+    match guest {
+        Some(guest) => guest.stage.is_begun(),
+        None => false,
+    }
+}
+
+/// Whether there is a guest that has not ended.
+fn is_live(guest: &Option<Guest>) -> bool
+    ensures { result ≡ not (is_over guest.now) }
+{
+    match guest {
+        Some(guest) => guest.stage.is_live(),
+        None => false,
+    }
+}
