@@ -1,0 +1,345 @@
+#!/usr/bin/env python3
+"""Tries the wrong bodies of crates/NAME/wrong/*.edit: the prover must refuse each, on the line of the very function that it turns.
+
+usage: tests/wrong-bodies.py [--all] [--after-ci] [--jobs N] [--self-test] [NAME..]
+
+A wrong body is a file in the form of a must-fail edit, with a line before it that names the function, as a check prints it after the crate's name:
+
+    fn: threads::Thread::value
+    file: src/threads.rt
+    old: self.registers[register.number()]
+    new: self.registers[0]
+
+Bodies of different functions are tried in ONE check of a copy of the crate. A body counts as refused only where its own function gets a line `not proved` or
+`no proof: ..`. A failed callee does not count: such a body, and one that got no verdict, is tried again in a later round, at last alone. What is still proved
+then fails by name. So does an edit that cannot be applied, names no function, or ends in no verdict, as for want of memory.
+
+tests/wrong-bodies.sums tells what has passed: a sum of the kit's logic, of the crate's text and of all beneath it, and of its wrong bodies. A crate whose sum
+stands there is not tried again; --all tries it all the same. --after-ci takes the libraries as `rt ci` left them, and takes the crates as proved; without it
+the libraries are built first, and each function has to be proved as it stands. The last line is 'N passed, M failed'.
+"""
+import argparse
+import dataclasses
+import hashlib
+import importlib.machinery
+import os
+import re
+import shutil
+import subprocess
+import sys
+import tempfile
+import threading
+import types
+from concurrent.futures import ThreadPoolExecutor
+
+sys.dont_write_bytecode = True
+ROOT = os.path.dirname(os.path.dirname(os.path.realpath(__file__)))
+SUMS = f"{ROOT}/tests/wrong-bodies.sums"
+PARTS = ("src", "specs", "proofs")
+REFUSED = re.compile(r"(not proved|no proof)(?!.*(it calls|it passes|a call of))")
+# A proof file that names what the edit took away, and a goal that the prover found open.
+STALE_NAME = re.compile(r"(?:note: )?(?:\./)?proofs/\S+:\d+:\d+: .*(has no |is not in scope|was not admitted)")
+OPEN_GOAL = re.compile(r"(?:note: )?(?:\./)?\S+:\d+:\d+: .*(is not proved|may be false|does not prove|error)")
+UNREAD = re.compile(r"(?:\./)?(?:src|specs)/\S+?:\d+:\d+: error: (.*)")
+UNREAD_WORDS = re.compile(r"is not in scope|has no field|is no name|operand is missing|expected the end|cannot continue")
+printing = threading.Lock()
+
+
+def kit():
+    """Returns the kit's own module, by which its commands name a crate's libraries and call the prover."""
+    page = subprocess.run(["rt", "doc"], stdout=subprocess.PIPE, text=True, check=True).stdout.strip()
+    made = types.ModuleType("rtlib")
+    made.__file__ = f"{os.path.dirname(page)}/bin/rtlib.py"
+    sys.modules["rtlib"] = made
+    importlib.machinery.SourceFileLoader("rtlib", made.__file__).exec_module(made)
+    made.guarded()
+    return made
+
+
+def say(text):
+    with printing:
+        print(text, flush=True)
+
+
+@dataclasses.dataclass
+class Body:
+    """One wrong body: where it stands, the function that it turns, and its pairs of a file, an old text and a new one."""
+
+    crate: str
+    file: str
+    function: str = ""
+    pairs: list = dataclasses.field(default_factory=list)
+    verdict: str = ""
+    is_failure: bool = False
+    tries: int = 0
+
+    def name(self):
+        return f"{self.crate}/{os.path.basename(self.file)}"
+
+    def end(self, verdict, is_failure=False):
+        self.verdict, self.is_failure = verdict, is_failure
+        say(f"wrong-body {self.name()}: {'FAILED: ' if is_failure else ''}{verdict}")
+
+    def read(self):
+        """Reads the file, and returns why it is no wrong body, if it is none."""
+        at, old = "", None
+        for line in open(self.file, encoding="utf-8").read().split("\n"):
+            if line.startswith("fn: "):
+                self.function = line[4:].strip()
+            elif line.startswith("file: "):
+                at = line[6:].strip()
+            elif line.startswith("old: "):
+                old = line[5:]
+            elif line.startswith("new:"):
+                if not at or old is None:
+                    return "a 'new:' line stands before its 'file:' and 'old:' lines"
+                self.pairs.append((at, old, line[4:].removeprefix(" ")))
+                old = None
+        outside = [at for at, _, _ in self.pairs if os.path.normpath(at) != at or not at.startswith("src/")]
+        if outside:
+            return f"{outside[0]} is no file below src/: an edit of a definition or a proof shows nothing"
+        return "it has no line 'fn:'" if not self.function else None if self.pairs else "it has no pair 'old:', 'new:'"
+
+    def applied(self, texts):
+        """Returns these texts with the body in them, or None and why it cannot be put in."""
+        changed = dict(texts)
+        for at, old, new in self.pairs:
+            found = changed.get(at, "").count(old)
+            if found != 1:
+                return None, f"an 'old:' text is in {at} {found} times, and not once: {old[:80]}"
+            changed[at] = changed[at].replace(old, new)
+        return changed, None
+
+
+class Trial:
+    """The wrong bodies of one crate, tried over one folder of kept work."""
+
+    def __init__(self, lib, crate, bodies, after_ci, room):
+        self.lib, self.crate, self.bodies, self.after_ci, self.room = lib, crate, bodies, after_ci, room
+        self.kept, self.rounds = f"{room}/kept", 0
+        own = f"{crate.folder}/{lib.KEPT[1]}"
+        shutil.copytree(own, self.kept) if os.path.isdir(own) else os.mkdir(self.kept)
+        self.texts = {}
+        for at, _, files in os.walk(f"{crate.folder}/src"):
+            for it in files:
+                path = f"{at}/{it}"
+                self.texts[os.path.relpath(path, crate.folder)] = open(path, encoding="utf-8").read()
+
+    def check(self, texts, functions):
+        """Checks these functions alone, in a copy of the crate with these texts."""
+        self.rounds += 1
+        with tempfile.TemporaryDirectory(dir=self.room) as copy:
+            for part in PARTS:
+                if os.path.isdir(f"{self.crate.folder}/{part}"):
+                    shutil.copytree(f"{self.crate.folder}/{part}", f"{copy}/{part}")
+            for path, text in texts.items():
+                if text != self.texts[path]:
+                    with open(f"{copy}/{path}", "w", encoding="utf-8") as it:
+                        it.write(text)
+            only = [word for it in functions for word in ("--only", it)]
+            words = [self.lib.RATTLE, "check", *self.crate.words(["--jobs", "1", *only], keeps=False), "--incremental", self.kept]
+            how = {"cwd": copy, "stdin": subprocess.DEVNULL, "stdout": subprocess.PIPE, "stderr": subprocess.STDOUT, "text": True, "errors": "replace"}
+            return subprocess.run([*self.lib.guarded(), *words], **how).stdout.rstrip("\n").split("\n")
+
+    def run(self):
+        unread = [it for it in self.bodies if not it.verdict]
+        for it in unread:
+            why = self.applies_alone(it)
+            if why:
+                it.end(f"BAD EDIT: {why}", True)
+        if not self.after_ci:
+            self.control()
+        while self.open():
+            self.round(self.chosen())
+
+    def applies_alone(self, body):
+        return body.applied(self.texts)[1]
+
+    def open(self):
+        return [it for it in self.bodies if not it.verdict]
+
+    def control(self):
+        """Fails each body whose function is not proved as it stands."""
+        functions = sorted({it.function for it in self.open()})
+        if not functions:
+            return
+        lines = self.check(self.texts, functions)
+        for it in self.open():
+            said = self.said_of(it, lines)
+            if said is not None and said != "proved":
+                it.end(f"its function is not proved as it stands: {said[:160]}", True)
+
+    def chosen(self):
+        """Returns the bodies of the next round, one a function: all that were not tried yet, else the first of the others alone."""
+        fresh = [it for it in self.open() if it.tries == 0]
+        again = [it for it in self.open() if it.tries == 1]
+        found, functions, texts = [], set(), self.texts
+        for it in fresh or again or self.open()[:1]:
+            changed, why = it.applied(texts)
+            if not why and it.function not in functions:
+                found, texts = [*found, it], changed
+                functions.add(it.function)
+        return found
+
+    def round(self, bodies):
+        texts = self.texts
+        for it in bodies:
+            texts = it.applied(texts)[0]
+        lines = self.check(texts, [it.function for it in bodies])
+        bad = self.unusable(lines, texts)
+        if bad and len(bodies) > 1:
+            named = [it for it in bodies if f"`{it.function}`" in bad and "has no function" in bad]
+            for part in ([[it] for it in named] + [[it for it in bodies if it not in named]]) if named else (bodies[: len(bodies) // 2], bodies[len(bodies) // 2 :]):
+                if part:
+                    self.round(part)
+        elif bad:
+            bodies[0].end(bad[:300], True)
+        else:
+            for it in bodies:
+                self.judge(it, lines, alone=len(bodies) == 1)
+
+    def unusable(self, lines, texts):
+        """Returns why a check says nothing of any body in it, if it does not."""
+        for it in lines:
+            found = UNREAD.match(it)
+            if found and (not found[1].startswith("`") or UNREAD_WORDS.search(re.sub(r"`[^`]*`", "", found[1]))):
+                return f"BAD EDIT: the prover cannot read it: {it}"
+        if any(self.lib.STALE.search(it) for it in lines):
+            return "the kept work of a library could not be used"
+        if not re.match(r"only=\d+ proved=\d+", lines[-1]):
+            told = next((it for it in lines if "error" in it), lines[-1])
+            return f"the check ended without a verdict: {told}"
+        return ""
+
+    def said_of(self, body, lines):
+        head = f"fn {self.crate.name}::{body.function}: "
+        return next((it[len(head) :] for it in lines if it.startswith(head)), None)
+
+    def judge(self, body, lines, alone):
+        body.tries = 3 if alone else body.tries + 1
+        said = self.said_of(body, lines)
+        if said is None:
+            body.end(f"no line tells of {body.function}", True)
+        elif REFUSED.match(said):
+            is_weak = self.is_weak(body, lines)
+            body.end(f"refused{', but only since a proof file names what it took away: change a value and keep the shape' if is_weak else ''}: {said[:160]}")
+            body.is_weak = is_weak
+        elif alone:
+            body.end("NOT REFUSED: the function is still proved" if said == "proved" else f"no verdict: {said[:160]}", True)
+
+    def is_weak(self, body, lines):
+        """Returns whether all that stands against the function is a proof file that no longer reads."""
+        end = next(at for at, it in enumerate(lines) if it.startswith(f"fn {self.crate.name}::{body.function}: "))
+        start = max((at + 1 for at, it in enumerate(lines[:end]) if re.match(r"(fn|impl|struct|enum|trait) ", it)), default=0)
+        told = [it for it in lines[start:end] if OPEN_GOAL.match(it) or STALE_NAME.match(it)]
+        return bool(told) and all(STALE_NAME.match(it) for it in told)
+
+
+def sum_of(lib, crate, bodies):
+    """Returns the sum of all that a verdict on the crate's wrong bodies rests on."""
+    total = hashlib.sha256(subprocess.run(["rt", "version"], stdout=subprocess.PIPE, check=True).stdout)
+    for it in sorted([crate, *crate.below()], key=lambda it: it.name):
+        for file in sorted(lib.files_of(it.folder)):
+            total.update(os.path.relpath(file, ROOT).encode() + b"\0" + open(file, "rb").read())
+        total.update(" ".join([it.name, *(dep.name for dep in it.deps), *it.of_kit]).encode())
+    for it in bodies:
+        total.update(it.name().encode() + b"\0" + open(it.file, "rb").read())
+    return total.hexdigest()
+
+
+def bodies_of(crate, folder):
+    """Returns the wrong bodies of a crate, those that cannot be read with their failure."""
+    found = []
+    for name in sorted(os.listdir(folder)) if os.path.isdir(folder) else []:
+        body = Body(crate.name, f"{folder}/{name}")
+        why = body.read() if name.endswith(".edit") else "it is no file NAME.edit"
+        if not why and os.path.exists(f"{crate.folder}/must-fail/{name}"):
+            why = "must-fail/ has an edit of this name"
+        if why:
+            body.end(f"BAD EDIT: {why}", True)
+        found.append(body)
+    return found
+
+
+def try_crate(lib, crate, bodies, after_ci):
+    if not after_ci:
+        for dep in crate.below():
+            if not dep.is_built() and dep.build_rlib(["--jobs", "1"], anew=False):
+                bodies[0].end(f"the library {dep.name} beneath was not built", True)
+                return 0
+    with tempfile.TemporaryDirectory(prefix="wrong-bodies-") as room:
+        trial = Trial(lib, crate, bodies, after_ci, room)
+        trial.run()
+        return trial.rounds
+
+
+def memory_lanes():
+    """Returns how many checks of up to 5 GB the free memory holds."""
+    free = int(re.search(r"MemAvailable:\s+(\d+)", open("/proc/meminfo").read())[1])
+    return max(1, min(len(os.sched_getaffinity(0)), free // 5_000_000))
+
+
+def kept_sums():
+    if not os.path.exists(SUMS):
+        return {}
+    return dict(line.split() for line in open(SUMS) if line.strip())
+
+
+def keep_sum(name, made):
+    with printing:
+        sums = {**kept_sums(), name: made}
+        with open(SUMS, "w") as it:
+            it.writelines(f"{key} {value}\n" for key, value in sorted(sums.items()))
+
+
+def self_test(lib):
+    """Tries the edits of tests/wrong-bodies/: of each, its name says how it has to end."""
+    crate = next(it for it in lib.crates_below(ROOT) if it.name == "shared_queue")
+    bodies = bodies_of(crate, f"{ROOT}/tests/wrong-bodies")
+    try_crate(lib, crate, bodies, True)
+    wrong = [it.name() for it in bodies if it.is_failure != os.path.basename(it.file).startswith("fails_")]
+    say(f"wrong-bodies: its own test: {len(bodies) - len(wrong)} ended as they must{''.join(f', {it} did not' for it in wrong)}")
+    print(f"{len(bodies) - len(wrong)} passed, {len(wrong)} failed")
+    return 1 if wrong or not bodies else 0
+
+
+def main():
+    read = argparse.ArgumentParser(description=__doc__, formatter_class=argparse.RawDescriptionHelpFormatter)
+    for flag in ("--all", "--after-ci", "--self-test"):
+        read.add_argument(flag, action="store_true")
+    read.add_argument("--jobs", type=int, default=memory_lanes())
+    read.add_argument("names", nargs="*")
+    given = read.parse_args()
+    lib = kit()
+    if given.self_test:
+        return self_test(lib)
+    crates = [it for it in lib.crates_below(ROOT) if not given.names or it.name in given.names]
+    if {*given.names} - {it.name for it in crates}:
+        read.error(f"no crate is named {' '.join({*given.names} - {it.name for it in crates})}")
+    sums, rounds, bodies = kept_sums(), [], []
+
+    def work(crate):
+        mine = bodies_of(crate, f"{crate.folder}/wrong")
+        bodies.extend(mine)
+        made = sum_of(lib, crate, mine)
+        if mine and sums.get(crate.name) == made and not given.all:
+            for it in mine:
+                it.verdict = "refused before"
+            say(f"wrong-bodies {crate.name}: {len(mine)} were refused before, over this very text")
+        elif mine:
+            rounds.append(try_crate(lib, crate, mine, given.after_ci))
+            if not any(it.is_failure for it in mine):
+                keep_sum(crate.name, made)
+
+    with ThreadPoolExecutor(given.jobs) as pool:
+        for done in [pool.submit(work, it) for it in sorted(crates, key=lambda it: -len(it.below()))]:
+            done.result()
+    failed = sum(it.is_failure for it in bodies)
+    weak = sum(getattr(it, "is_weak", False) for it in bodies)
+    say(f"wrong-bodies: {len(bodies) - failed} refused, {weak} weak, {failed} failed, {sum(rounds)} rounds")
+    print(f"{len(bodies) - failed} passed, {failed} failed")
+    return 1 if failed else 0
+
+
+if __name__ == "__main__":
+    sys.exit(main())
