@@ -71,6 +71,7 @@ class Body:
     pairs: list = dataclasses.field(default_factory=list)
     verdict: str = ""
     is_failure: bool = False
+    is_weak: bool = False
     tries: int = 0
 
     def name(self):
@@ -221,9 +222,9 @@ class Trial:
         if said is None:
             body.end(f"no line tells of {body.function}", True)
         elif REFUSED.match(said):
-            is_weak = self.is_weak(body, lines)
-            body.end(f"refused{', but only since a proof file names what it took away: change a value and keep the shape' if is_weak else ''}: {said[:160]}")
-            body.is_weak = is_weak
+            body.is_weak = self.is_weak(body, lines)
+            weak = ", but only since a proof file names what it took away: change a value and keep the shape" if body.is_weak else ""
+            body.end(f"refused{weak}: {said[:160]}")
         elif alone:
             body.end("NOT REFUSED: the function is still proved" if said == "proved" else f"no verdict: {said[:160]}", True)
 
@@ -262,15 +263,19 @@ def bodies_of(crate, folder):
 
 
 def try_crate(lib, crate, bodies, after_ci):
-    if not after_ci:
-        for dep in crate.below():
-            if not dep.is_built() and dep.build_rlib(["--jobs", "1"], anew=False):
-                bodies[0].end(f"the library {dep.name} beneath was not built", True)
-                return 0
+    """Tries the wrong bodies of a crate whose libraries stand, and returns how many checks that took."""
     with tempfile.TemporaryDirectory(prefix="wrong-bodies-") as room:
         trial = Trial(lib, crate, bodies, after_ci, room)
         trial.run()
         return trial.rounds
+
+
+def build_beneath(lib, crates, after_ci):
+    """Builds the libraries beneath these crates, where they do not stand. Those of `rt ci` have no stamp."""
+    for dep in sorted({it for crate in crates for it in crate.below()}, key=lambda it: len(it.below())):
+        of_ci = after_ci and os.path.isdir(dep.rlib) and not os.path.exists(f"{dep.folder}/out/rlib/stamp")
+        if not of_ci and not dep.is_built() and dep.build_rlib(["--jobs", "1"], anew=False):
+            sys.exit(f"wrong-bodies: the library {dep.name} was not built")
 
 
 def memory_lanes():
@@ -293,9 +298,10 @@ def keep_sum(name, made):
 
 
 def self_test(lib):
-    """Tries the edits of tests/wrong-bodies/: of each, its name says how it has to end."""
+    """Tries the edits of tests/wrong-bodies/, of which those that are named fails_* have to fail, and the others to be refused."""
     crate = next(it for it in lib.crates_below(ROOT) if it.name == "shared_queue")
     bodies = bodies_of(crate, f"{ROOT}/tests/wrong-bodies")
+    build_beneath(lib, [crate], True)
     try_crate(lib, crate, bodies, True)
     wrong = [it.name() for it in bodies if it.is_failure != os.path.basename(it.file).startswith("fails_")]
     say(f"wrong-bodies: its own test: {len(bodies) - len(wrong)} ended as they must{''.join(f', {it} did not' for it in wrong)}")
@@ -316,27 +322,26 @@ def main():
     crates = [it for it in lib.crates_below(ROOT) if not given.names or it.name in given.names]
     if {*given.names} - {it.name for it in crates}:
         read.error(f"no crate is named {' '.join({*given.names} - {it.name for it in crates})}")
-    sums, rounds, bodies = kept_sums(), [], []
+    of = {it: bodies_of(it, f"{it.folder}/wrong") for it in crates}
+    sums, made = kept_sums(), {it: sum_of(lib, it, of[it]) for it in crates}
+    due = [it for it in crates if of[it] and (given.all or sums.get(it.name) != made[it])]
+    for it in crates:
+        if of[it] and it not in due:
+            say(f"wrong-bodies {it.name}: {len(of[it])} were refused before, over this very text")
+    build_beneath(lib, due, given.after_ci)
 
     def work(crate):
-        mine = bodies_of(crate, f"{crate.folder}/wrong")
-        bodies.extend(mine)
-        made = sum_of(lib, crate, mine)
-        if mine and sums.get(crate.name) == made and not given.all:
-            for it in mine:
-                it.verdict = "refused before"
-            say(f"wrong-bodies {crate.name}: {len(mine)} were refused before, over this very text")
-        elif mine:
-            rounds.append(try_crate(lib, crate, mine, given.after_ci))
-            if not any(it.is_failure for it in mine):
-                keep_sum(crate.name, made)
+        rounds = try_crate(lib, crate, of[crate], given.after_ci)
+        if not any(it.is_failure for it in of[crate]):
+            keep_sum(crate.name, made[crate])
+        return rounds
 
     with ThreadPoolExecutor(given.jobs) as pool:
-        for done in [pool.submit(work, it) for it in sorted(crates, key=lambda it: -len(it.below()))]:
-            done.result()
+        rounds = sum(pool.map(work, sorted(due, key=lambda it: -len(it.below()))))
+    bodies = [it for mine in of.values() for it in mine]
     failed = sum(it.is_failure for it in bodies)
-    weak = sum(getattr(it, "is_weak", False) for it in bodies)
-    say(f"wrong-bodies: {len(bodies) - failed} refused, {weak} weak, {failed} failed, {sum(rounds)} rounds")
+    weak = sum(it.is_weak for it in bodies)
+    say(f"wrong-bodies: {len(bodies) - failed} refused, {weak} weak, {failed} failed, {rounds} rounds")
     print(f"{len(bodies) - failed} passed, {failed} failed")
     return 1 if failed else 0
 
