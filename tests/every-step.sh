@@ -6,13 +6,14 @@
 #
 #   tests/every-step.sh [PROGRAM..]
 #
-# Without a name it runs each build of mctower that `rt ci` or `rt run` left. Where there is no rustc it compares nothing and says so.
+# Without a name it runs each build of mctower that `rt ci` or `rt run` left. It wants rustc: where there is none it compares nothing,
+# says so and fails.
 set -eu
 cd "$(dirname "$0")/.."
 room=$(mktemp -d); trap 'rm -rf "$room"' EXIT
 [ $# -gt 0 ] || set -- $(ls crates/mctower/out/mctower crates/mctower/out/mctower.by-rattle 2> /dev/null)
 PATH=$PATH:$HOME/.cargo/bin
-command -v rustc > /dev/null || { echo "every step: not compared, since no rustc is here to build the plain program"; exit 0; }
+command -v rustc > /dev/null || { echo "every step: not compared, since no rustc is here to build the plain program"; exit 1; }
 rustc -O -o "$room/plain_tower" bench/plain_tower.rs
 rustc -O -o "$room/every_step" bench/every_step.rs
 mkdir "$room/plans"
@@ -30,4 +31,4 @@ for program; do
   python3 bench/quiet_often.py "$program" 1 50
   passed=$((passed + 1))
 done
-[ "$passed" -gt 0 ]
+[ "$passed" -gt 0 ] || { echo "every step: build the program first: (cd crates/mctower && rt run -- count --cpus 1 --times 1)"; exit 1; }
