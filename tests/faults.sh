@@ -3,7 +3,7 @@
 # one on, every start of a thread, all from one on, standard output cut behind every byte, standard input that fails behind every byte.
 # Each outcome has to be the one of the unhindered run, or the refusal that is promised for it with just what may be out. Where worker
 # threads race each other two runs may differ: there it is right where `check` says yes to the text, all messages went through and each
-# CPU has its line. It takes about a minute.
+# CPU has its line. It takes about a minute; .ci/run calls it after rt ci.
 #
 #   tests/faults.sh [PROGRAM]
 #
@@ -13,6 +13,8 @@ export LC_ALL=C
 cd "$(dirname "$0")/.."
 program=$(realpath "${1:-crates/mctower/out/mctower}")
 [ -x "$program" ] || { echo "faults: build the program first: (cd crates/mctower && rt run -- count --cpus 1 --times 1)"; exit 1; }
+PATH=$PATH:$HOME/.cargo/bin
+command -v rustc > /dev/null || { echo "faults: nothing was refused, since no rustc is here to build what refuses"; exit 1; }
 room=$(mktemp -d)
 trap 'rm -rf "$room"' EXIT
 rustc --edition 2024 -O -C panic=abort --crate-type cdylib -o "$room/librefuse.so" bench/refuse.rs || exit 1
@@ -131,13 +133,15 @@ printf 'mctower-trace 2\nbuffers 1\ncap 0 1\ne 1 1 close 0 - 0 0\ne 0 0 recvc 0 
   for cpu in 2 3; do printf '[[thread]]\ncpu = %d\nprogram = ["recv 0 r0", "recv 0 r1"]\n' "$cpu"; done
 } > "$room/race.toml"
 
-command no no /dev/null count --cpus 2 --times 2
+command no no /dev/null count --cpus 1 --times 5 --lock ticket
+command no no /dev/null count --cpus 2 --times 3
 command yes no plans/one-send.toml run --schedule '0*21'
 command no no plans/one-send.toml run --schedule '0*'
 command yes no "$room/yes.txt" check
 command yes no "$room/no.txt" check
 command yes no "$room/closed.txt" check
 command no no tests/rows/closed-with-an-item.toml run --schedule '0*90'
+command no no tests/rows/there-and-back.toml run --schedule '0*32,1*60,0*60'
 # a build that does not serve `threads` takes it for a bad command line
 if "$program" threads --turns 1 < plans/one-send.toml > /dev/null 2>&1; then
   command yes no plans/one-send.toml threads --turns 1000
