@@ -37,32 +37,79 @@ sent=$'mctower-trace 1\nbuffers 1\ncap 0 1\ne 0 0 send 0 7 0 0\nleft 0 7\nend\n'
 state=$'cpu 0 AllEnded\nthread 0 Ended\nquiet yes\n'
 one_stack='ulimit -s 1000000; ulimit -v 1500000'
 takes='mctower-trace 1\nbuffers 1\ncap 0 2\ne 0 0 recv 0 7 0 0\nleft 0\nend\n'
+before=$'mctower-trace 1\nbuffers 1\ncap 0 1\nleft 0\nend\n'
+waits=$'cpu 0 live\nthread 0 Ready(0)\nquiet no\n'
+# a run whose third entry takes from an empty buffer
+empty='mctower-trace 1\nbuffers 1\ncap 0 2\ne 0 0 send 0 7 0 0\ne 1 1 recv 0 7 1 0\ne 1 1 recv 0 8 2 1\ne 0 0 send 0 8 3 1\nleft 0\nend\n'
 
 # Changes the text of one send by the filter $2: `check` answers `no $1`, with status 3.
 verdict() {
   row 3 "no $1"$'\n' '' "printf '%s' '$sent' | $2 | mctower check"
 }
-# Changes the plan of one send by the sed script $2: `run` refuses it by the line `error: $1`, with status 1.
+# Changes the plan of one send by the sed script $2: `run` refuses it by the line `error: $1`, with status 1, whether a schedule is given or none.
 refused() {
   row 1 '' "error: $1"$'\n' "sed '$2' plans/one-send.toml | mctower run"
+  row 1 '' "error: $1"$'\n' "sed '$2' plans/one-send.toml | mctower run --schedule '0*6'"
+}
+# The plan of one send, two threads that end at once, and the lines $2: `run` refuses it by the line `error: $1`, with status 1.
+refused_behind() {
+  row 1 '' "error: $1"$'\n' "{ cat plans/one-send.toml; printf '[[thread]]\ncpu = 0\nprogram = [\"exit\"]\n%.0s' 1 2; printf '$2'; } | mctower run"
+}
+# The schedule $1 is none: told by status 2 and its line, before any input is read, so before a plan that is refused.
+no_schedule() {
+  export schedule=$1
+  row 2 '' $'error: BadSchedule(9)\n' "mctower run --schedule=\"\$schedule\" < plans/one-send.toml # $1"
+  row 2 '' $'error: BadSchedule(9)\n' "echo cpus = 17 | mctower run --schedule=\"\$schedule\" # $1"
+}
+# The schedule $1 names a CPU that the plan of one send has not: told by status 1 and its line, after a plan that is refused.
+no_cpu() {
+  row 1 '' $'error: BadCpu(4)\n' "mctower run --schedule '$1' < plans/one-send.toml"
+  row 1 '' $'error: OutOfRange(22) cpus\n' "echo cpus = 17 | mctower run --schedule '$1'"
 }
 
 rows() {
   # a good run, a yes, a no
   row 0 $'plain 6\ntable 6\n' '' 'mctower count --cpus 2 --times 3'
+  row 0 $'plain 6\ntable 6\n' '' 'mctower count --cpus 2 --times 3 --lock ticket'
+  row 0 $'plain 1\ntable 1\n' '' 'mctower count --cpus 1 --times 1 --lock grant'
+  row 0 $'plain 2\ntable 2\n' '' 'mctower count --cpus 1 --times 2 --lock grant'
+  row 0 $'plain 2\ntable 2\n' '' 'mctower count --cpus 1 --times 2 --lock ticket'
+  row 0 $'plain 7\ntable 7\n' '' 'mctower count --times 007 --cpus=+1 --lock grant'
   row 0 $'plain 8000\ntable 8000\n' '' 'mctower count --cpus 8 --times 1000 --lock grant'
   row 0 $'plain 8000\ntable 8000\n' '' 'mctower count --cpus 8 --times 1000 --lock ticket'
   # a fair lock is handed from thread to thread, which takes long where there are many more of them than free processors
   patience=120 row 0 $'plain 16000\ntable 16000\n' '' 'mctower count --cpus 16 --times 1000 --lock grant'
-  patience=120 row 0 $'plain 16000\ntable 16000\n' '' 'mctower count --cpus 16 --times 1000 --lock ticket'
+  patience=120 row 0 $'plain 16000\ntable 16000\n' '' 'mctower count --lock=ticket --times=1000 --cpus=16'
   row 0 "$sent" "$state" "$send"
+  row 0 $'yes\n' '' "printf '%s' '$sent' | mctower check"
   row 0 $'yes\n' "$state" "$send | mctower check"
+  # without a schedule no step is taken
+  row 0 "$before" "$waits" 'mctower run < plans/one-send.toml'
   row 0 "$sent" $'cpu 0 AllEnded\n' "$thread"
   row 0 $'yes\n' $'cpu 0 AllEnded\n' "$thread | mctower check"
   row 3 $'no 4 EmptyTake(35)\n' '' "printf '$takes' | mctower check"
   row 3 $'no 1 Spelling(30)\n' '' 'mctower check < /dev/null'
+  # three texts: the third entry takes from an empty buffer, the text ends behind two entries, a number has a leading zero
+  row 3 $'no 6 EmptyTake(35)\n' '' "printf '$empty' | mctower check"
+  row 3 $'no 7 Spelling(30)\n' '' "printf '$empty' | sed '6,7d;\$d' | mctower check"
+  row 3 $'no 5 Spelling(30)\n' '' "printf '$empty' | sed '5s/7 1 0/7 01 0/' | mctower check"
+  # an item of a schedule stands for as many steps of its CPU as it says
+  row 0 "$sent" "$state" "mctower run --schedule '0*20,0' < plans/one-send.toml"
+  row 0 "$sent" "$state" "mctower run --schedule '0*3,0,0*2,0,0*14' < plans/one-send.toml"
+  row 0 '' '' "cmp <(mctower run --schedule '0*3,1*2,0' < plans/ping-pong.toml 2>&1) <(mctower run --schedule 0,0,0,1,1,0 < plans/ping-pong.toml 2>&1)"
+  row 1 '' $'error: BadCpu(4)\n' "mctower run --schedule '0*3,255,1*2,0' < plans/ping-pong.toml"
+  # the longest schedule is one
+  row 0 "$sent" "$state" "mctower run --schedule '0*1048576' < plans/one-send.toml"
+  row 0 "$sent" "$state" "mctower run --schedule '0*1048575,0' < plans/one-send.toml"
+  no_cpu '7*1048576'
+  no_cpu '7*1048575,3'
   # a bad command line
   row 2 '' '~mctower: ' 'mctower'
+  row 2 '' '~mctower: ' 'mctower --help'
+  row 2 '' '~mctower count' 'mctower count --help'
+  row 2 '' '~mctower run' 'mctower help run'
+  row 2 '' '~mctower threads' 'mctower threads'
+  row 2 '' '~mctower check' 'mctower check more'
   row 2 '' '~mctower count' 'mctower count --cpus 0 --times 1'
   row 2 '' '~mctower count' 'mctower count --cpus 17 --times 1'
   row 2 '' '~mctower count' 'mctower count --cpus 2 --times 3 --lock mcs'
@@ -71,8 +118,13 @@ rows() {
   row 2 '' '~mctower threads' 'mctower threads --turns 1000000001 < plans/one-send.toml'
   row 2 '' '~mctower: ' "mctower \$'\\xff'"
   row 2 '' $'error: BadSchedule(9)\n' 'mctower run --schedule 0, < plans/one-send.toml'
+  row 2 '' $'error: BadSchedule(9)\n' "mctower run --schedule '' < plans/one-send.toml"
+  for schedule in '' , 0, ,0 0,,1 ' 0' '0 ' 00 01 256 a +1 -1 '0*' '*3' '0*0' '0*01' '0*1048577' '0*1048576,0' '7*1048576,3' '0*2*3' '0;1' \
+    '0, 1' $'0\n' 0x1 '*' '0*+1' '0**2' '0*1.5' '0*18446744073709551617' 99999999999999999999 '7*1048576,7*1048576' ٣; do
+    no_schedule "$schedule"
+  done
   # a refusal
-  row 1 '' $'error: BadCpu(4)\n' 'mctower run --schedule 0,1 < plans/one-send.toml'
+  for schedule in 1 0,1 '0*6,255' '0*3,1' '7*1000,0'; do no_cpu "$schedule"; done
   row 1 '' $'error: OutOfRange(22) cpus\n' 'echo cpus = 17 | mctower run'
   row 1 '' $'error: OutOfRange(22) cpus\n' 'echo cpus = 17 | mctower threads --turns 9'
   row 1 '' $'error: BadToml(20)\n' "printf '# \\xff\\n' | mctower run"
@@ -122,10 +174,27 @@ rows() {
   verdict '5 Left(37)' "sed -e '1s/1/3/' -e '4s/7/7,8/' -e '5s/7/7 8/'"
   # each change of a plan alone, and its error line
   refused 'MissingKey(21) cpus' 's/^cpus = 1/cpus = "1"/'
+  refused 'OutOfRange(22) cpus' 's/^cpus = 1/cpus = 17/'
+  refused 'BadToml(20)' 's/^cpus = 1/cpus = /'
+  refused 'BadToml(20)' 's/^cpus = 1/&\n&/'
+  refused 'MissingKey(21) trace' '/^trace/d'
+  refused 'OutOfRange(22) trace' 's/^trace = 4/trace = 65537/'
+  refused 'MissingKey(21) buffers' 's/\[1\]/["1"]/'
   refused 'OutOfRange(22) buffers' 's/\[1\]/[33]/'
+  refused 'BadToml(20)' 's/\[1\]/[1/'
+  refused 'MissingKey(21) thread' 's/\[\[thread\]\]/[thread]/'
+  refused 'OutOfRange(22) thread' 's/\[\[thread\]\]/thread = []\n[[other]]/'
+  refused 'MissingKey(21) thread 0 cpu' '/^cpu = /d'
+  refused 'OutOfRange(22) thread 0 cpu' 's/^cpu = 0/cpu = 1/'
+  refused 'MissingKey(21) thread 0 program' '/^program/s/"exit"/1/'
+  refused 'OutOfRange(22) thread 0 program' '/^program/s/send 0 r0/send 1 r0/'
+  refused 'Guest(23) thread 0 line 0 Empty(15)' 's/^program.*/program = []/'
+  refused 'Guest(23) thread 0 line 0 UnknownWord(10)' '/^program/s/set r0 7/set  r0 7/'
+  refused 'Guest(23) thread 0 line 0 BadRegister(11)' '/^program/s/set r0 7/set r9 7/'
+  refused 'Guest(23) thread 0 line 0 BadNumber(12)' '/^program/s/set r0 7/set r0 07/'
+  refused 'Guest(23) thread 0 line 1 BadTarget(13)' '/^program/s/send 0 r0/jnz r0 3/'
   refused 'OutOfRange(22) lock' '1i lock = "mcs"'
   refused 'MissingKey(21) lock' '1i lock = 1'
-  refused 'Guest(23) thread 0 line 0 Empty(15)' 's/^program.*/program = []/'
   refused 'Guest(23) thread 0 line 0 UnknownWord(10)' 's/^program.*/program = ["set  r0 7"]/'
   refused 'Guest(23) thread 0 line 0 BadRegister(11)' 's/^program.*/program = ["set r9 7"]/'
   refused 'Guest(23) thread 0 line 0 BadNumber(12)' 's/^program.*/program = ["set r0 07"]/'
@@ -148,6 +217,10 @@ rows() {
   refused 'BadToml(20)' '1s/^#/# \xff/'
   row 1 '' $'error: Guest(23) thread 0 line 256 TooLong(14)\n' \
     "{ grep -v program plans/one-send.toml; echo 'program = ['; yes '\"exit\",' | head -n 257; echo ']'; } | mctower run"
+  # a fault names its thread, behind three good ones; a plan that is no text behind a good one
+  refused_behind 'MissingKey(21) thread 3 cpu' '[[thread]]\nprogram = [\"exit\"]\n'
+  refused_behind 'Guest(23) thread 3 line 1 BadTarget(13)' '[[thread]]\ncpu = 0\nprogram = [\"exit\", \"jnz r0 2\"]\n'
+  refused_behind 'BadToml(20)' '# \xff\n'
   # an input that cannot be read
   row 1 '' $'error: ReadFault(7)\n' 'mctower check < .'
   row 1 '' $'error: ReadFault(7)\n' 'mctower run < .'
@@ -178,6 +251,19 @@ rows() {
   row 0 "$sent" '' "$thread 2> /dev/full"
 }
 
+# What an error of the crate says of itself, no run shows: the program tells each refusal by a text of `text_of`. So each error's own text,
+# which stands in its attribute, is held against the texts that stand there.
+texts() {
+  local text
+  for text in $(sed -n 's/^ *#\[error("\([A-Za-z]*([0-9]*)\)")\]$/\1/p' crates/mctower/src/*.rt | sort -u); do
+    if grep -qF "\"error: $text\\n\"" crates/mctower/src/refusals.rt; then
+      passed=$((passed + 1))
+    else
+      failed=$((failed + 1)); echo "edge: an error says $text of itself, and text_of has no such text"
+    fi
+  done
+}
+
 [ $# -gt 0 ] || set -- crates/mctower/out/mctower crates/mctower/out/mctower.by-rattle
 for program; do
   if [ -x "$program" ]; then
@@ -185,13 +271,7 @@ for program; do
     rows
   fi
 done
-# after a refused start of a thread no section was done: a test tells it, where room for one stack makes the second start fail
-tests=crates/mctower/out/mctower_tests
-if [ -x "$tests" ]; then
-  program=$(realpath "$tests")
-  row 0 $'\ntest result: ok\n' '' "$one_stack; mctower workers::tests::after_a_refused_allocation_or_start_the_number_is_0"
-fi
-
+[ $passed = 0 ] || texts
 [ $((passed + failed)) -gt 0 ] || { echo "edge: build the program first: (cd crates/mctower && rt run -- count --cpus 1 --times 1)"; exit 1; }
 echo "edge: $passed passed, $failed failed"
 [ "$failed" = 0 ]

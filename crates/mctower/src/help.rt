@@ -123,18 +123,3 @@ pub(crate) fn help_on(words: &[&str]) -> &'static str
         _ => PROGRAM,
     }
 }
-
-#[cfg(test)]
-mod tests {
-    use super::*;
-
-    #[test]
-    fn each_command_has_its_help(rt: HostRuntime) {
-        assert!(rt; help_on([].as_slice()).starts_with("mctower: "));
-        assert!(rt; help_on(["--help"].as_slice()).starts_with("mctower: "));
-        assert!(rt; help_on(["count", "--help"].as_slice()).starts_with("mctower count"));
-        assert!(rt; help_on(["help", "run"].as_slice()).starts_with("mctower run"));
-        assert!(rt; help_on(["threads"].as_slice()).starts_with("mctower threads"));
-        assert!(rt; help_on(["check", "more"].as_slice()).starts_with("mctower check"));
-    }
-}

@@ -205,38 +205,3 @@ pub fn read_line(alloc: Global, words: &[&str]) -> Result<Order, LineError>
         None => Err(LineError::Refused),
     }
 }
-
-#[cfg(test)]
-mod tests {
-    use super::*;
-    use std::test::Fail;
-
-    #[test]
-    fn count_has_its_values(rt: HostRuntime) -> Result<(), Fail> {
-        let words = ["count", "--cpus", "2", "--times", "3"];
-        assert!(rt;
-            matches!(
-                read_line(rt.alloc(), words.as_slice())?,
-                Order::Count(2, 3, LockKind::Grant)
-            )
-        );
-        let joined = ["count", "--lock=ticket", "--times=1000", "--cpus=16"];
-        assert!(rt;
-            matches!(
-                read_line(rt.alloc(), joined.as_slice())?,
-                Order::Count(16, 1000, LockKind::Ticket)
-            )
-        );
-        let spelled = ["count", "--times", "007", "--cpus=+1", "--lock", "grant"];
-        assert!(rt;
-            matches!(
-                read_line(rt.alloc(), spelled.as_slice())?,
-                Order::Count(1, 7, LockKind::Grant)
-            )
-        );
-        let unknown = ["count", "--cpus", "2", "--times", "3", "--lock", "mcs"];
-        let refused = read_line(rt.alloc(), unknown.as_slice());
-        assert!(rt; matches!(refused, Err(LineError::Refused)));
-        Ok(())
-    }
-}

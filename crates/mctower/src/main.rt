@@ -12,18 +12,10 @@ mod help;
 pub mod line;
 pub mod print;
 pub mod reading;
-#[cfg(test)]
-mod refusal_tests;
 pub mod refusals;
-#[cfg(test)]
-mod refused_tests;
 pub mod run;
-#[cfg(test)]
-mod run_tests;
 pub mod schedule;
 pub mod serve;
-#[cfg(test)]
-mod serve_tests;
 pub mod states;
 pub mod texts;
 pub mod threads;

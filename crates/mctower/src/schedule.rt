@@ -109,33 +109,3 @@ fn push_steps(steps: &mut Vec<CpuId>, item: Item) -> Result<(), AllocError>
 {
     steps.resize(steps.len() + item.steps, item.cpu)
 }
-
-#[cfg(test)]
-mod tests {
-    use super::*;
-    use std::test::Fail;
-
-    fn is_bad(alloc: Global, text: &str) -> bool {
-        read_steps(alloc, text).is_err_and(|e| e == StepsError::BadSchedule)
-    }
-
-    #[test]
-    fn items_stand_for_their_steps(rt: HostRuntime) -> Result<(), Fail> {
-        let steps = read_steps(rt.alloc(), "0*3,255,1*2,0")?;
-        let expected = [0, 0, 0, 255, 1, 1, 0];
-        assert_eq!(rt; steps.len(), expected.len());
-        for (step, number) in steps.iter().zip(expected.iter()) {
-            assert_eq!(rt; step.0, *number);
-        }
-        Ok(())
-    }
-
-    #[test]
-    fn the_longest_schedule_is_read(rt: HostRuntime) -> Result<(), Fail> {
-        assert_eq!(rt; read_steps(rt.alloc(), "7*1048576")?.len(), MOST_STEPS);
-        assert_eq!(rt; read_steps(rt.alloc(), "7*1048575,3")?.len(), MOST_STEPS);
-        assert!(rt; is_bad(rt.alloc(), "7*1048576,3"));
-        assert!(rt; is_bad(rt.alloc(), "-1"));
-        Ok(())
-    }
-}
