@@ -1,6 +1,6 @@
 //! The owned machine, run.
 
-ghost use Rattle.std.specs.Prelude.{◌≡◌, ◌+◌, ◌%◌, ◌^◌, ◌<◌, [], ◌∷◌, IsSome, IfOk};
+ghost use Rattle.std.specs.Prelude.{◌≡◌, ◌+◌, ◌%◌, ◌^◌, ◌<◌, ◌≤◌, [], ◌∷◌, IsSome, IfOk, IfSome};
 ghost use Rattle.event_log.specs.Grants.{grant_standing};
 ghost use Rattle.event_log.specs.WordsLog.{standing, Outside};
 
@@ -67,6 +67,8 @@ fn add_one<W: Words<Edit = AddOne>>(words: &mut W, cpu: CpuId, lock: LockId) -> 
     requires outside { standing cpu (W.seen words.old) ≡ Outside }
     ensures acts { (c : _) → W.ActsFor words.old c → W.ActsFor words.new c }
     ensures opening { W.opening words.new ≡ W.opening words.old }
+    ensures room { W.room words.old ≤ W.room words.new + 3 }
+    ensures outside { IfSome result (λ _. standing cpu (W.seen words.new) ≡ Outside) }
 {
     let ticket = words.draw(cpu, lock);
     let mut block = words.look(cpu, lock, ticket)?;
@@ -128,6 +130,31 @@ fn a_section_adds_one(rt: HostRuntime) -> Result<(), Fail> {
         }
     );
     assert_eq!(rt; home, Some(&41));
+    Ok(())
+}
+
+// As where a CPU whose thread waits takes from its pending queue twice. The number goes round.
+#[test]
+fn two_sections_leave_two_ticket_words(rt: HostRuntime) -> Result<(), Fail> {
+    let lock = LockId::Buffer(BufId(0));
+    let mut machine = machine_with::<LockWords>(rt.alloc(), lock, u64::MAX, 6)?;
+    let Some(first) = add_one(&mut machine, CpuId(0), lock) else {
+        panic!(rt; "nobody is before the first");
+    };
+    let Some(second) = add_one(&mut machine, CpuId(0), lock) else {
+        panic!(rt; "the first has gone");
+    };
+    let words = machine.words(lock);
+    let home = machine.home(lock);
+    assert_eq!(rt; (first, second), (u64::MAX, 0));
+    assert_eq!(rt;
+        words,
+        LockWords {
+            next: 2,
+            serving: 2
+        }
+    );
+    assert_eq!(rt; home, Some(&1));
     Ok(())
 }
 
