@@ -1,8 +1,8 @@
 #!/usr/bin/env bash
-# Runs each plan of plans/ and of tests/rows/ by the command in its first lines, over locks with grant words, as it names none, and
-# over ticket locks, and compares what comes on standard output and then on standard error with the file of its name in expected/
-# beside it, which bench/plain_tower.rs wrote: a plain program of the step table. It takes seconds; .ci/run calls it after rt ci. The
-# last line is 'plans: N passed, M failed'.
+# Runs each plan of plans/, of tests/rows/ and of tests/long/, whose runs are too long to be looked at after every step, by the command
+# in its first lines, over locks with grant words, as it names none, and over ticket locks, and compares what comes on standard output
+# and then on standard error with the file of its name in expected/ beside it, which bench/plain_tower.rs wrote: a plain program of the
+# step table. It takes seconds; .ci/run calls it after rt ci. The last line is 'plans: N passed, M failed'.
 #
 #   tests/plans.sh [PROGRAM..]
 #
@@ -13,7 +13,7 @@ room=$(mktemp -d); trap 'rm -rf "$room"' EXIT
 [ $# -gt 0 ] || set -- $(ls crates/mctower/out/mctower crates/mctower/out/mctower.by-rattle 2> /dev/null)
 passed=0; failed=0
 for program; do
-  for plan in plans/*.toml tests/rows/*.toml; do
+  for plan in plans/*.toml tests/rows/*.toml tests/long/*.toml; do
     expected=$(dirname "$plan")/expected/$(basename "$plan" .toml).txt
     schedule=$(sed -n "s/^# *mctower run --schedule '\(.*\)' <.*/\1/p" "$plan")
     for lock in '' 'lock = "ticket"'; do
