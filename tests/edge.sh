@@ -238,6 +238,9 @@ rows() {
   row 1 '' $'error: WriteFault(8)\n' 'mctower check < /dev/null > /dev/full'
   row 1 '' $'error: WriteFault(8)\n' 'set -o pipefail; { sleep 0.2; mctower check < /dev/null; } | true'
   row 1 '' $'error: WriteFault(8)\n' 'mctower count --cpus 1 --times 1 >&-'
+  # the longest schedule where there is memory: eight CPUs, whose messages get through all sixteen buffers
+  row 0 $'yes\n35264\n' '~cpu 0 live' \
+    "bench/make_plan.sh through | mctower run --schedule \"\$(bench/make_schedule.sh)\" > '$room/long' && mctower check < '$room/long' && grep -c '^e ' '$room/long'"
   # room for one thread's stack, and not for two; no room for the longest schedule
   row 0 $'plain 3\ntable 3\n' '' "$one_stack; mctower count --cpus 1 --times 3"
   row 1 '' $'error: NoThread(5)\n' "$one_stack; mctower count --cpus 2 --times 3"
@@ -263,6 +266,23 @@ texts() {
     fi
   done
 }
+# Counts a row about the sources: $1 says what it looks at, $2 is wanted and $3 found.
+source_row() {
+  if [ "$2" = "$3" ]; then
+    passed=$((passed + 1))
+  else
+    failed=$((failed + 1))
+    printf 'edge: %s\n  wanted: %s\n  found: %s\n' "$1" "$2" "$3"
+  fi
+}
+# Each crate of crates.txt whose code names what lets a thread wait, comments left out. A `Wait` in front of a bracket is not the trait
+# but an edit of a buffer's conditions.
+waiting() {
+  local crate
+  for crate in $(sed -n 's/^\([a-z_]*\):.*/\1/p' crates.txt); do
+    find "crates/$crate/src" -name '*.rt' -exec cat {} + | sed -e 's|//.*||' -e 's/\<Wait(//g' | grep -wE 'Wait|Mutex|Condvar' > /dev/null && echo "$crate"
+  done
+}
 
 [ $# -gt 0 ] || set -- crates/mctower/out/mctower crates/mctower/out/mctower.by-rattle
 for program; do
@@ -273,5 +293,8 @@ for program; do
 done
 [ $passed = 0 ] || texts
 [ $((passed + failed)) -gt 0 ] || { echo "edge: build the program first: (cd crates/mctower && rt run -- count --cpus 1 --times 1)"; exit 1; }
+# The prover lets a function wait that is given the trait for it. Workers and the program are, and none of the crates beneath: no layer waits.
+source_row 'who names Wait, Mutex or Condvar' $'cpu_workers\nmctower' "$(waiting)"
+
 echo "edge: $passed passed, $failed failed"
 [ "$failed" = 0 ]
