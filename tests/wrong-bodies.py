@@ -14,8 +14,8 @@ Bodies of different functions are tried in ONE check of a copy of the crate. A b
 `no proof: ..`. A failed callee does not count: such a body, and one that got no verdict, is tried again in a later round, at last alone. What is still proved
 then fails by name. So does an edit that cannot be applied, names no function, or ends in no verdict, as for want of memory.
 
-tests/wrong-bodies.sums tells what has passed: a sum of the kit's logic, of the crate's text and of all beneath it, and of its wrong bodies. A crate whose sum
-stands there is not tried again; --all tries it all the same. --after-ci takes the libraries as `rt ci` left them, and takes the crates as proved; without it
+tests/wrong-bodies.sums tells what was refused: for each body a sum of the kit's logic, of the crate's text and of all beneath it, and of the body itself. A
+body whose sum stands there is not tried again; --all tries it all the same. This script alone writes the sums. --after-ci takes the libraries as `rt ci` left them, and takes the crates as proved; without it
 the libraries are built first, and each function has to be proved as it stands. The last line is 'N passed, M failed'.
 """
 import argparse
@@ -143,18 +143,14 @@ class Trial:
             return subprocess.run([*self.lib.guarded(), *words], **how).stdout.rstrip("\n").split("\n")
 
     def run(self):
-        unread = [it for it in self.bodies if not it.verdict]
-        for it in unread:
-            why = self.applies_alone(it)
+        for it in self.open():
+            why = it.applied(self.texts)[1]
             if why:
                 it.end(f"BAD EDIT: {why}", True)
         if not self.after_ci:
             self.control()
         while self.open():
             self.round(self.chosen())
-
-    def applies_alone(self, body):
-        return body.applied(self.texts)[1]
 
     def open(self):
         return [it for it in self.bodies if not it.verdict]
@@ -236,16 +232,20 @@ class Trial:
         return bool(told) and all(STALE_NAME.match(it) for it in told)
 
 
-def sum_of(lib, crate, bodies):
-    """Returns the sum of all that a verdict on the crate's wrong bodies rests on."""
+def sum_of(lib, crate):
+    """Returns the sum of all but the body that a verdict on a wrong body of the crate rests on."""
     total = hashlib.sha256(subprocess.run(["rt", "version"], stdout=subprocess.PIPE, check=True).stdout)
     for it in sorted([crate, *crate.below()], key=lambda it: it.name):
         for file in sorted(lib.files_of(it.folder)):
             total.update(os.path.relpath(file, ROOT).encode() + b"\0" + open(file, "rb").read())
         total.update(" ".join([it.name, *(dep.name for dep in it.deps), *it.of_kit]).encode())
-    for it in bodies:
-        total.update(it.name().encode() + b"\0" + open(it.file, "rb").read())
-    return total.hexdigest()
+    return total
+
+
+def sum_with(total, body):
+    total = total.copy()
+    total.update(open(body.file, "rb").read())
+    return total.hexdigest()[:32]
 
 
 def bodies_of(crate, folder):
@@ -290,9 +290,11 @@ def kept_sums():
     return dict(line.split() for line in open(SUMS) if line.strip())
 
 
-def keep_sum(name, made):
+def keep_sums(crate, bodies, total):
+    """Writes the sums of the crate's bodies that were refused, in place of those that stood there."""
     with printing:
-        sums = {**kept_sums(), name: made}
+        sums = {name: made for name, made in kept_sums().items() if not name.startswith(f"{crate.name}/")}
+        sums.update({it.name(): sum_with(total, it) for it in bodies if it.verdict and not it.is_failure})
         with open(SUMS, "w") as it:
             it.writelines(f"{key} {value}\n" for key, value in sorted(sums.items()))
 
@@ -323,17 +325,19 @@ def main():
     if {*given.names} - {it.name for it in crates}:
         read.error(f"no crate is named {' '.join({*given.names} - {it.name for it in crates})}")
     of = {it: bodies_of(it, f"{it.folder}/wrong") for it in crates}
-    sums, made = kept_sums(), {it: sum_of(lib, it, of[it]) for it in crates}
-    due = [it for it in crates if of[it] and (given.all or sums.get(it.name) != made[it])]
-    for it in crates:
-        if of[it] and it not in due:
-            say(f"wrong-bodies {it.name}: {len(of[it])} were refused before, over this very text")
+    sums, total = kept_sums(), {it: sum_of(lib, it) for it in crates}
+    for crate in crates:
+        known = [] if given.all else [it for it in of[crate] if not it.verdict and sums.get(it.name()) == sum_with(total[crate], it)]
+        for it in known:
+            it.verdict = "refused before"
+        if known:
+            say(f"wrong-bodies {crate.name}: {len(known)} of {len(of[crate])} were refused before, over this very text")
+    due = [it for it in crates if any(not body.verdict for body in of[it])]
     build_beneath(lib, due, given.after_ci)
 
     def work(crate):
         rounds = try_crate(lib, crate, of[crate], given.after_ci)
-        if not any(it.is_failure for it in of[crate]):
-            keep_sum(crate.name, made[crate])
+        keep_sums(crate, of[crate], total[crate])
         return rounds
 
     with ThreadPoolExecutor(given.jobs) as pool:
