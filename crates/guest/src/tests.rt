@@ -13,90 +13,65 @@ fn refusal(rt: &HostRuntime, lines: &[&str]) -> Result<String, Fail> {
     Ok(text)
 }
 
-#[test]
-fn each_line_is_its_instruction(rt: HostRuntime) -> Result<(), Fail> {
-    let lines = [
-        "set r0 18446744073709551615",
-        "add r1 r2",
-        "sub r3 r0",
-        "jnz r2 7",
-        "send 15 r1",
-        "recv 0 r3",
-        "yield",
-        "exit",
-        "send 3 r2 9",
-        "recv 4 r0 0",
-        "close 15",
-    ];
-    let program = Program::read(rt.alloc(), &lines)?;
-    assert_eq!(rt; program.len(), 11);
-    assert_eq!(rt;
-        program.instruction(0),
-        Instruction::Set(Register::Reg0, 18446744073709551615)
-    );
-    assert_eq!(rt;
-        program.instruction(1),
-        Instruction::Add(Register::Reg1, Register::Reg2)
-    );
-    assert_eq!(rt;
-        program.instruction(2),
-        Instruction::Sub(Register::Reg3, Register::Reg0)
-    );
-    assert_eq!(rt; program.instruction(3), Instruction::Jnz(Register::Reg2, 7));
-    assert_eq!(rt;
-        program.instruction(4),
-        Instruction::Send(BufId(15), Source::One(Register::Reg1), None)
-    );
-    assert_eq!(rt;
-        program.instruction(5),
-        Instruction::Recv(BufId(0), Into::One(Register::Reg3), None)
-    );
-    assert_eq!(rt; program.instruction(6), Instruction::Yield);
-    assert_eq!(rt; program.instruction(7), Instruction::Exit);
-    assert_eq!(rt;
-        program.instruction(8),
-        Instruction::Send(BufId(3), Source::One(Register::Reg2), Some(9))
-    );
-    assert_eq!(rt;
-        program.instruction(9),
-        Instruction::Recv(BufId(4), Into::One(Register::Reg0), Some(0))
-    );
-    assert_eq!(rt; program.instruction(10), Instruction::Close(BufId(15)));
-    assert_eq!(rt; program.instruction(11), Instruction::Exit);
+/// Fails at the first row that does not go as it says: the lines of a program, between which stands
+/// `|`, and what it is refused for. The rows are one text: a function is the dearer to prove the more
+/// texts it names.
+fn rows_go(rt: &HostRuntime, rows: &str) -> Result<(), Fail> {
+    for row in rows.split('\n') {
+        let Some((program, fault)) = row.split_once(';') else {
+            return Err(Fail::new(row));
+        };
+        let lines = parts(rt, program)?;
+        if refusal(rt, lines.as_slice())?.as_str() != fault {
+            return Err(Fail::new(row));
+        }
+    }
+    Ok(())
+}
+
+/// What stands between the `|` of a text.
+fn parts<'a>(rt: &HostRuntime, text: &'a str) -> Result<Vec<&'a str>, Fail> {
+    let mut parts = Vec::new(rt.alloc());
+    for part in text.split('|') {
+        parts.push(part)?;
+    }
+    Ok(parts)
+}
+
+/// Fails at the first line of a program that is another instruction than the one that is wanted in
+/// its place, as it prints. In both texts `|` stands between two lines.
+fn are_read(rt: &HostRuntime, program: &str, wanted: &str) -> Result<(), Fail> {
+    let lines = parts(rt, program)?;
+    let program = Program::read(rt.alloc(), lines.as_slice())?;
+    if program.len() != lines.len() {
+        return Err(Fail::new(program.len()));
+    }
+    for (at, want) in wanted.split('|').enumerate() {
+        let told = program.instruction(at);
+        if format!(in rt.alloc(); "{told:?}")?.as_str() != want {
+            return Err(Fail::new(want));
+        }
+    }
     Ok(())
 }
 
 #[test]
+fn each_line_is_its_instruction(rt: HostRuntime) -> Result<(), Fail> {
+    // Past the last line stands another exit.
+    are_read(
+        &rt,
+        "set r0 18446744073709551615|add r1 r2|sub r3 r0|jnz r2 7|send 15 r1|recv 0 r3|yield|exit|send 3 r2 9|recv 4 r0 0|close 15",
+        "Set(Reg0, 18446744073709551615)|Add(Reg1, Reg2)|Sub(Reg3, Reg0)|Jnz(Reg2, 7)|Send(BufId(15), One(Reg1), None)|Recv(BufId(0), One(Reg3), None)|Yield|Exit|Send(BufId(3), One(Reg2), Some(9))|Recv(BufId(4), One(Reg0), Some(0))|Close(BufId(15))|Exit",
+    )
+}
+
+#[test]
 fn messages_of_words_are_instructions(rt: HostRuntime) -> Result<(), Fail> {
-    let lines = [
-        "sendm 15 1",
-        "sendm 0 8 4",
-        "recvm 3",
-        "recvm 4 0",
-        "add r4 r7",
-    ];
-    let program = Program::read(rt.alloc(), &lines)?;
-    assert_eq!(rt;
-        program.instruction(0),
-        Instruction::Send(BufId(15), Source::First(1), None)
-    );
-    assert_eq!(rt;
-        program.instruction(1),
-        Instruction::Send(BufId(0), Source::First(8), Some(4))
-    );
-    assert_eq!(rt;
-        program.instruction(2),
-        Instruction::Recv(BufId(3), Into::All, None)
-    );
-    assert_eq!(rt;
-        program.instruction(3),
-        Instruction::Recv(BufId(4), Into::All, Some(0))
-    );
-    assert_eq!(rt;
-        program.instruction(4),
-        Instruction::Add(Register::Reg4, Register::Reg7)
-    );
-    Ok(())
+    are_read(
+        &rt,
+        "sendm 15 1|sendm 0 8 4|recvm 3|recvm 4 0|add r4 r7",
+        "Send(BufId(15), First(1), None)|Send(BufId(0), First(8), Some(4))|Recv(BufId(3), All, None)|Recv(BufId(4), All, Some(0))|Add(Reg4, Reg7)",
+    )
 }
 
 #[test]
@@ -112,171 +87,115 @@ fn a_copy_has_the_lines_of_its_program(rt: HostRuntime) -> Result<(), Fail> {
     Ok(())
 }
 
+/// Programs, with what they are refused for.
+const FAULTS: &str = "\
+set  r0 7;line 0 UnknownWord(10)
+exit| exit;line 1 UnknownWord(10)
+exit ;line 0 UnknownWord(10)
+;line 0 UnknownWord(10)
+exit r0;line 0 UnknownWord(10)
+set r0;line 0 UnknownWord(10)
+mul r0 r1;line 0 UnknownWord(10)
+set r9 7;line 0 BadRegister(11)
+add r0 7;line 0 BadRegister(11)
+set r0 07;line 0 BadNumber(12)
+set r0 +7;line 0 BadNumber(12)
+set r0 18446744073709551616;line 0 BadNumber(12)
+send 16 r0;line 0 BadNumber(12)
+jnz r0 x;line 0 BadNumber(12)
+set r0 1|jnz r0 3|exit;line 1 BadTarget(13)
+jnz r0 99999999999999999999;line 0 BadTarget(13)";
+
 #[test]
 fn each_fault_has_its_line_and_number(rt: HostRuntime) -> Result<(), Fail> {
     assert_eq!(rt; refusal(&rt, &[])?.as_str(), "line 0 Empty(15)");
-    assert_eq!(rt;
-        refusal(&rt, &["set  r0 7"])?.as_str(),
-        "line 0 UnknownWord(10)"
-    );
-    assert_eq!(rt;
-        refusal(&rt, &["exit", " exit"])?.as_str(),
-        "line 1 UnknownWord(10)"
-    );
-    assert_eq!(rt;
-        refusal(&rt, &["exit "])?.as_str(),
-        "line 0 UnknownWord(10)"
-    );
-    assert_eq!(rt; refusal(&rt, &[""])?.as_str(), "line 0 UnknownWord(10)");
-    assert_eq!(rt;
-        refusal(&rt, &["exit r0"])?.as_str(),
-        "line 0 UnknownWord(10)"
-    );
-    assert_eq!(rt;
-        refusal(&rt, &["set r0"])?.as_str(),
-        "line 0 UnknownWord(10)"
-    );
-    assert_eq!(rt;
-        refusal(&rt, &["mul r0 r1"])?.as_str(),
-        "line 0 UnknownWord(10)"
-    );
-    assert_eq!(rt;
-        refusal(&rt, &["set r9 7"])?.as_str(),
-        "line 0 BadRegister(11)"
-    );
-    assert_eq!(rt;
-        refusal(&rt, &["add r0 7"])?.as_str(),
-        "line 0 BadRegister(11)"
-    );
-    assert_eq!(rt;
-        refusal(&rt, &["set r0 07"])?.as_str(),
-        "line 0 BadNumber(12)"
-    );
-    assert_eq!(rt;
-        refusal(&rt, &["set r0 +7"])?.as_str(),
-        "line 0 BadNumber(12)"
-    );
-    assert_eq!(rt;
-        refusal(&rt, &["set r0 18446744073709551616"])?.as_str(),
-        "line 0 BadNumber(12)"
-    );
-    assert_eq!(rt;
-        refusal(&rt, &["send 16 r0"])?.as_str(),
-        "line 0 BadNumber(12)"
-    );
-    assert_eq!(rt;
-        refusal(&rt, &["jnz r0 x"])?.as_str(),
-        "line 0 BadNumber(12)"
-    );
-    assert_eq!(rt;
-        refusal(&rt, &["set r0 1", "jnz r0 3", "exit"])?.as_str(),
-        "line 1 BadTarget(13)"
-    );
-    assert_eq!(rt;
-        refusal(&rt, &["jnz r0 99999999999999999999"])?.as_str(),
-        "line 0 BadTarget(13)"
-    );
-    Ok(())
+    rows_go(&rt, FAULTS)
 }
 
 /// Lines that are no instruction, alone in a program, each with its fault.
-const BAD_LINES: [(&str, &str); 66] = [
-    ("SET r0 7", "UnknownWord(10)"),
-    ("set\tr0 7", "UnknownWord(10)"),
-    ("set r0 7 ", "UnknownWord(10)"),
-    ("set r0 7 8", "UnknownWord(10)"),
-    ("sub r0", "UnknownWord(10)"),
-    ("jnz r0", "UnknownWord(10)"),
-    ("send 0 r0 0 0", "UnknownWord(10)"),
-    ("recv 0 r0 0 0", "UnknownWord(10)"),
-    ("recv 0", "UnknownWord(10)"),
-    ("add r0 r1 0", "UnknownWord(10)"),
-    ("jnz r0 0 0", "UnknownWord(10)"),
-    ("yield 0", "UnknownWord(10)"),
-    ("close", "UnknownWord(10)"),
-    ("close 0 0", "UnknownWord(10)"),
-    ("close 16 r9", "UnknownWord(10)"),
-    ("closed 0", "UnknownWord(10)"),
-    ("recv 16 r9 x y", "UnknownWord(10)"),
-    ("set  r9 07", "UnknownWord(10)"),
-    ("mul r9 07", "UnknownWord(10)"),
-    ("set r8 7", "BadRegister(11)"),
-    ("set r00 7", "BadRegister(11)"),
-    ("sub r0 R0", "BadRegister(11)"),
-    ("jnz 0 0", "BadRegister(11)"),
-    ("recv 0 7", "BadRegister(11)"),
-    ("add r0 ", "BadRegister(11)"),
-    ("jnz r9 x", "BadRegister(11)"),
-    ("send 0 r8 x", "BadRegister(11)"),
-    ("recv 0 0 9", "BadRegister(11)"),
-    ("set r0 -7", "BadNumber(12)"),
-    ("set r0 7a", "BadNumber(12)"),
-    ("send 00 r0", "BadNumber(12)"),
-    ("recv 16 r0", "BadNumber(12)"),
-    ("send r0 0", "BadNumber(12)"),
-    ("send  r9", "BadNumber(12)"),
-    ("recv 18446744073709551616 r9", "BadNumber(12)"),
-    ("set r0 ", "BadNumber(12)"),
-    ("jnz r0 00", "BadNumber(12)"),
-    ("close 16", "BadNumber(12)"),
-    ("close r0", "BadNumber(12)"),
-    ("close 00", "BadNumber(12)"),
-    ("send 0 r0 r1", "BadNumber(12)"),
-    ("recv 0 r0 00", "BadNumber(12)"),
-    ("send 16 r9 x", "BadNumber(12)"),
-    ("send 0 r0 ", "BadNumber(12)"),
-    ("jnz r0 1", "BadTarget(13)"),
-    ("send 0 r0 1", "BadTarget(13)"),
-    ("recv 0 r0 1", "BadTarget(13)"),
-    ("recv 0 r0 99999999999999999999", "BadTarget(13)"),
-    ("sendm 0", "UnknownWord(10)"),
-    ("recvm", "UnknownWord(10)"),
-    ("sendm 0 1 0 0", "UnknownWord(10)"),
-    ("recvm 0 0 0", "UnknownWord(10)"),
-    ("sendm 0 0", "BadNumber(12)"),
-    ("sendm 0 9", "BadNumber(12)"),
-    ("sendm 0 02", "BadNumber(12)"),
-    ("sendm 0 r1", "BadNumber(12)"),
-    ("sendm 16 1", "BadNumber(12)"),
-    ("sendm 0 9 1", "BadNumber(12)"),
-    ("sendm 0 0 x", "BadNumber(12)"),
-    ("sendm 0 1 r0", "BadNumber(12)"),
-    ("recvm 16", "BadNumber(12)"),
-    ("recvm 16 1", "BadNumber(12)"),
-    ("recvm r0", "BadNumber(12)"),
-    ("recvm 0 r0", "BadNumber(12)"),
-    ("sendm 0 8 1", "BadTarget(13)"),
-    ("recvm 0 1", "BadTarget(13)"),
-];
+const BAD_LINES: &str = "\
+SET r0 7;line 0 UnknownWord(10)
+set\tr0 7;line 0 UnknownWord(10)
+set r0 7 ;line 0 UnknownWord(10)
+set r0 7 8;line 0 UnknownWord(10)
+sub r0;line 0 UnknownWord(10)
+jnz r0;line 0 UnknownWord(10)
+send 0 r0 0 0;line 0 UnknownWord(10)
+recv 0 r0 0 0;line 0 UnknownWord(10)
+recv 0;line 0 UnknownWord(10)
+add r0 r1 0;line 0 UnknownWord(10)
+jnz r0 0 0;line 0 UnknownWord(10)
+yield 0;line 0 UnknownWord(10)
+close;line 0 UnknownWord(10)
+close 0 0;line 0 UnknownWord(10)
+close 16 r9;line 0 UnknownWord(10)
+closed 0;line 0 UnknownWord(10)
+recv 16 r9 x y;line 0 UnknownWord(10)
+set  r9 07;line 0 UnknownWord(10)
+mul r9 07;line 0 UnknownWord(10)
+set r8 7;line 0 BadRegister(11)
+set r00 7;line 0 BadRegister(11)
+sub r0 R0;line 0 BadRegister(11)
+jnz 0 0;line 0 BadRegister(11)
+recv 0 7;line 0 BadRegister(11)
+add r0 ;line 0 BadRegister(11)
+jnz r9 x;line 0 BadRegister(11)
+send 0 r8 x;line 0 BadRegister(11)
+recv 0 0 9;line 0 BadRegister(11)
+set r0 -7;line 0 BadNumber(12)
+set r0 7a;line 0 BadNumber(12)
+send 00 r0;line 0 BadNumber(12)
+recv 16 r0;line 0 BadNumber(12)
+send r0 0;line 0 BadNumber(12)
+send  r9;line 0 BadNumber(12)
+recv 18446744073709551616 r9;line 0 BadNumber(12)
+set r0 ;line 0 BadNumber(12)
+jnz r0 00;line 0 BadNumber(12)
+close 16;line 0 BadNumber(12)
+close r0;line 0 BadNumber(12)
+close 00;line 0 BadNumber(12)
+send 0 r0 r1;line 0 BadNumber(12)
+recv 0 r0 00;line 0 BadNumber(12)
+send 16 r9 x;line 0 BadNumber(12)
+send 0 r0 ;line 0 BadNumber(12)
+jnz r0 1;line 0 BadTarget(13)
+send 0 r0 1;line 0 BadTarget(13)
+recv 0 r0 1;line 0 BadTarget(13)
+recv 0 r0 99999999999999999999;line 0 BadTarget(13)
+sendm 0;line 0 UnknownWord(10)
+recvm;line 0 UnknownWord(10)
+sendm 0 1 0 0;line 0 UnknownWord(10)
+recvm 0 0 0;line 0 UnknownWord(10)
+sendm 0 0;line 0 BadNumber(12)
+sendm 0 9;line 0 BadNumber(12)
+sendm 0 02;line 0 BadNumber(12)
+sendm 0 r1;line 0 BadNumber(12)
+sendm 16 1;line 0 BadNumber(12)
+sendm 0 9 1;line 0 BadNumber(12)
+sendm 0 0 x;line 0 BadNumber(12)
+sendm 0 1 r0;line 0 BadNumber(12)
+recvm 16;line 0 BadNumber(12)
+recvm 16 1;line 0 BadNumber(12)
+recvm r0;line 0 BadNumber(12)
+recvm 0 r0;line 0 BadNumber(12)
+sendm 0 8 1;line 0 BadTarget(13)
+recvm 0 1;line 0 BadTarget(13)";
 
 #[test]
 fn each_bad_line_has_its_fault(rt: HostRuntime) -> Result<(), Fail> {
-    for (line, fault) in BAD_LINES {
-        let text = format!(in rt.alloc(); "line 0 {fault}")?;
-        assert_eq!(rt; refusal(&rt, &[line])?.as_str(), text.as_str(), "{line}");
-    }
-    Ok(())
+    rows_go(&rt, BAD_LINES)
 }
+
+/// Programs with more than one fault, with the one that counts.
+const FIRST_FAULTS: &str = "\
+set r9 07;line 0 BadRegister(11)
+send 16 r9;line 0 BadNumber(12)
+exit|jnz r9 9|what;line 1 BadRegister(11)
+recv 0 r0 2|send 0 r0 2|exit r0;line 2 UnknownWord(10)";
 
 #[test]
 fn the_first_fault_of_the_first_line_counts(rt: HostRuntime) -> Result<(), Fail> {
-    assert_eq!(rt;
-        refusal(&rt, &["set r9 07"])?.as_str(),
-        "line 0 BadRegister(11)"
-    );
-    assert_eq!(rt;
-        refusal(&rt, &["send 16 r9"])?.as_str(),
-        "line 0 BadNumber(12)"
-    );
-    assert_eq!(rt;
-        refusal(&rt, &["exit", "jnz r9 9", "what"])?.as_str(),
-        "line 1 BadRegister(11)"
-    );
-    assert_eq!(rt;
-        refusal(&rt, &["recv 0 r0 2", "send 0 r0 2", "exit r0"])?.as_str(),
-        "line 2 UnknownWord(10)"
-    );
-    Ok(())
+    rows_go(&rt, FIRST_FAULTS)
 }
 
 #[test]
