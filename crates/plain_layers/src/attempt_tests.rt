@@ -1,129 +1,146 @@
 //! Attempts on one buffer, run: who waits at it, and how a close lets them go one after the other.
 
 use crate::{Ask, Attempt, PlainBuffer, Tried};
-use event_log::{Kind, Msg, Tid};
-use layer_traits::{Effect, Leave, Side, Sleeps, Tray};
+use event_log::{Msg, Tid};
+use layer_traits::{Sleeps, Tray};
+use std::test::Fail;
 
-/// What a sender is told whom the buffer allows no effect.
-const WAITS_TO_SEND: Tried = Tried::Refused(Side::Senders);
-
-/// And a receiver.
-const WAITS_TO_RECEIVE: Tried = Tried::Refused(Side::Receivers);
-
-/// What a thread is told that attempts to send this message.
-fn sends(buffer: &mut PlainBuffer, thread: u8, message: Msg) -> Tried {
-    tries(buffer, thread, Ask::Send(message))
+/// The message of these words: one number, or two with a comma between them.
+fn message(words: &str) -> Option<Msg> {
+    match words.split_once(',') {
+        None => Some(Msg::one(words.parse::<u64>().ok()?)),
+        Some((first, second)) => {
+            let first = first.parse::<u64>().ok()?;
+            let second = second.parse::<u64>().ok()?;
+            Some(Msg::new(&[first, second]))
+        }
+    }
 }
 
-/// The same of a receive.
-fn receives(buffer: &mut PlainBuffer, thread: u8) -> Tried {
-    tries(buffer, thread, Ask::Receive)
-}
-
-/// The same of a close.
-fn closes(buffer: &mut PlainBuffer, thread: u8) -> Tried {
-    tries(buffer, thread, Ask::Close)
-}
-
-fn tries(buffer: &mut PlainBuffer, thread: u8, ask: Ask) -> Tried {
-    let attempt = Attempt {
-        thread: Tid(thread),
+/// The attempt that a text names: its thread, and `receive`, `close` or the message that it sends.
+fn attempt(text: &str) -> Option<Attempt> {
+    let (thread, call) = text.split_once(' ')?;
+    let ask = if call == "receive" {
+        Ask::Receive
+    } else if call == "close" {
+        Ask::Close
+    } else {
+        Ask::Send(message(call)?)
+    };
+    Some(Attempt {
+        thread: Tid(thread.parse::<u8>().ok()?),
         ask,
+    })
+}
+
+/// What an attempt was told, as a text: an effect's kind, message, op and position and who was woken,
+/// or with whom its thread waits.
+fn told(rt: &HostRuntime, tried: &Tried) -> Result<String, Fail> {
+    let text = match *tried {
+        Tried::Refused(side) => format!(in rt.alloc(); "waits with the {side:?}")?,
+        Tried::Acted(effect, woke) => {
+            let words = effect.value.words();
+            let (kind, op, pos) = (effect.kind, effect.op, effect.pos);
+            format!(in rt.alloc(); "{kind:?} {words:?} {op} {pos} {woke:?}")?
+        }
     };
-    attempt.apply(None, buffer, &mut Tray::new())
+    Ok(text)
 }
 
-/// An attempt that had an effect of this kind, with this message, op and position, and woke this one.
-fn acted(kind: Kind, value: Msg, op: u64, pos: u64, woke: Leave) -> Tried {
-    let effect = Effect {
-        kind,
-        value,
-        op,
-        pos,
+/// What the buffer holds, which has room for one message, and whether it is closed.
+fn state(rt: &HostRuntime, buffer: &PlainBuffer) -> Result<String, Fail> {
+    let closed = if buffer.is_closed() { "closed" } else { "open" };
+    let items = buffer.items();
+    let text = match items.first() {
+        None => format!(in rt.alloc(); "{closed}")?,
+        Some(item) => {
+            let words = item.words();
+            format!(in rt.alloc(); "{closed} with {words:?}")?
+        }
     };
-    Tried::Acted(effect, woke)
+    Ok(text)
 }
 
-/// A receive that found the buffer closed and empty.
-fn gone(op: u64, pos: u64, woke: Leave) -> Tried {
-    acted(Kind::RecvClosed, Msg::none(), op, pos, woke)
-}
-
-/// A close.
-fn shut(op: u64, pos: u64, woke: Leave) -> Tried {
-    acted(Kind::Close, Msg::none(), op, pos, woke)
+/// Fails at the first row that does not go as it says, at a buffer with room for one message: an
+/// attempt, what it is told, and how the buffer is left. The rows are one text: a function is the
+/// dearer to prove the longer its chain of asserts is.
+fn rows_go(rt: &HostRuntime, rows: &str) -> Result<(), Fail> {
+    let mut buffer = PlainBuffer::new(1);
+    for row in rows.split('\n') {
+        let Some((text, wanted)) = row.split_once("; ") else {
+            return Err(Fail::new(row));
+        };
+        let Some(attempt) = attempt(text) else {
+            return Err(Fail::new(row));
+        };
+        let tried = attempt.apply(None, &mut buffer, &mut Tray::new());
+        let acted = matches!(tried, Tried::Acted(..));
+        let (told, state) = (told(rt, &tried)?, state(rt, &buffer)?);
+        let text = format!(in rt.alloc(); "{}; {}", told.as_str(), state.as_str())?;
+        if text.as_str() != wanted || tried.effect().is_some() != acted {
+            return Err(Fail::new(row));
+        }
+    }
+    Ok(())
 }
 
 /// Three receivers wait at an empty buffer. A close wakes the first, the first the second and the
 /// second the third, who wakes nobody.
+const THREE_RECEIVERS: &str = "\
+0 receive; waits with the Receivers; open
+1 receive; waits with the Receivers; open
+2 receive; waits with the Receivers; open
+3 close; Close [0] 0 0 Receiver(Tid(0)); closed
+0 receive; RecvClosed [0] 1 0 Receiver(Tid(1)); closed
+1 receive; RecvClosed [0] 2 1 Receiver(Tid(2)); closed
+2 receive; RecvClosed [0] 3 2 Nobody; closed";
+
 #[test]
-fn a_close_lets_three_receivers_go(rt: HostRuntime) {
-    let mut buffer = PlainBuffer::new(1);
-    for thread in 0..3 {
-        assert!(rt; receives(&mut buffer, thread) == WAITS_TO_RECEIVE);
-    }
-    assert!(rt; closes(&mut buffer, 3) == shut(0, 0, Leave::Receiver(Tid(0))));
-    assert!(rt; receives(&mut buffer, 0) == gone(1, 0, Leave::Receiver(Tid(1))));
-    assert!(rt; receives(&mut buffer, 1) == gone(2, 1, Leave::Receiver(Tid(2))));
-    assert!(rt; receives(&mut buffer, 2) == gone(3, 2, Leave::Nobody));
+fn a_close_lets_three_receivers_go(rt: HostRuntime) -> Result<(), Fail> {
+    rows_go(&rt, THREE_RECEIVERS)
 }
 
 /// Two senders wait at a full buffer. A close lets them go, and they put nothing. What was there is
 /// taken after the close, and then a receiver is told that the buffer is closed.
+const TWO_SENDERS: &str = "\
+0 7; Send [7] 0 0 Nobody; open with [7]
+1 8; waits with the Senders; open with [7]
+2 9; waits with the Senders; open with [7]
+3 close; Close [0] 1 0 Sender(Tid(1)); closed with [7]
+1 8; SendClosed [8] 2 1 Sender(Tid(2)); closed with [7]
+2 9; SendClosed [9] 3 2 Nobody; closed with [7]
+0 receive; Recv [7] 4 0 Nobody; closed
+0 receive; RecvClosed [0] 5 1 Nobody; closed
+0 close; Close [0] 6 1 Nobody; closed";
+
 #[test]
-fn a_close_lets_two_senders_go(rt: HostRuntime) {
-    let mut buffer = PlainBuffer::new(1);
-    let first = sends(&mut buffer, 0, Msg::one(7));
-    assert!(rt; first == acted(Kind::Send, Msg::one(7), 0, 0, Leave::Nobody));
-    assert!(rt; sends(&mut buffer, 1, Msg::one(8)) == WAITS_TO_SEND);
-    let second = sends(&mut buffer, 2, Msg::one(9));
-    assert!(rt; second == WAITS_TO_SEND && second.effect().is_none() && !buffer.is_closed());
-    assert!(rt; closes(&mut buffer, 3) == shut(1, 0, Leave::Sender(Tid(1))));
-    assert!(rt; buffer.is_closed());
-    let next = Leave::Sender(Tid(2));
-    assert!(rt;
-        sends(&mut buffer, 1, Msg::one(8)) == acted(Kind::SendClosed, Msg::one(8), 2, 1, next)
-    );
-    assert!(rt;
-        sends(&mut buffer, 2, Msg::one(9))
-            == acted(Kind::SendClosed, Msg::one(9), 3, 2, Leave::Nobody)
-    );
-    assert!(rt; buffer.items().as_slice() == [Msg::one(7)].as_slice());
-    let taken = receives(&mut buffer, 0);
-    assert!(rt;
-        taken == acted(Kind::Recv, Msg::one(7), 4, 0, Leave::Nobody) && taken.effect().is_some()
-    );
-    assert!(rt; receives(&mut buffer, 0) == gone(5, 1, Leave::Nobody));
-    assert!(rt; closes(&mut buffer, 0) == shut(6, 1, Leave::Nobody));
-    assert!(rt; buffer.items().is_empty() && buffer.is_closed());
+fn a_close_lets_two_senders_go(rt: HostRuntime) -> Result<(), Fail> {
+    rows_go(&rt, TWO_SENDERS)
 }
 
 /// One receiver and one sender wait, and another receiver was woken and has not called again. A close
 /// wakes the receiver, who takes what is there and wakes the sender; and then nobody waits.
+const BOTH_SIDES: &str = "\
+0 receive; waits with the Receivers; open
+1 receive; waits with the Receivers; open
+2 7; Send [7] 0 0 Receiver(Tid(0)); open with [7]
+3 8; waits with the Senders; open with [7]
+2 close; Close [0] 1 0 Receiver(Tid(1)); closed with [7]
+1 receive; Recv [7] 2 0 Sender(Tid(3)); closed
+3 8; SendClosed [8] 3 1 Nobody; closed
+0 receive; RecvClosed [0] 4 1 Nobody; closed";
+
 #[test]
-fn a_close_lets_both_sides_go(rt: HostRuntime) {
-    let mut buffer = PlainBuffer::new(1);
-    assert!(rt; receives(&mut buffer, 0) == WAITS_TO_RECEIVE);
-    assert!(rt; receives(&mut buffer, 1) == WAITS_TO_RECEIVE);
-    let woken = Leave::Receiver(Tid(0));
-    assert!(rt; sends(&mut buffer, 2, Msg::one(7)) == acted(Kind::Send, Msg::one(7), 0, 0, woken));
-    assert!(rt; sends(&mut buffer, 3, Msg::one(8)) == WAITS_TO_SEND);
-    assert!(rt; closes(&mut buffer, 2) == shut(1, 0, Leave::Receiver(Tid(1))));
-    let sender = Leave::Sender(Tid(3));
-    assert!(rt; receives(&mut buffer, 1) == acted(Kind::Recv, Msg::one(7), 2, 0, sender));
-    assert!(rt;
-        sends(&mut buffer, 3, Msg::one(8))
-            == acted(Kind::SendClosed, Msg::one(8), 3, 1, Leave::Nobody)
-    );
-    assert!(rt; receives(&mut buffer, 0) == gone(4, 1, Leave::Nobody));
+fn a_close_lets_both_sides_go(rt: HostRuntime) -> Result<(), Fail> {
+    rows_go(&rt, BOTH_SIDES)
 }
 
 /// A message of two words comes out whole.
+const TWO_WORDS: &str = "\
+0 7,8; Send [7, 8] 0 0 Nobody; open with [7, 8]
+1 receive; Recv [7, 8] 1 0 Nobody; open";
+
 #[test]
-fn a_message_of_two_words_comes_out_whole(rt: HostRuntime) {
-    let mut buffer = PlainBuffer::new(1);
-    let sent = sends(&mut buffer, 0, Msg::new(&[7, 8]));
-    assert!(rt; sent == acted(Kind::Send, Msg::new(&[7, 8]), 0, 0, Leave::Nobody));
-    let taken = receives(&mut buffer, 1);
-    assert!(rt; taken == acted(Kind::Recv, Msg::new(&[7, 8]), 1, 0, Leave::Nobody));
+fn a_message_of_two_words_comes_out_whole(rt: HostRuntime) -> Result<(), Fail> {
+    rows_go(&rt, TWO_WORDS)
 }

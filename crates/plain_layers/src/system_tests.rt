@@ -1,7 +1,7 @@
 //! Whole systems over one-step message calls, run: worked plans end as they do over the tower of
 //! ticket locks, with a step where the tower takes one for each action of a call.
 
-ghost use Rattle.std.specs.Prelude.{◌≡◌, ◌≤◌, IfOk, length};
+ghost use Rattle.std.specs.Prelude.{◌≡◌, IfOk, length};
 
 use crate::texts::text_of;
 use crate::{Attempt, OpensAttempts, PlainFifo, PlainSleep, ipc_is_whole};
@@ -9,108 +9,121 @@ use boot::Boot;
 use cpu::System;
 use event_log::{BufId, CpuId, NoMemory, Tid};
 use ipc_calls::{Ipc, OpensBuffers, WholeBuffers, calls_are_whole};
-use layer_traits::{Owned, Place, Prompt, Reason};
+use layer_traits::{Owned, Prompt};
 use std::alloc::Global;
 use std::process::Abort;
 use std::test::Fail;
 
-/// One thread that sends 7 into a buffer with room for one, and ends.
-const ONE_SEND: &str =
-    "cpus = 1\ntrace = 4\nbuffers = [1]\n\n[[thread]]\ncpu = 0\nprogram = [\"set r0 7\", \"send 0 r0\", \"exit\"]\n";
-
-/// One thread that sends 7 twice into a buffer with room for one.
-const TWO_SENDS: &str =
-    "cpus = 1\ntrace = 4\nbuffers = [1]\n\n[[thread]]\ncpu = 0\nprogram = [\"set r0 7\", \"send 0 r0\", \"send 0 r0\", \"exit\"]\n";
-
-/// A receiver on CPU 0, and on CPU 1 a thread that sends 7.
-const SEND_AND_RECEIVE: &str =
-    "cpus = 2\ntrace = 4\nbuffers = [1]\n\n[[thread]]\ncpu = 0\nprogram = [\"recv 0 r0\"]\n\n[[thread]]\ncpu = 1\nprogram = [\"set r0 7\", \"send 0 r0\"]\n";
-
-/// A receiver on CPU 0, and on CPU 1 a thread that closes the buffer.
-const CLOSE_AND_RECEIVE: &str = "\
+/// Plans with as many CPUs as threads and one buffer with room for one. Behind each stands which CPU
+/// takes each step, then the entries in one order with what the buffer holds, and then of each number
+/// where this CPU is halted and where this thread stands. The rows are one text: a function is the
+/// dearer to prove the more texts it names.
+const ROWS: &str =
+    r#"# One thread that sends 7 into a buffer with room for one, and ends. Before its send took effect it runs.
+cpus = 1
+trace = 4
+buffers = [1]
+[[thread]]
+cpu = 0
+program = ["set r0 7", "send 0 r0", "exit"]
+-- 00
+mctower-trace 1
+buffers 1
+cap 0 1
+left 0
+end
+--
+None Running(CpuId(0))
+quiet false, closed false
+==
+# It sends and ends.
+cpus = 1
+trace = 4
+buffers = [1]
+[[thread]]
+cpu = 0
+program = ["set r0 7", "send 0 r0", "exit"]
+-- 0000
+mctower-trace 1
+buffers 1
+cap 0 1
+e 0 0 send 0 7 0 0
+left 0 7
+end
+--
+Some(AllEnded) Ended
+quiet true, closed false
+==
+# One thread that sends 7 twice into a buffer with room for one. The second send finds it full, and its thread waits.
+cpus = 1
+trace = 4
+buffers = [1]
+[[thread]]
+cpu = 0
+program = ["set r0 7", "send 0 r0", "send 0 r0", "exit"]
+-- 0000
+mctower-trace 1
+buffers 1
+cap 0 1
+e 0 0 send 0 7 0 0
+left 0 7
+end
+--
+None WaitSend(BufId(0))
+quiet true, closed false
+==
+# A receiver on CPU 0, and on CPU 1 a thread that sends 7. The receiver of an empty buffer waits.
 cpus = 2
 trace = 4
 buffers = [1]
-
 [[thread]]
 cpu = 0
-program = [\"recv 0 r0\"]
-
+program = ["recv 0 r0"]
 [[thread]]
 cpu = 1
-program = [\"close 0\"]
-";
-
-/// One thread that sends 7, closes the buffer, sends again and receives twice.
-const DRAIN: &str = "\
-cpus = 1
-trace = 8
-buffers = [1]
-
-[[thread]]
-cpu = 0
-program = [\"set r0 7\", \"send 0 r0\", \"close 0\", \"send 0 r0\", \"recv 0 r1\", \"recv 0 r1\"]
-";
-
-/// Three receivers, each on a CPU of its own, and on CPU 3 a thread that closes the buffer.
-const THREE_RECEIVERS: &str = "\
-cpus = 4
+program = ["set r0 7", "send 0 r0"]
+-- 00
+mctower-trace 1
+buffers 1
+cap 0 1
+left 0
+end
+--
+None WaitRecv(BufId(0))
+None Ready(CpuId(1))
+quiet false, closed false
+==
+# The receiver waits, the sender wakes it and sends it home, and it receives.
+cpus = 2
 trace = 4
 buffers = [1]
-
 [[thread]]
 cpu = 0
-program = [\"recv 0 r0\"]
-
+program = ["recv 0 r0"]
 [[thread]]
 cpu = 1
-program = [\"recv 0 r0\"]
-
-[[thread]]
-cpu = 2
-program = [\"recv 0 r0\"]
-
-[[thread]]
-cpu = 3
-program = [\"close 0\"]
-";
-
-/// A thread that sends 7 twice into room for one, another that sends 8, and on CPU 2 one that closes
-/// the buffer and receives twice.
-const TWO_SENDERS: &str = "\
-cpus = 3
-trace = 4
-buffers = [1]
-
-[[thread]]
-cpu = 0
-program = [\"set r0 7\", \"send 0 r0\", \"send 0 r0\"]
-
-[[thread]]
-cpu = 1
-program = [\"set r0 8\", \"send 0 r0\"]
-
-[[thread]]
-cpu = 2
-program = [\"close 0\", \"recv 0 r0\", \"recv 0 r0\"]
-";
-
-/// One thread that sends two words as one message, and receives them.
-const TWO_WORDS: &str = "\
+program = ["set r0 7", "send 0 r0"]
+-- 0011110000
+mctower-trace 1
+buffers 1
+cap 0 1
+e 1 1 send 0 7 0 0
+e 0 0 recv 0 7 1 0
+left 0
+end
+--
+Some(AllEnded) Ended
+Some(AllEnded) Ended
+quiet true, closed false
+==
+# One thread that sends two words as one message, and receives them as they were sent.
 cpus = 1
 trace = 4
 buffers = [1]
-
 [[thread]]
 cpu = 0
-program = [\"set r0 7\", \"set r1 8\", \"sendm 0 2\", \"recvm 0\"]
-";
-
-/// The trace text of a run without an effect.
-const EMPTY: &str = "mctower-trace 1\nbuffers 1\ncap 0 1\nleft 0\nend\n";
-
-/// That of a message of two words that was sent and received.
-const WORDS_RECEIVED: &str = "\
+program = ["set r0 7", "set r1 8", "sendm 0 2", "recvm 0"]
+-- 000000
 mctower-trace 3
 buffers 1
 cap 0 1
@@ -118,13 +131,22 @@ e 0 0 send 0 7,8 0 0
 e 0 0 recv 0 7,8 1 0
 left 0
 end
-";
-
-/// That of one send of 7.
-const SENT: &str = "mctower-trace 1\nbuffers 1\ncap 0 1\ne 0 0 send 0 7 0 0\nleft 0 7\nend\n";
-
-/// That of a close by CPU 1 that lets a receiver of CPU 0 go.
-const LET_GO: &str = "\
+--
+Some(AllEnded) Ended
+quiet true, closed false
+==
+# A receiver on CPU 0, and on CPU 1 a thread that closes the buffer. The receiver waits, the close wakes it and sends it home,
+# and it finds the buffer closed.
+cpus = 2
+trace = 4
+buffers = [1]
+[[thread]]
+cpu = 0
+program = ["recv 0 r0"]
+[[thread]]
+cpu = 1
+program = ["close 0"]
+-- 001110000
 mctower-trace 2
 buffers 1
 cap 0 1
@@ -132,10 +154,20 @@ e 1 1 close 0 - 0 0
 e 0 0 recvc 0 - 1 0
 left 0
 end
-";
-
-/// That of a buffer that is drained after its close.
-const DRAINED: &str = "\
+--
+Some(AllEnded) Ended
+Some(AllEnded) Ended
+quiet true, closed true
+==
+# One thread that sends 7, closes the buffer, sends again and receives twice. A closed buffer takes no message, gives the one that
+# it has, and then answers that it is closed.
+cpus = 1
+trace = 8
+buffers = [1]
+[[thread]]
+cpu = 0
+program = ["set r0 7", "send 0 r0", "close 0", "send 0 r0", "recv 0 r1", "recv 0 r1"]
+-- 00000000
 mctower-trace 2
 buffers 1
 cap 0 1
@@ -146,10 +178,28 @@ e 0 0 recv 0 7 3 0
 e 0 0 recvc 0 - 4 1
 left 0
 end
-";
-
-/// That of a close that lets three receivers go, one after the other.
-const RECEIVERS_GONE: &str = "\
+--
+Some(AllEnded) Ended
+quiet true, closed true
+==
+# Three receivers, each on a CPU of its own, and on CPU 3 a thread that closes the buffer. The close wakes the first, the first
+# wakes the second, and so on.
+cpus = 4
+trace = 4
+buffers = [1]
+[[thread]]
+cpu = 0
+program = ["recv 0 r0"]
+[[thread]]
+cpu = 1
+program = ["recv 0 r0"]
+[[thread]]
+cpu = 2
+program = ["recv 0 r0"]
+[[thread]]
+cpu = 3
+program = ["close 0"]
+-- 001122333000011112222
 mctower-trace 2
 buffers 1
 cap 0 1
@@ -159,10 +209,28 @@ e 1 1 recvc 0 - 2 1
 e 2 2 recvc 0 - 3 2
 left 0
 end
-";
-
-/// That of a close that lets two senders go, with what was in the buffer taken behind them.
-const SENDERS_GONE: &str = "\
+--
+Some(AllEnded) Ended
+Some(AllEnded) Ended
+Some(AllEnded) Ended
+Some(AllEnded) Ended
+quiet true, closed true
+==
+# A thread that sends 7 twice into room for one, another that sends 8, and on CPU 2 one that closes the buffer and receives twice.
+# Two senders wait at a full buffer. The close wakes the first, which wakes the second.
+cpus = 3
+trace = 4
+buffers = [1]
+[[thread]]
+cpu = 0
+program = ["set r0 7", "send 0 r0", "send 0 r0"]
+[[thread]]
+cpu = 1
+program = ["set r0 8", "send 0 r0"]
+[[thread]]
+cpu = 2
+program = ["close 0", "recv 0 r0", "recv 0 r0"]
+-- 00001112200001111222
 mctower-trace 2
 buffers 1
 cap 0 1
@@ -174,38 +242,31 @@ e 2 2 recv 0 7 4 0
 e 2 2 recvc 0 - 5 1
 left 0
 end
-";
+--
+Some(AllEnded) Ended
+Some(AllEnded) Ended
+Some(AllEnded) Ended
+quiet true, closed true
+"#;
 
-/// And that of a send of 7 by CPU 1 that CPU 0 receives.
-const RECEIVED: &str =
-    "mctower-trace 1\nbuffers 1\ncap 0 1\ne 1 1 send 0 7 0 0\ne 0 0 recv 0 7 1 0\nleft 0\nend\n";
-
-/// So many steps of one CPU after the other.
-fn schedule(alloc: Global, turns: &[(CpuId, usize)]) -> Result<Vec<CpuId>, NoMemory> {
+/// The steps of a row, each a digit.
+fn schedule(alloc: Global, row: &str) -> Result<Vec<CpuId>, NoMemory> {
     let mut steps = Vec::new(alloc);
-    for turn in turns {
-        add_turn(&mut steps, turn.0, turn.1)?;
+    for digit in row.bytes() {
+        if steps.push(CpuId(digit.wrapping_sub(b'0'))).is_err() {
+            return Err(NoMemory);
+        }
     }
     Ok(steps)
 }
 
-/// Adds so many steps of a CPU.
-fn add_turn(steps: &mut Vec<CpuId>, cpu: CpuId, count: usize) -> Result<(), NoMemory> {
-    for _ in 0..count {
-        if steps.push(cpu).is_err() {
-            return Err(NoMemory);
-        }
-    }
-    Ok(())
-}
-
-/// The system of a plan of so many CPUs, as many threads and one buffer, after these turns.
+/// The system of a plan of so many CPUs, as many threads and one buffer, after these steps.
 fn ran<I: Owned + Drop>(
     rt: &impl Abort,
     alloc: Global,
-    plan: &str,
+    boot: &Boot,
     count: u8,
-    turns: &[(CpuId, usize)],
+    steps: &str,
 ) -> Result<System<I>, NoMemory>
 where
     I::Machine: Drop,
@@ -213,252 +274,81 @@ where
     ensures threads { IfOk result (λ s. length s.homes ≡ count) }
     ensures buffers { IfOk result (λ s. length s.caps ≡ 1) }
 {
-    let Ok(boot) = Boot::read(alloc, plan) else {
-        return Err(NoMemory);
-    };
     assert!(rt; boot.cpus() == count);
     assert!(rt; boot.threads() == usize::from(count));
     assert!(rt; boot.caps().len() == 1);
-    let steps = schedule(alloc, turns)?;
-    let mut system: System<I> = System::open(alloc, &boot, steps.len())?;
+    let steps = schedule(alloc, steps)?;
+    let mut system: System<I> = System::open(alloc, boot, steps.len())?;
     let went = system.run(steps.as_slice()).is_ok();
     assert!(rt; went);
     Ok(system)
 }
 
-/// A plan with as many CPUs as threads and one buffer with room for one, the turns that its CPUs take,
-/// and how it stands then.
-#[derive(Clone, Copy)]
-struct Row<'a> {
-    plan: &'a str,
-    turns: &'a [(CpuId, usize)],
-    /// The entries in one order, and what the buffer holds.
-    text: &'a str,
-    /// Of each number: where this CPU is halted, and where this thread stands.
-    stands: &'a [(Option<Reason>, Place)],
-    quiet: bool,
-    /// Whether the buffer is closed.
-    closed: bool,
-}
-
-/// Whether each CPU is halted, and each thread stands, as these say.
-fn stands<I: Owned + Drop>(system: &System<I>, wanted: &[(Option<Reason>, Place)]) -> bool
+/// Whether the system stands as these lines say: a line for each number, and one for all.
+fn stands<I: Owned + Drop>(
+    alloc: Global,
+    system: &System<I>,
+    count: u8,
+    lines: &str,
+) -> Result<bool, NoMemory>
 where
     I::Machine: Drop,
-    requires cpus { length system.now.cpus ≡ length wanted.now }
-    requires threads { length system.now.homes ≡ length wanted.now }
-    requires few { length wanted.now ≤ 8 }
+    requires cpus { length system.now.cpus ≡ count }
+    requires threads { length system.now.homes ≡ count }
+    requires buffers { length system.now.caps ≡ 1 }
 {
-    for (at, want) in wanted.iter().enumerate() {
-        let number = at as u8;
-        if system.halted(CpuId(number)) != want.0 || system.place(Tid(number)) != want.1 {
-            return false;
+    let mut rest = lines;
+    for number in 0..count {
+        let Some((line, after)) = rest.split_once('\n') else {
+            return Ok(false);
+        };
+        let halted = system.halted(CpuId(number));
+        let place = system.place(Tid(number));
+        let Ok(told) = format!(in alloc; "{halted:?} {place:?}") else {
+            return Err(NoMemory);
+        };
+        if told.as_str() != line {
+            return Ok(false);
         }
+        rest = after;
     }
-    true
+    let quiet = system.is_quiet();
+    let closed = system.is_closed(BufId(0));
+    let Ok(told) = format!(in alloc; "quiet {quiet}, closed {closed}\n") else {
+        return Err(NoMemory);
+    };
+    Ok(told.as_str() == rest)
 }
 
 /// Runs a row: the system's text and where it stands are the row's, and nobody owns the buffer's lock.
-fn goes<I: Owned + Drop>(rt: &impl Abort, alloc: Global, row: &Row<'_>) -> Result<(), NoMemory>
+fn goes<I: Owned + Drop>(
+    rt: &impl Abort,
+    alloc: Global,
+    plan: &str,
+    steps: &str,
+    wanted: (&str, &str),
+) -> Result<(), NoMemory>
 where
     I::Machine: Drop,
 {
-    assert!(rt; row.stands.len() <= 8);
-    let count = row.stands.len() as u8;
-    let system: System<I> = ran(rt, alloc, row.plan, count, row.turns)?;
+    let Ok(boot) = Boot::read(alloc, plan) else {
+        return Err(NoMemory);
+    };
+    let count = boot.cpus();
+    let system: System<I> = ran(rt, alloc, &boot, count, steps)?;
     let text = text_of(rt, alloc, count, &system)?;
-    assert!(rt; text.as_slice() == row.text.as_bytes());
-    assert!(rt; stands(&system, row.stands) && system.is_quiet() == row.quiet);
-    assert!(rt; system.busy(BufId(0)).is_none() && system.is_closed(BufId(0)) == row.closed);
+    assert!(rt; text.as_slice() == wanted.0.as_bytes());
+    let as_wanted = stands(alloc, &system, count, wanted.1)?;
+    assert!(rt; as_wanted && system.busy(BufId(0)).is_none());
     Ok(())
 }
 
-/// Before the send of its one thread took effect: the thread runs, and nothing was sent.
-fn has_not_sent<I: Owned + Drop>(rt: &impl Abort, alloc: Global) -> Result<(), NoMemory>
-where
-    I::Machine: Drop,
-{
-    let row = Row {
-        plan: ONE_SEND,
-        turns: &[(CpuId(0), 2)],
-        text: EMPTY,
-        stands: &[(None, Place::Running(CpuId(0)))],
-        quiet: false,
-        closed: false,
-    };
-    goes::<I>(rt, alloc, &row)
-}
-
-/// The one thread sends and ends.
-fn sends_and_ends<I: Owned + Drop>(rt: &impl Abort, alloc: Global) -> Result<(), NoMemory>
-where
-    I::Machine: Drop,
-{
-    let row = Row {
-        plan: ONE_SEND,
-        turns: &[(CpuId(0), 4)],
-        text: SENT,
-        stands: &[(Some(Reason::AllEnded), Place::Ended)],
-        quiet: true,
-        closed: false,
-    };
-    goes::<I>(rt, alloc, &row)
-}
-
-/// The second send finds its buffer full, and its thread waits.
-fn sender_waits<I: Owned + Drop>(rt: &impl Abort, alloc: Global) -> Result<(), NoMemory>
-where
-    I::Machine: Drop,
-{
-    let row = Row {
-        plan: TWO_SENDS,
-        turns: &[(CpuId(0), 4)],
-        text: SENT,
-        stands: &[(None, Place::WaitSend(BufId(0)))],
-        quiet: true,
-        closed: false,
-    };
-    goes::<I>(rt, alloc, &row)
-}
-
-/// The receiver of an empty buffer waits.
-fn receiver_waits<I: Owned + Drop>(rt: &impl Abort, alloc: Global) -> Result<(), NoMemory>
-where
-    I::Machine: Drop,
-{
-    let row = Row {
-        plan: SEND_AND_RECEIVE,
-        turns: &[(CpuId(0), 2)],
-        text: EMPTY,
-        stands: &[
-            (None, Place::WaitRecv(BufId(0))),
-            (None, Place::Ready(CpuId(1))),
-        ],
-        quiet: false,
-        closed: false,
-    };
-    goes::<I>(rt, alloc, &row)
-}
-
-/// The receiver waits, the sender wakes it and sends it home, and it receives.
-fn sends_and_receives<I: Owned + Drop>(rt: &impl Abort, alloc: Global) -> Result<(), NoMemory>
-where
-    I::Machine: Drop,
-{
-    let ended = (Some(Reason::AllEnded), Place::Ended);
-    let row = Row {
-        plan: SEND_AND_RECEIVE,
-        turns: &[(CpuId(0), 2), (CpuId(1), 4), (CpuId(0), 4)],
-        text: RECEIVED,
-        stands: &[ended, ended],
-        quiet: true,
-        closed: false,
-    };
-    goes::<I>(rt, alloc, &row)
-}
-
-/// The receiver waits, the close wakes it and sends it home, and it finds the buffer closed.
-fn close_lets_a_receiver_go<I: Owned + Drop>(rt: &impl Abort, alloc: Global) -> Result<(), NoMemory>
-where
-    I::Machine: Drop,
-{
-    let ended = (Some(Reason::AllEnded), Place::Ended);
-    let row = Row {
-        plan: CLOSE_AND_RECEIVE,
-        turns: &[(CpuId(0), 2), (CpuId(1), 3), (CpuId(0), 4)],
-        text: LET_GO,
-        stands: &[ended, ended],
-        quiet: true,
-        closed: true,
-    };
-    goes::<I>(rt, alloc, &row)
-}
-
-/// A closed buffer takes no message, gives the one that it has, and then answers that it is closed.
-fn closed_buffer_drains<I: Owned + Drop>(rt: &impl Abort, alloc: Global) -> Result<(), NoMemory>
-where
-    I::Machine: Drop,
-{
-    let row = Row {
-        plan: DRAIN,
-        turns: &[(CpuId(0), 8)],
-        text: DRAINED,
-        stands: &[(Some(Reason::AllEnded), Place::Ended)],
-        quiet: true,
-        closed: true,
-    };
-    goes::<I>(rt, alloc, &row)
-}
-
-/// A message of two words is received as it was sent.
-fn two_words_are_received<I: Owned + Drop>(rt: &impl Abort, alloc: Global) -> Result<(), NoMemory>
-where
-    I::Machine: Drop,
-{
-    let row = Row {
-        plan: TWO_WORDS,
-        turns: &[(CpuId(0), 6)],
-        text: WORDS_RECEIVED,
-        stands: &[(Some(Reason::AllEnded), Place::Ended)],
-        quiet: true,
-        closed: false,
-    };
-    goes::<I>(rt, alloc, &row)
-}
-
-/// Three receivers wait. The close wakes the first, the first wakes the second, and so on.
-fn close_lets_all_receivers_go<I: Owned + Drop>(
-    rt: &impl Abort,
-    alloc: Global,
-) -> Result<(), NoMemory>
-where
-    I::Machine: Drop,
-{
-    let ended = (Some(Reason::AllEnded), Place::Ended);
-    let row = Row {
-        plan: THREE_RECEIVERS,
-        turns: &[
-            (CpuId(0), 2),
-            (CpuId(1), 2),
-            (CpuId(2), 2),
-            (CpuId(3), 3),
-            (CpuId(0), 4),
-            (CpuId(1), 4),
-            (CpuId(2), 4),
-        ],
-        text: RECEIVERS_GONE,
-        stands: &[ended, ended, ended, ended],
-        quiet: true,
-        closed: true,
-    };
-    goes::<I>(rt, alloc, &row)
-}
-
-/// Two senders wait at a full buffer. The close wakes the first, which wakes the second.
-fn close_lets_all_senders_go<I: Owned + Drop>(
-    rt: &impl Abort,
-    alloc: Global,
-) -> Result<(), NoMemory>
-where
-    I::Machine: Drop,
-{
-    let ended = (Some(Reason::AllEnded), Place::Ended);
-    let row = Row {
-        plan: TWO_SENDERS,
-        turns: &[
-            (CpuId(0), 4),
-            (CpuId(1), 3),
-            (CpuId(2), 2),
-            (CpuId(0), 4),
-            (CpuId(1), 4),
-            (CpuId(2), 3),
-        ],
-        text: SENDERS_GONE,
-        stands: &[ended, ended, ended],
-        quiet: true,
-        closed: true,
-    };
-    goes::<I>(rt, alloc, &row)
+/// The parts of a row: the plan, the steps, the text of the trace, and where all stands then.
+fn parts(row: &str) -> Option<(&str, &str, &str, &str)> {
+    let (plan, rest) = row.split_once("-- ")?;
+    let (steps, rest) = rest.split_once('\n')?;
+    let (text, stands) = rest.split_once("--\n")?;
+    Some((plan, steps, text, stands))
 }
 
 /// The worked plans over a top layer of which each poll is a whole call: a step for each instruction,
@@ -468,16 +358,15 @@ where
     I::Machine: Drop,
 {
     calls_are_whole::<I>();
-    has_not_sent::<I>(rt, alloc)?;
-    sends_and_ends::<I>(rt, alloc)?;
-    sender_waits::<I>(rt, alloc)?;
-    receiver_waits::<I>(rt, alloc)?;
-    sends_and_receives::<I>(rt, alloc)?;
-    two_words_are_received::<I>(rt, alloc)?;
-    close_lets_a_receiver_go::<I>(rt, alloc)?;
-    closed_buffer_drains::<I>(rt, alloc)?;
-    close_lets_all_receivers_go::<I>(rt, alloc)?;
-    close_lets_all_senders_go::<I>(rt, alloc)
+    for row in ROWS.split("==\n") {
+        match parts(row) {
+            Some((plan, steps, text, stands)) => {
+                goes::<I>(rt, alloc, plan, steps, (text, stands))?;
+            }
+            None => assert!(rt; false),
+        }
+    }
+    Ok(())
 }
 
 /// More room than there can be, from the most polls whose events can be counted on.
