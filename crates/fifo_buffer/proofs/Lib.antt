@@ -15,5 +15,3 @@ pub mod Starting
 pub mod Chains
 pub mod Opening
 pub mod PositionLemmas
-pub mod TowerOpening
-pub mod Rows

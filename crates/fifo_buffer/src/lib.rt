@@ -7,8 +7,6 @@ mod fifo;
 mod laws;
 mod sections;
 mod talk_table;
-#[cfg(test)]
-mod tests;
 
 pub use blocks::empty_blocks;
 pub use fifo::Fifo;

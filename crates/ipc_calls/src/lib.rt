@@ -15,4 +15,6 @@ pub use tower::{LockEdit, Over, TowerBlock, TowerEdit, part_over, tower_blocks};
 pub use whole::{WholeBuffers, calls_are_whole};
 
 #[cfg(test)]
+mod buffer_tests;
+#[cfg(test)]
 mod tests;

@@ -4,11 +4,18 @@ ghost use Rattle.std.specs.Prelude.{◌≡◌, ◌+◌, ◌<◌, ◌≤◌, None
 ghost use Rattle.event_log.specs.declared.ids.TheConstants.{THREADS};
 ghost use Rattle.layer_traits.specs.BufferLaw.{Calling, MayGoOn, MayTalk, buffer_of, quiet, talk_of};
 
-use crate::{Ipc, Over, TowerEdit, part_over, tower_blocks};
+use crate::buffer_tests::{BufferRow, goes};
+use crate::{Ipc, LockEdit, OpensBuffers, OpensLocks, TowerEdit, part_over, tower_blocks};
 use arrayvec::ArrayVec;
+use condvar::Cond;
 use event_log::{BufId, CAPACITY, CpuId, Msg, NoMemory, Tid};
+use fifo_buffer::Fifo;
 use layer_traits::{Call, IpcLayer, Owned, OwnedLocks, Pass, Place, Reply};
 use plain_machine::Plain;
+use queuing_lock::QLock;
+use scheduler::Sched;
+use shared_queue::SharedQueues;
+use sleep_wakeup::Sleeper;
 use spinlock::Ticket;
 use std::alloc::Global;
 use std::process::Abort;
@@ -136,6 +143,11 @@ where
     Ok(())
 }
 
+/// Whether a thread of a part is ready, none runs, and nothing is under way.
+fn is_ready<I: IpcLayer + Drop>(part: I) -> bool {
+    part.has_ready() && part.current().is_none() && !part.is_busy()
+}
+
 /// The part of the second of two CPUs at boot: its one thread is ready.
 fn is_ready_at_boot<L: OwnedLocks<TowerEdit> + Drop>(
     rt: &impl Abort,
@@ -146,8 +158,8 @@ where
 {
     let homes = [CpuId(0), CpuId(1)];
     let m = L::open(alloc, tower_blocks(alloc, 2, &[1], &homes)?, 8)?;
-    let part: Ipc<Over<L>> = part_over(&m, CpuId(1), &[1], &homes);
-    assert!(rt; part.has_ready() && part.current().is_none() && !part.is_busy());
+    let ready = is_ready(part_over::<L>(&m, CpuId(1), &[1], &homes));
+    assert!(rt; ready);
     Ok(())
 }
 
@@ -159,10 +171,44 @@ enum Row {
     Sends,
     /// A buffer is closed.
     Closes,
+    /// What its layer of buffers is seen to do.
+    OfBuffers(BufferRow),
 }
 
-/// Runs a row over a layer of critical sections.
-fn goes<L: OwnedLocks<TowerEdit> + Drop>(
+/// Runs a row over a layer of buffers.
+fn calls_go<B: OpensBuffers + Drop>(
+    rt: &impl Abort,
+    alloc: Global,
+    row: Row,
+) -> Result<(), NoMemory>
+where
+    B::Machine: Drop,
+{
+    match row {
+        Row::Boots | Row::Sends => runs::<Ipc<B>>(rt, alloc),
+        Row::Closes => closes::<Ipc<B>>(rt, alloc),
+        Row::OfBuffers(row) => {
+            let went = goes::<B>(alloc, row)?;
+            assert!(rt; went);
+            Ok(())
+        }
+    }
+}
+
+/// The same over a layer of sections that put to sleep or wake.
+fn buffers_go<S: OpensLocks + Drop>(
+    rt: &impl Abort,
+    alloc: Global,
+    row: Row,
+) -> Result<(), NoMemory>
+where
+    S::Machine: Drop,
+{
+    calls_go::<Fifo<Cond<QLock<S>>>>(rt, alloc, row)
+}
+
+/// The same over a layer of critical sections.
+fn sections_go<L: OwnedLocks<TowerEdit> + Drop>(
     rt: &impl Abort,
     alloc: Global,
     row: Row,
@@ -172,15 +218,14 @@ where
 {
     match row {
         Row::Boots => is_ready_at_boot::<L>(rt, alloc),
-        Row::Sends => runs::<Ipc<Over<L>>>(rt, alloc),
-        Row::Closes => closes::<Ipc<Over<L>>>(rt, alloc),
+        row => buffers_go::<Sleeper<LockEdit, Sched<SharedQueues<L>>>>(rt, alloc, row),
     }
 }
 
-/// [`goes`] over ticket locks. Nothing else names that type: the proof of a function that does takes
-/// minutes.
+/// The same over ticket locks. Each step names the few layers that it adds, since the proof of a
+/// function that names the whole nest takes minutes.
 fn tower_goes(rt: &impl Abort, alloc: Global, row: Row) -> Result<(), NoMemory> {
-    goes::<Ticket<Plain<TowerEdit>>>(rt, alloc, row)
+    sections_go::<Ticket<Plain<TowerEdit>>>(rt, alloc, row)
 }
 
 #[test]
@@ -198,5 +243,47 @@ fn a_tower_opens_and_sends(rt: HostRuntime) -> Result<(), Fail> {
 #[test]
 fn a_buffer_of_a_tower_is_closed(rt: HostRuntime) -> Result<(), Fail> {
     tower_goes(&rt, rt.alloc(), Row::Closes)?;
+    Ok(())
+}
+
+#[test]
+fn a_send_alone_and_a_receive_alone_take_18_polls_each(rt: HostRuntime) -> Result<(), Fail> {
+    tower_goes(&rt, rt.alloc(), Row::OfBuffers(BufferRow::Alone))?;
+    Ok(())
+}
+
+#[test]
+fn a_receiver_that_waits_is_woken_by_a_sender(rt: HostRuntime) -> Result<(), Fail> {
+    tower_goes(&rt, rt.alloc(), Row::OfBuffers(BufferRow::ReceiverWaits))?;
+    Ok(())
+}
+
+#[test]
+fn a_sender_that_waits_is_woken_by_a_receiver(rt: HostRuntime) -> Result<(), Fail> {
+    tower_goes(&rt, rt.alloc(), Row::OfBuffers(BufferRow::SenderWaits))?;
+    Ok(())
+}
+
+#[test]
+fn a_close_takes_15_polls_and_what_is_left_is_drained(rt: HostRuntime) -> Result<(), Fail> {
+    tower_goes(&rt, rt.alloc(), Row::OfBuffers(BufferRow::Closes))?;
+    Ok(())
+}
+
+#[test]
+fn a_receiver_that_waits_learns_that_the_buffer_is_closed(rt: HostRuntime) -> Result<(), Fail> {
+    tower_goes(&rt, rt.alloc(), Row::OfBuffers(BufferRow::ReceiverLearns))?;
+    Ok(())
+}
+
+#[test]
+fn a_block_in_hand_is_told_by_the_part(rt: HostRuntime) -> Result<(), Fail> {
+    tower_goes(&rt, rt.alloc(), Row::OfBuffers(BufferRow::ToldInHand))?;
+    Ok(())
+}
+
+#[test]
+fn a_thread_that_ends_has_ended(rt: HostRuntime) -> Result<(), Fail> {
+    tower_goes(&rt, rt.alloc(), Row::OfBuffers(BufferRow::Ends))?;
     Ok(())
 }

@@ -5,6 +5,6 @@ use Rattle.queuing_lock.specs.Nested.{lock_of}
 use Rattle.sleep_wakeup.specs.Nested.{state_of}
 use Rattle.ipc_calls.proofs.tests.is_ready_at_boot.Goals as goal
 
-pub part_over-part-requires-clause-locks : goal.part_over-part-requires-clause-locks
-part_over-part-requires-clause-locks g c =
+pub part_over-requires-clause-locks : goal.part_over-requires-clause-locks
+part_over-requires-clause-locks g c =
     ap (λ at. inner (viewed lock_of (viewed state_of at))) c.in_ok-m.ensures.opening ∙ c.in_ok-tower_blocks.ensures.locks

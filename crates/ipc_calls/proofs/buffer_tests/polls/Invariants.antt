@@ -1,7 +1,7 @@
 use Rattle.std.proofs.Common.{◌≡◌, ◌≢◌, ◌+◌, ◌≤◌, ◌-◌}
 use Rattle.layer_traits.specs.BufferLaw.{MayTalk, talk_of}
-use Rattle.fifo_buffer.proofs.Rows.{GoesOn}
-use Rattle.fifo_buffer.proofs.tests.polls.Given as goal
+use Rattle.ipc_calls.proofs.Rows.{GoesOn}
+use Rattle.ipc_calls.proofs.buffer_tests.polls.Given as goal
 
 abbrev pub invariant-loop-done : goal.invariant-loop-done
 invariant-loop-done g l = record {

@@ -1,40 +1,17 @@
-//! Message calls over the tower, on an owned machine.
+//! Message calls over a layer of buffers, on an owned machine: what each takes, poll by poll.
 
-ghost use Rattle.std.specs.Prelude.{◌≡◌, ◌≢◌, ◌+◌, ◌<◌, ◌≤◌, [], ◌∷◌, true, Some, None, IsSome, IfOk, All, length};
+ghost use Rattle.std.specs.Prelude.{◌≡◌, ◌≢◌, ◌+◌, ◌<◌, ◌≤◌, [], ◌∷◌, true, Some, None, IsSome, IfOk, length};
 ghost use Rattle.event_log.specs.declared.ids.LockId.TheVariants.{Pending};
-ghost use Rattle.event_log.specs.declared.ids.TheConstants.{BUFFERS, CPUS, THREADS};
-ghost use Rattle.event_log.specs.Buffers.{IsCapacity};
+ghost use Rattle.event_log.specs.declared.ids.TheConstants.{CPUS};
 ghost use Rattle.layer_traits.specs.declared.passes.Pass.TheVariants.{Drain};
 ghost use Rattle.layer_traits.specs.BufferEffects.{opening_locks};
 ghost use Rattle.layer_traits.specs.BufferLaw.{Calling, MayGoOn, MayTalk, Passing, buffer_of, talk_of};
-ghost use Rattle.layer_traits.specs.QueueBlocks.{StartsWell, homes_in, inner};
-ghost use Rattle.layer_traits.specs.Renaming.{viewed};
-ghost use Rattle.queuing_lock.specs.Nested.{lock_of};
-ghost use Rattle.sleep_wakeup.specs.Nested.{state_of};
+ghost use Rattle.layer_traits.specs.QueueBlocks.{homes_in, inner};
 
-use crate::{Fifo, empty_blocks};
-use condvar::Cond;
+use crate::OpensBuffers;
 use event_log::{BufId, CpuId, Kind, Msg, NoMemory, Tid};
-use layer_traits::{
-    BufferEdit, BufferLayer, Call, CvEdit, CvLeave, Effect, Line, LockLayer, OwnedBuffers,
-    OwnedLocks, Pass, QueueEdit, Reply,
-};
-use plain_machine::Plain;
-use queuing_lock::{QLock, QLockEdit, lock_blocks};
-use scheduler::Sched;
-use shared_queue::{SharedQueues, queue_blocks};
-use sleep_wakeup::{SleepEdit, Sleeper, sleep_blocks};
-use spinlock::Ticket;
+use layer_traits::{BufferLayer, Call, Effect, Line, OwnedBuffers, Pass, Reply};
 use std::alloc::Global;
-use std::test::Fail;
-
-/// The edits of the tower's machine.
-type LockEdit = QLockEdit<CvEdit<BufferEdit>, CvLeave>;
-
-type TowerEdit = QueueEdit<SleepEdit<LockEdit>>;
-
-/// The tower over a layer of critical sections.
-type Over<L> = Fifo<Cond<QLock<Sleeper<LockEdit, Sched<SharedQueues<L>>>>>>;
 
 /// The next ready thread runs, if nobody does and nobody stands in the hand.
 fn switch<B: BufferLayer>(part: &mut B, m: &mut B::Machine) -> bool
@@ -514,183 +491,72 @@ fn ends<B: OwnedBuffers>(part: &mut B, m: &mut B::Machine) -> bool
 
 /// A machine of two CPUs and one buffer with room for one message; thread 0 is at home on CPU 0,
 /// and thread 1 on CPU 1.
-fn machine<L: OwnedLocks<TowerEdit>>(alloc: Global) -> Result<L::Machine, NoMemory>
-    ensures acts { IfOk result (λ m. (c : _) → c.0 < CPUS → L.ActsFor m c) }
-    ensures outside { IfOk result (λ m. (c : _) → L.IsOutside m c) }
-    ensures seen { IfOk result (λ m. L.seen m ≡ []) }
-    ensures room { IfOk result (λ m. L.room m ≡ 120) }
-    ensures starts { IfOk result (λ m. StartsWell (L.opening m)) }
-    ensures homes { IfOk result (λ m. homes_in (L.opening m) ≡ record { 0 = 0 } ∷ record { 0 = 1 } ∷ []) }
-    ensures queues { IfOk result (λ m. (c : _) → c.0 < 2 → IsSome (L.opening m (Pending c))) }
-    ensures locks { IfOk result (λ m. inner (viewed lock_of (viewed state_of (L.opening m))) ≡ opening_locks (1 ∷ [])) }
+fn machine<B: OpensBuffers>(alloc: Global) -> Result<B::Machine, NoMemory>
+    ensures caps { IfOk result (λ m. B.caps m ≡ 1 ∷ []) }
+    ensures homes { IfOk result (λ m. homes_in (B.opening m) ≡ record { 0 = 0 } ∷ record { 0 = 1 } ∷ []) }
+    ensures seen { IfOk result (λ m. B.seen m ≡ []) }
+    ensures moves { IfOk result (λ m. B.moves m ≡ []) }
+    ensures room { IfOk result (λ m. 120 ≤ B.room m) }
+    ensures locks { IfOk result (λ m. inner (B.opening m) ≡ opening_locks (B.caps m)) }
+    ensures queues { IfOk result (λ m. (c : _) → c.0 < 2 → IsSome (B.opening m (Pending c))) }
+    ensures acts { IfOk result (λ m. (c : _) → c.0 < CPUS → B.ActsFor m c) }
+    ensures outside { IfOk result (λ m. (c : _) → c.0 < CPUS → B.IsOutside m c) }
 {
-    let blocks = empty_blocks(alloc, &[1])?;
-    let blocks = lock_blocks(alloc, blocks)?;
-    let blocks = sleep_blocks(alloc, blocks)?;
-    let locks = queue_blocks(alloc, blocks, 2, &[CpuId(0), CpuId(1)])?;
-    L::open(alloc, locks, 120)
+    B::open(alloc, 2, &[1], &[CpuId(0), CpuId(1)], 120)
 }
 
 /// The part of a CPU at boot.
-fn part<L: LockLayer<TowerEdit>>(m: &L::Machine, cpu: CpuId) -> Over<L>
-    requires acts { L.ActsFor m.now cpu }
-    requires outside { L.IsOutside m.now cpu }
-    requires seen { L.seen m.now ≡ [] }
-    requires starts { StartsWell (L.opening m.now) }
-    requires homes { homes_in (L.opening m.now) ≡ record { 0 = 0 } ∷ record { 0 = 1 } ∷ [] }
-    requires queue { IsSome (L.opening m.now (Pending cpu)) }
-    requires locks { inner (viewed lock_of (viewed state_of (L.opening m.now))) ≡ opening_locks (1 ∷ []) }
-    ensures fits { ⟦<Over<L> as BufferLayer>⟧.Fits result m.now }
-    ensures acts { ⟦<Over<L> as BufferLayer>⟧.ActsFor m.now cpu }
-    ensures queues { (c : _) → IsSome (L.opening m.now (Pending c)) → IsSome (⟦<Over<L> as BufferLayer>⟧.opening m.now (Pending c)) }
-    ensures caps { ⟦<Over<L> as BufferLayer>⟧.caps m.now ≡ 1 ∷ [] }
-    ensures room { ⟦<Over<L> as BufferLayer>⟧.room m.now ≡ L.room m.now }
-    ensures cpu { ⟦<Over<L> as BufferLayer>⟧.cpu_of result ≡ cpu }
-    ensures start { ⟦<Over<L> as BufferLayer>⟧.doing result ≡ None }
-    ensures free { (t next : _) → t.0 < THREADS → MayTalk (talk_of (⟦<Over<L> as BufferLayer>⟧.own result).talks t) next }
+fn part<B: OpensBuffers>(m: &B::Machine, cpu: CpuId) -> B
+    requires acts { B.ActsFor m.now cpu }
+    requires outside { B.IsOutside m.now cpu }
+    requires seen { B.seen m.now ≡ [] }
+    requires moves { B.moves m.now ≡ [] }
+    requires homes { homes_in (B.opening m.now) ≡ record { 0 = 0 } ∷ record { 0 = 1 } ∷ [] }
+    requires queue { IsSome (B.opening m.now (Pending cpu)) }
+    requires locks { inner (B.opening m.now) ≡ opening_locks (B.caps m.now) }
+    ensures fits { B.Fits result m.now }
+    ensures cpu { B.cpu_of result ≡ cpu }
+    ensures start { B.doing result ≡ None }
+    ensures free { (t next : _) → MayTalk (talk_of (B.own result).talks t) next }
 {
     let _ = m;
-    Fifo::part(cpu, &[CpuId(0), CpuId(1)], 1)
+    B::part(cpu, &[CpuId(0), CpuId(1)], 1)
 }
 
-/// A row of one CPU.
-fn row_alone<L: OwnedLocks<TowerEdit> + Drop>(alloc: Global) -> Result<bool, NoMemory>
-where
-    L::Machine: Drop,
-{
-    let mut m = machine::<L>(alloc)?;
-    let mut home = part::<L>(&m, CpuId(0));
-    Ok(alone(&mut home, &mut m))
-}
-
-/// A row of one CPU that closes.
-fn row_closes<L: OwnedLocks<TowerEdit> + Drop>(alloc: Global) -> Result<bool, NoMemory>
-where
-    L::Machine: Drop,
-{
-    let mut m = machine::<L>(alloc)?;
-    let mut home = part::<L>(&m, CpuId(0));
-    Ok(drains(&mut home, &mut m))
-}
-
-/// A row of what is told.
-fn row_told<L: OwnedLocks<TowerEdit> + Drop>(alloc: Global) -> Result<bool, NoMemory>
-where
-    L::Machine: Drop,
-{
-    let mut m = machine::<L>(alloc)?;
-    let mut home = part::<L>(&m, CpuId(0));
-    Ok(told_in_hand(&mut home, &mut m))
-}
-
-/// A row of an end.
-fn row_ends<L: OwnedLocks<TowerEdit> + Drop>(alloc: Global) -> Result<bool, NoMemory>
-where
-    L::Machine: Drop,
-{
-    let mut m = machine::<L>(alloc)?;
-    let mut home = part::<L>(&m, CpuId(0));
-    Ok(ends(&mut home, &mut m))
-}
-
-/// A row of two CPUs.
-fn row_of_two<L: OwnedLocks<TowerEdit> + Drop>(alloc: Global, row: Two) -> Result<bool, NoMemory>
-where
-    L::Machine: Drop,
-{
-    let mut m = machine::<L>(alloc)?;
-    let mut home = part::<L>(&m, CpuId(0));
-    let mut away = part::<L>(&m, CpuId(1));
-    match row {
-        Two::ReceiverWaits => Ok(receiver_waits(&mut home, &mut away, &mut m)),
-        Two::SenderWaits => Ok(sender_waits(&mut home, &mut away, &mut m)),
-        Two::ReceiverLearns => Ok(receiver_learns(&mut home, &mut away, &mut m)),
-    }
-}
-
-/// The rows of two CPUs.
+/// What a layer of buffers is seen to do.
 #[derive(Drop)]
-enum Two {
+pub enum BufferRow {
+    /// A thread alone sends and receives.
+    Alone,
+    /// A thread alone closes, and drains what is left.
+    Closes,
     /// A receiver waits for a sender.
     ReceiverWaits,
     /// A sender waits for a receiver.
     SenderWaits,
     /// A receiver waits, and the buffer is closed.
     ReceiverLearns,
-}
-
-/// The rows that a tower runs.
-enum Row {
-    /// A thread alone sends and receives.
-    Alone,
-    /// A thread alone closes, and drains what is left.
-    Closes,
-    /// Two CPUs.
-    OfTwo(Two),
     /// The part tells of the block that it has in hand.
     ToldInHand,
     /// A thread ends.
     Ends,
 }
 
-/// Whether a row goes as it has to, over a layer of critical sections.
-fn goes<L: OwnedLocks<TowerEdit> + Drop>(alloc: Global, row: Row) -> Result<bool, NoMemory>
+/// Whether a row goes as it has to.
+pub fn goes<B: OpensBuffers + Drop>(alloc: Global, row: BufferRow) -> Result<bool, NoMemory>
 where
-    L::Machine: Drop,
+    B::Machine: Drop,
 {
-    match row {
-        Row::Alone => row_alone::<L>(alloc),
-        Row::Closes => row_closes::<L>(alloc),
-        Row::OfTwo(row) => row_of_two::<L>(alloc, row),
-        Row::ToldInHand => row_told::<L>(alloc),
-        Row::Ends => row_ends::<L>(alloc),
-    }
-}
-
-/// [`goes`] over ticket locks. Nothing else names that type: the proof of a function that does takes
-/// minutes.
-fn tower_goes(alloc: Global, row: Row) -> Result<bool, NoMemory> {
-    goes::<Ticket<Plain<TowerEdit>>>(alloc, row)
-}
-
-#[test]
-fn a_send_alone_and_a_receive_alone_take_18_polls_each(rt: HostRuntime) -> Result<(), Fail> {
-    assert!(rt; tower_goes(rt.alloc(), Row::Alone)?);
-    Ok(())
-}
-
-#[test]
-fn a_receiver_that_waits_is_woken_by_a_sender(rt: HostRuntime) -> Result<(), Fail> {
-    assert!(rt; tower_goes(rt.alloc(), Row::OfTwo(Two::ReceiverWaits))?);
-    Ok(())
-}
-
-#[test]
-fn a_sender_that_waits_is_woken_by_a_receiver(rt: HostRuntime) -> Result<(), Fail> {
-    assert!(rt; tower_goes(rt.alloc(), Row::OfTwo(Two::SenderWaits))?);
-    Ok(())
-}
-
-#[test]
-fn a_close_takes_15_polls_and_what_is_left_is_drained(rt: HostRuntime) -> Result<(), Fail> {
-    assert!(rt; tower_goes(rt.alloc(), Row::Closes)?);
-    Ok(())
-}
-
-#[test]
-fn a_receiver_that_waits_learns_that_the_buffer_is_closed(rt: HostRuntime) -> Result<(), Fail> {
-    assert!(rt; tower_goes(rt.alloc(), Row::OfTwo(Two::ReceiverLearns))?);
-    Ok(())
-}
-
-#[test]
-fn a_block_in_hand_is_told_by_the_part(rt: HostRuntime) -> Result<(), Fail> {
-    assert!(rt; tower_goes(rt.alloc(), Row::ToldInHand)?);
-    Ok(())
-}
-
-#[test]
-fn a_thread_that_ends_has_ended(rt: HostRuntime) -> Result<(), Fail> {
-    assert!(rt; tower_goes(rt.alloc(), Row::Ends)?);
-    Ok(())
+    let mut m = machine::<B>(alloc)?;
+    let mut home = part::<B>(&m, CpuId(0));
+    let mut away = part::<B>(&m, CpuId(1));
+    Ok(match row {
+        BufferRow::Alone => alone(&mut home, &mut m),
+        BufferRow::Closes => drains(&mut home, &mut m),
+        BufferRow::ReceiverWaits => receiver_waits(&mut home, &mut away, &mut m),
+        BufferRow::SenderWaits => sender_waits(&mut home, &mut away, &mut m),
+        BufferRow::ReceiverLearns => receiver_learns(&mut home, &mut away, &mut m),
+        BufferRow::ToldInHand => told_in_hand(&mut home, &mut m),
+        BufferRow::Ends => ends(&mut home, &mut m),
+    })
 }

@@ -1,4 +1,4 @@
-use Rattle.fifo_buffer.proofs.tests.sender_waits.Goals as goal
+use Rattle.ipc_calls.proofs.buffer_tests.sender_waits.Goals as goal
 
 pub takes-requires-clause-same : goal.takes-requires-clause-same
 takes-requires-clause-same g c = rw c.switch.ensures.talks (c.requires.home_free _)

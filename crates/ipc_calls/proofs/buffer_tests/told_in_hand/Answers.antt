@@ -1,4 +1,4 @@
-use Rattle.fifo_buffer.proofs.tests.told_in_hand.Goals as goal
+use Rattle.ipc_calls.proofs.buffer_tests.told_in_hand.Goals as goal
 
 pub polls-requires-clause-same : goal.polls-requires-clause-same
 polls-requires-clause-same g c = rw c.switch.ensures.talks (c.requires.free _)

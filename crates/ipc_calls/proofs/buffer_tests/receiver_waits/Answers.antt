@@ -1,4 +1,4 @@
-use Rattle.fifo_buffer.proofs.tests.receiver_waits.Goals as goal
+use Rattle.ipc_calls.proofs.buffer_tests.receiver_waits.Goals as goal
 
 pub waits-requires-clause-same : goal.waits-requires-clause-same
 waits-requires-clause-same g c = rw c.switch.ensures.talks (c.requires.home_free _)
