@@ -239,7 +239,7 @@ rows() {
   row 1 '' $'error: WriteFault(8)\n' 'set -o pipefail; { sleep 0.2; mctower check < /dev/null; } | true'
   row 1 '' $'error: WriteFault(8)\n' 'mctower count --cpus 1 --times 1 >&-'
   # the longest schedule where there is memory: eight CPUs, whose messages get through all sixteen buffers
-  row 0 $'yes\n35264\n' '~cpu 0 live' \
+  patience=60 row 0 $'yes\n35264\n' '~cpu 0 live' \
     "bench/make_plan.sh through | mctower run --schedule \"\$(bench/make_schedule.sh)\" > '$room/long' && mctower check < '$room/long' && grep -c '^e ' '$room/long'"
   # room for one thread's stack, and not for two; no room for the longest schedule
   row 0 $'plain 3\ntable 3\n' '' "$one_stack; mctower count --cpus 1 --times 3"
