@@ -4,8 +4,8 @@
     plans/kernel.py [--wrong RULE] PLAN [SCHEDULE]
 
 Without a schedule it takes the one in the first lines of the plan. With --wrong one rule of the table is left out, to see
-what breaks; --help names them. Nothing here is proved: it is the program to play with. Without --wrong it prints what
-`mctower run` prints, and tests/book.py holds the two against one another.
+what breaks; --help names them. Nothing here is proved: it is the program to play with. It needs Python alone, no built program.
+Without --wrong it prints what `mctower run` prints, and tests/book.py holds the two against one another.
 """
 import argparse
 import copy
@@ -364,6 +364,8 @@ def main():
     parser.add_argument("plan", type=Path)
     parser.add_argument("schedule", nargs="?")
     asked = parser.parse_args()
+    if not asked.plan.is_file():
+        parser.exit(2, f"kernel: there is no plan at {asked.plan}; this program needs a plan and no built mctower\n")
     plan = asked.plan.read_text()
     kernel = Kernel(tomllib.loads(plan), asked.wrong)
     for c in steps_of(schedule_in(plan) if asked.schedule is None else asked.schedule):

@@ -37,7 +37,9 @@ PLACES = {
 def told(plan, steps):
     """What the program tells after these steps: each thread's place, and the entries as a sorted list."""
     words = [PROGRAM, "run"] + (["--schedule", ",".join(map(str, steps))] if steps else [])
-    ran = subprocess.run(words, input=plan, capture_output=True, text=True, check=True)
+    ran = subprocess.run(words, input=plan, capture_output=True, text=True, check=False)
+    if ran.returncode:
+        sys.exit(f"picture: {PROGRAM} ended with status {ran.returncode}: {ran.stderr.strip()}")
     places = re.findall(r"^thread \d+ (\S+)$", ran.stderr, re.M)
     return places, sorted(line for line in ran.stdout.splitlines() if line.startswith("e "))
 
@@ -156,6 +158,8 @@ class Picture:
 def main(words):
     if not 1 <= len(words) <= 2:
         sys.exit("usage: plans/picture.py PLAN [SCHEDULE] > picture.svg")
+    if not (os.path.isfile(PROGRAM) and os.access(PROGRAM, os.X_OK)):
+        sys.exit(f"picture: there is no program at {PROGRAM}: build it with bench/prove-all.py, or name one by MCTOWER")
     plan = Path(words[0]).read_text()
     schedule = words[1] if len(words) == 2 else schedule_in(plan)
     places, sections = observed(plan, steps_of(schedule))

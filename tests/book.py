@@ -1,7 +1,7 @@
 #!/usr/bin/env python3
 """Tries the book: runs every command of docs/book and compares what comes with what the page says, byte for byte; looks up
-each file, public name and clause that a page names; draws each picture again; holds plans/kernel.py against what each plan is
-expected to print. .ci/run calls it; it takes seconds.
+each file, public name and clause that a page names, and each name of the repository in the other pages of docs; draws each picture
+again; holds plans/kernel.py against what each plan is expected to print. .ci/run calls it; it takes about half a minute.
 
     tests/book.py [--write] [PROGRAM]
 
@@ -21,6 +21,16 @@ CRATES = [line.split(":")[0] for line in (ROOT / "crates.txt").read_text().split
 BLOCK = re.compile(r"(?<=^```console\n)(.*?)(?=^```$)", re.M | re.S)
 FILE = re.compile(r"`((?:crates|plans|docs|tests|bench)/[\w./-]+)`")
 NAME = re.compile(r"(?:clause `(\w+)` of )?`(\w+)((?:::\w+)+)`")
+# Names that docs cite: the text between backticks, a fence left out, and what of it looks like a name of this tree.
+FENCE = re.compile(r"^```.*?^```", re.M | re.S)
+QUOTED = re.compile(r"`([^`\n]+)`")
+PATH = re.compile(r"^\.?[\w-]+(?:/[\w.-]+)+/?$|^[\w-]+\.(?:rt|antt|edit|md|py|sh|rs|toml|txt|svg)$")
+WORD = re.compile(r"^[A-Za-z_]\w*(?:::[A-Za-z_]\w*)*(?:\(\d+\))?$")
+LINK = re.compile(r"\]\(([^)#:\s]+)(?:#[^)]*)?\)")
+# What docs cite and no file of this tree says: crates of the kit, and the end of a family of names.
+EXCEPT = {"rt", "clap", "toml", "thiserror", "arrayvec", "itoa", "atomic_table", "crossbeam_utils", "_here"}
+# Paths that no list of files has: what a build makes, and a path with a name to put in.
+MADE = re.compile(r"(^|/)out(/|$)|/NAME/")
 
 
 def outcome(command, program):
@@ -82,6 +92,45 @@ def looked_up(page, faults):
     return count
 
 
+def words_of_tree():
+    """Every word of the tree's sources, definitions, proofs and scripts, and the name of each of its files."""
+    words, files = set(), []
+    listed = subprocess.run(["git", "ls-files", "-co", "--exclude-standard"], cwd=ROOT, stdout=subprocess.PIPE, text=True, check=True).stdout
+    for name in listed.splitlines():
+        files.append(name)
+        path = ROOT / name
+        words.update(part.split(".")[0] for part in name.split("/"))
+        if path.suffix in {".rt", ".antt", ".edit", ".py", ".sh", ".rs", ".toml"} and path.is_file():
+            words.update(re.findall(r"\w+", path.read_text()))
+    return words, files
+
+
+def known_path(cited, files):
+    """Whether a cited path is one of the tree: from its root, or the end of a file's or a folder's path."""
+    end = cited.strip("/")
+    return any(f"/{name}".endswith(f"/{end}") or f"/{end}/" in f"/{name}" or f"/{end}." in f"/{name}" for name in files)
+
+
+def cited(page, words, files, faults):
+    """Looks for each name of the repository and each link of a page of docs; tells how many there were."""
+    text, count, shown = FENCE.sub("", page.read_text()), 0, page.relative_to(ROOT)
+    for name in QUOTED.findall(text):
+        if PATH.match(name):
+            found = known_path(name, files) or MADE.search(name)
+        elif WORD.match(name):
+            found = name in EXCEPT or all(part in words for part in re.findall(r"[A-Za-z_]\w*", name))
+        else:
+            continue
+        count += 1
+        if not found:
+            faults.append(f"{shown}: the tree has no {name}")
+    for link in LINK.findall(text):
+        count += 1
+        if not (page.parent / link).exists():
+            faults.append(f"{shown}: there is nothing at {link}")
+    return count
+
+
 def drawn(picture, program, write, faults):
     plan = ROOT / "plans" / f"{picture.stem}.toml"
     came = outcome(f"plans/picture.py {plan.relative_to(ROOT)}", program)
@@ -105,6 +154,9 @@ def main(words):
     faults, count = [], 0
     for page in sorted(BOOK.glob("*.md")):
         count += tried(page, program, write, faults) + looked_up(page, faults)
+    words_known, files = words_of_tree()
+    for page in sorted([ROOT / "README.md", *ROOT.glob("docs/*.md"), *ROOT.glob("docs/spec/*.md"), *BOOK.glob("*.md")]):
+        count += cited(page, words_known, files, faults)
     for picture in sorted((BOOK / "pictures").glob("*.svg")):
         count += 1
         drawn(picture, program, write, faults)
