@@ -26,6 +26,30 @@ fn with_line(alloc: Global, text: &[u8], at: usize, lines: &[u8]) -> Result<Vec<
     Ok(out)
 }
 
+/// Fails at the first row that does not go as it says: which line of the text is replaced, what
+/// stands there instead, where `|` is the end of a line, and the judge's answer, as it prints. The
+/// rows are one text: a function is the dearer to prove the more texts it names.
+fn rows_go(rt: &HostRuntime, text: &[u8], rows: &str) -> Result<(), Fail> {
+    for row in rows.split('\n') {
+        let Some((at, rest)) = row.split_once(';') else {
+            return Err(Fail::new(row));
+        };
+        let Some((lines, answer)) = rest.split_once(';') else {
+            return Err(Fail::new(row));
+        };
+        let Ok(at) = at.parse::<usize>() else {
+            return Err(Fail::new(row));
+        };
+        let lines = lines.replace(rt.alloc(), "|", "\n")?;
+        let changed = with_line(rt.alloc(), text, at, lines.as_bytes())?;
+        let verdict = check(&changed);
+        if format!(in rt.alloc(); "{verdict:?}")?.as_str() != answer {
+            return Err(Fail::new(row));
+        }
+    }
+    Ok(())
+}
+
 const CLOSED: &[u8; 163] =
     b"mctower-trace 2\nbuffers 1\ncap 0 1\ne 0 0 send 0 7 0 0\ne 0 0 close 0 - 1 0\ne 0 0 sendc 0 7 2 1\n\
       e 0 0 recv 0 7 3 0\ne 0 0 recvc 0 - 4 1\ne 0 0 close 0 - 5 1\nleft 0\nend\n";
@@ -85,130 +109,105 @@ fn changes_of_one_text(rt: HostRuntime) -> Result<(), Fail> {
 
 /// Each change of one line of the text of one send: what stands there instead, and the line and the
 /// first reason of the answer.
-const LINES: [(usize, &str, usize, Reason); 60] = [
-    (1, "mctower-trace 2\n", 6, Reason::OfVersion),
-    (1, "mctower-trace 3\n", 6, Reason::OfVersion),
-    (1, "mctower-trace 4\n", 1, Reason::Spelling),
-    (1, "mctower-trace 03\n", 1, Reason::Spelling),
-    (4, "e 0 0 close 0 - 0 0\n", 4, Reason::Spelling),
-    (1, " mctower-trace 1\n", 1, Reason::Spelling),
-    (1, "", 1, Reason::Spelling),
-    (2, "buffers\n", 2, Reason::Spelling),
-    (2, "buffers 01\n", 2, Reason::Spelling),
-    (2, "buffers 17 \n", 2, Reason::Spelling),
-    (2, "buffers 0\n", 2, Reason::Range),
-    (2, "buffers 99999999999999999999\n", 2, Reason::Range),
-    (2, "buffers 2\n", 4, Reason::Spelling),
-    (3, "cap 1 1\n", 3, Reason::Spelling),
-    (3, "cap 00 1\n", 3, Reason::Spelling),
-    (3, "cap 18446744073709551616 1\n", 3, Reason::Spelling),
-    (3, "cap 1 33\n", 3, Reason::Spelling),
-    (3, "", 3, Reason::Spelling),
-    (3, "cap 0 0\n", 3, Reason::Range),
-    (3, "cap 0 33\n", 3, Reason::Range),
-    (3, "cap 0 1\ncap 1 1\n", 4, Reason::Spelling),
-    (4, "\n", 4, Reason::Spelling),
-    (4, "e\n", 4, Reason::Spelling),
-    (4, "e  0 0 send 0 7 0 0\n", 4, Reason::Spelling),
-    (4, "e 0 0 send 0 7 0 0 \n", 4, Reason::Spelling),
-    (4, "e 0 0 send 0 7 0\n", 4, Reason::Spelling),
-    (4, "e 0 0 give 0 7 0 0\n", 4, Reason::Spelling),
-    (4, "e 16 0 send 0 7 0 00\n", 4, Reason::Spelling),
-    (4, "E 0 0 send 0 7 0 0\n", 4, Reason::Spelling),
-    (4, "e 16 0 send 0 7 0 0\n", 4, Reason::Range),
-    (4, "e 0 256 send 0 7 0 0\n", 4, Reason::Range),
-    (4, "e 0 0 send 1 7 0 0\n", 4, Reason::Range),
-    (4, "e 0 0 send 0 7 1048576 0\n", 4, Reason::Range),
-    (4, "e 0 0 send 0 7 0 1048576\n", 4, Reason::Range),
-    (4, "e 0 0 recv 1 8 1 1\n", 4, Reason::Range),
-    (4, "e 0 0 recv 0 8 1048575 1\n", 4, Reason::Op),
-    (4, "e 0 0 recv 0 8 0 1048575\n", 4, Reason::Pos),
-    (4, "e 0 0 recv 0 8 0 0\n", 4, Reason::EmptyTake),
-    (4, "e 0 0 send 0 7 0 0\ne 0 0 send 0 8 2 2\n", 5, Reason::Op),
-    (
-        4,
-        "e 0 0 send 0 7 0 0\ne 0 0 send 0 8 1 2\n",
-        5,
-        Reason::Pos,
-    ),
-    (4, "", 4, Reason::Left),
-    (4, "e 0 0 send 0 7,8 0 0\n", 4, Reason::Spelling),
-    (5, "left 0 7,8\n", 5, Reason::Spelling),
-    (5, "left 1 7\n", 5, Reason::Spelling),
-    (5, "left 0 07\n", 5, Reason::Spelling),
-    (5, "left 0 7 \n", 5, Reason::Spelling),
-    (5, "left 0 18446744073709551616 x\n", 5, Reason::Spelling),
-    (5, "left\n", 5, Reason::Spelling),
-    (5, "", 5, Reason::Spelling),
-    (5, "left 0 18446744073709551616\n", 5, Reason::Range),
-    (5, "left 0 8 18446744073709551616\n", 5, Reason::Range),
-    (5, "left 0\n", 5, Reason::Left),
-    (5, "left 0 7 7\n", 5, Reason::Left),
-    (5, "left 0 7\nleft 1\n", 6, Reason::Spelling),
-    (5, "left 0 7\ne 0 0 recv 0 7 1 0\n", 6, Reason::Spelling),
-    (6, "end \n", 6, Reason::Spelling),
-    (6, "END\n", 6, Reason::Spelling),
-    (6, "", 6, Reason::Spelling),
-    (6, "end\n\n", 7, Reason::Spelling),
-    (6, "end\nend\n", 7, Reason::Spelling),
-];
+const LINES: &str = "\
+1;mctower-trace 2|;No(6, OfVersion)
+1;mctower-trace 3|;No(6, OfVersion)
+1;mctower-trace 4|;No(1, Spelling)
+1;mctower-trace 03|;No(1, Spelling)
+4;e 0 0 close 0 - 0 0|;No(4, Spelling)
+1; mctower-trace 1|;No(1, Spelling)
+1;;No(1, Spelling)
+2;buffers|;No(2, Spelling)
+2;buffers 01|;No(2, Spelling)
+2;buffers 17 |;No(2, Spelling)
+2;buffers 0|;No(2, Range)
+2;buffers 99999999999999999999|;No(2, Range)
+2;buffers 2|;No(4, Spelling)
+3;cap 1 1|;No(3, Spelling)
+3;cap 00 1|;No(3, Spelling)
+3;cap 18446744073709551616 1|;No(3, Spelling)
+3;cap 1 33|;No(3, Spelling)
+3;;No(3, Spelling)
+3;cap 0 0|;No(3, Range)
+3;cap 0 33|;No(3, Range)
+3;cap 0 1|cap 1 1|;No(4, Spelling)
+4;|;No(4, Spelling)
+4;e|;No(4, Spelling)
+4;e  0 0 send 0 7 0 0|;No(4, Spelling)
+4;e 0 0 send 0 7 0 0 |;No(4, Spelling)
+4;e 0 0 send 0 7 0|;No(4, Spelling)
+4;e 0 0 give 0 7 0 0|;No(4, Spelling)
+4;e 16 0 send 0 7 0 00|;No(4, Spelling)
+4;E 0 0 send 0 7 0 0|;No(4, Spelling)
+4;e 16 0 send 0 7 0 0|;No(4, Range)
+4;e 0 256 send 0 7 0 0|;No(4, Range)
+4;e 0 0 send 1 7 0 0|;No(4, Range)
+4;e 0 0 send 0 7 1048576 0|;No(4, Range)
+4;e 0 0 send 0 7 0 1048576|;No(4, Range)
+4;e 0 0 recv 1 8 1 1|;No(4, Range)
+4;e 0 0 recv 0 8 1048575 1|;No(4, Op)
+4;e 0 0 recv 0 8 0 1048575|;No(4, Pos)
+4;e 0 0 recv 0 8 0 0|;No(4, EmptyTake)
+4;e 0 0 send 0 7 0 0|e 0 0 send 0 8 2 2|;No(5, Op)
+4;e 0 0 send 0 7 0 0|e 0 0 send 0 8 1 2|;No(5, Pos)
+4;;No(4, Left)
+4;e 0 0 send 0 7,8 0 0|;No(4, Spelling)
+5;left 0 7,8|;No(5, Spelling)
+5;left 1 7|;No(5, Spelling)
+5;left 0 07|;No(5, Spelling)
+5;left 0 7 |;No(5, Spelling)
+5;left 0 18446744073709551616 x|;No(5, Spelling)
+5;left|;No(5, Spelling)
+5;;No(5, Spelling)
+5;left 0 18446744073709551616|;No(5, Range)
+5;left 0 8 18446744073709551616|;No(5, Range)
+5;left 0|;No(5, Left)
+5;left 0 7 7|;No(5, Left)
+5;left 0 7|left 1|;No(6, Spelling)
+5;left 0 7|e 0 0 recv 0 7 1 0|;No(6, Spelling)
+6;end |;No(6, Spelling)
+6;END|;No(6, Spelling)
+6;;No(6, Spelling)
+6;end||;No(7, Spelling)
+6;end|end|;No(7, Spelling)";
 
 #[test]
 fn the_first_reason_against_the_first_bad_line_counts(rt: HostRuntime) -> Result<(), Fail> {
-    for (at, lines, line, reason) in LINES {
-        let text = with_line(rt.alloc(), ROW, at, lines.as_bytes())?;
-        assert_eq!(rt; check(&text), Verdict::No(line, reason), "{lines}");
-    }
-    Ok(())
+    rows_go(&rt, ROW, LINES)
 }
 
 /// Each change of one line of the text with closes: what stands there instead, and the line and the
 /// first reason of the answer.
-const CLOSED_LINES: [(usize, &str, usize, Reason); 24] = [
-    (1, "mctower-trace 1\n", 5, Reason::Spelling),
-    (1, "mctower-trace 3\n", 11, Reason::OfVersion),
-    (4, "e 0 0 send 0 7,8 0 0\n", 4, Reason::Spelling),
-    (6, "e 0 0 sendc 0 7,8 2 1\n", 6, Reason::Spelling),
-    (10, "left 0 7,8\n", 10, Reason::Spelling),
-    (4, "e 0 0 send 0 - 0 0\n", 4, Reason::Spelling),
-    (
-        4,
-        "e 0 0 close 0 - 0 0\ne 0 0 send 0 7 1 0\n",
-        5,
-        Reason::CloseState,
-    ),
-    (4, "e 0 0 sendc 0 7 0 0\n", 4, Reason::CloseState),
-    (4, "e 0 0 recvc 0 - 0 0\n", 4, Reason::CloseState),
-    (5, "e 0 0 close 0 0 1 0\n", 5, Reason::Spelling),
-    (5, "e 0 0 close 0 -- 1 0\n", 5, Reason::Spelling),
-    (5, "e 0 0 close 0 - 0 0\n", 5, Reason::Op),
-    (5, "e 0 0 close 0 - 1 1\n", 5, Reason::Pos),
-    (5, "e 0 0 close 1 - 1 0\n", 5, Reason::Range),
-    (6, "e 0 0 sendc 0 - 2 1\n", 6, Reason::Spelling),
-    (
-        6,
-        "e 0 0 sendc 0 18446744073709551616 2 1\n",
-        6,
-        Reason::Range,
-    ),
-    (6, "e 0 0 sendc 0 7 2 0\n", 6, Reason::Pos),
-    (6, "e 0 0 send 0 7 2 1\n", 6, Reason::CloseState),
-    (6, "e 0 0 recvc 0 - 2 0\n", 6, Reason::NotEmpty),
-    (8, "e 0 0 recvc 0 7 4 1\n", 8, Reason::Spelling),
-    (8, "e 0 0 recvc 0 - 4 0\n", 8, Reason::Pos),
-    (8, "e 0 0 recv 0 7 4 1\n", 8, Reason::EmptyTake),
-    (9, "e 0 0 closed 0 - 5 1\n", 9, Reason::Spelling),
-    (11, "end", 11, Reason::Spelling),
-];
+const CLOSED_LINES: &str = "\
+1;mctower-trace 1|;No(5, Spelling)
+1;mctower-trace 3|;No(11, OfVersion)
+4;e 0 0 send 0 7,8 0 0|;No(4, Spelling)
+6;e 0 0 sendc 0 7,8 2 1|;No(6, Spelling)
+10;left 0 7,8|;No(10, Spelling)
+4;e 0 0 send 0 - 0 0|;No(4, Spelling)
+4;e 0 0 close 0 - 0 0|e 0 0 send 0 7 1 0|;No(5, CloseState)
+4;e 0 0 sendc 0 7 0 0|;No(4, CloseState)
+4;e 0 0 recvc 0 - 0 0|;No(4, CloseState)
+5;e 0 0 close 0 0 1 0|;No(5, Spelling)
+5;e 0 0 close 0 -- 1 0|;No(5, Spelling)
+5;e 0 0 close 0 - 0 0|;No(5, Op)
+5;e 0 0 close 0 - 1 1|;No(5, Pos)
+5;e 0 0 close 1 - 1 0|;No(5, Range)
+6;e 0 0 sendc 0 - 2 1|;No(6, Spelling)
+6;e 0 0 sendc 0 18446744073709551616 2 1|;No(6, Range)
+6;e 0 0 sendc 0 7 2 0|;No(6, Pos)
+6;e 0 0 send 0 7 2 1|;No(6, CloseState)
+6;e 0 0 recvc 0 - 2 0|;No(6, NotEmpty)
+8;e 0 0 recvc 0 7 4 1|;No(8, Spelling)
+8;e 0 0 recvc 0 - 4 0|;No(8, Pos)
+8;e 0 0 recv 0 7 4 1|;No(8, EmptyTake)
+9;e 0 0 closed 0 - 5 1|;No(9, Spelling)
+11;end;No(11, Spelling)";
 
 #[test]
 fn closes_are_read_in_the_second_version(rt: HostRuntime) -> Result<(), Fail> {
     assert_eq!(rt; check(CLOSED), Verdict::Yes);
-    for (at, lines, line, reason) in CLOSED_LINES {
-        let text = with_line(rt.alloc(), CLOSED, at, lines.as_bytes())?;
-        assert_eq!(rt; check(&text), Verdict::No(line, reason), "{lines}");
-    }
-    Ok(())
+    rows_go(&rt, CLOSED, CLOSED_LINES)
 }
 
 /// A run with a message of two words: it is sent and received, and then one word is sent.
@@ -217,62 +216,43 @@ const WORDS: &[u8; 108] =
 
 /// Each change of one line of the text with a message of two words: what stands there instead, and
 /// the line and the first reason of the answer.
-const WORDS_LINES: [(usize, &str, usize, Reason); 31] = [
-    (1, "mctower-trace 1\n", 4, Reason::Spelling),
-    (1, "mctower-trace 2\n", 4, Reason::Spelling),
-    (4, "e 0 0 send 0 1 0 0\n", 5, Reason::WrongValue),
-    (4, "e 0 0 send 0 1,3 0 0\n", 5, Reason::WrongValue),
-    (4, "e 0 0 send 0 2,1 0 0\n", 5, Reason::WrongValue),
-    (4, "e 0 0 send 0 1,2,0 0 0\n", 5, Reason::WrongValue),
-    (4, "e 0 0 send 0 1, 0 0\n", 4, Reason::Spelling),
-    (4, "e 0 0 send 0 ,2 0 0\n", 4, Reason::Spelling),
-    (4, "e 0 0 send 0 1,,2 0 0\n", 4, Reason::Spelling),
-    (4, "e 0 0 send 0 , 0 0\n", 4, Reason::Spelling),
-    (4, "e 0 0 send 0 1,02 0 0\n", 4, Reason::Spelling),
-    (4, "e 0 0 send 0 01,2 0 0\n", 4, Reason::Spelling),
-    (4, "e 0 0 send 0 1,x 0 0\n", 4, Reason::Spelling),
-    (4, "e 0 0 send 0 1,2,3,4,5,6,7,8,9 0 0\n", 4, Reason::Range),
-    (
-        4,
-        "e 0 0 send 0 1,2,3,4,5,6,7,8,09 0 0\n",
-        4,
-        Reason::Spelling,
-    ),
-    (
-        4,
-        "e 0 0 send 0 1,18446744073709551616 0 0\n",
-        4,
-        Reason::Range,
-    ),
-    (4, "e 0 0 close 0 1,2 0 0\n", 4, Reason::Spelling),
-    (4, "e 0,0 0 send 0 1,2 0 0\n", 4, Reason::Spelling),
-    (4, "e 0 0 send 0 1,2 0,0 0\n", 4, Reason::Spelling),
-    (5, "e 0 0 recv 0 1 1 0\n", 5, Reason::WrongValue),
-    (5, "e 0 0 recv 0 1,2,3 1 0\n", 5, Reason::WrongValue),
-    (5, "e 0 0 recv 0 1,2 1,2 0\n", 5, Reason::Spelling),
-    (
-        6,
-        "e 0 0 send 0 0 2 1\ne 0 0 sendc 0 1,2 3 2\n",
-        7,
-        Reason::CloseState,
-    ),
-    (7, "left 0 0,0\n", 7, Reason::Left),
-    (7, "left 0 1,2 0\n", 7, Reason::Left),
-    (7, "left 0 0,\n", 7, Reason::Spelling),
-    (7, "left 0,0 0\n", 7, Reason::Spelling),
-    (7, "left 0 0,00\n", 7, Reason::Spelling),
-    (7, "left 0 0,0,0,0,0,0,0,0,0\n", 7, Reason::Range),
-    (7, "left 0 0 0,18446744073709551616\n", 7, Reason::Range),
-    (8, "end\n\n", 9, Reason::Spelling),
-];
+const WORDS_LINES: &str = "\
+1;mctower-trace 1|;No(4, Spelling)
+1;mctower-trace 2|;No(4, Spelling)
+4;e 0 0 send 0 1 0 0|;No(5, WrongValue)
+4;e 0 0 send 0 1,3 0 0|;No(5, WrongValue)
+4;e 0 0 send 0 2,1 0 0|;No(5, WrongValue)
+4;e 0 0 send 0 1,2,0 0 0|;No(5, WrongValue)
+4;e 0 0 send 0 1, 0 0|;No(4, Spelling)
+4;e 0 0 send 0 ,2 0 0|;No(4, Spelling)
+4;e 0 0 send 0 1,,2 0 0|;No(4, Spelling)
+4;e 0 0 send 0 , 0 0|;No(4, Spelling)
+4;e 0 0 send 0 1,02 0 0|;No(4, Spelling)
+4;e 0 0 send 0 01,2 0 0|;No(4, Spelling)
+4;e 0 0 send 0 1,x 0 0|;No(4, Spelling)
+4;e 0 0 send 0 1,2,3,4,5,6,7,8,9 0 0|;No(4, Range)
+4;e 0 0 send 0 1,2,3,4,5,6,7,8,09 0 0|;No(4, Spelling)
+4;e 0 0 send 0 1,18446744073709551616 0 0|;No(4, Range)
+4;e 0 0 close 0 1,2 0 0|;No(4, Spelling)
+4;e 0,0 0 send 0 1,2 0 0|;No(4, Spelling)
+4;e 0 0 send 0 1,2 0,0 0|;No(4, Spelling)
+5;e 0 0 recv 0 1 1 0|;No(5, WrongValue)
+5;e 0 0 recv 0 1,2,3 1 0|;No(5, WrongValue)
+5;e 0 0 recv 0 1,2 1,2 0|;No(5, Spelling)
+6;e 0 0 send 0 0 2 1|e 0 0 sendc 0 1,2 3 2|;No(7, CloseState)
+7;left 0 0,0|;No(7, Left)
+7;left 0 1,2 0|;No(7, Left)
+7;left 0 0,|;No(7, Spelling)
+7;left 0,0 0|;No(7, Spelling)
+7;left 0 0,00|;No(7, Spelling)
+7;left 0 0,0,0,0,0,0,0,0,0|;No(7, Range)
+7;left 0 0 0,18446744073709551616|;No(7, Range)
+8;end||;No(9, Spelling)";
 
 #[test]
 fn several_words_are_read_in_the_third_version(rt: HostRuntime) -> Result<(), Fail> {
     assert_eq!(rt; check(WORDS), Verdict::Yes);
-    for (at, lines, line, reason) in WORDS_LINES {
-        let text = with_line(rt.alloc(), WORDS, at, lines.as_bytes())?;
-        assert_eq!(rt; check(&text), Verdict::No(line, reason), "{lines}");
-    }
+    rows_go(&rt, WORDS, WORDS_LINES)?;
     let most = with_line(rt.alloc(), WORDS, 6, b"e 0 0 send 0 1,2,3,4,5,6,7,8 2 1\n")?;
     assert_eq!(rt; check(&most), Verdict::No(7, Reason::Left));
     let whole = with_line(rt.alloc(), &most, 7, b"left 0 1,2,3,4,5,6,7,8\n")?;
