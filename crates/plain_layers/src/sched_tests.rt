@@ -438,6 +438,17 @@ where
     a_thread_goes_home::<S>(rt, alloc, 1)
 }
 
+/// What a machine does of all this where a call of the shared queues takes three polls.
+fn in_three_polls<S: Opens<Nap> + Drop>(rt: &impl Abort, alloc: Global) -> Result<(), NoMemory>
+where
+    S::Machine: Drop,
+{
+    turns_are_taken::<S>(rt, alloc, 3)?;
+    a_thread_goes_home::<S>(rt, alloc, 3)?;
+    cpus_meet::<S>(rt, alloc)?;
+    a_look_is_a_poll::<S>(rt, alloc)
+}
+
 /// Schedulers over critical sections of three polls. A test names the sections alone: the proof of a
 /// function that names a whole nest of types takes longer than that of all rows.
 fn sections_go<L: OwnedLocks<QueueEdit<Nap>> + Drop>(
@@ -447,10 +458,7 @@ fn sections_go<L: OwnedLocks<QueueEdit<Nap>> + Drop>(
 where
     L::Machine: Drop,
 {
-    turns_are_taken::<Sched<SharedQueues<L>>>(rt, alloc, 3)?;
-    a_thread_goes_home::<Sched<SharedQueues<L>>>(rt, alloc, 3)?;
-    cpus_meet::<Sched<SharedQueues<L>>>(rt, alloc)?;
-    a_look_is_a_poll::<Sched<SharedQueues<L>>>(rt, alloc)
+    in_three_polls::<Sched<SharedQueues<L>>>(rt, alloc)
 }
 
 /// Schedulers over critical sections of one poll.
@@ -491,15 +499,27 @@ fn one_step_schedulers_do_a_call_in_one_poll(rt: HostRuntime) -> Result<(), Fail
 /// A scheduler over locks with a grant word for each waiter.
 type OverGrants = Sched<SharedQueues<Grant<GrantPlain<QueueEdit<Nap>>>>>;
 
+/// Whether two drains of a CPU's empty queue each answer at their third poll.
+fn drains_twice<S: SchedLayer<Nap>>(part: &mut S, m: &mut S::Machine) -> bool
+    requires fits { S.Fits part.old m.old }
+    requires room { 6 ≤ S.room m.old }
+    requires free { inner (S.opening m.old) bed ≡ Some None }
+    ensures fits { S.Fits part.new m.new }
+    ensures opening { S.opening m.new ≡ S.opening m.old }
+    ensures cpu { S.cpu_of part.new ≡ S.cpu_of part.old }
+{
+    let first = passed_at(part, m, Pass::Drain);
+    let second = passed_at(part, m, Pass::Drain);
+    first == 3 && second == 3
+}
+
 /// The words of CPU 0's pending lock behind two drains of its empty queue, each in its third poll;
 /// `None` where one took other polls.
 fn words_behind_two_drains(alloc: Global) -> Result<Option<GrantLockWords>, NoMemory> {
     let homes = [CpuId(1)];
     let mut m = machine::<OverGrants>(alloc, 2, &homes)?;
     let mut drains: OverGrants = part(&m, CpuId(0), &homes);
-    let first = passed_at(&mut drains, &mut m, Pass::Drain);
-    let second = passed_at(&mut drains, &mut m, Pass::Drain);
-    if first != 3 || second != 3 {
+    if !drains_twice(&mut drains, &mut m) {
         return Ok(None);
     }
     Ok(Some(m.words(LockId::Pending(CpuId(0)))))
