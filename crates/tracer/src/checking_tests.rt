@@ -65,41 +65,24 @@ fn the_three_texts(rt: HostRuntime) -> Result<(), Fail> {
     Ok(())
 }
 
+/// Changes of the text of one send.
+const CHANGES: &str = "\
+1;mctower-trace 1\r|;No(1, Spelling)
+2;buffers 17|;No(2, Range)
+4;e 0 0 send 0 18446744073709551616 0 0|;No(4, Range)
+4;e 0 0 send 0 7 1 0|;No(4, Op)
+4;e 0 0 send 0 7 0 1|;No(4, Pos)
+4;e 0 0 send 0 7 0 0|e 0 0 send 0 8 1 1|;No(5, Full)
+4;e 0 0 send 0 7 0 0|e 0 0 recv 0 8 1 0|;No(5, WrongValue)
+5;left 0 8|;No(5, Left)";
+
 #[test]
 fn changes_of_one_text(rt: HostRuntime) -> Result<(), Fail> {
     assert_eq!(rt; check(ROW), Verdict::Yes);
     assert_eq!(rt; check(b""), Verdict::No(1, Reason::Spelling));
-    let changes: [(usize, &[u8], Verdict); 9] = [
-        (1, b"mctower-trace 1\r\n", Verdict::No(1, Reason::Spelling)),
-        (2, b"buffers 17\n", Verdict::No(2, Reason::Range)),
-        (
-            4,
-            b"e 0 0 send 0 18446744073709551616 0 0\n",
-            Verdict::No(4, Reason::Range),
-        ),
-        (
-            4,
-            b"e 0 0 send 0 \xff 0 0\n",
-            Verdict::No(4, Reason::Spelling),
-        ),
-        (4, b"e 0 0 send 0 7 1 0\n", Verdict::No(4, Reason::Op)),
-        (4, b"e 0 0 send 0 7 0 1\n", Verdict::No(4, Reason::Pos)),
-        (
-            4,
-            b"e 0 0 send 0 7 0 0\ne 0 0 send 0 8 1 1\n",
-            Verdict::No(5, Reason::Full),
-        ),
-        (
-            4,
-            b"e 0 0 send 0 7 0 0\ne 0 0 recv 0 8 1 0\n",
-            Verdict::No(5, Reason::WrongValue),
-        ),
-        (5, b"left 0 8\n", Verdict::No(5, Reason::Left)),
-    ];
-    for (at, lines, verdict) in changes {
-        let text = with_line(rt.alloc(), ROW, at, lines)?;
-        assert_eq!(rt; check(&text), verdict);
-    }
+    rows_go(&rt, ROW, CHANGES)?;
+    let no_text = with_line(rt.alloc(), ROW, 4, b"e 0 0 send 0 \xff 0 0\n")?;
+    assert_eq!(rt; check(&no_text), Verdict::No(4, Reason::Spelling));
     assert_eq!(rt; check(&ROW[..65]), Verdict::No(6, Reason::Spelling));
     let mut longer = Vec::from_slice(rt.alloc(), ROW)?;
     longer.push(b' ')?;
