@@ -57,6 +57,16 @@ pub record IsReady (Acts Rests Unseen Idle Opens : Type 0) : Type 0 where
   pub idle : Idle
   pub opens : Opens
 
+-- a tower's machine for the worker of one CPU of a plan, in which nothing was done: it is fresh, has the plan's homes and capacities, has seen
+-- no effect and no action, and each of its buffers opens empty
+pub record IsUnused (Fresh Homes Caps Unseen Idle Opens : Type 0) : Type 0 where
+  pub fresh : Fresh
+  pub homes : Homes
+  pub caps : Caps
+  pub unseen : Unseen
+  pub idle : Idle
+  pub opens : Opens
+
 -- the worker of a CPU of a plan before its first turn
 pub record IsAtBoot (plan : BootPlan) (c : CpuId) (w : Working) : Type 0 where
   pub cpu_is : w.cpu ≡ c

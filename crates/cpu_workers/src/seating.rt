@@ -3,9 +3,13 @@
 
 ghost use Rattle.std.specs.Prelude.{◌≡◌, ℕ, ◌<◌, ◌≤◌, Some, [], IfOk, length, slice_get, vec_capacity};
 ghost use Rattle.event_log.specs.declared.ids.TheConstants.{CPUS};
+ghost use Rattle.boot.specs.Plan.{IsPlan};
+ghost use Rattle.cpu.specs.Boots.{homes_for};
+ghost use Rattle.layer_traits.specs.BufferEffects.{opening_locks};
 ghost use Rattle.layer_traits.specs.OnePlace.{cpu_at};
+ghost use Rattle.layer_traits.specs.QueueBlocks.{inner};
 ghost use Rattle.cpu_workers.specs.Reports.{Both};
-ghost use Rattle.cpu_workers.specs.Seating.{HasLeft, IsApart, IsAtBoot, IsReady, OpensPlan, tower_acts};
+ghost use Rattle.cpu_workers.specs.Seating.{HasLeft, IsApart, IsAtBoot, IsReady, IsUnused, OpensPlan, tower_acts};
 
 use crate::gates::Gate;
 use crate::starting::{Came, WorkerError, work_all};
@@ -15,7 +19,7 @@ use boot::Boot;
 use cpu::{guests_of, homes_of};
 use event_log::{CpuId, Entry, NoMemory};
 use ipc_calls::{Ipc, Over, TowerEdit};
-use layer_traits::LockLayer;
+use layer_traits::{IpcLayer, LockLayer};
 use std::alloc::Global;
 use std::sync::Wait;
 use std::thread::Threads;
@@ -29,21 +33,20 @@ pub(crate) struct Left<M: Drop> {
 }
 
 // The worker of a CPU of the plan before its first turn.
-fn worker_over<L: LockLayer<TowerEdit> + Drop>(
+fn worker_over<I: IpcLayer + Drop>(
     alloc: Global,
     boot: &Boot,
     number: CpuId,
-    machine: L::Machine,
-) -> Result<Worker<Ipc<Over<L>>>, NoMemory>
+    machine: I::Machine,
+) -> Result<Worker<I>, NoMemory>
 where
-    L::Machine: Drop,
-    requires stepwise { L.IsStepwise }
-    requires room { (m : L.Machine) → 0 < L.room m }
-    requires number { number.0 < boot.now.cpus }
-    requires ready { IsReady (L.ActsFor machine number) (L.IsOutside machine number) (L.seen machine ≡ []) (L.acts machine ≡ [])
-        (OpensPlan boot.now (L.opening machine)) }
+    I::Machine: Drop,
+    requires stepwise { I.IsStepwise }
+    requires room { (m : I.Machine) → 0 < I.room m }
+    requires unused { IsUnused (I.IsFresh machine (homes_for boot.now) number) (I.homes_of machine ≡ homes_for boot.now) (I.caps machine ≡ boot.now.caps)
+        (I.seen machine ≡ []) (I.acts machine ≡ []) (inner (I.opening machine) ≡ opening_locks (I.caps machine)) }
     ensures at_boot { IfOk result (IsAtBoot boot.now number) }
-    ensures site { IfOk result (λ w. w.site ≡ L.site machine) }
+    ensures site { IfOk result (λ w. w.site ≡ I.site machine) }
 {
     let homes = homes_of(boot);
     let buffers = boot.caps().len() as u8;
@@ -61,22 +64,22 @@ where
 }
 
 // The workers of all CPUs of the plan before their first turn, each over its machine.
-fn workers_over<L: LockLayer<TowerEdit> + Drop>(
+fn workers_over<I: IpcLayer + Drop>(
     alloc: Global,
     boot: &Boot,
-    machines: Vec<L::Machine>,
-) -> Result<Vec<Worker<Ipc<Over<L>>>>, NoMemory>
+    machines: Vec<I::Machine>,
+) -> Result<Vec<Worker<I>>, NoMemory>
 where
-    L::Machine: Drop,
-    requires stepwise { L.IsStepwise }
-    requires room { (m : L.Machine) → 0 < L.room m }
-    requires count { length machines.items ≤ boot.now.cpus }
+    I::Machine: Drop,
+    requires stepwise { I.IsStepwise }
+    requires room { (m : I.Machine) → 0 < I.room m }
     requires few { length machines.items ≤ CPUS }
-    requires ready { (k : ℕ) (m : L.Machine) → slice_get machines.items k ≡ Some m
-        → IsReady (L.ActsFor m (cpu_at k)) (L.IsOutside m (cpu_at k)) (L.seen m ≡ []) (L.acts m ≡ []) (OpensPlan boot.now (L.opening m)) }
+    requires unused { (k : ℕ) (m : I.Machine) → slice_get machines.items k ≡ Some m
+        → IsUnused (I.IsFresh m (homes_for boot.now) (cpu_at k)) (I.homes_of m ≡ homes_for boot.now) (I.caps m ≡ boot.now.caps)
+        (I.seen m ≡ []) (I.acts m ≡ []) (inner (I.opening m) ≡ opening_locks (I.caps m)) }
     ensures count { IfOk result (λ workers. length workers.items ≡ length machines.items) }
     ensures each { IfOk result (λ workers. (k : ℕ) (w : _) → slice_get workers.items k ≡ Some w
-        → IsAtBoot boot.now (cpu_at k) w × ((m : L.Machine) → slice_get machines.items k ≡ Some m → w.site ≡ L.site m)) }
+        → IsAtBoot boot.now (cpu_at k) w × ((m : I.Machine) → slice_get machines.items k ≡ Some m → w.site ≡ I.site m)) }
 {
     let mut machines = machines;
     let count = machines.len();
@@ -85,18 +88,18 @@ where
     };
     for number in 0..count {
         let machine = machines.remove(0);
-        let worker = worker_over::<L>(alloc, boot, CpuId(number as u8), machine)?;
+        let worker = worker_over::<I>(alloc, boot, CpuId(number as u8), machine)?;
         workers.push_reserved(worker);
     }
     Ok(workers)
 }
 
 // What one worker leaves.
-fn apart<L: LockLayer<TowerEdit> + Drop>(came: Came<Ipc<Over<L>>>) -> Left<L::Machine>
+fn apart<I: IpcLayer + Drop>(came: Came<I>) -> Left<I::Machine>
 where
-    L::Machine: Drop,
-    ensures apart { IsApart came.worker (tower_acts (L.acts result.machine)) (L.site result.machine) result.trace.items }
-    ensures owns { L.ActsFor result.machine came.worker.cpu }
+    I::Machine: Drop,
+    ensures apart { IsApart came.worker (I.acts result.machine) (I.site result.machine) result.trace.items }
+    ensures owns { I.ActsFor result.machine came.worker.cpu }
     ensures did { result.did ≡ came.did }
 {
     let Came { worker, did } = came;
@@ -110,26 +113,58 @@ where
 }
 
 // What all workers leave, put into the list, which has room.
-fn all_apart<L: LockLayer<TowerEdit> + Drop>(
-    came: Vec<Came<Ipc<Over<L>>>>,
-    mut left: Vec<Left<L::Machine>>,
-) -> Vec<Left<L::Machine>>
+fn all_apart<I: IpcLayer + Drop>(
+    came: Vec<Came<I>>,
+    mut left: Vec<Left<I::Machine>>,
+) -> Vec<Left<I::Machine>>
 where
-    L::Machine: Drop,
+    I::Machine: Drop,
     requires empty { left.items ≡ [] }
     requires room { length came.items ≤ vec_capacity left }
-    ensures { Both (λ c x. IsApart c.worker (tower_acts (L.acts x.machine)) (L.site x.machine) x.trace.items × L.ActsFor x.machine c.worker.cpu
+    ensures { Both (λ c x. IsApart c.worker (I.acts x.machine) (I.site x.machine) x.trace.items × I.ActsFor x.machine c.worker.cpu
         × (x.did ≡ c.did)) came.items result.items }
 {
     for one in came {
-        let alone = apart::<L>(one);
+        let alone = apart::<I>(one);
         left.push_reserved(alone);
     }
     left
 }
 
+// Lets a worker of each CPU of the plan run over its machine, as `run_over` does, whatever the layers
+// beneath the calls are.
+fn run_each<I: IpcLayer + Drop + Send, G: Gate + Sync, R: Threads + Wait + Sync>(
+    rt: &R,
+    alloc: Global,
+    boot: &Boot,
+    turns: u64,
+    gate: &G,
+    machines: Vec<I::Machine>,
+) -> Result<Vec<Left<I::Machine>>, WorkerError>
+where
+    I::Machine: Drop + Send,
+    requires stepwise { I.IsStepwise }
+    requires room { (m : I.Machine) → 0 < I.room m }
+    requires few { length machines.items ≤ CPUS }
+    requires unused { (k : ℕ) (m : I.Machine) → slice_get machines.items k ≡ Some m
+        → IsUnused (I.IsFresh m (homes_for boot.now) (cpu_at k)) (I.homes_of m ≡ homes_for boot.now) (I.caps m ≡ boot.now.caps)
+        (I.seen m ≡ []) (I.acts m ≡ []) (inner (I.opening m) ≡ opening_locks (I.caps m)) }
+    ensures count { IfOk result (λ left. length left.items ≡ length machines.items) }
+    ensures site { IfOk result (λ left. (k : ℕ) (x : _) (m : I.Machine) → slice_get left.items k ≡ Some x → slice_get machines.items k ≡ Some m
+        → I.site x.machine ≡ I.site m) }
+    ensures owns { IfOk result (λ left. (k : ℕ) (x : _) → slice_get left.items k ≡ Some x → I.ActsFor x.machine (cpu_at k)) }
+    ensures left { IfOk result (λ left. (k : ℕ) (x : _) → slice_get left.items k ≡ Some x
+        → HasLeft boot.now (G.MayLimit gate.now) turns (cpu_at k) (I.acts x.machine) (I.site x.machine) x.trace.items x.did.taken x.did.stop) }
+{
+    let left = Vec::with_capacity(alloc, machines.len())?;
+    let workers = workers_over::<I>(alloc, boot, machines)?;
+    let came = work_all(rt, alloc, gate, workers, turns)?;
+    Ok(all_apart::<I>(came, left))
+}
+
 /// Lets a worker of each CPU of the plan run over its machine, each in a thread of its own, and gives
-/// what they leave, by CPU. All memory is taken before any step.
+/// what they leave, by CPU. All memory is taken before any step. It alone names the layers of the
+/// tower, each of which makes a proof above it dearer.
 ///
 /// Errors: `NoMemory` where memory was refused and `NoThread` where a thread could not be started;
 /// then no step was taken.
@@ -149,6 +184,7 @@ where
     L::Machine: Drop + Send,
     requires stepwise { L.IsStepwise }
     requires room { (m : L.Machine) → 0 < L.room m }
+    requires plan { IsPlan boot.now }
     requires count { length machines.items ≤ boot.now.cpus }
     requires few { length machines.items ≤ CPUS }
     requires ready { (k : ℕ) (m : L.Machine) → slice_get machines.items k ≡ Some m
@@ -160,8 +196,5 @@ where
     ensures left { IfOk result (λ left. (k : ℕ) (x : _) → slice_get left.items k ≡ Some x
         → HasLeft boot.now (G.MayLimit gate.now) turns (cpu_at k) (tower_acts (L.acts x.machine)) (L.site x.machine) x.trace.items x.did.taken x.did.stop) }
 {
-    let left = Vec::with_capacity(alloc, machines.len())?;
-    let workers = workers_over::<L>(alloc, boot, machines)?;
-    let came = work_all(rt, alloc, gate, workers, turns)?;
-    Ok(all_apart::<L>(came, left))
+    run_each::<Ipc<Over<L>>, G, R>(rt, alloc, boot, turns, gate, machines)
 }

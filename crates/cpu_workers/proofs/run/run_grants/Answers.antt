@@ -19,6 +19,9 @@ use Rattle.cpu_workers.proofs.run.run_grants.Goals as goal
 pub seats_at-requires : goal.seats_at-requires
 seats_at-requires g c = rw c.requires.keys (desks_are_of c.args.shared.now c.args.boot.now.cpus)
 
+pub run_over-requires-clause-plan : goal.run_over-requires-clause-plan
+run_over-requires-clause-plan g c = λ κs within. c.cpus.ensures.within
+
 pub run_over-requires-clause-count : goal.run_over-requires-clause-count
 run_over-requires-clause-count g c =
     let len = ap (λ (l : List Key). length l) (c.in_ok-seats.ensures ∙ c.requires.keys) ∙ length_new Edit c.args.shared.now c.args.boot.now.cpus in

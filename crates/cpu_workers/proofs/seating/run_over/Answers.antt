@@ -1,59 +1,63 @@
 use denote.Param.Send.{sendable}
 use Rattle.std.proofs.Crossing.{crosses}
-use Rattle.std.proofs.Common.{◌∙◌, subst, arith}
-use Rattle.event_log.specs.declared.ids.CpuId.{CpuId}
+use Rattle.std.proofs.Common.{◌<◌, ◌≤◌, length, refl, ap, ◌∙◌, arith}
+use Rattle.event_log.specs.declared.ids.LockId.TheVariants.{Pending}
 use Rattle.layer_traits.specs.OnePlace.{cpu_at}
+use Rattle.layer_traits.specs.QueueBlocks.{StartsWell}
+use Rattle.layer_traits.specs.Renaming.{viewed}
+use Rattle.layer_traits.proofs.KernelRenaming.{homes_viewed, viewed_there}
+use Rattle.queuing_lock.specs.Nested.{lock_of}
+use Rattle.sleep_wakeup.specs.Nested.{state_of}
+use Rattle.fifo_buffer.specs.FifoFits.{BootsSo}
+use Rattle.fifo_buffer.proofs.Opening.{boots_well, caps_are}
 use Rattle.shared_queue.proofs.shared.SharedQueues.TheSendSync as shared
 use Rattle.scheduler.proofs.sched.Sched.TheSendSync as sched
 use Rattle.queuing_lock.proofs.qlock.QLock.TheSendSync as qlock
 use Rattle.condvar.proofs.cond.Cond.TheSendSync as cond
 use Rattle.fifo_buffer.proofs.fifo.Fifo.TheSendSync as fifo
 use Rattle.ipc_calls.proofs.ipc.Ipc.TheSendSync as ipc
+use Rattle.cpu_workers.specs.Seating.{tower_acts}
 use Rattle.cpu_workers.proofs.Crossing.{tower_sleeper_send}
-use Rattle.cpu_workers.proofs.Joining.{both_length}
-use Rattle.cpu_workers.proofs.Seated.{all_fresh, both_back, left_so}
+use Rattle.cpu_workers.proofs.Seated.{acts_beneath, found_within}
 use Rattle.cpu_workers.proofs.seating.run_over.Goals as goal
 
-pub work_all-requires-after_bounds : goal.work_all-requires-after_bounds
-work_all-requires-after_bounds g c κs within =
-    all_fresh (λ w. w.acts) c.in_ok-workers.workers.items (λ k w at. (c.in_ok-workers.ensures.each k w at).0.fresh)
-
-pub all_apart-requires-clause-room : goal.all_apart-requires-clause-room
-all_apart-requires-clause-room g c =
-    let same = both_length _ c.in_ok-workers.workers.items c.in_ok-came.came.items c.in_ok-came.ensures ∙ c.in_ok-workers.ensures.count in
-    let cap = c.in_ok-left.ensures.capacity in
-    let len = c.len.ensures in
-    let ok = c.args.machines.ok.0 in
-    omega (arith, same, cap, len, ok)
-
-pub returns-clause-count : goal.returns-clause-count
-returns-clause-count g c =
-    both_length _ c.in_ok-came.came.items c.all_apart.result.items c.all_apart.ensures
-    ∙ both_length _ c.in_ok-workers.workers.items c.in_ok-came.came.items c.in_ok-came.ensures ∙ c.in_ok-workers.ensures.count
-
-pub returns-clause-site : goal.returns-clause-site
-returns-clause-site g c = λ k x m at there.
-    let d = both_back _ c.in_ok-came.came.items c.all_apart.result.items c.all_apart.ensures k x at in
-    let e = both_back _ c.in_ok-workers.workers.items c.in_ok-came.came.items c.in_ok-came.ensures k d.0 d.1 in
-    let n = c.in_ok-workers.ensures.each k e.0 e.1 in
-    d.2.0.site_is ∙ e.2.same.site ∙ n.1 m there
+-- nothing was done in the machine, and its locks are the plan's
+pub run_each-requires-clause-unused : goal.run_each-requires-clause-unused
+run_each-requires-clause-unused g c = λ κs within k m at.
+    let ready = c.requires.ready k m at in
+    let plan = c.args.boot.now in
+    let short = found_within c.args.machines.items k m at in
+    let count = c.requires.count in
+    let opening = g.L.LockLayer.opening m in
+    let most = c.requires.plan.caps.most in
+    let few : length plan.caps ≤ 256 = omega (arith, most) in
+    let boots = boots_well (viewed lock_of (viewed state_of opening)) plan.caps ready.opens.locks few in
+    let homes = homes_viewed lock_of (viewed state_of opening) ∙ homes_viewed state_of opening ∙ ready.opens.homes in
+    record {
+      fresh = (
+        ((ready.acts, ready.opens.starts), boots),
+        ready.rests,
+        rw ready.unseen refl,
+        rw ready.unseen refl,
+        homes,
+        viewed_there lock_of (viewed state_of opening) (Pending (cpu_at k))
+            (viewed_there state_of opening (Pending (cpu_at k)) (ready.opens.queues (cpu_at k) (omega (arith, short, count)))),
+        boots,
+      );
+      homes = homes;
+      caps = caps_are (viewed lock_of (viewed state_of opening)) plan.caps ready.opens.locks few;
+      unseen = rw ready.unseen refl;
+      idle = ap tower_acts ready.idle;
+      opens = boots;
+    }
 
 pub returns-clause-owns : goal.returns-clause-owns
-returns-clause-owns g c = λ k x at.
-    let d = both_back _ c.in_ok-came.came.items c.all_apart.result.items c.all_apart.ensures k x at in
-    let e = both_back _ c.in_ok-workers.workers.items c.in_ok-came.came.items c.in_ok-came.ensures k d.0 d.1 in
-    let n = c.in_ok-workers.ensures.each k e.0 e.1 in
-    subst (λ (i : CpuId). g.L.LockLayer.ActsFor x.machine i) (e.2.same.cpu ∙ n.0.cpu_is) d.2.1
+returns-clause-owns g c =
+    acts_beneath (λ left. left.items) (λ m d. g.L.LockLayer.ActsFor m d) (λ m. StartsWell (g.L.LockLayer.opening m))
+    (λ m. BootsSo (viewed lock_of (viewed state_of (g.L.LockLayer.opening m)))) c.run_each.result c.run_each.ensures.owns
 
-pub returns-clause-left : goal.returns-clause-left
-returns-clause-left g c = λ k x at.
-    let d = both_back _ c.in_ok-came.came.items c.all_apart.result.items c.all_apart.ensures k x at in
-    let e = both_back _ c.in_ok-workers.workers.items c.in_ok-came.came.items c.in_ok-came.ensures k d.0 d.1 in
-    let n = c.in_ok-workers.ensures.each k e.0 e.1 in
-    left_so c.args.boot.now (g.G.Gate.MayLimit c.args.gate.now) c.args.turns (cpu_at k) e.0 d.0.worker _ _ _ d.0.did x.did n.0 e.2 d.2.0 d.2.2
-
-pub work_all-requires-send-I : goal.work_all-requires-send-I
-work_all-requires-send-I g c κs within = search (
+pub run_each-requires-send-I : goal.run_each-requires-send-I
+run_each-requires-send-I g c κs within = search (
   sendable,
   crosses,
   ipc.the_send,

@@ -8,13 +8,13 @@ use Rattle.cpu_workers.specs.Working.{Working}
 use Rattle.cpu_workers.proofs.Seated.{left_at, some_left}
 use Rattle.cpu_workers.proofs.seating.workers_over.Goals as goal
 
-pub worker_over-requires-clause-ready : goal.worker_over-requires-clause-ready
-worker_over-requires-clause-ready g c =
+pub worker_over-requires-clause-unused : goal.worker_over-requires-clause-unused
+worker_over-requires-clause-unused g c =
     let machines = c.args.machines.items in
     let n = c.loop-number.number in
     let within : n < length machines =
     let test = c.loop-number-test.true in let count = c.len-count.ensures in let ok = c.args.machines.ok.0 in omega (arith, test, count, ok) in
-    c.requires.ready n c.remove-machine.result (left_at machines n c.remove-machine.result within
+    c.requires.unused n c.remove-machine.result (left_at machines n c.remove-machine.result within
     (c.remove-machine.ensures.value ∙ ap (λ l. slice_index_or l 0 c.remove-machine.result) c.loop-number.invariant.machines_left))
 
 pub push_reserved-requires : goal.push_reserved-requires
@@ -30,7 +30,7 @@ push_reserved-requires g c =
 
 pub loop-number-preserved : goal.loop-number-preserved
 loop-number-preserved g c =
-    let L = g.L.LockLayer in
+    let I = g.I.IpcLayer in
     let inv = c.loop-number.invariant in
     let machines = c.args.machines.items in
     let n = c.loop-number.number in
@@ -49,9 +49,9 @@ loop-number-preserved g c =
           omega (arith, long, before);
       has_room = subst (λ k. length machines ≤ k) (sym c.push_reserved.ensures.capacity) inv.has_room;
       each = λ k z at. at_end (λ j (y : Working). IsAtBoot c.args.boot.now (cpu_at j) y
-          × ((m : g.row.L-Machine.Denot) → slice_get machines j ≡ Some m → y.site ≡ L.site m))
+          × ((m : g.row.I-Machine.Denot) → slice_get machines j ≡ Some m → y.site ≡ I.site m))
           c.loop-number.workers.items w inv.each
-          (rw inv.so_many (e.at_boot, λ m there. let same : c.remove-machine.result ≡ m = cc (here, there) in e.site ∙ ap (λ x. L.site x) same))
+          (rw inv.so_many (e.at_boot, λ m there. let same : c.remove-machine.result ≡ m = cc (here, there) in e.site ∙ ap (λ x. I.site x) same))
           k z (subst (λ l. slice_get l k ≡ Some z) grown at);
     }
 
