@@ -21,8 +21,3 @@ pub use starting::{Came, WorkerError, work_all};
 pub use stops::Stop;
 pub use turns::{Did, work};
 pub use worker::Worker;
-
-#[cfg(test)]
-mod run_tests;
-#[cfg(test)]
-mod tests;

@@ -50,3 +50,5 @@ mod sleep_tests;
 mod system_tests;
 #[cfg(test)]
 mod texts;
+#[cfg(test)]
+mod worker_tests;

@@ -1,10 +1,13 @@
-//! Plans run with a worker thread for each CPU. One function alone names the tower over seats for
-//! each gate.
+//! Plans run with a worker thread for each CPU. One function for each gate calls what names the tower
+//! over seats.
 
 ghost use Rattle.std.specs.Prelude.{◌≡◌, ℕ};
 
-use crate::{Gate, Go, OpenGate, Report, Stop, WorkerError, run_workers};
 use boot::{Boot, BootError};
+use cpu_workers::{
+    Gate, Go, OpenGate, Report, Stop, WorkerError, reports_are_lawful, run_workers, stops_are_true,
+    workers_lose_no_wake_up,
+};
 use event_log::{BufId, CpuId, Msg};
 use std::sync::Wait;
 use std::sync::atomic::{AtomicBool, AtomicU64, Ordering};
@@ -90,15 +93,21 @@ fn ran<G: Gate + Sync, T: AllocGlobal + Threads + Wait + Sync>(
     Ok(run_workers(rt, rt.alloc(), &boot, turns, gate)?)
 }
 
-/// A gate that limits each CPU before its first turn.
+/// A gate that is open, or limits each CPU before its first turn.
 #[derive(Drop)]
-struct Shut;
+struct Door {
+    shut: bool,
+}
 
-impl Gate for Shut {
+impl Gate for Door {
     ghost MayLimit = { λ gate cpu turn. turn ≡ 0 };
 
     fn pass(&self, _cpu: CpuId, turn: u64) -> Go {
-        if turn == 0 { Go::Limit } else { Go::Pass }
+        if self.shut && turn == 0 {
+            Go::Limit
+        } else {
+            Go::Pass
+        }
     }
 }
 
@@ -201,61 +210,96 @@ fn each_of_two_cpus_is_held_without_the_other(rt: HostRuntime) {
     assert_eq!(rt; gate.pass(CpuId(0), 3), Go::Limit);
 }
 
-/// Whether the run of one CPU took so many turns, stopped so, and sent 7 so often.
-fn sent<G: Gate + Sync, T: AllocGlobal + Threads + Wait + Sync>(
-    rt: &T,
-    plan: &str,
+/// A run of one CPU behind a gate that is open or shut, and what it leaves: how many turns it took, why
+/// it stopped, and how often it sent 7.
+struct OneCpu<'a> {
+    plan: &'a str,
+    shut: bool,
     turns: u64,
-    gate: &G,
     taken: u64,
     stop: Stop,
     sends: usize,
-) -> Result<bool, Fail> {
-    let report = ran(rt, "", plan, turns, gate)?;
+}
+
+// A worker ends its section past its turns, a full trace stops it, and a gate holds it before its first turn.
+const OF_ONE_CPU: [OneCpu<'static>; 4] = [
+    OneCpu {
+        plan: ONE_SEND,
+        shut: false,
+        turns: 10,
+        taken: 11,
+        stop: Stop::TurnsUsed,
+        sends: 1,
+    },
+    OneCpu {
+        plan: ONE_SEND,
+        shut: false,
+        turns: 5,
+        taken: 5,
+        stop: Stop::TurnsUsed,
+        sends: 0,
+    },
+    OneCpu {
+        plan: TWO_SENDS,
+        shut: false,
+        turns: 1000,
+        taken: 20,
+        stop: Stop::TraceFull,
+        sends: 1,
+    },
+    OneCpu {
+        plan: ONE_SEND,
+        shut: true,
+        turns: 1000,
+        taken: 0,
+        stop: Stop::Held,
+        sends: 0,
+    },
+];
+
+/// Whether the run of one CPU leaves what its row says.
+fn leaves<T: AllocGlobal + Threads + Wait + Sync>(rt: &T, row: &OneCpu<'_>) -> Result<bool, Fail> {
+    let gate = Door { shut: row.shut };
+    let report = ran(rt, "", row.plan, row.turns, &gate)?;
     let Some(trace) = report.traces.first() else {
         return Ok(false);
     };
     Ok(
-        report.taken.first() == Some(&taken)
-            && report.stops.first() == Some(&stop)
-            && trace.len() == sends
+        report.taken.first() == Some(&row.taken)
+            && report.stops.first() == Some(&row.stop)
+            && trace.len() == row.sends
             && trace.iter().all(|entry| entry.value == Msg::one(7))
-            && report.items(BufId(0)).len() == sends,
+            && report.items(BufId(0)).len() == row.sends,
     )
 }
 
 #[test]
-fn a_worker_ends_its_section_past_its_turns(rt: HostRuntime) -> Result<(), Fail> {
-    assert!(rt; sent(&rt, ONE_SEND, 10, &OpenGate, 11, Stop::TurnsUsed, 1)?);
-    assert!(rt; sent(&rt, ONE_SEND, 5, &OpenGate, 5, Stop::TurnsUsed, 0)?);
+fn a_worker_of_one_cpu_stops_as_its_row_says(rt: HostRuntime) -> Result<(), Fail> {
+    for row in &OF_ONE_CPU {
+        assert!(rt; leaves(&rt, row)?, "{}", row.taken);
+    }
     Ok(())
 }
 
-#[test]
-fn a_full_trace_stops_a_worker(rt: HostRuntime) -> Result<(), Fail> {
-    assert!(rt; sent(&rt, TWO_SENDS, 1000, &OpenGate, 20, Stop::TraceFull, 1)?);
-    Ok(())
-}
-
-#[test]
-fn a_gate_holds_a_worker_before_its_first_turn(rt: HostRuntime) -> Result<(), Fail> {
-    assert!(rt; sent(&rt, ONE_SEND, 1000, &Shut, 0, Stop::Held, 0)?);
-    Ok(())
+/// Whether the two CPUs ended, and the hundred messages came in order.
+fn all_came<T: AllocGlobal + Threads + Wait + Sync>(rt: &T, first: &str) -> Result<bool, Fail> {
+    let report = ran(rt, first, A_HUNDRED, 1_000_000_000, &OpenGate)?;
+    let mut good = report.stops.iter().all(|stop| *stop == Stop::AllEnded)
+        && report.traces.len() == 2
+        && report.items(BufId(0)).is_empty();
+    for trace in &report.traces {
+        good = good && trace.len() == 100;
+        for (at, entry) in trace.iter().enumerate() {
+            good = good && entry.value.first().wrapping_add(at as u64) == 100;
+        }
+    }
+    Ok(good)
 }
 
 #[test]
 fn a_hundred_messages_come_in_order(rt: HostRuntime) -> Result<(), Fail> {
     for first in ["", TICKET] {
-        let report = ran(&rt, first, A_HUNDRED, 1_000_000_000, &OpenGate)?;
-        assert!(rt; report.stops.iter().all(|stop| *stop == Stop::AllEnded));
-        assert_eq!(rt; report.traces.len(), 2);
-        for trace in &report.traces {
-            assert_eq!(rt; trace.len(), 100);
-            for (at, entry) in trace.iter().enumerate() {
-                assert_eq!(rt; entry.value.first().wrapping_add(at as u64), 100);
-            }
-        }
-        assert!(rt; report.items(BufId(0)).is_empty());
+        assert!(rt; all_came(&rt, first)?, "{first}");
     }
     Ok(())
 }
@@ -313,4 +357,17 @@ fn workers_with_a_refused_allocation(rt: HostRuntime) {
 #[test]
 fn workers_at_ticket_locks_with_a_refused_allocation(rt: HostRuntime) {
     assert!(rt; ends_or_never_asks(&rt, TICKET));
+}
+
+#[test]
+fn an_open_gate_lets_every_turn_pass(rt: HostRuntime) {
+    assert_eq!(rt; OpenGate.pass(CpuId(0), 0), Go::Pass);
+    assert_eq!(rt; OpenGate.pass(CpuId(7), u64::MAX), Go::Pass);
+}
+
+#[test]
+fn each_law_of_workers_can_be_called(_rt: HostRuntime) {
+    reports_are_lawful(&OpenGate);
+    stops_are_true();
+    workers_lose_no_wake_up();
 }
