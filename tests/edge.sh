@@ -292,6 +292,13 @@ for program; do
   fi
 done
 [ $passed = 0 ] || texts
+# after a refused start of a thread no section was done: a test tells it, where room for one stack makes the second start fail
+tests=crates/plain_layers/out/plain_layers_tests
+if [ -x "$tests" ]; then
+  program=$(realpath "$tests")
+  row 0 $'\ntest result: ok\n' '' "$one_stack; mctower count_tests::after_a_refused_allocation_or_start_the_number_is_0"
+fi
+
 [ $((passed + failed)) -gt 0 ] || { echo "edge: build the program first: (cd crates/mctower && rt run -- count --cpus 1 --times 1)"; exit 1; }
 # The prover lets a function wait that is given the trait for it. Workers and the program are, and none of the crates beneath: no layer waits.
 source_row 'who names Wait, Mutex or Condvar' $'cpu_workers\nmctower' "$(waiting)"

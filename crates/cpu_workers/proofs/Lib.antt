@@ -10,3 +10,4 @@ pub mod Desks
 pub mod Told
 pub mod Crossing
 pub mod Acting
+pub mod Counts

@@ -6,3 +6,4 @@ pub mod Laws
 pub mod Lawful
 pub mod Closing
 pub mod Seating
+pub mod Counts

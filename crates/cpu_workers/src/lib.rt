@@ -2,6 +2,7 @@
 //! seat at one table of shared words, under a gate.
 #![tactic(auto)]
 
+pub mod counting;
 mod gates;
 mod laws;
 mod report;

@@ -1,20 +1,18 @@
 -- Facts on counting.
-use Rattle.std.proofs.Common.{◌≡◌, ℕ, ◌+◌, ◌%◌, ◌^◌, Bool, true, false, List, [], ◌∷◌, ◌++◌, Option, Some, None}
-use Rattle.std.proofs.Common.{refl, sym, ap, ◌∙◌, arith, length, inl, inr, option_map, if◌then◌else◌}
+use Rattle.std.proofs.Common.{◌≡◌, ℕ, ◌+◌, ◌%◌, ◌^◌, true, false, List, [], ◌∷◌, ◌++◌, Option, Some, None}
+use Rattle.std.proofs.Common.{refl, sym, ap, ◌∙◌, arith, length, inl, inr, if◌then◌else◌}
 use Rattle.std.proofs.lemmas.Bool.{cases_lt}
 use Rattle.std.proofs.lemmas.List.{get_or_append_left, get_or_push, length-append}
 use Rattle.event_log.specs.declared.ids.CpuId.{CpuId}
 use Rattle.event_log.specs.declared.ids.LockId.{LockId}
-use Rattle.event_log.specs.declared.events.Event.{Event}
-use Rattle.event_log.specs.declared.events.Event.TheVariants.{Draw, Look, Free}
 use Rattle.event_log.specs.History.{same_lock}
-use Rattle.event_log.specs.WordsLog.{frees}
-use Rattle.event_log.specs.Sections.{Section, block_after, sections_in, sections_of}
+use Rattle.event_log.specs.Sections.{Section, block_after, sections_in}
 use Rattle.event_log.specs.Actions.{Action, Take, Try, Give, Rests, gives, phase}
 use Rattle.layer_traits.specs.Owned.{IsShown}
 use Rattle.layer_traits.specs.Plans.{is_in_section}
 use Rattle.std.specs.Prelude.{IsSome}
-use Rattle.mctower.specs.declared.count.AddOne.{AddOne}
+use Rattle.cpu_workers.specs.declared.counting.AddOne.{AddOne}
+use Rattle.cpu_workers.proofs.Counts.{number_is}
 use Rattle.mctower.specs.Count.{AreReady, IsReady, counting, sections_at}
 
 -- one ready part more
@@ -28,30 +26,12 @@ one_part_more cpu_of under_way Fits parts part m ready last i d below = elim (ca
       rw (here, get_or_push parts part d (length parts) refl) last
 ]
 
--- as many sections as Frees
-pub frees_are_sections : {M E : Type 0} (edit : M → E) (lock : LockId) (log : List (Event M)) → sections_at lock (sections_of edit log) ≡ frees lock log
-frees_are_sections edit lock [] = refl
-frees_are_sections edit lock (Draw cpu at ticket ∷ log) = frees_are_sections edit lock log
-frees_are_sections edit lock (Look cpu at ticket read ∷ log) = frees_are_sections edit lock log
-frees_are_sections edit lock (Free cpu at mark ∷ log) = ap (λ n. if same_lock lock at then n + 1 else n) (frees_are_sections edit lock log)
-
 -- as many sections as gives
 pub gives_are_sections : {E : Type 0} (lock : LockId) (acts : List (Action E)) → sections_at lock (sections_in acts) ≡ gives lock acts
 gives_are_sections lock [] = refl
 gives_are_sections lock (Take cpu at ∷ acts) = gives_are_sections lock acts
 gives_are_sections lock (Try cpu at hit ∷ acts) = gives_are_sections lock acts
 gives_are_sections lock (Give cpu at name ∷ acts) = ap (λ n. if same_lock lock at then n + 1 else n) (gives_are_sections lock acts)
-
--- a number that was 0 is that of its lock's sections
-pub number_is : (opening : LockId → Option ℕ) (lock : LockId) (past : List (Section AddOne)) → opening lock ≡ Some 0
-    → block_after counting.edited opening lock past ≡ Some (sections_at lock past % 2 ^ 64)
-number_is opening lock [] zeroth = zeroth
-number_is opening lock (s ∷ past) zeroth = go (same_lock lock s.lock) (number_is opening lock past zeroth) where
-  go : (b : Bool) → block_after counting.edited opening lock past ≡ Some (sections_at lock past % 2 ^ 64)
-      → (if b then option_map (counting.edited s.edit) (block_after counting.edited opening lock past) else block_after counting.edited opening lock past)
-      ≡ Some ((if b then sections_at lock past + 1 else sections_at lock past) % 2 ^ 64)
-  go true so_far = ap (option_map (counting.edited s.edit)) so_far ∙ ap Some (omega arith)
-  go false so_far = so_far
 
 -- an option that is not None is Some
 pub some_where_not_none : {X : Type 0} (o : Option X) → (o ≡ None → ⊥) → IsSome o

@@ -3,7 +3,6 @@ mod ScheduleLemmas
 mod CountLemmas
 mod ListLemmas
 mod ReadingLemmas
-mod WorkersLemmas
 mod OrderNumbers
 mod SpellingLemmas
 mod RunningLemmas

@@ -1,20 +1,10 @@
 -- Counting: sections that each add 1 to one number.
-use Rattle.std.specs.Prelude.{◌≡◌, ◌+◌, ◌%◌, ◌^◌, ◌<◌, ℕ, zero, suc, true, List, ◌∷◌, Option, None, length, slice_index_or}
+use Rattle.std.specs.Prelude.{◌≡◌, ◌<◌, ℕ, zero, suc, true, List, ◌∷◌, Option, None, length, slice_index_or}
 use Rattle.event_log.specs.Actions.{Action, Take, Try, Give}
 use Rattle.event_log.specs.declared.ids.CpuId.{CpuId}
 use Rattle.event_log.specs.declared.ids.LockId.{LockId}
-use Rattle.event_log.specs.History.{how_many, same_lock}
-use Rattle.event_log.specs.Sections.{Section}
-use Rattle.layer_traits.specs.Protocol.{Rules}
-use Rattle.mctower.specs.declared.count.AddOne.{AddOne}
-
--- what adding 1 means: the number goes up by 1 modulo 2^64, the answer is the number before, and any CPU may do it at any time
-abbrev pub counting : Rules AddOne ℕ ℕ
-counting = record { edited = λ edit number. (number + 1) % 2 ^ 64; answer = λ edit number. number; allowed = λ opening past s. Unit {0} }
-
--- how many of these sections are at this lock
-abbrev pub sections_at : {E : Type 0} → LockId → List (Section E) → ℕ
-sections_at lock past = how_many (λ s. same_lock lock s.lock) past
+use Rattle.cpu_workers.specs.declared.counting.AddOne.{AddOne}
+pub use Rattle.cpu_workers.specs.Counts.{counting, sections_at}
 
 -- this part is the one of the CPU of this number, rests and agrees with the machine
 pub record IsReady {P M S : Type 0} (cpu_of : P → CpuId) (under_way : P → Option S) (Fits : P → M → Type 0) (number : ℕ) (part : P) (machine : M) : Type 0 where

@@ -5,7 +5,6 @@ pub mod Serve
 pub mod Output
 pub mod Print
 pub mod Help
-pub mod Workers
 pub mod Plans
 pub mod Texts
 pub mod Running

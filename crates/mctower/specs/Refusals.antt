@@ -13,8 +13,8 @@ use Rattle.mctower.specs.declared.run.Fault.{Fault}
 use Rattle.mctower.specs.declared.run.Fault.TheVariants as run
 use Rattle.mctower.specs.declared.schedule.StepsError.{StepsError}
 use Rattle.mctower.specs.declared.schedule.StepsError.TheVariants as steps
-use Rattle.mctower.specs.declared.workers.CountFault.{CountFault}
-use Rattle.mctower.specs.declared.workers.CountFault.TheVariants as count
+use Rattle.cpu_workers.specs.declared.counting.CountFault.{CountFault}
+use Rattle.cpu_workers.specs.declared.counting.CountFault.TheVariants as count
 use Rattle.cpu_workers.specs.declared.starting.WorkerError.{WorkerError}
 use Rattle.cpu_workers.specs.declared.starting.WorkerError.TheVariants as worker
 

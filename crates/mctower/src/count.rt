@@ -4,36 +4,19 @@ ghost use Rattle.std.specs.Prelude.{◌≡◌, ℕ, ◌+◌, ◌*◌, ◌<◌, �
 ghost use Rattle.event_log.specs.declared.ids.CpuId.{CpuId};
 ghost use Rattle.event_log.specs.declared.ids.TheConstants.{CPUS};
 ghost use Rattle.event_log.specs.Actions.{gives, phase, Rests};
-ghost use Rattle.mctower.specs.Count.{AreReady, after_round, after_rounds, counting, sections_at};
+ghost use Rattle.cpu_workers.specs.Counts.{sections_at};
+ghost use Rattle.mctower.specs.Count.{AreReady, after_round, after_rounds};
 
 use crate::line::MOST_TIMES;
 use boot::LockKind;
-use event_log::{BufId, CpuId, LockId, NoMemory};
-use layer_traits::{Edit, LockLayer, OwnedLocks, Tray};
+use cpu_workers::counting::{self, AddOne, CountFault, NUMBER};
+use event_log::{CpuId, LockId, NoMemory};
+use layer_traits::{LockLayer, OwnedLocks, Tray};
 use plain_machine::{GrantPlain, Plain};
 use spinlock::{Grant, Ticket, whole};
 use std::alloc::{AllocError, Global};
-
-/// The lock that guards the number.
-pub const NUMBER: LockId = LockId::Buffer(BufId(0));
-
-/// Adds 1 to a number, modulo 2^64, and answers the number before.
-#[derive(Clone, Copy, Debug, PartialEq, Eq)]
-pub struct AddOne;
-
-impl Edit for AddOne {
-    type Block = u64;
-
-    type Out = u64;
-
-    ghost rules = { counting };
-
-    fn apply(&self, block: &mut u64, _tray: &mut Tray) -> u64 {
-        let before = *block;
-        *block = before.wrapping_add(1);
-        before
-    }
-}
+use std::sync::Wait;
+use std::thread::Threads;
 
 /// Each part in turn does one whole section at `lock`, which adds 1 to the lock's number. Nothing
 /// lies in the tray that counts.
@@ -183,4 +166,23 @@ pub fn count_plain(alloc: Global, cpus: u8, times: u64, lock: LockKind) -> Resul
         LockKind::Ticket => count_behind::<Ticket<Plain<AddOne>>>(alloc, cpus, times),
         LockKind::Grant => count_behind::<Grant<GrantPlain<AddOne>>>(alloc, cpus, times),
     }
+}
+
+/// Counts over shared words of locks of this kind: each of `cpus` CPUs does `times` sections that add
+/// 1 to one number, in a thread of its own, as [`counting::count_table`] says.
+///
+/// Errors: `NoMemory` where memory ran out and `NoThread` where a thread could not be started; then
+/// no section was done, and the threads that were started are joined.
+pub fn count_table<R: Threads + Wait + Sync>(
+    rt: &R,
+    alloc: Global,
+    cpus: u8,
+    times: u64,
+    lock: LockKind,
+) -> Result<u64, CountFault>
+    requires cpus { cpus ≤ CPUS }
+    requires times { times ≤ MOST_TIMES }
+    ensures { IfOk result (λ number. number ≡ times * cpus) }
+{
+    counting::count_table(rt, alloc, cpus, times, lock)
 }

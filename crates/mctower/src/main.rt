@@ -20,7 +20,6 @@ pub mod states;
 pub mod texts;
 pub mod threads;
 pub mod tower;
-pub mod workers;
 
 use line::LineError;
 use refusals::{Refusal, line_refused, status_of_refusal, tell};

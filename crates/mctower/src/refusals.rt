@@ -10,9 +10,9 @@ use crate::line::LineError;
 use crate::print::{print, refuse};
 use crate::run::Fault;
 use crate::schedule::StepsError;
-use crate::workers::CountFault;
 use boot::BootError;
 use cpu_workers::WorkerError;
+use cpu_workers::counting::CountFault;
 use std::io::Write;
 use tracer::Sink;
 

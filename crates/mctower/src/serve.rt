@@ -10,7 +10,7 @@ ghost use Rattle.mctower.specs.Schedule.{ReadsSteps};
 ghost use Rattle.mctower.specs.Running.{on_lock};
 ghost use Rattle.mctower.specs.Serve.{Checks, Counts, Ends, OfBytes, OfInput, Puts, ReadsAll, RunsPlan, Serves, Tells, kind_refused, reads_input, steps_asked};
 
-use crate::count::count_plain;
+use crate::count::{count_plain, count_table};
 use crate::line::{MOST_TIMES, Order, read_line};
 use crate::print::print;
 use crate::reading::state_after;
@@ -21,7 +21,6 @@ use crate::run::run_text;
 use crate::schedule::{MOST_STEPS, StepsError, read_steps};
 use crate::states::State;
 use crate::threads::{serve_threads, tell_stops};
-use crate::workers::count_table;
 use boot::{BootError, LockKind};
 use cpu_workers::Stop;
 use event_log::CpuId;

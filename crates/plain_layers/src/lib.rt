@@ -35,6 +35,8 @@ mod cond_paces;
 #[cfg(test)]
 mod cond_tests;
 #[cfg(test)]
+mod count_tests;
+#[cfg(test)]
 mod lock_paces;
 #[cfg(test)]
 mod lock_tests;

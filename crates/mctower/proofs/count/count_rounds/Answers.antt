@@ -2,7 +2,7 @@ use Rattle.std.proofs.Common.{◌+◌, ◌*◌, ◌∙◌, [], ap, arith, length
 use Rattle.event_log.specs.Actions.{phase}
 use Rattle.event_log.specs.Sections.{sections_in}
 use Rattle.mctower.specs.Count.{after_rounds, sections_at}
-use Rattle.mctower.specs.declared.count.TheConstants.{NUMBER}
+use Rattle.cpu_workers.specs.declared.counting.TheConstants.{NUMBER}
 use Rattle.mctower.proofs.CountLemmas.{gives_are_sections}
 use Rattle.mctower.proofs.count.count_rounds.Goals as goal
 

@@ -1,6 +1,6 @@
 use Rattle.std.proofs.Common.{◌∙◌, ap, is_some, option_map, sym}
 use Rattle.std.specs.Borrow.{Bor}
-use Rattle.mctower.specs.declared.count.TheConstants.{NUMBER}
+use Rattle.cpu_workers.specs.declared.counting.TheConstants.{NUMBER}
 use Rattle.mctower.proofs.CountLemmas.{block_counts, some_where_not_none, there_at_rest}
 use Rattle.mctower.proofs.count.number_in.Goals as goal
 

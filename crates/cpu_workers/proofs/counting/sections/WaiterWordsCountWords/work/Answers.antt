@@ -1,0 +1,36 @@
+use Rattle.std.proofs.Common.{◌≡◌, ◌+◌, ℕ, ap, subst, sym, ◌∙◌}
+use Rattle.event_log.specs.Grants.{grant_standing}
+use Rattle.event_log.specs.WordsLog.{IsLegalWords, Outside, standing}
+use Rattle.layer_traits.specs.GrantProtocol.{grant_sections}
+use Rattle.layer_traits.specs.OneLock.{opened}
+use Rattle.layer_traits.proofs.Seen.{words_legal}
+use Rattle.layer_traits.specs.GrantsTold.{grants_told, sections_told, stands_told}
+use Rattle.table_machine.specs.Desks.{Desk}
+use Rattle.cpu_workers.specs.Counts.{counting}
+use Rattle.cpu_workers.specs.declared.counting.AddOne.{AddOne}
+use Rattle.cpu_workers.specs.declared.counting.TheConstants.{NUMBER}
+use Rattle.cpu_workers.specs.Counts.{HasMade, made}
+use Rattle.cpu_workers.proofs.Counts.{has_made}
+use Rattle.cpu_workers.proofs.counting.sections.WaiterWordsCountWords.work.Goals as goal
+
+pub work_at-requires-clause-outside : goal.work_at-requires-clause-outside
+work_at-requires-clause-outside g c =
+    let cpu = c.cpu-cpu.result in
+    let key = c.args.key in
+    let before : IsLegalWords key.seen = words_legal (counting.allowed (opened key.start)) key.seen c.seat-seat.ensures.lawful in
+    let outside : standing cpu key.seen ≡ Outside = subst (λ k. standing k key.seen ≡ Outside) (sym c.cpu-cpu.ensures) c.requires.outside in
+    ap (λ (d : Desk AddOne ℕ). grant_standing cpu (grants_told d.seen)) c.seat-seat.ensures.seat ∙ (stands_told key.seen before cpu ∙ outside)
+
+pub returns : goal.returns
+returns g c =
+    let cpu = c.cpu-cpu.result in
+    let times = c.args.times in
+    let key = c.args.key in
+    let new = c.work_at.new.seat.seen in
+    let before : IsLegalWords key.seen = words_legal (counting.allowed (opened key.start)) key.seen c.seat-seat.ensures.lawful in
+    let after : IsLegalWords new = words_legal (counting.allowed (opened c.work_at.new.seat.start)) new c.work_at.ensures.acts.1 in
+    let more = ap (made cpu NUMBER) (sym (sections_told new after))
+    ∙ (c.work_at.ensures.made ∙ (ap (λ (d : Desk AddOne ℕ). made cpu NUMBER (grant_sections (grants_told d.seen)) + times) c.seat-seat.ensures.seat
+    ∙ ap (λ l. made cpu NUMBER l + times) (sections_told key.seen before))) in
+    subst (λ (d : Desk AddOne ℕ). HasMade NUMBER key d times) (sym c.back.ensures)
+    (has_made NUMBER key c.work_at.new.seat cpu times (cc) (cc) (cc) (sym (stands_told new after cpu) ∙ c.work_at.ensures.outside) more)

@@ -1,0 +1,48 @@
+//! Counting in threads: each of several CPUs adds 1 to one number, in critical sections at one table of
+//! shared words.
+
+ghost use Rattle.std.specs.Prelude.{◌≡◌};
+ghost use Rattle.cpu_workers.specs.Counts.{counting};
+
+mod keys;
+mod sections;
+mod tables;
+mod threads;
+
+use event_log::{BufId, LockId};
+use layer_traits::{Edit, Tray};
+pub use sections::CountWords;
+pub use tables::{NotCounted, count_or_leave, count_table, number_left};
+use thiserror::Error;
+
+/// The lock that guards the number.
+pub const NUMBER: LockId = LockId::Buffer(BufId(0));
+
+/// Adds 1 to a number, modulo 2^64, and answers the number before.
+#[derive(Clone, Copy, Debug, PartialEq, Eq)]
+pub struct AddOne;
+
+impl Edit for AddOne {
+    type Block = u64;
+
+    type Out = u64;
+
+    ghost rules = { counting };
+
+    fn apply(&self, block: &mut u64, _tray: &mut Tray) -> u64 {
+        let before = *block;
+        *block = before.wrapping_add(1);
+        before
+    }
+}
+
+/// Why `count` gave up. No section was done.
+#[derive(Clone, Copy, Debug, PartialEq, Eq, Error)]
+pub enum CountFault {
+    /// Memory was refused.
+    #[error("NoMemory(1)")]
+    NoMemory,
+    /// A thread could not be started.
+    #[error("NoThread(5)")]
+    NoThread,
+}

@@ -1,0 +1,78 @@
+//! The keys of workers that count: where each waits for its worker, and what its worker promises.
+
+ghost use Rattle.std.specs.Prelude.{◌≡◌, ℕ};
+ghost use Rattle.table_machine.specs.Desks.{Board};
+ghost use Rattle.cpu_workers.specs.Counts.{IsFresh, nowhere};
+
+use crate::counting::AddOne;
+use std::marker::{Brand, Model, PhantomData};
+use std::snapshot::Snapshot;
+use std::sync::Mutex;
+use std::thread::Promise;
+use table_machine::Key;
+
+/// The table that the workers of one count sit at. A proof picks it.
+pub(crate) trait CountTable {
+    ghost board: { Board ℕ };
+}
+
+impl CountTable for Brand {
+    ghost board = { nowhere };
+}
+
+// A key that has seen nothing of the workers' table.
+#[derive(Drop)]
+pub(crate) struct Fresh<T: CountTable> {
+    key: Key<AddOne>,
+    crew: PhantomData<T>,
+}
+
+impl<T: CountTable> Model for Fresh<T> {
+    ghost use Rattle.std.specs.Prelude.{ℕ};
+    ghost use Rattle.table_machine.specs.Desks.{Desk};
+    ghost use Rattle.cpu_workers.specs.declared.counting.AddOne.{AddOne as AnAddOne};
+    ghost use Rattle.cpu_workers.specs.Counts.{IsFresh};
+
+    ghost Value = { Desk AnAddOne ℕ };
+
+    ghost view = { λ f. f.key };
+
+    ghost invariant = { λ f. IsFresh T.board f.key };
+}
+
+impl<T: CountTable> Fresh<T> {
+    pub(crate) fn new(key: Key<AddOne>) -> Fresh<T>
+        requires { IsFresh T.board key }
+        ensures { result ≡ key }
+    {
+        Fresh {
+            key,
+            crew: PhantomData,
+        }
+    }
+
+    pub(crate) fn key(self) -> Key<AddOne>
+        ensures key { result ≡ self }
+        ensures fresh { IsFresh T.board result }
+    {
+        let Fresh { key, crew: _ } = self;
+        key
+    }
+}
+
+// Where a key waits for its worker, which takes it out.
+pub(crate) type KeySlot<T> = Mutex<Option<Fresh<T>>>;
+
+// What a worker's result keeps: if it worked, its CPU has done so many sections.
+#[derive(Drop)]
+pub(crate) struct MadeBy {
+    pub(crate) key: Snapshot<Key<AddOne>>,
+    pub(crate) times: u64,
+}
+
+impl Promise<Option<Key<AddOne>>> for MadeBy {
+    ghost use Rattle.cpu_workers.specs.Counts.{MayHaveMade};
+    ghost use Rattle.cpu_workers.specs.declared.counting.TheConstants.{NUMBER};
+
+    ghost kept_by = { λ p r. MayHaveMade NUMBER p.key.value r p.times };
+}

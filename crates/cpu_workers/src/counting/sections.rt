@@ -1,0 +1,153 @@
+//! The sections of one worker that counts.
+
+ghost use Rattle.std.specs.Prelude.{◌≡◌, ◌+◌, ◌<◌, None, IsSome};
+ghost use Rattle.event_log.specs.declared.ids.CpuId.{CpuId};
+ghost use Rattle.event_log.specs.WordsLog.{standing, Outside};
+ghost use Rattle.layer_traits.specs.OneLock.{opened};
+ghost use Rattle.table_machine.specs.Desks.{IsOf, new_desk};
+ghost use Rattle.cpu_workers.specs.Counts.{made, HasMade, MayHaveMade};
+
+use crate::counting::keys::{CountTable, KeySlot};
+use crate::counting::{AddOne, NUMBER};
+use crossbeam_utils::sync::WaitGroup;
+use event_log::{CpuId, LockId};
+use layer_traits::{LockLayer, Tray};
+use spinlock::{Grant, Ticket};
+use std::sync::Wait;
+use std::thread;
+use table_machine::{GrantSeat, Key, Seat, Shared, TableWords, TicketWords, WaiterWords};
+
+// How often a worker polls before it lets other threads run: with more threads than processors, the
+// one whose turn it is may not be running. So many looks take about as long as a change of threads.
+// It has no pause between them, since after a look that hit the next poll frees the lock.
+const SPINS: u16 = 1000;
+
+// Lets other threads run where no spins are left, and tells how many are left then: after that one,
+// so that a worker whose look hits frees the lock before it lets others run again.
+fn pause(spins: u16) -> u16 {
+    if spins > 0 {
+        spins - 1
+    } else {
+        thread::yield_now();
+        1
+    }
+}
+
+// One section that adds 1: polls until it answers. Nothing lies in the tray that counts.
+fn add_one<L: LockLayer<AddOne>, R: Wait>(
+    rt: &R,
+    part: &mut L,
+    machine: &mut L::Machine,
+    lock: LockId,
+    tray: &mut Tray,
+)
+    requires fits { L.Fits part.old machine.old }
+    requires rests { L.under_way part.old ≡ None }
+    requires lock { IsSome (L.opening machine.old lock) }
+    requires room { (m : _) → 0 < L.room m }
+    ensures fits { L.Fits part.new machine.new }
+    ensures rests { L.under_way part.new ≡ None }
+    ensures cpu { L.cpu_of part.new ≡ L.cpu_of part.old }
+    ensures opening { L.opening machine.new ≡ L.opening machine.old }
+    ensures site { L.site machine.new ≡ L.site machine.old }
+    ensures acts { (c : CpuId) → L.ActsFor machine.old c → L.ActsFor machine.new c }
+    ensures outside { L.IsOutside machine.new (L.cpu_of part.old) }
+    ensures made { made (L.cpu_of part.old) lock (L.seen machine.new) ≡ made (L.cpu_of part.old) lock (L.seen machine.old) + 1 }
+{
+    let mut spins = SPINS;
+    for _ in rt.forever() {
+        if part.poll(machine, lock, AddOne, tray).is_some() {
+            return;
+        }
+        spins = pause(spins);
+    }
+    unreachable!()
+}
+
+// So many sections of this CPU at its seat, which add 1 each.
+fn work_at<L: LockLayer<AddOne> + Drop, R: Wait>(
+    rt: &R,
+    cpu: CpuId,
+    seat: &mut L::Machine,
+    times: u64,
+)
+    requires acts { L.ActsFor seat.old cpu }
+    requires outside { L.IsOutside seat.old cpu }
+    requires lock { IsSome (L.opening seat.old NUMBER) }
+    requires room { (m : _) → 0 < L.room m }
+    ensures acts { L.ActsFor seat.new cpu }
+    ensures outside { L.IsOutside seat.new cpu }
+    ensures site { L.site seat.new ≡ L.site seat.old }
+    ensures made { made cpu NUMBER (L.seen seat.new) ≡ made cpu NUMBER (L.seen seat.old) + times }
+{
+    let mut part = L::part(cpu, &[], 1);
+    let mut tray = Tray::new();
+    for _ in 0..times {
+        add_one(rt, &mut part, seat, NUMBER, &mut tray);
+    }
+}
+
+/// The words of a table's locks, by which the workers of a count take turns.
+pub trait CountWords: TableWords {
+    /// So many sections of the key's CPU, which add 1 each.
+    fn work<R: Wait>(
+        rt: &R,
+        shared: &Shared<AddOne, Self>,
+        key: Key<AddOne>,
+        times: u64,
+    ) -> Key<AddOne>
+        requires of { IsOf shared.now key }
+        requires lock { IsSome (opened key.start NUMBER) }
+        requires outside { standing key.cpu key.seen ≡ Outside }
+        ensures { HasMade NUMBER key result times };
+}
+
+impl CountWords for TicketWords {
+    fn work<R: Wait>(
+        rt: &R,
+        shared: &Shared<AddOne, TicketWords>,
+        key: Key<AddOne>,
+        times: u64,
+    ) -> Key<AddOne> {
+        let cpu = key.cpu();
+        let mut seat = shared.seat(key);
+        work_at::<Ticket<Seat<'_, AddOne>>, R>(rt, cpu, &mut seat, times);
+        seat.back()
+    }
+}
+
+impl CountWords for WaiterWords {
+    fn work<R: Wait>(
+        rt: &R,
+        shared: &Shared<AddOne, WaiterWords>,
+        key: Key<AddOne>,
+        times: u64,
+    ) -> Key<AddOne> {
+        let cpu = key.cpu();
+        let mut seat = shared.seat(key);
+        work_at::<Grant<GrantSeat<'_, AddOne>>, R>(rt, cpu, &mut seat, times);
+        seat.back()
+    }
+}
+
+// A worker: it waits until all are started, and works if its key was then put into its hand.
+pub(crate) fn worker<T: CountTable, K: CountWords, R: Wait>(
+    rt: &R,
+    shared: &Shared<AddOne, K>,
+    cpu: CpuId,
+    times: u64,
+    start: WaitGroup,
+    hand: &KeySlot<T>,
+) -> Option<Key<AddOne>>
+    requires table { shared.now ≡ T.board }
+    requires lock { IsSome (opened shared.now.start NUMBER) }
+    ensures { MayHaveMade NUMBER (new_desk shared.now cpu.0) result times }
+{
+    start.wait(rt);
+    let taken = hand.lock(rt).take();
+    let key = taken?.key();
+    if key.cpu() != cpu {
+        return None;
+    }
+    Some(K::work(rt, shared, key, times))
+}

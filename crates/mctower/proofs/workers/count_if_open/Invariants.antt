@@ -1,4 +1,0 @@
-use Rattle.mctower.proofs.workers.count_if_open.Given as goal
-
-abbrev pub ghosts-work_all : goal.ghosts-work_all
-ghosts-work_all g a = record { board = a.shared.now }

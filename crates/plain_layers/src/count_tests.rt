@@ -1,0 +1,76 @@
+//! Counting in threads.
+
+use boot::LockKind;
+use cpu_workers::counting::{CountFault, count_or_leave, count_table};
+use std::test::Fail;
+
+/// A count of so many CPUs that each do so many sections, and its number.
+struct Count {
+    cpus: u8,
+    times: u64,
+    lock: LockKind,
+    number: u64,
+}
+
+const COUNTS: [Count; 5] = [
+    Count {
+        cpus: 2,
+        times: 3,
+        lock: LockKind::Grant,
+        number: 6,
+    },
+    Count {
+        cpus: 2,
+        times: 3,
+        lock: LockKind::Ticket,
+        number: 6,
+    },
+    Count {
+        cpus: 1,
+        times: 1,
+        lock: LockKind::Grant,
+        number: 1,
+    },
+    Count {
+        cpus: 0,
+        times: 1000,
+        lock: LockKind::Ticket,
+        number: 0,
+    },
+    Count {
+        cpus: 8,
+        times: 0,
+        lock: LockKind::Grant,
+        number: 0,
+    },
+];
+
+#[test]
+fn threads_count_together(rt: HostRuntime) -> Result<(), Fail> {
+    for row in &COUNTS {
+        let number = count_table(&rt, rt.alloc(), row.cpus, row.times, row.lock)?;
+        assert_eq!(rt; number, row.number);
+    }
+    Ok(())
+}
+
+// Run with each allocation refused in turn. With no thread to start, each is the table's or that of the
+// supplies for workers: it is told as want of memory.
+#[test]
+fn a_refused_allocation_of_the_table_is_no_memory(rt: HostRuntime) {
+    match count_table(&rt, rt.alloc(), 0, 5, LockKind::Grant) {
+        Ok(number) => assert_eq!(rt; number, 0),
+        Err(fault) => assert_eq!(rt; fault, CountFault::NoMemory),
+    }
+}
+
+// Run with each allocation refused in turn, and by tests/edge.sh with room for the stack of one thread
+// alone, so that the second start is refused. A thread whose own memory is refused is one that could not
+// be started. After a refusal no section was done.
+#[test]
+fn after_a_refused_allocation_or_start_the_number_is_0(rt: HostRuntime) {
+    match count_or_leave(&rt, rt.alloc(), 2, 5, LockKind::Grant) {
+        Ok(number) => assert_eq!(rt; number, 10),
+        Err(not) => assert_eq!(rt; not.left, 0),
+    }
+}
