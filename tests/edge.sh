@@ -302,6 +302,8 @@ fi
 [ $((passed + failed)) -gt 0 ] || { echo "edge: build the program first: (cd crates/mctower && rt run -- count --cpus 1 --times 1)"; exit 1; }
 # The prover lets a function wait that is given the trait for it. Workers and the program are, and none of the crates beneath: no layer waits.
 source_row 'who names Wait, Mutex or Condvar' $'cpu_workers\nmctower' "$(waiting)"
+# What starts threads and joins them stands in the crate of the workers.
+source_row 'who stands on crossbeam_utils' cpu_workers "$(sed -n 's/^\([a-z_]*\):.*\<crossbeam_utils\>.*/\1/p' crates.txt)"
 
 echo "edge: $passed passed, $failed failed"
 [ "$failed" = 0 ]
