@@ -24,5 +24,6 @@ pub mod Sounding
 pub mod Started
 pub mod Quieting
 pub mod Telling
+pub mod Placing
 pub mod TableQuiet
 pub mod LayeredSteps

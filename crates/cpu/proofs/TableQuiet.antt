@@ -10,6 +10,8 @@ use Rattle.event_log.specs.History.{same_cpu}
 use Rattle.event_log.proofs.Same.{same_cpu_self, same_cpu_true}
 use Rattle.guest.specs.declared.instructions.Instruction.{Instruction}
 use Rattle.guest.specs.declared.instructions.Instruction.TheVariants as ins
+use Rattle.thread_blocks.specs.Queues.{is_in}
+use Rattle.layer_traits.specs.declared.calls.Place.TheVariants as place
 use Rattle.layer_traits.specs.declared.steps.Reason.{Reason}
 use Rattle.layer_traits.specs.declared.steps.Reason.TheVariants.{AllEnded, StepsUsed, TraceFull}
 use Rattle.layer_traits.specs.Places.{Threads}
@@ -248,6 +250,10 @@ quiet_still s told agree reached quiet = record {
       let has = told.buffers setup is b within in has.told.owner ∙ ((stuck setup is).unowned (buffer_at b) has.buffer has.there).0;
   awake = λ setup is b within.
       let has = told.buffers setup is b within in has.told.sleepers ∙ ((stuck setup is).unowned (buffer_at b) has.buffer has.there).1;
+  nobody = λ setup is t b within at.
+      let there = told.places setup is t (place.LockSleeper b) within at in
+      let lies : is_in t [] ≡ true = sym (ap (λ (l : List Tid). is_in t l) ((stuck setup is).unowned b there.0 there.1).1) ∙ there.2 in
+      absurd (cc lies);
 }
   where
     homes_in : (setup : Setup) → IsSetupFor setup s → setup.homes ≡ s.homes

@@ -4,13 +4,14 @@ use Rattle.std.proofs.lemmas.List.{length-map}
 use Rattle.event_log.specs.declared.entries.Entry.{Entry}
 use Rattle.event_log.specs.declared.ids.TheConstants.{CPUS}
 use Rattle.layer_traits.proofs.EffectRunLemmas.{effects_are_run}
-use Rattle.cpu.specs.Claims.{FollowPrograms, HasOneOrder, MovesAgree, Shown, StandsOnce, StayHome, buffer_at}
+use Rattle.cpu.specs.Claims.{CpuShown, FollowPrograms, HasOneOrder, MovesAgree, Shown, StandsOnce, StayHome, buffer_at}
 use Rattle.cpu.proofs.ListReads.{there_is}
 use Rattle.cpu.proofs.Onces.{once_of}
 use Rattle.cpu.proofs.Orders.{closed_by_order, follow_programs, stay_home, traces_interleaved}
 use Rattle.cpu.specs.Sound.{SoundByTable}
 use Rattle.cpu.proofs.Sounding.{shown_in, sound_of}
-use Rattle.std.specs.Prelude.{Some}
+use Rattle.std.specs.Prelude.{ℕ, Some, slice_get}
+use Rattle.thread_blocks.specs.Queues.{is_in}
 use Rattle.event_log.specs.declared.ids.CpuId.{CpuId}
 use Rattle.event_log.specs.declared.ids.LockId.TheVariants.{Pending}
 use Rattle.event_log.specs.Actions.{phase}
@@ -23,11 +24,12 @@ use Rattle.cpu.specs.Sound.{IsSetupFor}
 use Rattle.cpu.specs.Table.Blocks.{OfPending}
 use Rattle.cpu.specs.Table.Setups.{Setup}
 use Rattle.cpu.specs.Table.Steps.{block_at, halted_at}
-use Rattle.cpu.specs.Told.{CpuIsTold, ToldByTable}
+use Rattle.cpu.specs.Told.{CpuIsTold, HasBuffer, ToldByTable}
 use Rattle.cpu.specs.Tower.Composed.{named}
 use Rattle.cpu.specs.Tower.Views.{name_of}
 use Rattle.cpu.proofs.ListReads.{shown_at, shows_at}
 use Rattle.cpu.proofs.TableCalls.{halted_told}
+use Rattle.cpu.proofs.Placing.{ended_is, place_told}
 use Rattle.cpu.proofs.Telling.{has_buffer, pending_told}
 use Rattle.cpu.proofs.Layered.{laws_of, layered, told_cpu}
 use Rattle.cpu.proofs.systems.System.holds.Goals as goal
@@ -73,29 +75,48 @@ returns-clause-told g c = λ step.
     let caps : (setup : Setup) → IsSetupFor setup s → setup.caps ≡ I.caps m =
     λ setup goes. (goes.goes.each 0 (shown first.0) (shows_at shown items 0 first.0 first.1)).caps_are in
     let sound : SoundByTable s = sound_of s (c.self.invariant.sound.1 step) in
+    let homes : (setup : Setup) → IsSetupFor setup s → setup.homes ≡ s.homes =
+    λ setup goes. (goes.goes.each 0 (shown first.0) (shows_at shown items 0 first.0 first.1)).homes_are in
+    let each = cpus_have I m items is.each (λ part fits. law.stands part m fits) in
+    let agree : MovesAgree s = record {
+      lawful = law.moved m zero acts;
+      stands = λ k p at. (each k p at).stands;
+      within = λ t home at. let inside = is.within t home at in omega (arith, inside, count);
+    } in
+    let cpus_told : (setup : Setup) → IsSetupFor setup s → (k : ℕ) (p : CpuShown) → slice_get s.cpus k ≡ Some p → CpuIsTold setup s k p =
+    λ setup goes. shown_at shown (λ j q. CpuIsTold setup s j q) items (λ j x there.
+    let at = (is.each j x there).holds in
+    let number = (is.each j x there).number_is in
+    let tells = law.tells step x.part in
+    let cpu = layered (laws_of g.met.I.IpcLayer) m x at.0 at.1 at.2 at.3 in
+    let halted = halted_told (told_cpu cpu step) setup (goes.goes.each j (shown x) (shows_at shown items j x there)) in
+    let pending = pending_told setup machine x.number (I.opening m) (at.3 step).opens (caps setup goes) are in
+    record {
+      inside = ap is_in_section (phase_renamed name_of (cpu_at j) (I.acts m))
+          ∙ ap (λ (d : CpuId). is_in_section (phase d (I.acts m))) (sym (at.1 ∙ number)) ∙ sym (law.busy x.part m at.0 step);
+      halted = subst (λ (d : CpuId). halted_at setup d (shown x).private ≡ own_halted_at (I.threads x.part) x.guests.items x.trace.items
+          x.limit) number halted;
+      current = ap (λ (t : Threads). t.current) tells.0;
+      ready = ap (λ (t : Threads). t.ready) tells.0;
+      hand = ap (λ (t : Threads). t.hand) tells.0;
+      trace = refl;
+      ended = λ t known.
+          let size = (at.3 step).size in
+          ended_is (I.own x.part) x.guests.items x.trace.items t (omega (arith, known, size))
+          ∙ ap (λ (own : Threads). is_in t own.ended) tells.0;
+      pending = subst (λ (d : CpuId). block_at setup (Pending d) (named (I.acts m)) ≡ Some (OfPending (pending_by (I.moves m) d))) number pending;
+    }) in
+    let buffers_told : (setup : Setup) → IsSetupFor setup s → (b : ℕ) → b < length s.caps → HasBuffer setup s b =
+    λ setup goes b within. has_buffer setup machine first.0.number (I.opening m) tabled.opens (caps setup goes) are
+    (map shown items) c.self.inside.room c.self.inside.taken sound goes (λ d. g.met.I.Owned.owner_is step m zero d acts) b within
+    (g.met.I.Owned.items_are step m zero (buffer_at b) acts within) in
     subst (λ (x : Shown). ToldByTable x) c.self.view_is (record {
       some = let least = is.some in omega (arith, least, count);
       few = let size = tabled.size in let few = one.2.few in omega (arith, size, few);
-      cpus = λ setup goes. shown_at shown (λ j q. CpuIsTold setup s j q) items (λ j x there.
-          let at = (is.each j x there).holds in
-          let number = (is.each j x there).number_is in
-          let tells = law.tells step x.part in
-          let cpu = layered (laws_of g.met.I.IpcLayer) m x at.0 at.1 at.2 at.3 in
-          let halted = halted_told (told_cpu cpu step) setup (goes.goes.each j (shown x) (shows_at shown items j x there)) in
-          let pending = pending_told setup machine x.number (I.opening m) (at.3 step).opens (caps setup goes) are in
-          record {
-            inside = ap is_in_section (phase_renamed name_of (cpu_at j) (I.acts m))
-                ∙ ap (λ (d : CpuId). is_in_section (phase d (I.acts m))) (sym (at.1 ∙ number)) ∙ sym (law.busy x.part m at.0 step);
-            halted = subst (λ (d : CpuId). halted_at setup d (shown x).private ≡ own_halted_at (I.threads x.part) x.guests.items x.trace.items
-                x.limit) number halted;
-            current = ap (λ (t : Threads). t.current) tells.0;
-            ready = ap (λ (t : Threads). t.ready) tells.0;
-            hand = ap (λ (t : Threads). t.hand) tells.0;
-            pending = subst (λ (d : CpuId). block_at setup (Pending d) (named (I.acts m)) ≡ Some (OfPending (pending_by (I.moves m) d))) number pending;
-          });
-      buffers = λ setup goes b within. has_buffer setup machine first.0.number (I.opening m) tabled.opens (caps setup goes) are
-          (map shown items) c.self.inside.room c.self.inside.taken sound goes (λ d. g.met.I.Owned.owner_is step m zero d acts) b within
-          (g.met.I.Owned.items_are step m zero (buffer_at b) acts within);
+      cpus = cpus_told;
+      buffers = buffers_told;
+      places = λ setup goes. place_told s agree (I.lines m) refl (law.lists first.0.part m one.0) setup (cpus_told setup goes) (buffers_told setup goes)
+          (homes setup goes);
     })
 
 pub returns-clause-one_order : goal.returns-clause-one_order
