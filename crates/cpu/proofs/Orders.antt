@@ -13,6 +13,7 @@ use Rattle.event_log.specs.declared.ids.CpuId.{CpuId}
 use Rattle.event_log.specs.declared.ids.Tid.{Tid}
 use Rattle.event_log.specs.Runs.{is_closed, kind_eq}
 use Rattle.event_log.specs.Traces.{IsInterleaving}
+use Rattle.thread_blocks.specs.Queues.{is_in}
 use Rattle.guest.specs.Calls.{IsProgramsCalls, HasEnded}
 use Rattle.guest.specs.State.{State}
 use Rattle.layer_traits.specs.declared.calls.Call.{Call}
@@ -98,31 +99,35 @@ pub record Has (homes : List CpuId) (buffers : ℕ) (seen : List Entry) (moves :
   pub stands : Stands homes (cpu_at k) moves p.own
 
 -- a guest keeps to its program
-keeps_by : (g : Guest) (es : List Entry) (begun : Option Call) (effect : Option Effect)
-    → HasComeIn g.stage g.program g.thread es begun effect → Keeps g (reverse es)
-keeps_by g es begun effect follows = go g.stage refl follows
+keeps_by : (g : Guest) (told_ended : Bool) (es : List Entry) (begun : Option Call) (effect : Option Effect)
+    → HasComeIn g.stage g.program g.thread es begun effect → (told_ended ≡ true → is_ended g.stage ≡ true) → Keeps g told_ended (reverse es)
+keeps_by g told_ended es begun effect follows over = go g.stage refl follows
   where
     turned : (s : State) → IsProgramsCalls g.program es s → IsProgramsCalls g.program (reverse (reverse es)) s
     turned s calls = subst (λ (l : List Entry). IsProgramsCalls g.program l s) (sym (reverse-reverse es)) calls
 
     runs_on : (stage : GuestStage) → g.stage ≡ stage → is_ended stage ≡ false → is_ended g.stage ≡ true → HasEnded g.program g.thread
-    runs_on stage at lives over = let same : is_ended g.stage ≡ is_ended stage = ap is_ended at in absurd (cc (same, lives, over))
+    runs_on stage at lives ends = let same : is_ended g.stage ≡ is_ended stage = ap is_ended at in absurd (cc (same, lives, ends))
 
-    go : (stage : GuestStage) → g.stage ≡ stage → HasComeIn stage g.program g.thread es begun effect → Keeps g (reverse es)
-    go Between at f = record { calls = (g.thread, turned g.thread f.1); ends = runs_on Between at refl }
-    go Begun at f = record { calls = (g.thread, turned g.thread f.4); ends = runs_on Begun at refl }
-    go Done at f = record { calls = (_, turned _ f.6); ends = runs_on Done at refl }
-    go Ended at f = record { calls = (g.thread, turned g.thread f.1); ends = λ over. f.2 }
+    stood : (begun2 : Option Call) × (effect2 : Option Effect) × HasComeIn g.stage g.program g.thread (reverse (reverse es)) begun2 effect2
+    stood = (begun, effect, subst (λ (l : List Entry). HasComeIn g.stage g.program g.thread l begun effect) (sym (reverse-reverse es)) follows)
+
+    go : (stage : GuestStage) → g.stage ≡ stage → HasComeIn stage g.program g.thread es begun effect → Keeps g told_ended (reverse es)
+    go Between at f = record { calls = (g.thread, turned g.thread f.1); ends = runs_on Between at refl; stands = stood; over = over }
+    go Begun at f = record { calls = (g.thread, turned g.thread f.4); ends = runs_on Begun at refl; stands = stood; over = over }
+    go Done at f = record { calls = (_, turned _ f.6); ends = runs_on Done at refl; stands = stood; over = over }
+    go Ended at f = record { calls = (g.thread, turned g.thread f.1); ends = λ ends. f.2; stands = stood; over = over }
 
 module _ (homes : List CpuId) (buffers : ℕ) (seen : List Entry) (moves : List Step) where
   pub follow_programs : (k : ℕ) (p : CpuShown) → Has homes buffers seen moves k p → (t : Tid) (g : Guest) → guest_at p.guests t.0 ≡ Some g
-      → Keeps g (of_thread t.0 p.trace)
+      → Keeps g (is_in t p.own.ended) (of_thread t.0 p.trace)
   follow_programs k p has t g at =
       let follows = has.is.follow t g at in
       let same : of_thread t.0 p.trace ≡ reverse (of_thread t.0 (of_cpu (cpu_at k) seen)) =
       ap (λ (l : List Entry). of_thread t.0 l) has.is.kept ∙ filter_reversed (λ (e : Entry). e.thread.0 == t.0) (of_cpu (cpu_at k) seen) in
-      subst (λ (l : List Entry). Keeps g l) (sym same)
-      (keeps_by g (of_thread t.0 (of_cpu (cpu_at k) seen)) (begun_of (talk_of has.talks t)) (talk_of has.talks t).effect follows.1)
+      subst (λ (l : List Entry). Keeps g (is_in t p.own.ended) l) (sym same)
+      (keeps_by g (is_in t p.own.ended) (of_thread t.0 (of_cpu (cpu_at k) seen)) (begun_of (talk_of has.talks t)) (talk_of has.talks t).effect follows.1
+      (λ ended. has.is.over t ended g at))
 
   pub stay_home : (k : ℕ) (p : CpuShown) → Has homes buffers seen moves k p → AllByRecursion (IsOfHome homes (cpu_at k)) p.trace
   stay_home k p has =

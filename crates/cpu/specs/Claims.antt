@@ -1,5 +1,5 @@
 -- What a system shows, and what holds of it after every list of steps.
-use Rattle.std.specs.Prelude.{◌≡◌, ◌⊎◌, ℕ, zero, suc, ◌+◌, ◌<◌, Bool, true, false, List, [], ◌∷◌, map, length, Option, Some, None, slice_get, slice_index_or}
+use Rattle.std.specs.Prelude.{◌≡◌, ◌⊎◌, ℕ, zero, suc, ◌+◌, ◌<◌, Bool, true, false, List, [], ◌∷◌, map, length, reverse, Option, Some, None, slice_get, slice_index_or}
 use Rattle.std.specs.List.{AllByRecursion}
 use Rattle.event_log.specs.declared.entries.Entry.{Entry}
 use Rattle.event_log.specs.declared.ids.BufId.{BufId}
@@ -11,16 +11,19 @@ use Rattle.event_log.specs.Runs.{IsRun, is_closed}
 use Rattle.event_log.specs.Traces.{IsInterleaving}
 use Rattle.guest.specs.declared.instructions.Instruction.{Instruction}
 use Rattle.guest.specs.Calls.{AreProgramsCalls, HasEnded}
+use Rattle.layer_traits.specs.declared.calls.Call.{Call}
+use Rattle.layer_traits.specs.declared.calls.Effect.{Effect}
 use Rattle.layer_traits.specs.declared.calls.Place.{Place}
 use Rattle.layer_traits.specs.declared.moves.Line.{Line}
 use Rattle.layer_traits.specs.declared.moves.Line.TheVariants.{Sleepers, Receivers, Senders}
+use Rattle.thread_blocks.specs.Queues.{is_in}
 use Rattle.layer_traits.specs.BufferEffects.{contents_of}
 use Rattle.layer_traits.specs.BufferLaw.{Buffering}
 use Rattle.layer_traits.specs.OnePlace.{StandsOnce as InOnePlace, total}
 use Rattle.layer_traits.specs.Places.{AreMoves, Stands, Step, Threads, count_in, home_of, where_is}
 use Rattle.layer_traits.specs.Told.{IsOwnPlace, queue_place}
 use Rattle.cpu.specs.declared.guests.Guest.{Guest}
-use Rattle.cpu.specs.Guests.{is_ended}
+use Rattle.cpu.specs.Guests.{HasComeIn, is_ended}
 use Rattle.cpu.specs.Table.Blocks.{Name}
 use Rattle.cpu.specs.Table.Setups.{Private}
 use Rattle.cpu.specs.Tables.{private}
@@ -116,14 +119,20 @@ pub record HasOneOrder (s : Shown) : Type 0 where
   pub run : IsRun s.caps order s.contents
   pub closed : (b : ℕ) → b < length s.caps → slice_index_or s.closed b false ≡ is_closed order b
 
--- a thread's entries, oldest first, are its program's calls; it has ended only where its program ends
-pub record Keeps (g : Guest) (entries : List Entry) : Type 0 where
+-- A thread's entries, oldest first, are its program's calls, and it has ended only where its program ends. They lead to just its state:
+-- between two calls and in a call without an effect to the state that it has, after the effect to the one in which the call will leave it.
+-- So each call that returned has taken effect, and at most one took effect that has not returned. A thread is told as ended only at its
+-- program's end.
+pub record Keeps (g : Guest) (told_ended : Bool) (entries : List Entry) : Type 0 where
   pub calls : AreProgramsCalls g.program entries
   pub ends : is_ended g.stage ≡ true → HasEnded g.program g.thread
+  pub stands : (begun : Option Call) × (effect : Option Effect) × HasComeIn g.stage g.program g.thread (reverse entries) begun effect
+  pub over : told_ended ≡ true → is_ended g.stage ≡ true
 
 -- each thread follows its program
 abbrev pub FollowPrograms : Shown → Type 0
-FollowPrograms s = (c : ℕ) (p : CpuShown) (t : Tid) (g : Guest) → slice_get s.cpus c ≡ Some p → guest_at p.guests t.0 ≡ Some g → Keeps g (of_thread t.0 p.trace)
+FollowPrograms s = (c : ℕ) (p : CpuShown) (t : Tid) (g : Guest) → slice_get s.cpus c ≡ Some p → guest_at p.guests t.0 ≡ Some g
+    → Keeps g (is_in t p.own.ended) (of_thread t.0 p.trace)
 
 -- each entry in a CPU's trace is of that CPU, and of a thread at home with it
 abbrev pub StayHome : Shown → Type 0
