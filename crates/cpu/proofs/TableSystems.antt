@@ -111,11 +111,12 @@ own_live (Some reason) s live = absurd (cc live)
 
 -- what a step does, by what it answers
 pub went_on : (IsStepwise : Type 0) (c : CpuId) (old new : Shown) (answer : Step) → answer ≡ step_answer (reason_of c old)
-    → ((r : Reason) → answer ≡ Halted r → new ≡ old) → (IsStepwise → answer ≡ Stepped → SteppedByTable c old new Stepped) → WentOn IsStepwise c old new
-went_on IsStepwise c old new answer answered still steps = go (reason_of c old) refl
+    → ((r : Reason) → answer ≡ Halted r → new ≡ old) → (answer ≡ Stepped → new.taken ≡ old.taken + 1)
+    → (IsStepwise → answer ≡ Stepped → SteppedByTable c old new Stepped) → WentOn IsStepwise c old new
+went_on IsStepwise c old new answer answered still counted steps = go (reason_of c old) refl
   where
     go : (r : Option Reason) → reason_of c old ≡ r → WentOn IsStepwise c old new
-    go None is = took is (λ step. steps step (answered ∙ ap step_answer is))
+    go None is = let stepped = answered ∙ ap step_answer is in took is (counted stepped) (λ step. steps step stepped)
     go (Some reason) is = stayed reason is (still reason (answered ∙ ap step_answer is))
 
 -- one step more has run

@@ -87,10 +87,10 @@ abbrev pub SteppedByTable : CpuId → Shown → Shown → Step → Type 0
 SteppedByTable c old new answer = (setup : Setup) → GoesBy setup old
     → ◌≡◌ {A = Stepping} (record { next = whole_of new; answer = answer }) (system_step setup c (whole_of old))
 
--- what a step of CPU c does: where the CPU has no reason against it, it is taken, by the step table where the machine does one action a
--- step; else nothing changes
+-- what a step of CPU c does: where the CPU has no reason against it, it is taken and counted, by the step table where the machine does one
+-- action a step; else nothing changes
 pub data WentOn (IsStepwise : Type 0) (c : CpuId) (old new : Shown) : Type 0 where
-  took : reason_of c old ≡ None → (IsStepwise → SteppedByTable c old new Stepped) → WentOn IsStepwise c old new
+  took : reason_of c old ≡ None → new.taken ≡ old.taken + 1 → (IsStepwise → SteppedByTable c old new Stepped) → WentOn IsStepwise c old new
   stayed : (reason : Reason) → reason_of c old ≡ Some reason → new ≡ old → WentOn IsStepwise c old new
 
 -- what the steps of these CPUs do, one after the other

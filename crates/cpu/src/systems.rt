@@ -5,7 +5,7 @@ mod opening;
 mod plans;
 mod quiet;
 
-ghost use Rattle.std.specs.Prelude.{◌≡◌, ◌<◌, ◌≤◌, ◌↔◌, true, false, All, IsOk, OnErr, OnOk, Some, None, [], length, map, slice_index_or};
+ghost use Rattle.std.specs.Prelude.{◌≡◌, ◌+◌, ◌<◌, ◌≤◌, ◌↔◌, true, false, All, IsOk, OnErr, OnOk, Some, None, [], length, map, slice_index_or};
 
 use crate::cpus::Cpu;
 use arrayvec::ArrayVec;
@@ -87,6 +87,7 @@ where
         requires { cpu.0 < length self.old.cpus }
         ensures answer { result ≡ step_answer (reason_of cpu self.old) }
         ensures still { (r : Reason) → result ≡ Halted r → self.new ≡ self.old }
+        ensures counted { result ≡ Stepped → self.new.taken ≡ self.old.taken + 1 }
         ensures plan { SamePlan self.old self.new }
         // Each step that is taken is the one of the step table.
         ensures steps { I.IsStepwise → result ≡ Stepped → SteppedByTable cpu self.old self.new Stepped }
@@ -122,6 +123,7 @@ where
         requires { cpu.0 < length self.old.cpus }
         ensures still { result ≡ false → self.new ≡ self.old }
         ensures live { result ≡ true → reason_of cpu self.old ≡ None }
+        ensures counted { result ≡ true → self.new.taken ≡ self.old.taken + 1 }
         ensures plan { SamePlan self.old self.new }
         ensures steps { I.IsStepwise → result ≡ true → SteppedByTable cpu self.old self.new Stepped }
     {
@@ -169,6 +171,7 @@ where
     fn advance(&mut self, cpu: CpuId)
         requires exists { cpu.0 < length self.old.cpus }
         requires live { reason_of cpu self.old ≡ None }
+        ensures counted { self.new.taken ≡ self.old.taken + 1 }
         ensures plan { SamePlan self.old self.new }
         ensures steps { I.IsStepwise → SteppedByTable cpu self.old self.new Stepped }
     {

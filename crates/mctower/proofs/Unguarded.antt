@@ -34,7 +34,7 @@ module _ {A B : BootPlan → Result Done Refusal → Output → Type 0}
 
 module _ (If Where : Type 0) (follows : Where → If) where
   went : (c : CpuId) (s r : Shown) → WentOn If c s r → WentOn Where c s r
-  went c s r (took live step) = took live (λ here. step (follows here))
+  went c s r (took live counted step) = took live counted (λ here. step (follows here))
   went c s r (stayed reason is same) = stayed reason is same
 
   ran : (start : Shown) (steps : List CpuId) (s : Shown) → Ran If start steps s → Ran Where start steps s

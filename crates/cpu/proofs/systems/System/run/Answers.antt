@@ -19,7 +19,8 @@ loop-cpu-preserved g c =
       plan = same_plans before more;
       ran = ran_more g.I.IpcLayer.IsStepwise c.args.self.now c.loop-cpu.self c.step.new.self c.args.steps.now c.loop-cpu.cpu-index _ c.loop-cpu-test.true
           c.loop-cpu.invariant.ran
-          (went_on g.I.IpcLayer.IsStepwise _ c.loop-cpu.self c.step.new.self c.step.result c.step.ensures.answer c.step.ensures.still c.step.ensures.steps);
+          (went_on g.I.IpcLayer.IsStepwise _ c.loop-cpu.self c.step.new.self c.step.result c.step.ensures.answer c.step.ensures.still c.step.ensures.counted
+          c.step.ensures.steps);
       table = λ step.
           ran_on c.args.self.now c.loop-cpu.self c.step.new.self c.args.steps.now c.loop-cpu.cpu-index _ c.step.result c.loop-cpu-test.true before
           (c.loop-cpu.invariant.table step)
