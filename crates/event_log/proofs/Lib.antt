@@ -1,6 +1,7 @@
 pub mod BoolLemmas
 pub mod ListLemmas
 pub mod RunLemmas
+mod Streams
 pub mod Same
 pub mod Forms
 pub mod Line

@@ -10,6 +10,7 @@ pub mod Grants
 pub mod Messages
 pub mod Buffers
 pub mod Runs
+pub mod Streams
 pub mod Traces
 pub mod Digits
 pub mod Reading

@@ -5,6 +5,7 @@ ghost use Rattle.std.specs.Prelude.{◌≡◌, ◌<◌, ◌++◌, ◌∷◌, ◌
 ghost use Rattle.event_log.specs.Messages.{Message};
 ghost use Rattle.event_log.specs.declared.entries.Entry.{Entry as AnEntry};
 ghost use Rattle.event_log.specs.Runs.{IsNext, IsRun, after_entry, contents_after};
+ghost use Rattle.event_log.specs.Streams.{TakenIsPut};
 ghost use Rattle.event_log.specs.Traces.{HasOpOrder};
 
 /// A law: a run with one entry more at its end, which may come there, is a run, and ends in what
@@ -29,4 +30,10 @@ pub fn run_by_index()
 /// A law: in a run the op numbers of each buffer are 0, 1, 2 and so on.
 pub fn run_has_op_order()
     ensures { (caps : List ℕ) (es : List AnEntry) (left : List (List Message)) → IsRun caps es left → HasOpOrder es }
+{}
+
+/// A law: in a run the messages that were put into each buffer are those that were taken from it,
+/// in that order, and then those that are left. So none is lost, none comes twice, none overtakes.
+pub fn taken_is_put()
+    ensures { TakenIsPut }
 {}
