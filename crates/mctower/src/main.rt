@@ -28,7 +28,7 @@ use std::process::ExitCode;
 use std::sync::Wait;
 use std::thread::Threads;
 use std::{env, io};
-use tower::{Server, serve_tower};
+use tower::serve_tower;
 use tracer::Sink;
 
 fn main(rt: HostRuntime) -> ExitCode {
@@ -81,13 +81,6 @@ fn serve_words<T: AllocGlobal + Input + Print + Threads + Wait + Sync, E: Write>
         return refused(err, words, Refusal::NoMemory);
     };
     let mut out = Sink::new(buffered);
-    let status = serve_tower::<Server, _, _, _, _>(
-        rt,
-        rt.alloc(),
-        words,
-        &mut rt.reader(),
-        &mut out,
-        err,
-    );
+    let status = serve_tower(rt, rt.alloc(), words, &mut rt.reader(), &mut out, err);
     ExitCode::from(status)
 }

@@ -3,7 +3,7 @@ use Rattle.boot.specs.declared.locks.LockKind.TheVariants.{Ticket, Grant}
 use Rattle.mctower.specs.Running.{on_lock}
 use Rattle.mctower.specs.Serve.{NoCondition}
 use Rattle.mctower.proofs.Unguarded.{ends}
-use Rattle.mctower.proofs.tower.ServerServing.serve.Goals as goal
+use Rattle.mctower.proofs.tower.serve_stepwise.Goals as goal
 
 -- each poll is one action, over the one lock as over the other
 each : (Tickets Grants : Type 0) → Tickets → Grants → (lock : LockKind) → NoCondition lock → on_lock Tickets Grants lock
@@ -14,7 +14,3 @@ pub returns-clause-served : goal.returns-clause-served
 returns-clause-served g c =
     ends (on_lock g.I.IpcLayer.IsStepwise g.J.IpcLayer.IsStepwise) NoCondition
     (each g.I.IpcLayer.IsStepwise g.J.IpcLayer.IsStepwise g.met.I.Stepwise.steps g.met.J.Stepwise.steps) c.serve.ensures.served
-
--- what threads share of the handle, whose place among the type parameters is another one here
-pub serve-requires-sync-T : goal.serve-requires-sync-T
-serve-requires-sync-T g c κs within = record { shared = c.requires.sync.shared }
