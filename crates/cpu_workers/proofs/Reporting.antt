@@ -43,12 +43,12 @@ use Rattle.cpu_workers.specs.declared.stops.Stop.{Stop}
 use Rattle.cpu_workers.specs.Closing.{HasSeen, HaveCome, IsReported, Key, LockBlock, ReportsAreLawful, StartsSo, WordsOfTower, acts_in, tower_rules}
 use Rattle.cpu_workers.specs.Lawful.{AreLeft, HasGone, IsLawfulReport, IsLineOf, IsReport, Line, Shown, TellsTrue, left_in, messages_in}
 use Rattle.cpu_workers.specs.Orders.{FollowsProgram, HasFollowed, IsTraceOf, effects_of}
-use Rattle.cpu_workers.specs.Reports.{HasRun, IsTrueStop, Took, WentBy}
+use Rattle.cpu_workers.specs.Reports.{HasRun, IsTrueStop, Took, TookWithin, WasHeld, WentBy, Within, below}
 use Rattle.cpu_workers.specs.Working.{Charge, IsPlanned, Working}
 use Rattle.cpu_workers.proofs.ClosedLog.{acts_legal, buffers_left, effects_may, messages_left, queues_left}
 use Rattle.cpu_workers.proofs.Lasting.{all_ended}
 use Rattle.cpu_workers.proofs.OneOrder.{one_order, trace_in}
-use Rattle.cpu_workers.proofs.Turning.{along_others}
+use Rattle.cpu_workers.proofs.Turning.{along_others, within_others}
 
 -- A worker that came back.
 
@@ -61,6 +61,11 @@ has_seen setup May turns c first last line cpu_is planned boots ran own legal fo
   last = last.private;
   took = subst (λ (p : Private). Took (cpu_step setup c) c p last.private (named last.acts) line.taken) boots
       (subst (λ (d : CpuId). Took (cpu_step setup d) d first.private last.private (named last.acts) line.taken) cpu_is went.took);
+  within = subst (λ (p : Private). TookWithin (cpu_step setup c) c (below turns) p last.private (named last.acts) line.taken) boots
+      (subst (λ (d : CpuId). TookWithin (cpu_step setup d) d (below turns) first.private last.private (named last.acts) line.taken) cpu_is went.within);
+  held = λ is.
+      subst (λ (p : Private). WasHeld (cpu_step setup c) c (May c) p last.private (named last.acts) line.taken) boots
+      (subst (λ (d : CpuId). WasHeld (cpu_step setup d) d (May d) first.private last.private (named last.acts) line.taken) cpu_is (went.held is));
   rests = subst (λ (d : CpuId). is_in_section (phase d (named last.acts)) ≡ false) same ran.rests;
   stop_is = subst (λ (d : CpuId). IsTrueStop (halted_at setup d last.private) (May d) turns line.taken line.stop) cpu_is went.stop_is;
   trace_is = trace_is;
@@ -196,8 +201,27 @@ module _ (setup : Setup) (May : CpuId → ℕ → Type 0) (turns : ℕ) (board :
               (along_others (cpu_step setup c) c (at_boot setup c) (named goes.more) theirs seen.took.steps);
           counted = seen.took.counted;
         };
+        within = on (below turns) seen.within;
+        held = λ is. let held = seen.held is in record {
+          turn = held.turn;
+          before = held.before;
+          may = held.may;
+          count = held.count;
+          counted = held.counted;
+          within = on (below held.count) held.within;
+        };
         rests = ap (λ l. is_in_section (phase c l)) log_is ∙ ap is_in_section (phase_others c (named goes.more) (named past) theirs) ∙ seen.rests;
         stop_is = seen.stop_is;
+      }
+    where
+      on : (Goes : ℕ → Type 0) → TookWithin (cpu_step setup c) c Goes (at_boot setup c) seen.last (named past) line.taken
+          → TookWithin (cpu_step setup c) c Goes (at_boot setup c) seen.last (named acts) line.taken
+      on Goes took = record {
+        count = took.count;
+        steps = subst (λ (l : List (Action Name)). Within (cpu_step setup c) c Goes (at_boot setup c) took.count seen.last l)
+            (sym (ap named goes.is ∙ map-append (renamed name_of) goes.more past))
+            (within_others (cpu_step setup c) c (at_boot setup c) Goes (named goes.more) (renamed_others c goes.more goes.others) took.steps);
+        counted = took.counted;
       }
 
   gone : (c : CpuId) → c.0 < setup.cpus → (line : Line) × IsLineOf r c line × HasGone setup (May c) turns c (named acts) line

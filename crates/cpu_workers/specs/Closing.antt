@@ -50,7 +50,8 @@ use Rattle.cpu.specs.Tower.Views.{TowerBlock, TowerName, view}
 use Rattle.cpu_workers.specs.declared.stops.Stop.{Stop}
 use Rattle.cpu_workers.specs.Lawful.{IsLawfulReport, IsLineOf, Line, Shown}
 use Rattle.cpu_workers.specs.Orders.{FollowsProgram, IsTraceOf}
-use Rattle.cpu_workers.specs.Reports.{IsTrueStop, Took}
+use Rattle.cpu_workers.specs.declared.stops.Stop.TheVariants.{Held}
+use Rattle.cpu_workers.specs.Reports.{IsTrueStop, Took, TookWithin, WasHeld, below}
 
 -- the tower's edit of the block of a lock, the block, and what an edit answers
 abbrev pub LockEdit : Type 0
@@ -103,11 +104,14 @@ pub record StartsSo (setup : Setup) (board : Board (QueueBlock LockBlock)) : Typ
   pub small : setup.cpus * setup.trace_room < 2 ^ 64
 
 -- what a CPU did that has seen these actions: it went from boot to its last state by the step table, in just as many steps as its line tells,
--- with none of its sections under way at the end; its stop is true of where it stands, and its trace is its effects in what it has seen; the
--- trace kept to its room, each entry is of a thread at home, and each thread at home followed its program
+-- with none of its sections under way at the end; between two sections it took a turn only below so many, and none after a `Limit` of the
+-- gate; its stop is true of where it stands, and its trace is its effects in what it has seen; the trace kept to its room, each entry is of a
+-- thread at home, and each thread at home followed its program
 pub record HasSeen (setup : Setup) (May : ℕ → Type 0) (turns : ℕ) (c : CpuId) (acts : List (Action TowerName)) (line : Line) : Type 0 where
   pub last : Private
   pub took : Took (cpu_step setup c) c (at_boot setup c) last (named acts) line.taken
+  pub within : TookWithin (cpu_step setup c) c (below turns) (at_boot setup c) last (named acts) line.taken
+  pub held : line.stop ≡ Held → WasHeld (cpu_step setup c) c May (at_boot setup c) last (named acts) line.taken
   pub rests : is_in_section (phase c (named acts)) ≡ false
   pub stop_is : IsTrueStop (halted_at setup c last) May turns line.taken line.stop
   pub trace_is : line.trace ≡ last.trace

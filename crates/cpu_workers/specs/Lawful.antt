@@ -24,7 +24,7 @@ use Rattle.cpu.specs.Table.Steps.{block_at, cpu_step, halted_at}
 use Rattle.cpu.specs.Wakeups.Lost.{NoWakeUpIsLost}
 use Rattle.cpu_workers.specs.declared.stops.Stop.{Stop}
 use Rattle.cpu_workers.specs.declared.stops.Stop.TheVariants.{AllEnded, TurnsUsed, Held}
-use Rattle.cpu_workers.specs.Reports.{IsTrueStop, MayHold, Took}
+use Rattle.cpu_workers.specs.Reports.{IsTrueStop, MayHold, Took, TookWithin, WasHeld, below}
 
 -- what a report tells of one CPU: its trace, oldest first, how many turns it took, and why it stopped
 pub record Line : Type 0 where
@@ -88,11 +88,14 @@ pub record IsReport (setup : Setup) (May : CpuId → ℕ → Type 0) (turns : �
   pub each : (c : CpuId) → c.0 < setup.cpus → (line : Line) × IsLineOf r c line × TellsTrue setup (May c) turns c line
 
 -- a CPU went along this list of actions by the step table: from boot to its last state, in just as many steps as its line tells, with none of
--- its sections under way at the end; the line has its trace, and its stop is true of where it stands
+-- its sections under way at the end; between two sections it took a turn only below so many, and none after a `Limit` of the gate; the line
+-- has its trace, and its stop is true of where it stands
 pub record HasGone (setup : Setup) (May : ℕ → Type 0) (turns : ℕ) (c : CpuId) (log : List (Action Name)) (line : Line) : Type 0 where
   pub last : Private
   pub trace_is : line.trace ≡ last.trace
   pub took : Took (cpu_step setup c) c (at_boot setup c) last log line.taken
+  pub within : TookWithin (cpu_step setup c) c (below turns) (at_boot setup c) last log line.taken
+  pub held : line.stop ≡ Held → WasHeld (cpu_step setup c) c May (at_boot setup c) last log line.taken
   pub rests : is_in_section (phase c log) ≡ false
   pub stop_is : IsTrueStop (halted_at setup c last) May turns line.taken line.stop
 

@@ -17,14 +17,18 @@ pub enum Go {
 /// `pass`, up to a limit of its own, and then answers `Limit`; after that it is asked no more.
 pub trait Gate {
     ghost use Rattle.event_log.specs.declared.ids.CpuId.{CpuId};
-    ghost use Rattle.cpu_workers.specs.declared.gates.Go.TheVariants.{Limit};
+    ghost use Rattle.cpu_workers.specs.declared.gates.Go.TheVariants.{Limit, Pass};
 
     /// For which CPU and at which of its turns the gate may answer `Limit`.
     ghost MayLimit: { Self → CpuId → ℕ → Type 0 };
 
+    /// For which CPU and at which of its turns the gate may answer `Pass`.
+    ghost MayPass: { Self → CpuId → ℕ → Type 0 };
+
     /// Whether `cpu`, which has taken `turn` turns, may take one more.
     fn pass(&self, cpu: CpuId, turn: u64) -> Go
-        ensures { result ≡ Limit → MayLimit self.now cpu turn };
+        ensures limits { result ≡ Limit → MayLimit self.now cpu turn }
+        ensures passes { result ≡ Pass → MayPass self.now cpu turn };
 }
 
 /// The gate that is always open.
@@ -33,6 +37,8 @@ pub struct OpenGate;
 
 impl Gate for OpenGate {
     ghost MayLimit = { λ gate cpu turn. ⊥ };
+
+    ghost MayPass = { λ gate cpu turn. Unit {0} };
 
     fn pass(&self, _cpu: CpuId, _turn: u64) -> Go {
         Go::Pass

@@ -1,11 +1,11 @@
 //! The turns of one worker.
 
-ghost use Rattle.std.specs.Prelude.{◌≡◌, ◌≢◌, true, false, [], None, Some, MatchOption};
+ghost use Rattle.std.specs.Prelude.{◌≡◌, ◌≢◌, ◌<◌, ◌⊎◌, true, false, [], None, Some, MatchOption};
 ghost use Rattle.layer_traits.specs.declared.steps.Reason.TheVariants.{StepsUsed};
 ghost use Rattle.cpu.specs.Table.Setups.{Setup};
 ghost use Rattle.cpu.specs.Table.Steps.{halted_at};
 ghost use Rattle.cpu_workers.specs.Working.{IsPlanned, MayStep, is_inside};
-ghost use Rattle.cpu_workers.specs.Reports.{HasRun, IsTrueStop, MayHold, counted_on};
+ghost use Rattle.cpu_workers.specs.Reports.{HasAsked, HasRun, IsTrueStop, counted_on};
 
 use crate::gates::{Gate, Go};
 use crate::stops::Stop;
@@ -57,7 +57,8 @@ fn one_more(taken: u64) -> u64
 // Why a worker whose CPU has no section under way stops, if it does.
 fn ending(halted: Option<Reason>, held: bool, taken: u64, turns: u64) -> Option<Stop>
     requires { halted ≢ Some StepsUsed }
-    ensures { MatchOption result (halted ≡ None) (λ stop. IsTrueStop halted (λ turn. held ≡ true) turns taken stop) }
+    ensures { MatchOption result ((halted ≡ None) × (held ≡ false) × (taken < turns))
+        (λ stop. IsTrueStop halted (λ turn. held ≡ true) turns taken stop) }
 {
     match halted {
         Some(Reason::AllEnded) => Some(Stop::AllEnded),
@@ -73,8 +74,9 @@ fn ending(halted: Option<Reason>, held: bool, taken: u64, turns: u64) -> Option<
 fn ask<I: IpcLayer + Drop, G: Gate>(gate: &G, worker: &Worker<I>, taken: u64, held: bool) -> bool
 where
     I::Machine: Drop,
-    requires { held ≡ true → MayHold (G.MayLimit gate.now worker.now.cpu) taken }
-    ensures { result ≡ true → MayHold (G.MayLimit gate.now worker.now.cpu) taken }
+    ensures limits { result ≡ true → (held ≡ true) ⊎ G.MayLimit gate.now worker.now.cpu taken }
+    ensures passes { result ≡ false → G.MayPass gate.now worker.now.cpu taken }
+    ensures kept { held ≡ true → result ≡ true }
 {
     held || gate.pass(worker.number(), taken) == Go::Limit
 }
@@ -90,12 +92,16 @@ fn before<I: IpcLayer + Drop, G: Gate>(
 ) -> Option<Stop>
 where
     I::Machine: Drop,
-    requires { held.old ≡ true → MayHold (G.MayLimit gate.now worker.now.cpu) taken }
-    ensures held { held.new ≡ true → MayHold (G.MayLimit gate.now worker.now.cpu) taken }
+    ensures held { held.new ≡ true → (held.old ≡ true) ⊎ G.MayLimit gate.now worker.now.cpu taken }
+    ensures kept { held.old ≡ true → held.new ≡ true }
+    // It goes on between two sections only where no `Limit` came, fewer turns than `turns` are
+    // taken, and the gate was asked with their number.
+    ensures paced { result ≡ None → (is_inside worker.now ≡ true)
+        ⊎ ((held.new ≡ false) × (taken < turns) × G.MayPass gate.now worker.now.cpu taken) }
     ensures goes { result ≡ None → (setup : Setup) → IsPlanned setup worker.now.plan → MayStep setup worker.now }
     ensures rests { (stop : _) → result ≡ Some stop → is_inside worker.now ≡ false }
     ensures stops { (stop : _) → result ≡ Some stop → (setup : Setup) → IsPlanned setup worker.now.plan
-        → IsTrueStop (halted_at setup worker.now.cpu worker.now.private) (G.MayLimit gate.now worker.now.cpu) turns taken stop }
+        → IsTrueStop (halted_at setup worker.now.cpu worker.now.private) (λ turn. held.new ≡ true) turns taken stop }
 {
     if worker.is_busy() {
         *held = ask(gate, worker, taken, *held);
@@ -125,7 +131,8 @@ pub fn work<I: IpcLayer + Drop, G: Gate, R: Wait>(
 where
     I::Machine: Drop,
     requires { worker.old.acts ≡ [] }
-    ensures { HasRun (G.MayLimit gate.now) turns worker.old worker.new result.taken result.stop }
+    ensures ran { HasRun (G.MayLimit gate.now) turns worker.old worker.new result.taken result.stop }
+    ensures asked { HasAsked (G.MayPass gate.now) turns worker.old worker.new result.taken }
 {
     let mut taken = 0;
     let mut held = false;

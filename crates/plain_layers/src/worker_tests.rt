@@ -101,6 +101,7 @@ struct Door {
 
 impl Gate for Door {
     ghost MayLimit = { λ gate cpu turn. turn ≡ 0 };
+    ghost MayPass = { λ gate cpu turn. Unit {0} };
 
     fn pass(&self, _cpu: CpuId, turn: u64) -> Go {
         if self.shut && turn == 0 {
@@ -151,6 +152,7 @@ fn until(flag: &AtomicBool, patience: u32) -> Go {
 
 impl Gate for Together {
     ghost MayLimit = { λ gate cpu turn. Unit {0} };
+    ghost MayPass = { λ gate cpu turn. Unit {0} };
 
     fn pass(&self, cpu: CpuId, turn: u64) -> Go {
         if cpu.0 == 0 && turn == 3 {
@@ -312,6 +314,7 @@ struct Counting {
 
 impl Gate for Counting {
     ghost MayLimit = { λ gate cpu turn. ⊥ };
+    ghost MayPass = { λ gate cpu turn. Unit {0} };
 
     fn pass(&self, _cpu: CpuId, _turn: u64) -> Go {
         self.asked.fetch_add(1, Ordering::SeqCst);
