@@ -1,9 +1,11 @@
 #!/usr/bin/env python3
 """Tries the book: runs every command of docs/book and compares what comes with what the page says, byte for byte; looks up
-each file, public name and clause that a page names, and each name of the repository in the other pages of docs; draws each picture
-again; holds plans/kernel.py against what each plan is expected to print. .ci/run calls it; it takes about half a minute.
+each file, public name and clause that a page names, and each name of the repository in the other pages of docs; holds the plan and the
+output that README.md shows against the files; draws each picture again; holds plans/kernel.py against what each plan is expected to
+print. .ci/run calls it; it takes about half a minute.
 
     tests/book.py [--write] [PROGRAM]
+    tests/book.py --names               looks up and holds, and runs nothing: it needs no program
 
 A command is a line `$ ..` of a block marked `console`; the lines beneath it are what it prints, standard output and standard error
 together. Where a page is changed, --write puts what comes into the page and draws the pictures, to be read before it is kept.
@@ -26,7 +28,9 @@ FENCE = re.compile(r"^```.*?^```", re.M | re.S)
 QUOTED = re.compile(r"`([^`\n]+)`")
 PATH = re.compile(r"^\.?[\w-]+(?:/[\w.-]+)+/?$|^[\w-]+\.(?:rt|antt|edit|md|py|sh|rs|toml|txt|svg)$")
 WORD = re.compile(r"^[A-Za-z_]\w*(?:::[A-Za-z_]\w*)*(?:\(\d+\))?$")
-LINK = re.compile(r"\]\(([^)#:\s]+)(?:#[^)]*)?\)")
+LINK = re.compile(r"\]\(([^):\s]+)\)")
+# A line of a source that is a comment: what only a comment says is not there.
+REMARK = re.compile(r"^\s*(?://|-- |# ).*$", re.M)
 # What docs cite and no file of this tree says: crates of the kit, and the end of a family of names.
 EXCEPT = {"rt", "clap", "toml", "thiserror", "arrayvec", "itoa", "atomic_table", "crossbeam_utils", "_here"}
 # Paths that no list of files has: what a build makes, and a path with a name to put in.
@@ -101,7 +105,7 @@ def words_of_tree():
         path = ROOT / name
         words.update(part.split(".")[0] for part in name.split("/"))
         if path.suffix in {".rt", ".antt", ".edit", ".py", ".sh", ".rs", ".toml"} and path.is_file():
-            words.update(re.findall(r"\w+", path.read_text()))
+            words.update(re.findall(r"\w+", REMARK.sub("", path.read_text())))
     return words, files
 
 
@@ -109,6 +113,16 @@ def known_path(cited, files):
     """Whether a cited path is one of the tree: from its root, or the end of a file's or a folder's path."""
     end = cited.strip("/")
     return any(f"/{name}".endswith(f"/{end}") or f"/{end}/" in f"/{name}" or f"/{end}." in f"/{name}" for name in files)
+
+
+def linked(link, page):
+    """Whether a link's file is there, and the heading behind its `#`."""
+    file, _, heading = link.partition("#")
+    target = page.parent / file if file else page
+    if not target.exists() or not heading:
+        return target.exists()
+    titles = re.findall(r"^#+ (.*)$", target.read_text(), re.M)
+    return heading in [re.sub(r"[^\w -]", "", title).lower().replace(" ", "-") for title in titles]
 
 
 def cited(page, words, files, faults):
@@ -126,9 +140,28 @@ def cited(page, words, files, faults):
             faults.append(f"{shown}: the tree has no {name}")
     for link in LINK.findall(text):
         count += 1
-        if not (page.parent / link).exists():
+        if not linked(link, page):
             faults.append(f"{shown}: there is nothing at {link}")
     return count
+
+
+def first_minute(faults):
+    """Holds the plan that README.md shows, and what it says that it prints, against the files; tells how many there were."""
+    shown = dict(re.findall(r"^```(toml|text)\n(.*?)^```$", (ROOT / "README.md").read_text(), re.M | re.S))
+    plan = (ROOT / "plans/one-send.toml").read_text().splitlines(keepends=True)
+    if shown.get("toml") != "".join(line for line in plan if line.strip() and not line.startswith("#")):
+        faults.append("README.md: its plan is not plans/one-send.toml")
+    if shown.get("text") != (ROOT / "plans/expected/one-send.txt").read_text():
+        faults.append("README.md: it does not show what plans/expected/one-send.txt says")
+    return 2
+
+
+def names(faults):
+    """Looks up what all pages cite, which needs no program; tells how much that was."""
+    words, files = words_of_tree()
+    pages = [ROOT / "README.md", *ROOT.glob("plans/*.md"), *ROOT.glob("docs/*.md"), *ROOT.glob("docs/spec/*.md"), *BOOK.glob("*.md")]
+    count = sum(cited(page, words, files, faults) for page in sorted(pages))
+    return count + sum(looked_up(page, faults) for page in sorted(BOOK.glob("*.md"))) + first_minute(faults)
 
 
 def drawn(picture, program, write, faults):
@@ -147,22 +180,27 @@ def modelled(plan, program, faults):
         faults.append(f"plans/kernel.py does not print what {expected.relative_to(ROOT)} says")
 
 
-def main(words):
-    write = "--write" in words
-    named = [word for word in words if word != "--write"]
-    program = Path(named[0] if named else ROOT / "crates/mctower/out/mctower").resolve()
-    faults, count = [], 0
+def runs(program, write, faults):
+    """What needs the built program: each command of the book, its pictures, and each plan by plans/kernel.py."""
+    count = 0
     for page in sorted(BOOK.glob("*.md")):
-        count += tried(page, program, write, faults) + looked_up(page, faults)
-    words_known, files = words_of_tree()
-    for page in sorted([ROOT / "README.md", *ROOT.glob("docs/*.md"), *ROOT.glob("docs/spec/*.md"), *BOOK.glob("*.md")]):
-        count += cited(page, words_known, files, faults)
+        count += tried(page, program, write, faults)
     for picture in sorted((BOOK / "pictures").glob("*.svg")):
         count += 1
         drawn(picture, program, write, faults)
     for plan in sorted([*ROOT.glob("plans/*.toml"), *ROOT.glob("tests/rows/*.toml")]):
         count += 1
         modelled(plan, program, faults)
+    return count
+
+
+def main(words):
+    named = [word for word in words if not word.startswith("--")]
+    program = Path(named[0] if named else ROOT / "crates/mctower/out/mctower").resolve()
+    faults = []
+    count = names(faults)
+    if "--names" not in words:
+        count += runs(program, "--write" in words, faults)
     for fault in faults:
         print("book:", fault)
     print(f"book: {count - len(faults)} passed, {len(faults)} failed")
