@@ -275,12 +275,12 @@ source_row() {
     printf 'edge: %s\n  wanted: %s\n  found: %s\n' "$1" "$2" "$3"
   fi
 }
-# Each crate of crates.txt whose code names what lets a thread wait, comments left out. A `Wait` in front of a bracket is not the trait
+# Each crate of crates.txt whose code names what lets a thread wait, comments and tests left out. A `Wait` in front of a bracket is not the trait
 # but an edit of a buffer's conditions.
 waiting() {
   local crate
   for crate in $(sed -n 's/^\([a-z_]*\):.*/\1/p' crates.txt); do
-    find "crates/$crate/src" -name '*.rt' -exec cat {} + | sed -e 's|//.*||' -e 's/\<Wait(//g' | grep -wE 'Wait|Mutex|Condvar' > /dev/null && echo "$crate"
+    find "crates/$crate/src" -name '*.rt' ! -name '*tests.rt' -exec cat {} + | sed -e 's|//.*||' -e 's/\<Wait(//g' | grep -wE 'Wait|Mutex|Condvar' > /dev/null && echo "$crate"
   done
 }
 
