@@ -151,7 +151,7 @@ for program; do
     row tests/rows/closed-before-two-receivers.toml 1000000000 "$closes" 'cpu 0 AllEnded'
     row tests/rows/most-threads.toml 1000000000 "${head}1"$'\nleft 0\nend' "$all"
     row tests/rows/words.toml 1000000000 "$words" 'cpu 0 AllEnded'
-    row tests/rows/limits.toml 1000000000 "$limits" "$all"
+    row tests/long/limits.toml 1000000000 "$limits" "$all"
     hundred
     closed
     records
