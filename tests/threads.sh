@@ -92,7 +92,7 @@ words=$'mctower-trace 3\nbuffers 1\ncap 0 1\ne 0 0 send 0 1,2 0 0\ne 0 0 recv 0 
 stops=$'cpu 0 AllEnded\ncpu 1 AllEnded'
 all=$(for c in $(seq 0 15); do echo "cpu $c AllEnded"; done)
 # all that is in this plan has one order, whichever CPU is first: so the text is that of a run
-limits=$(sed '/^end$/q' tests/rows/expected/limits.txt)
+limits=$(sed '/^end$/q' tests/long/expected/limits.txt)
 
 # One hundred messages from one CPU to another. The order of sends and receives is the threads' own; each side's is not.
 hundred() {
