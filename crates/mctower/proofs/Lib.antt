@@ -5,6 +5,7 @@ mod ListLemmas
 mod ReadingLemmas
 mod OrderNumbers
 mod SpellingLemmas
+mod TabledLemmas
 mod RunningLemmas
 mod ThreadsLemmas
 mod Unguarded

@@ -12,11 +12,13 @@ use Rattle.cpu.specs.Claims.{CpuShown, FollowPrograms, HasOneOrder, Shown, Stand
 use Rattle.cpu.specs.Sound.{BootsByTable, IsSetupFor, RanByTable, SoundByTable, after_steps, setup_for}
 use Rattle.cpu.specs.Systems.{Ran, SamePlan, whole_of}
 use Rattle.cpu.specs.Table.Steps.{Whole, whole_at_boot}
+use Rattle.cpu.specs.Told.{ToldByTable}
 use Rattle.cpu.proofs.Sounding.{setup_on}
 use Rattle.mctower.specs.Output.{IsUntouched, Output}
 use Rattle.mctower.specs.Plans.{IsOpened, IsSystemOf, table_run}
 use Rattle.mctower.specs.Running.{AreCpus, IsRunOf, IsTold, RunsPlan}
 use Rattle.mctower.specs.Texts.{IsOut, Writes}
+use Rattle.mctower.proofs.TabledLemmas.{text_of_run}
 use Rattle.mctower.specs.declared.run.Fault.{Fault}
 use Rattle.mctower.specs.declared.run.Fault.TheVariants.{NoMemory, Boot, BadCpu, NoOrder, WriteFault}
 
@@ -58,15 +60,16 @@ by_table plan steps first last of boots planned table =
 -- a plan's system that took a schedule's steps
 pub run_of : (IsStepwise : Type 0) (plan : BootPlan) (steps : List CpuId) (first last : Shown) → IsOpened plan (length steps) first
     → Ran IsStepwise first steps last → (IsStepwise → BootsByTable first) → IsSetupFor (setup_for plan) first
-    → (IsStepwise → RanByTable first steps last) → (IsStepwise → SoundByTable last)
+    → (IsStepwise → RanByTable first steps last) → (IsStepwise → SoundByTable last) → (IsStepwise → ToldByTable last)
     → SamePlan first last → HasOneOrder last → FollowPrograms last → StayHome last → StandsOnce last → IsRunOf IsStepwise plan steps last
-run_of IsStepwise plan steps first last of ran boots planned table sound same one follow stay once = record {
+run_of IsStepwise plan steps first last of ran boots planned table sound told same one follow stay once = record {
   start = first;
   opened = of;
   ran = ran;
   planned = setup_on (setup_for plan) same planned;
   table = λ step. by_table plan steps first last of (boots step) planned (table step);
   sound = sound;
+  told = told;
   system = stays_of plan first last of.system same;
   room = same.room ∙ of.room_is;
   one_order = one;
@@ -99,8 +102,12 @@ out_ran : (IsStepwise : Type 0) (plan : BootPlan) (steps : List CpuId) (caps : L
 out_ran IsStepwise plan steps caps first last out same of known ran text = record {
   cpus = subst (λ c. AreCpus c steps) of.cpus known;
   ran = ran;
-  out = subst (λ l. IsOut l (traces_of last) last.contents out) same text;
+  out = written_out;
+  table = λ step. text_of_run IsStepwise plan steps last ran step written_out.text written_out.is;
 }
+  where
+    written_out : IsOut plan.caps (traces_of last) last.contents out
+    written_out = subst (λ l. IsOut l (traces_of last) last.contents out) same text
 
 write_fault : (IsStepwise A : Type 0) (plan : BootPlan) (steps : List CpuId) (caps : List ℕ) (first last : Shown) (e : Fault) (out : Output)
     → caps ≡ plan.caps → IsSystemOf plan first → AreCpus (length first.cpus) steps → IsRunOf IsStepwise plan steps last

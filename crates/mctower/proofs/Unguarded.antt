@@ -49,6 +49,7 @@ module _ (If Where : Type 0) (follows : Where → If) where
     planned = is.planned;
     table = λ here. is.table (follows here);
     sound = λ here. is.sound (follows here);
+    told = λ here. is.told (follows here);
     system = is.system;
     room = is.room;
     one_order = is.one_order;
@@ -64,12 +65,14 @@ module _ (If Where : Type 0) (follows : Where → If) where
     many = is.many;
     places = is.places;
     quiet = is.quiet;
+    table = λ here. is.table (follows here);
     still = λ here. is.still (follows here);
   }
 
-  tells : (s : Shown) (answer : Result Done Refusal) (failed : Bool) → TellsRun If s answer failed → TellsRun Where s answer failed
-  tells s answer false (state, is, given) = (state, state_of s state is, given)
-  tells s answer true given = given
+  tells : (plan : BootPlan) (steps : List CpuId) (s : Shown) (answer : Result Done Refusal) (failed : Bool) → TellsRun If plan steps s answer failed
+      → TellsRun Where plan steps s answer failed
+  tells plan steps s answer false (state, is, table, given) = (state, state_of s state is, (λ here. table (follows here)), given)
+  tells plan steps s answer true given = given
 
 module _ (If Where : LockKind → Type 0) (follows : (lock : LockKind) → Where lock → If lock) where
   runs_plan : (steps : List CpuId) (plan : BootPlan) (answer : Result Done Refusal) (out : Output)
@@ -81,7 +84,8 @@ module _ (If Where : LockKind → Type 0) (follows : (lock : LockKind) → Where
     ran = run_of (If plan.lock) (Where plan.lock) (follows plan.lock) plan steps runs.system runs.ran;
     trace = runs.trace;
     traced = runs.traced;
-    put = (tells (If plan.lock) (Where plan.lock) (follows plan.lock) runs.system answer out.failed runs.put.0, runs.put.1);
+    table = λ here. runs.table (follows plan.lock here);
+    put = (tells (If plan.lock) (Where plan.lock) (follows plan.lock) plan steps runs.system answer out.failed runs.put.0, runs.put.1);
   })
 
   asked : (steps : Option (List CpuId)) (input : Option (List ℕ)) (answer : Result Done Refusal) (out : Output)

@@ -11,4 +11,5 @@ pub mod Running
 pub mod StateLines
 pub mod Threads
 pub mod State
+pub mod Tabled
 pub mod Refusals

@@ -8,17 +8,19 @@ use Rattle.boot.specs.Plan.{BootPlan}
 use Rattle.cpu.specs.Claims.{FollowPrograms, HasOneOrder, Shown, StandsOnce, StayHome, traces_of}
 use Rattle.cpu.specs.Sound.{IsSetupFor, SoundByTable, setup_for}
 use Rattle.cpu.specs.Systems.{Ran, whole_of}
+use Rattle.cpu.specs.Told.{ToldByTable}
 use Rattle.mctower.specs.declared.run.Ran.{Ran as RanOver}
 use Rattle.mctower.specs.declared.run.Ran.TheVariants.{Ticket, Grant}
 use Rattle.mctower.specs.declared.run.Fault.{Fault}
 use Rattle.mctower.specs.declared.run.Fault.TheVariants.{NoMemory, Boot, BadCpu, NoOrder, WriteFault}
 use Rattle.mctower.specs.Output.{IsUntouched, Output}
 use Rattle.mctower.specs.Plans.{IsOpened, IsSystemOf, table_run}
+use Rattle.mctower.specs.Tabled.{IsTextOfRun}
 use Rattle.mctower.specs.Texts.{IsOut}
 
 -- The system of a plan, after a schedule's steps: it was opened with room for just these and took them in their order; the plan says its
--- setup of the step table; where its machine does one action a step it is the step table's system of the plan after them, and no wake-up
--- is lost; and what holds after every list of steps holds of it.
+-- setup of the step table; where its machine does one action a step it is the step table's system of the plan after them, no wake-up is
+-- lost, and it tells what the table has; and what holds after every list of steps holds of it.
 pub record IsRunOf (IsStepwise : Type 0) (plan : BootPlan) (steps : List CpuId) (s : Shown) : Type 0 where
   pub start : Shown
   pub opened : IsOpened plan (length steps) start
@@ -26,6 +28,7 @@ pub record IsRunOf (IsStepwise : Type 0) (plan : BootPlan) (steps : List CpuId) 
   pub planned : IsSetupFor (setup_for plan) s
   pub table : IsStepwise → whole_of s ≡ table_run plan steps
   pub sound : IsStepwise → SoundByTable s
+  pub told : IsStepwise → ToldByTable s
   pub system : IsSystemOf plan s
   pub room : s.room ≡ length steps
   pub one_order : HasOneOrder s
@@ -37,11 +40,13 @@ pub record IsRunOf (IsStepwise : Type 0) (plan : BootPlan) (steps : List CpuId) 
 abbrev pub AreCpus : ℕ → List CpuId → Type 0
 AreCpus cpus steps = All (λ c. c.0 < cpus) steps
 
--- a system that the plan's may be after these steps has its text out, or a beginning of it
+-- a system that the plan's may be after these steps has its text out, or a beginning of it; where the machine does one action a step, this is
+-- the text of the step table's system of the plan after these steps
 pub record IsTold (IsStepwise : Type 0) (plan : BootPlan) (steps : List CpuId) (s : Shown) (printed : Output) : Type 0 where
   pub cpus : AreCpus plan.cpus steps
   pub ran : IsRunOf IsStepwise plan steps s
   pub out : IsOut plan.caps (traces_of s) s.contents printed
+  pub table : IsStepwise → IsTextOfRun plan steps out.text
 
 -- what a run of a plan answers: a step of a CPU that the plan has not is refused before anything is written; else the plan's
 -- system takes the steps, and its text is written

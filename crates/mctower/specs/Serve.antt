@@ -27,6 +27,7 @@ use Rattle.mctower.specs.declared.serve.Done.{Done}
 use Rattle.mctower.specs.declared.serve.Done.TheVariants.{Exit, Ran, Worked}
 use Rattle.mctower.specs.declared.states.State.{State}
 use Rattle.mctower.specs.Schedule.{steps_of}
+use Rattle.mctower.specs.Tabled.{IsStateOfRun, IsTextOfRun}
 use Rattle.mctower.specs.Texts.{IsTextOf}
 use Rattle.mctower.specs.Threads.{IsWorked, stop_text}
 
@@ -109,23 +110,26 @@ OfInput Means input answer out = RefusedBy NoMemory answer out
 
 -- ---- run
 
--- what is to be told is the system's state; or the output failed
-abbrev pub TellsRun : Type 0 → Shown → Result Done Refusal → Bool → Type 0
-TellsRun IsStepwise s answer false = (state : State) × IsStateOf IsStepwise s state × (answer ≡ Ok (Ran state))
-TellsRun IsStepwise s answer true = answer ≡ Err WriteFault
+-- what is to be told is the system's state, where the machine does one action a step that of the step table's system; or the output failed
+abbrev pub TellsRun : Type 0 → BootPlan → List CpuId → Shown → Result Done Refusal → Bool → Type 0
+TellsRun IsStepwise plan steps s answer false =
+    (state : State) × IsStateOf IsStepwise s state × (IsStepwise → IsStateOfRun plan steps state) × (answer ≡ Ok (Ran state))
+TellsRun IsStepwise plan steps s answer true = answer ≡ Err WriteFault
 
 -- the text is out, and what is to be told is the system's state; or the output failed, and a beginning of the text is out
-abbrev pub PutsRun : Type 0 → Shown → List ℕ → Result Done Refusal → Output → Type 0
-PutsRun IsStepwise s text answer out = TellsRun IsStepwise s answer out.failed × IsPut out text
+abbrev pub PutsRun : Type 0 → BootPlan → List CpuId → Shown → List ℕ → Result Done Refusal → Output → Type 0
+PutsRun IsStepwise plan steps s text answer out = TellsRun IsStepwise plan steps s answer out.failed × IsPut out text
 
--- the plan's system took the steps, by the step table where its machine does one action a step, and its trace text is written
+-- the plan's system took the steps, by the step table where its machine does one action a step, and its trace text is written; this is then
+-- the text of the step table's system of the plan after these steps
 pub record RunsTrace (IsStepwise : Type 0) (plan : BootPlan) (steps : List CpuId) (answer : Result Done Refusal) (printed : Output) : Type 0 where
   pub cpus : AreCpus plan.cpus steps
   pub system : Shown
   pub ran : IsRunOf IsStepwise plan steps system
   pub trace : List ℕ
   pub traced : IsTextOf plan.caps (traces_of system) system.contents trace
-  pub put : PutsRun IsStepwise system trace answer printed
+  pub table : IsStepwise → IsTextOfRun plan steps trace
+  pub put : PutsRun IsStepwise plan steps system trace answer printed
 
 -- the plan is run over the lock that it names, or a step is of no CPU of it
 abbrev pub RunsPlan : (LockKind → Type 0) → List CpuId → BootPlan → Result Done Refusal → Output → Type 0

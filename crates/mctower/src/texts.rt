@@ -8,6 +8,7 @@ ghost use Rattle.tracer.specs.Judging.{verdict_of};
 ghost use Rattle.tracer.specs.Sinks.{has_failed};
 ghost use Rattle.tracer.specs.declared.verdicts.Verdict.TheVariants.{Yes as SaysYes};
 ghost use Rattle.mctower.specs.Output.{between};
+ghost use Rattle.mctower.specs.Tabled.{NothingIsTold};
 ghost use Rattle.mctower.specs.Texts.{HaveText, IsTextOf, Writes};
 
 use crate::run::Fault;
@@ -22,6 +23,11 @@ use tracer::{Sink, gather, write_trace};
 pub fn texts_get_yes()
     ensures { (text caps : List ℕ) (traces : List (List AnEntry)) (left : List (List Message)) → IsTextOf caps traces left text
         → verdict_of text ≡ SaysYes }
+{}
+
+/// A law: after no step the step table's system of a plan has a text without an entry.
+pub fn nothing_is_told()
+    ensures { NothingIsTold }
 {}
 
 /// Writes the trace text of these traces, one of each CPU of a plan with these capacities, and of

@@ -17,5 +17,6 @@ returns g c =
           let read = read_front c.places_of-places.result threads t place at in
           subst (λ x. IsPlaceOf c.args.system.now (record { 0 = t }) x) read.1 (c.places_of-places.ensures.read t place read.0);
       quiet = c.is_quiet-is_quiet.ensures.is;
+      table = c.is_quiet-is_quiet.ensures.table;
       still = c.is_quiet-is_quiet.ensures.still;
     }

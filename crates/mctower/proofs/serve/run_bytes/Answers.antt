@@ -14,7 +14,7 @@ use Rattle.mctower.specs.declared.serve.Done.{Done}
 use Rattle.mctower.specs.declared.serve.Done.TheVariants.{Ran}
 use Rattle.mctower.specs.declared.states.State.{State}
 use Rattle.mctower.specs.State.{IsStateOf}
-use Rattle.mctower.specs.Running.{RunsText, lock_of, on_lock, system_of}
+use Rattle.mctower.specs.Running.{IsRunOf, RunsText, lock_of, on_lock, system_of}
 use Rattle.mctower.specs.declared.run.Ran.{Ran as RanOver}
 use Rattle.mctower.specs.Output.{Output, between}
 use Rattle.mctower.specs.Serve.{OfPlan, RefusedBy, RunsPlan, TellsRun}
@@ -22,13 +22,15 @@ use Rattle.mctower.specs.Refusals.{from_fault}
 use Rattle.mctower.specs.declared.run.Fault.{Fault}
 use Rattle.mctower.specs.declared.run.Fault.TheVariants as run
 use Rattle.mctower.specs.declared.refusals.Refusal.TheVariants.{NoMemory, WriteFault, Plan as BadPlan}
+use Rattle.mctower.proofs.TabledLemmas.{state_of_run}
 use Rattle.mctower.proofs.serve.run_bytes.Goals as goal
 
 -- what is to be told of a run whose text was put out, and nothing more behind it
-told : (IsStepwise : Type 0) (s : Shown) (state : State) (answer : Result Done Refusal) (failed : Bool) → IsStateOf IsStepwise s state
-    → answer ≡ (if failed then Err WriteFault else Ok (Ran state)) → TellsRun IsStepwise s answer failed
-told IsStepwise s state answer false is given = (state, is, given)
-told IsStepwise s state answer true is given = given
+told : (IsStepwise : Type 0) (plan : BootPlan) (steps : List CpuId) (s : Shown) (state : State) (answer : Result Done Refusal) (failed : Bool)
+    → IsRunOf IsStepwise plan steps s → IsStateOf IsStepwise s state → answer ≡ (if failed then Err WriteFault else Ok (Ran state))
+    → TellsRun IsStepwise plan steps s answer failed
+told IsStepwise plan steps s state answer false ran is given = (state, is, (λ step. state_of_run IsStepwise plan steps s ran step state is), given)
+told IsStepwise plan steps s state answer true ran is given = given
 
 -- the text of a run is out, and then nothing more was put out
 ran_out : {I J M N : Type 0} (IsStepwise : LockKind → Type 0) (steps : List CpuId) (r : RanOver I J M N) (state : State) (read : Result BootPlan BootError)
@@ -47,17 +49,19 @@ ran_out IsStepwise steps r state (Ok plan) answer first whole (over, runs) is gi
       ran = runs.1.ran;
       trace = trace;
       traced = runs.1.out.is;
+      table = runs.1.table;
       put = (
-        told (IsStepwise plan.lock) (system_of r) state answer whole.failed told_of given,
+        told (IsStepwise plan.lock) plan steps (system_of r) state answer whole.failed runs.1.ran told_of given,
         subst (λ old. Outs whole.failed old whole.new trace) same (subst (λ t. Outs whole.failed first.old whole.new t) (append-nil trace) outs),
       );
     })
 ran_out IsStepwise steps r state (Err error) answer first whole runs is given more same = absurd runs
 
 -- the output failed
-told_fault : (IsStepwise : Type 0) (s : Shown) (failed : Bool) → failed ≡ true → TellsRun IsStepwise s (Err WriteFault) failed
-told_fault IsStepwise s false is = absurd (cc)
-told_fault IsStepwise s true is = refl
+told_fault : (IsStepwise : Type 0) (plan : BootPlan) (steps : List CpuId) (s : Shown) (failed : Bool) → failed ≡ true
+    → TellsRun IsStepwise plan steps s (Err WriteFault) failed
+told_fault IsStepwise plan steps s false is = absurd (cc)
+told_fault IsStepwise plan steps s true is = refl
 
 -- a run that had a fault
 fault_ran : (I J M N : Type 0) (IsStepwise : LockKind → Type 0) (steps : List CpuId) (read : Result BootPlan BootError) (fault : Fault) (out : Output)
@@ -73,7 +77,8 @@ fault_ran I J M N IsStepwise steps (Ok plan) run.WriteFault out (over, runs) = i
   ran = runs.1.1.ran;
   trace = runs.1.1.out.text;
   traced = runs.1.1.out.is;
-  put = (told_fault (IsStepwise plan.lock) runs.1.0 out.failed runs.0, runs.1.1.out.out);
+  table = runs.1.1.table;
+  put = (told_fault (IsStepwise plan.lock) plan steps runs.1.0 out.failed runs.0, runs.1.1.out.out);
 }))
 fault_ran I J M N IsStepwise steps (Err e) run.NoMemory out runs = inl (refl, runs)
 fault_ran I J M N IsStepwise steps (Err e) (run.Boot f) out runs = inr (ap (λ x. Err (BadPlan x)) runs.0, runs.1)

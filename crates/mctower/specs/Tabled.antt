@@ -1,0 +1,61 @@
+-- What a run tells, by the step table's system alone: the trace text of a plan after a schedule's steps, and its state lines.
+use Rattle.std.specs.Prelude.{◌≡◌, ◌↔◌, ℕ, true, List, [], length, map, Option, Some, None, slice_get}
+use Rattle.event_log.specs.declared.entries.Entry.{Entry}
+use Rattle.event_log.specs.declared.ids.CpuId.{CpuId}
+use Rattle.event_log.specs.declared.ids.LockId.TheVariants.{Buffer as AtBuffer}
+use Rattle.event_log.specs.Actions.{phase}
+use Rattle.event_log.specs.Messages.{Message}
+use Rattle.boot.specs.Plan.{BootPlan}
+use Rattle.layer_traits.specs.declared.calls.Place.{Place}
+use Rattle.layer_traits.specs.declared.steps.Reason.{Reason}
+use Rattle.layer_traits.specs.Plans.{is_in_section}
+use Rattle.cpu.specs.Claims.{buffer_at, listed}
+use Rattle.cpu.specs.Cpus.{reason_in}
+use Rattle.cpu.specs.Sound.{setup_for}
+use Rattle.cpu.specs.Table.Blocks.{Block, OfBuffer, OfPending}
+use Rattle.cpu.specs.Table.Setups.{Private, Setup}
+use Rattle.cpu.specs.Table.Steps.{Whole, block_at, cpu_numbered, halted_at}
+use Rattle.cpu.specs.Told.{IsPlaceByTable}
+use Rattle.cpu.specs.Wakeups.Quiet.{IsQuiet}
+use Rattle.mctower.specs.Plans.{table_run}
+use Rattle.mctower.specs.State.{places_in}
+use Rattle.mctower.specs.Texts.{IsTextOf}
+use Rattle.mctower.specs.declared.states.State.{State}
+
+-- the traces of the table's CPUs
+abbrev pub traces_at : Whole → List (List Entry)
+traces_at w = map (λ p. p.trace) w.cpus
+
+-- the messages in a block, front first
+abbrev pub items_in : Option Block → List Message
+items_in None = []
+items_in (Some (OfPending threads)) = []
+items_in (Some (OfBuffer k)) = k.items
+
+-- what the table's buffers hold
+abbrev pub contents_at : Setup → Whole → List (List Message)
+contents_at setup w = listed (λ b. items_in (block_at setup (AtBuffer (buffer_at b)) w.log)) 0 (length setup.caps)
+
+-- why a CPU of the table takes no step: nothing stops one that has a section under way
+abbrev pub reason_by : Setup → CpuId → Whole → Option Private → Option Reason
+reason_by setup c w None = None
+reason_by setup c w (Some p) = reason_in (is_in_section (phase c w.log)) (halted_at setup c p)
+
+abbrev pub reason_at : Setup → Whole → ℕ → Option Reason
+reason_at setup w k = reason_by setup (cpu_numbered k) w (slice_get w.cpus k)
+
+-- this is the trace text of the plan's system in the step table after these steps
+abbrev pub IsTextOfRun : BootPlan → List CpuId → List ℕ → Type 0
+IsTextOfRun plan steps text = IsTextOf plan.caps (traces_at (table_run plan steps)) (contents_at (setup_for plan) (table_run plan steps)) text
+
+-- after no step there is no entry in the text
+abbrev pub NothingIsTold : Type 0
+NothingIsTold = (plan : BootPlan) (text : List ℕ) (told : IsTextOfRun plan [] text) → told.order ≡ []
+
+-- this is told of that system: why each CPU is halted, where each thread stands, and whether it is quiet
+pub record IsStateOfRun (plan : BootPlan) (steps : List CpuId) (state : State) : Type 0 where
+  pub halted : state.halted.items ≡ listed (reason_at (setup_for plan) (table_run plan steps)) 0 plan.cpus
+  pub many : length (places_in state) ≡ length plan.tasks
+  pub places : (t : ℕ) (at : Place) → slice_get (places_in state) t ≡ Some at
+      → IsPlaceByTable (setup_for plan) (table_run plan steps) (record { 0 = t }) at
+  pub quiet : (state.is_quiet ≡ true) ↔ IsQuiet (setup_for plan) (table_run plan steps)
