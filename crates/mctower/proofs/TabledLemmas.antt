@@ -13,7 +13,6 @@ use Rattle.event_log.specs.Runs.{after_entry, contents_from}
 use Rattle.event_log.specs.Traces.{IsInterleaving}
 use Rattle.event_log.proofs.RunLemmas.{left_from}
 use Rattle.boot.specs.Plan.{BootPlan}
-use Rattle.layer_traits.specs.declared.calls.Place.{Place}
 use Rattle.layer_traits.specs.declared.steps.Reason.{Reason}
 use Rattle.layer_traits.specs.Plans.{is_in_section}
 use Rattle.cpu.specs.Claims.{CpuShown, Shown, buffer_at, listed, traces_of}
@@ -21,7 +20,7 @@ use Rattle.cpu.specs.Cpus.{halted_at as own_halted_at, reason_in}
 use Rattle.cpu.specs.Sound.{IsSetupFor, setup_for}
 use Rattle.cpu.specs.Systems.{halted_in, own_reason_in, whole_of}
 use Rattle.cpu.specs.Table.Setups.{Private, Setup}
-use Rattle.cpu.specs.Table.Steps.{Whole, block_at, boots_from, cpu_numbered, halted_at}
+use Rattle.cpu.specs.Table.Steps.{Whole, block_at, boots_from, cpu_numbered}
 use Rattle.cpu.specs.Told.{IsPlaceByTable, ToldByTable}
 use Rattle.cpu.specs.Wakeups.Quiet.{IsQuiet}
 use Rattle.cpu.proofs.ListReads.{map_twice, shows_at, there_is}
