@@ -41,14 +41,14 @@ one_more : (caps : List ℕ) (earlier : List Entry) (contents : List (List Messa
     → items_of contents b ++ (if same then put_by e.kind e.value sent else sent) ≡ (if same then taken_by e.kind e.value taken else taken) ++ items_of left b
 one_more caps earlier contents e left many next b sent taken more false other =
     ap (λ items. items ++ sent) (sym (get_or-set_other contents e.buffer.0 b (after_effect e.kind (items_of contents e.buffer.0) e.value) []
-        (λ same. eqb-false e.buffer.0 b other (sym same)))) ∙ more
+    (λ same. eqb-false e.buffer.0 b other (sym same)))) ∙ more
 one_more caps earlier contents e left many next b sent taken more true here =
     let is : e.buffer.0 ≡ b = eqb-true e.buffer.0 b here in
     let within : e.buffer.0 < length contents = rw (many) next.known in
     let wrote : items_of (after_entry contents e) e.buffer.0 ≡ after_effect e.kind (items_of contents e.buffer.0) e.value
-        = get_or-set_same contents e.buffer.0 (after_effect e.kind (items_of contents e.buffer.0) e.value) [] within in
+    = get_or-set_same contents e.buffer.0 (after_effect e.kind (items_of contents e.buffer.0) e.value) [] within in
     let after : after_effect e.kind (items_of contents e.buffer.0) e.value ++ sent ≡ taken ++ items_of left b
-        = ap (λ items. items ++ sent) (sym wrote ∙ ap (λ k. items_of (after_entry contents e) k) is) ∙ more in
+    = ap (λ items. items ++ sent) (sym wrote ∙ ap (λ k. items_of (after_entry contents e) k) is) ∙ more in
     ap (λ k. items_of contents k ++ put_by e.kind e.value sent) (sym is)
     ∙ step e.kind _ _ e.value (items_of contents e.buffer.0) sent taken (items_of left b) next.allowed after
 
@@ -61,9 +61,9 @@ stream_from caps earlier contents [] left many run b = append_nil_of (items_of c
   append_nil_of (x ∷ xs) = ap (λ more. x ∷ more) (append_nil_of xs)
 stream_from caps earlier contents (e ∷ es) left many run b =
     one_more caps earlier contents e left many run.0 b (sent_to b es) (taken_from b es)
-        (stream_from caps (earlier ++ e ∷ []) (after_entry contents e) es left
-            (as_many contents e.buffer.0 (after_effect e.kind (items_of contents e.buffer.0) e.value) ∙ many) run.1 b)
-        (e.buffer.0 == b) refl
+    (stream_from caps (earlier ++ e ∷ []) (after_entry contents e) es left
+    (as_many contents e.buffer.0 (after_effect e.kind (items_of contents e.buffer.0) e.value) ∙ many) run.1 b)
+    (e.buffer.0 == b) refl
 
 -- a whole run
 pub taken_put : (caps : List ℕ) (es : List Entry) (left : List (List Message)) → IsRun caps es left → IsFirstInFirstOut es left

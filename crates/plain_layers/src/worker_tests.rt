@@ -101,6 +101,7 @@ struct Door {
 
 impl Gate for Door {
     ghost MayLimit = { λ gate cpu turn. turn ≡ 0 };
+
     ghost MayPass = { λ gate cpu turn. Unit {0} };
 
     fn pass(&self, _cpu: CpuId, turn: u64) -> Go {
@@ -152,6 +153,7 @@ fn until(flag: &AtomicBool, patience: u32) -> Go {
 
 impl Gate for Together {
     ghost MayLimit = { λ gate cpu turn. Unit {0} };
+
     ghost MayPass = { λ gate cpu turn. Unit {0} };
 
     fn pass(&self, cpu: CpuId, turn: u64) -> Go {
@@ -314,6 +316,7 @@ struct Counting {
 
 impl Gate for Counting {
     ghost MayLimit = { λ gate cpu turn. ⊥ };
+
     ghost MayPass = { λ gate cpu turn. Unit {0} };
 
     fn pass(&self, _cpu: CpuId, _turn: u64) -> Go {
