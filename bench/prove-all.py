@@ -7,27 +7,17 @@ usage: bench/prove-all.py [JOBS]
 all crates, as `rt all` does, but without its first pass over all sources, and gives idle processors to the last, large crates. It takes JOBS
 processors, all where none is named. What it proves is kept, so it can be stopped and started again.
 """
-import importlib.machinery
 import os
 import subprocess
 import sys
 import time
-import types
 from concurrent.futures import FIRST_COMPLETED, ThreadPoolExecutor, wait
+
+sys.dont_write_bytecode = True
+import kit  # noqa: E402, of this folder
 
 ROOT = os.path.dirname(os.path.dirname(os.path.realpath(__file__)))
 PROGRAM = "mctower"
-
-
-def kit():
-    """Returns the kit's own module, by which its commands build a library."""
-    page = subprocess.run(["rt", "doc"], stdout=subprocess.PIPE, text=True, check=True).stdout.strip()
-    made = types.ModuleType("rtlib")
-    made.__file__ = f"{os.path.dirname(page)}/bin/rtlib.py"
-    sys.modules["rtlib"] = made
-    importlib.machinery.SourceFileLoader("rtlib", made.__file__).exec_module(made)
-    made.guarded()
-    return made
 
 
 def build(crate, jobs):
@@ -63,7 +53,7 @@ def build_all(crates, lanes):
 
 def main():
     lanes = int(sys.argv[1]) if len(sys.argv) > 1 else len(os.sched_getaffinity(0))
-    lib = kit()
+    lib = kit.load()
     program = next(it for it in lib.crates_below(ROOT) if it.name == PROGRAM)
     held = lib.lock(program.below())
     sound = build_all(program.below(), lanes)

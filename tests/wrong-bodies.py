@@ -21,7 +21,6 @@ the libraries are built first, and each function has to be proved as it stands. 
 import argparse
 import dataclasses
 import hashlib
-import importlib.machinery
 import os
 import re
 import shutil
@@ -29,11 +28,12 @@ import subprocess
 import sys
 import tempfile
 import threading
-import types
 from concurrent.futures import ThreadPoolExecutor
 
 sys.dont_write_bytecode = True
 ROOT = os.path.dirname(os.path.dirname(os.path.realpath(__file__)))
+sys.path.append(f"{ROOT}/bench")
+import kit  # noqa: E402
 SUMS = f"{ROOT}/tests/wrong-bodies.sums"
 PARTS = ("src", "specs", "proofs")
 REFUSED = re.compile(r"(not proved|no proof)(?!.*(it calls|it passes|a call of))")
@@ -43,17 +43,6 @@ OPEN_GOAL = re.compile(r"(?:note: )?(?:\./)?\S+:\d+:\d+: .*(is not proved|may be
 UNREAD = re.compile(r"(?:\./)?(?:src|specs)/\S+?:\d+:\d+: error: (.*)")
 UNREAD_WORDS = re.compile(r"is not in scope|has no field|is no name|operand is missing|expected the end|cannot continue")
 printing = threading.Lock()
-
-
-def kit():
-    """Returns the kit's own module, by which its commands name a crate's libraries and call the prover."""
-    page = subprocess.run(["rt", "doc"], stdout=subprocess.PIPE, text=True, check=True).stdout.strip()
-    made = types.ModuleType("rtlib")
-    made.__file__ = f"{os.path.dirname(page)}/bin/rtlib.py"
-    sys.modules["rtlib"] = made
-    importlib.machinery.SourceFileLoader("rtlib", made.__file__).exec_module(made)
-    made.guarded()
-    return made
 
 
 def say(text):
@@ -318,7 +307,7 @@ def main():
     read.add_argument("--jobs", type=int, default=memory_lanes())
     read.add_argument("names", nargs="*")
     given = read.parse_args()
-    lib = kit()
+    lib = kit.load()
     if given.self_test:
         return self_test(lib)
     crates = [it for it in lib.crates_below(ROOT) if not given.names or it.name in given.names]
