@@ -223,7 +223,11 @@ class Trial:
 
 def sum_of(lib, crate):
     """Returns the sum of all but the body that a verdict on a wrong body of the crate rests on."""
-    total = hashlib.sha256(subprocess.run(["rt", "version"], stdout=subprocess.PIPE, check=True).stdout)
+    told = subprocess.run(["rt", "version"], stdout=subprocess.PIPE, text=True, check=True).stdout
+    logic = re.search(r"logic \w+", told)
+    if not logic:
+        sys.exit(f"wrong-bodies: `rt version` names no logic: {told.strip()}")
+    total = hashlib.sha256(logic[0].encode())  # kits of one logic give one verdict
     for it in sorted([crate, *crate.below()], key=lambda it: it.name):
         for file in sorted(lib.files_of(it.folder)):
             total.update(os.path.relpath(file, ROOT).encode() + b"\0" + open(file, "rb").read())
