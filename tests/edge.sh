@@ -254,11 +254,43 @@ rows() {
   row 0 "$sent" '' "$thread 2> /dev/full"
 }
 
-# What an error of the crate says of itself, no run shows: the program tells each refusal by a text of `text_of`. So each error's own text,
-# which stands in its attribute, is held against the texts that stand there.
+# Each error of a crate's code that says a name and a number of itself, as `crate Name(N)`. By its attribute an error prints just that.
+errors() {
+  local crate
+  for crate in $(sed -n 's/^\([a-z_]*\):.*/\1/p' crates.txt); do
+    find "crates/$crate/src" -name '*.rt' -exec cat {} + | sed -n "s/^ *#\\[error(\"\\([A-Za-z]*([0-9]*)\\)[\" ].*/$crate \\1/p"
+  done | LC_ALL=C sort -u
+}
+named='boot BadToml(20)
+boot Guest(23)
+boot MissingKey(21)
+boot NoMemory(1)
+boot OutOfRange(22)
+cpu BadCpu(4)
+cpu_workers NoMemory(1)
+cpu_workers NoThread(5)
+event_log LogFull(2)
+event_log NoMemory(1)
+guest BadNumber(12)
+guest BadRegister(11)
+guest BadTarget(13)
+guest Empty(15)
+guest NoMemory(1)
+guest TooLong(14)
+guest UnknownWord(10)
+mctower BadCpu(4)
+mctower BadSchedule(9)
+mctower NoMemory(1)
+mctower NoOrder(6)
+mctower WriteFault(8)
+tracer NoMemory(1)
+tracer NoOrder(6)
+tracer WriteFault(8)'
+# What an error of the program says of itself, no run shows: the program tells each refusal by a text of `text_of`. So each error's own text
+# is held against the texts that stand there.
 texts() {
   local text
-  for text in $(sed -n 's/^ *#\[error("\([A-Za-z]*([0-9]*)\)")\]$/\1/p' crates/mctower/src/*.rt | sort -u); do
+  for text in $(errors | sed -n 's/^mctower //p'); do
     if grep -qF "\"error: $text\\n\"" crates/mctower/src/refusals.rt; then
       passed=$((passed + 1))
     else
@@ -302,6 +334,7 @@ fi
 [ $((passed + failed)) -gt 0 ] || { echo "edge: build the program first: (cd crates/mctower && rt run -- count --cpus 1 --times 1)"; exit 1; }
 # The prover lets a function wait that is given the trait for it. Workers and the program are, and none of the crates beneath: no layer waits.
 source_row 'who names Wait, Mutex or Condvar' $'cpu_workers\nmctower' "$(waiting)"
+source_row 'what each error says of itself' "$named" "$(errors)"
 # What starts threads and joins them stands in the crate of the workers.
 source_row 'who stands on crossbeam_utils' cpu_workers "$(sed -n 's/^\([a-z_]*\):.*\<crossbeam_utils\>.*/\1/p' crates.txt)"
 

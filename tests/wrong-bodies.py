@@ -292,16 +292,30 @@ def keep_sums(crate, bodies, total):
             it.writelines(f"{key} {value}\n" for key, value in sorted(sums.items()))
 
 
+# The words of the verdict that each edit of tests/wrong-bodies/ has to end in.
+SELF_TEST = {
+    "fails_it_changes_nothing": "NOT REFUSED",
+    "fails_it_edits_a_definition": "is no file below src/",
+    "fails_it_names_no_function": "it has no line 'fn:'",
+    "fails_its_old_text_is_missing": "0 times, and not once",
+    "fails_its_old_text_stands_twice": "times, and not once",
+    "fails_no_function_has_its_name": "there_is_no_such_function",
+    "refused_look_tells_the_other_way": "refused: ",
+}
+
+
 def self_test(lib):
-    """Tries the edits of tests/wrong-bodies/, of which those that are named fails_* have to fail, and the others to be refused."""
+    """Tries the edits of tests/wrong-bodies/, of which those that are named fails_* have to fail, each for its own reason, and the others to be refused."""
     crate = next(it for it in lib.crates_below(ROOT) if it.name == "shared_queue")
     bodies = bodies_of(crate, f"{ROOT}/tests/wrong-bodies")
     build_beneath(lib, [crate], True)
     try_crate(lib, crate, bodies, True)
-    wrong = [it.name() for it in bodies if it.is_failure != os.path.basename(it.file).startswith("fails_")]
-    say(f"wrong-bodies: its own test: {len(bodies) - len(wrong)} ended as they must{''.join(f', {it} did not' for it in wrong)}")
-    print(f"{len(bodies) - len(wrong)} passed, {len(wrong)} failed")
-    return 1 if wrong or not bodies else 0
+    of = {os.path.basename(it.file).removesuffix(".edit"): it for it in bodies}
+    right = [name for name, words in SELF_TEST.items() if name in of and words in of[name].verdict and of[name].is_failure == name.startswith("fails_")]
+    wrong = sorted((SELF_TEST.keys() | of.keys()) - set(right))
+    say(f"wrong-bodies: its own test: {len(right)} ended as they must{''.join(f', {it} did not' for it in wrong)}")
+    print(f"{len(right)} passed, {len(wrong)} failed")
+    return 1 if wrong else 0
 
 
 def main():
