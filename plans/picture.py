@@ -46,8 +46,9 @@ def told(plan, steps):
 
 def observed(plan, steps):
     """By step, from none on: the places that the program tells; and each step's section, part and entry."""
-    kernel = Kernel(tomllib.loads(plan))
+    told(plan, steps)  # a plan or a schedule that the program refuses ends here
     places, sections, entries = [told(plan, [])[0]], [], []
+    kernel = Kernel(tomllib.loads(plan))
     for number, c in enumerate(steps, 1):
         name, part = kernel.step(c)
         if kernel.entry:
@@ -155,14 +156,33 @@ class Picture:
         return "\n".join([head, *self.parts, "</svg>"]) + "\n"
 
 
+def plan_at(path):
+    """The text of a plan."""
+    if not path.is_file():
+        sys.exit(f"picture: there is no plan at {path}: name one that is there, as plans/one-send.toml")
+    try:
+        return path.read_text(encoding="utf-8")
+    except (OSError, UnicodeDecodeError) as fault:
+        sys.exit(f"picture: {path} cannot be read: {fault}")
+
+
+def steps_in(schedule):
+    """The steps of a schedule."""
+    try:
+        return steps_of(schedule)
+    except ValueError:
+        sys.exit(f"picture: {schedule} is no schedule: write it as in docs/spec/command-line.md, such as 0*13,1*40")
+
+
 def main(words):
     if not 1 <= len(words) <= 2:
         sys.exit("usage: plans/picture.py PLAN [SCHEDULE] > picture.svg")
+    plan = plan_at(Path(words[0]))
+    schedule = words[1] if len(words) == 2 else schedule_in(plan)
+    steps = steps_in(schedule)
     if not (os.path.isfile(PROGRAM) and os.access(PROGRAM, os.X_OK)):
         sys.exit(f"picture: there is no program at {PROGRAM}: build it with bench/prove-all.py, or name one by MCTOWER")
-    plan = Path(words[0]).read_text()
-    schedule = words[1] if len(words) == 2 else schedule_in(plan)
-    places, sections = observed(plan, steps_of(schedule))
+    places, sections = observed(plan, steps)
     sys.stdout.write(Picture(f"{Path(words[0]).name}, schedule {schedule or '(none)'}", places, sections).svg())
 
 
