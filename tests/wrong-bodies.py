@@ -104,8 +104,8 @@ class Body:
 class Trial:
     """The wrong bodies of one crate, tried over one folder of kept work."""
 
-    def __init__(self, lib, crate, bodies, after_ci, room):
-        self.lib, self.crate, self.bodies, self.after_ci, self.room = lib, crate, bodies, after_ci, room
+    def __init__(self, lib, crate, bodies, after_ci, jobs, room):
+        self.lib, self.crate, self.bodies, self.after_ci, self.jobs, self.room = lib, crate, bodies, after_ci, jobs, room
         self.kept, self.rounds = f"{room}/kept", 0
         own = f"{crate.folder}/{lib.KEPT[1]}"
         shutil.copytree(own, self.kept) if os.path.isdir(own) else os.mkdir(self.kept)
@@ -127,7 +127,7 @@ class Trial:
                     with open(f"{copy}/{path}", "w", encoding="utf-8") as it:
                         it.write(text)
             only = [word for it in functions for word in ("--only", it)]
-            words = [self.lib.RATTLE, "check", *self.crate.words(["--jobs", "1", *only], keeps=False), "--incremental", self.kept]
+            words = [self.lib.RATTLE, "check", *self.crate.words(["--jobs", str(self.jobs), *only], keeps=False), "--incremental", self.kept]
             how = {"cwd": copy, "stdin": subprocess.DEVNULL, "stdout": subprocess.PIPE, "stderr": subprocess.STDOUT, "text": True, "errors": "replace"}
             return subprocess.run([*self.lib.guarded(), *words], **how).stdout.rstrip("\n").split("\n")
 
@@ -255,10 +255,10 @@ def bodies_of(crate, folder):
     return found
 
 
-def try_crate(lib, crate, bodies, after_ci):
-    """Tries the wrong bodies of a crate whose libraries stand, and returns how many checks that took."""
+def try_crate(lib, crate, bodies, after_ci, jobs=1):
+    """Tries the wrong bodies of a crate whose libraries stand, with so many jobs a check, and returns how many checks that took."""
     with tempfile.TemporaryDirectory(prefix="wrong-bodies-") as room:
-        trial = Trial(lib, crate, bodies, after_ci, room)
+        trial = Trial(lib, crate, bodies, after_ci, jobs, room)
         trial.run()
         return trial.rounds
 
@@ -343,7 +343,7 @@ def main():
     build_beneath(lib, due, given.after_ci)
 
     def work(crate):
-        rounds = try_crate(lib, crate, of[crate], given.after_ci)
+        rounds = try_crate(lib, crate, of[crate], given.after_ci, max(1, given.jobs // len(due)))
         keep_sums(crate, of[crate], total[crate])
         return rounds
 
